@@ -1,0 +1,23 @@
+-- Bits of a word. A word is a number; its bit 0 is the lowest.
+use Rattle.std.specs.Prelude.{ℕ, ◌≡◌, ◌+◌, ◌*◌, ◌/◌, ◌%◌, ◌^◌, ◌<◌, ◌≤◌}
+use Rattle.std.specs.Int.{bit_at}
+
+-- the number of the `width` bits from bit `low` on
+abbrev pub field_of : ℕ → ℕ → ℕ → ℕ
+field_of word low width = word / 2 ^ low % 2 ^ width
+
+-- `value` is those bits of `word`, bit by bit
+pub record IsField (word low width value : ℕ) : Type 0 where
+  pub fits : value < 2 ^ width
+  pub bits : (i : ℕ) → i < width → bit_at value i ≡ bit_at word (low + i)
+
+-- the word with those bits replaced: what stands above them, `value`, what stands below them
+abbrev pub with_field_of : ℕ → ℕ → ℕ → ℕ → ℕ
+with_field_of word low width value =
+    (word / 2 ^ (low + width) * 2 ^ width + value) * 2 ^ low + word % 2 ^ low
+
+-- `new` has `value` in those bits and is `old` in all others
+pub record ReplacesField (old low width value new : ℕ) : Type 0 where
+  pub below : (i : ℕ) → i < low → bit_at new i ≡ bit_at old i
+  pub inside : (i : ℕ) → i < width → bit_at new (low + i) ≡ bit_at value i
+  pub above : (i : ℕ) → low + width ≤ i → bit_at new i ≡ bit_at old i

@@ -1,0 +1,46 @@
+ghost use Rattle.std.specs.Prelude.{◌≡◌, ◌+◌, ◌<◌, ◌≤◌, ◌^◌};
+ghost use Rattle.iom_bits.specs.Bits.{field_of, with_field_of, IsField, ReplacesField};
+ghost use Rattle.iom_bits.specs.Bytes.{number_of_bytes};
+
+/// The `width` bits of `word` from bit `low` on, as a number. Bit 0 is the lowest.
+pub fn field(word: u64, low: u32, width: u32) -> u64
+    requires some { 1 ≤ width }
+    requires within { low + width ≤ 64 }
+    ensures value { result ≡ field_of word low width }
+    ensures bits { IsField word low width result }
+{
+    (word >> low) & (u64::MAX >> (64 - width))
+}
+
+/// `word` with the `width` bits from bit `low` on replaced by those of `value`.
+pub fn with_field(word: u64, low: u32, width: u32, value: u64) -> u64
+    requires some { 1 ≤ width }
+    requires within { low + width ≤ 64 }
+    requires fits { value < 2 ^ width }
+    ensures value { result ≡ with_field_of word low width value }
+    ensures replaces { ReplacesField word low width value result }
+{
+    let mask = (u64::MAX >> (64 - width)) << low;
+    (word & !mask) | (value << low)
+}
+
+/// The number of two bytes, the lowest first.
+pub fn le_u16(bytes: [u8; 2]) -> u16
+    ensures { result ≡ number_of_bytes bytes }
+{
+    u16::from_le_bytes(bytes)
+}
+
+/// The number of four bytes, the lowest first.
+pub fn le_u32(bytes: [u8; 4]) -> u32
+    ensures { result ≡ number_of_bytes bytes }
+{
+    u32::from_le_bytes(bytes)
+}
+
+/// The number of eight bytes, the lowest first.
+pub fn le_u64(bytes: [u8; 8]) -> u64
+    ensures { result ≡ number_of_bytes bytes }
+{
+    u64::from_le_bytes(bytes)
+}
