@@ -1,7 +1,7 @@
 -- What masks and shifts do to the bits of a word.
-use Rattle.std.proofs.Common.{◌≡◌, ◌+◌, ◌-◌, ◌*◌, ◌/◌, ◌%◌, ◌^◌, ◌<◌, ◌≤◌, ◌⊎◌, ℕ, sym, ◌∙◌, ap, subst, refl, inl, inr, arith, bit_and, bit_or, w64, min, max, add_comm, lit<}
-use Rattle.std.specs.Int.{bit_at, bit_not}
-use Rattle.std.proofs.lemmas.Nat.{and_mask, mod_below, pow_pos, pow-add, shr-shr, shr_split, shl_whole, shl_below, pow_below, and_le_l, or_lt}
+use Rattle.std.proofs.Common.{◌≡◌, ◌+◌, ◌-◌, ◌*◌, ◌/◌, ◌%◌, ◌^◌, ◌<◌, ◌≤◌, ℕ, sym, ◌∙◌, ap, subst, inl, inr, arith, bit_and, bit_or, w64, min, max, add_comm, lit<}
+use Rattle.std.specs.Int.{bit_at}
+use Rattle.std.proofs.lemmas.Nat.{and_mask, mod_below, pow_pos, pow-add, shr-shr, shr_split, shl_whole, shl_below, and_le_l, or_lt}
 use Rattle.std.proofs.Math.Nat.{pow-le-pow_right}
 use Rattle.std.proofs.lemmas.Nat.Bits.{ones_shr, bit_at_cat_low, bit_at_cat_high, bit_at_above, bit_at_and, bit_at_or, bit_at_not, bit_at-lt, bit_at-zero, bit_at_mask_below, bit_at_mask_inside, bit_at_mask_above, same_from_bits}
 use Rattle.std.proofs.lemmas.Bool.{cases_lt}
@@ -18,9 +18,9 @@ bit_at-low word count i below =
 
 pub field_is : (word low width : ℕ) → IsField word low width (field_of word low width)
 field_is word low width = record {
-    fits = mod_below (word / 2 ^ low) (2 ^ width) (pow_pos width);
-    bits = λ i below. bit_at-low (word / 2 ^ low) width i below ∙ bit_at-shr word low i;
-  }
+  fits = mod_below (word / 2 ^ low) (2 ^ width) (pow_pos width);
+  bits = λ i below. bit_at-low (word / 2 ^ low) width i below ∙ bit_at-shr word low i;
+}
 
 pub field_by_mask : (word low width : ℕ) → 1 ≤ width → low + width ≤ 64 →
     bit_and (word / 2 ^ low) (18446744073709551615 / 2 ^ (64 - width)) ≡ field_of word low width
@@ -34,14 +34,16 @@ pub replaced_once : (old low width value a b : ℕ) →
     ReplacesField old low width value a → ReplacesField old low width value b → a ≡ b
 replaced_once old low width value a b p q = same_from_bits a b (λ i.
     elim (cases_lt i low) as (λ _. bit_at a i ≡ bit_at b i) [
-      inl below ↦ p.below i below ∙ sym (q.below i below)
-    | inr from ↦ elim (cases_lt i (low + width)) as (λ _. bit_at a i ≡ bit_at b i) [
-        inl inside ↦
-          let place : low + (i - low) ≡ i = omega arith in
-          let same : bit_at a (low + (i - low)) ≡ bit_at b (low + (i - low)) =
+      | inl below ↦ p.below i below ∙ sym (q.below i below)
+      | inr from ↦ elim (cases_lt i (low + width)) as (λ _. bit_at a i ≡ bit_at b i) [
+        | inl inside ↦
+            let place : low + (i - low) ≡ i = omega arith in
+            let same : bit_at a (low + (i - low)) ≡ bit_at b (low + (i - low)) =
             p.inside (i - low) (omega arith) ∙ sym (q.inside (i - low) (omega arith)) in
-          subst (λ (n : ℕ). bit_at a n ≡ bit_at b n) place same
-      | inr above ↦ p.above i above ∙ sym (q.above i above) ] ])
+            subst (λ (n : ℕ). bit_at a n ≡ bit_at b n) place same
+        | inr above ↦ p.above i above ∙ sym (q.above i above)
+      ]
+    ])
 
 pub with_field_is : (word low width value : ℕ) → value < 2 ^ width →
     ReplacesField word low width value (with_field_of word low width value)
@@ -51,14 +53,14 @@ with_field_is word low width value fits =
     record {
       below = λ i h. bit_at_cat_low (high * 2 ^ width + value) low (word % 2 ^ low) i h ∙ bit_at-low word low i h;
       inside = λ i h.
-        let back : low + i - low ≡ i = omega arith in
-        bit_at_cat_high (high * 2 ^ width + value) low (word % 2 ^ low) (low + i) rest (omega arith)
-        ∙ ap (bit_at (high * 2 ^ width + value)) back ∙ bit_at_cat_low high width value i h;
+          let back : low + i - low ≡ i = omega arith in
+          bit_at_cat_high (high * 2 ^ width + value) low (word % 2 ^ low) (low + i) rest (omega arith)
+          ∙ ap (bit_at (high * 2 ^ width + value)) back ∙ bit_at_cat_low high width value i h;
       above = λ i h.
-        let back : low + width + (i - low - width) ≡ i = omega arith in
-        bit_at_cat_high (high * 2 ^ width + value) low (word % 2 ^ low) i rest (omega arith)
-        ∙ bit_at_cat_high high width value (i - low) fits (omega arith)
-        ∙ bit_at-shr word (low + width) (i - low - width) ∙ ap (bit_at word) back;
+          let back : low + width + (i - low - width) ≡ i = omega arith in
+          bit_at_cat_high (high * 2 ^ width + value) low (word % 2 ^ low) i rest (omega arith)
+          ∙ bit_at_cat_high high width value (i - low) fits (omega arith)
+          ∙ bit_at-shr word (low + width) (i - low - width) ∙ ap (bit_at word) back;
     }
 
 one_less_times : (k n m : ℕ) → k + 1 ≡ n → k * m ≡ n * m - m
@@ -112,21 +114,22 @@ with_field_by_mask word low width value wide some within fits =
     let room : place < 2 ^ 64 = omega (arith, ap (λ n. 2 ^ n) (add_comm width low)) in
     rw (mask_is low width some within, shl_whole value width low 64 fits (omega arith)) record {
       below = λ i h.
-        let bit : bit_at word i < 2 = bit_at-lt word i in
-        let out : bit_at mask i ≡ 0 = bit_at_mask_below low (low + width) i h in
-        let none : bit_at place i ≡ 0 = shifted_below value low i h in
-        masked_bit word mask place i small (omega arith) ∙ omega arith;
+          let bit : bit_at word i < 2 = bit_at-lt word i in
+          let out : bit_at mask i ≡ 0 = bit_at_mask_below low (low + width) i h in
+          let none : bit_at place i ≡ 0 = shifted_below value low i h in
+          masked_bit word mask place i small (omega arith) ∙ omega arith;
       inside = λ i h.
-        let bit : bit_at value i < 2 = bit_at-lt value i in
-        let set : bit_at mask (low + i) ≡ 1 = bit_at_mask_inside low (low + width) (low + i) (omega arith) (omega arith) in
-        let back : low + i - low ≡ i = omega arith in
-        let there : bit_at place (low + i) ≡ bit_at value i = shifted_from value low (low + i) (omega arith) ∙ ap (bit_at value) back in
-        masked_bit word mask place (low + i) small (omega arith) ∙ omega arith;
+          let bit : bit_at value i < 2 = bit_at-lt value i in
+          let set : bit_at mask (low + i) ≡ 1 = bit_at_mask_inside low (low + width) (low + i) (omega arith) (omega arith) in
+          let back : low + i - low ≡ i = omega arith in
+          let there : bit_at place (low + i) ≡ bit_at value i = shifted_from value low (low + i) (omega arith) ∙ ap (bit_at value) back in
+          masked_bit word mask place (low + i) small (omega arith) ∙ omega arith;
       above = λ i h.
-        let bit : bit_at word i < 2 = bit_at-lt word i in
-        let out : bit_at mask i ≡ 0 = bit_at_mask_above low (low + width) i h in
-        let none : bit_at place i ≡ 0 = shifted_from value low i (omega arith) ∙ bit_at_above value width (i - low) fits (omega arith) in
-        elim (cases_lt i 64) as (λ _. bit_at (bit_or (bit_and word (18446744073709551615 - mask)) place) i ≡ bit_at word i) [
-          inl within_word ↦ masked_bit word mask place i small within_word ∙ omega arith
-        | inr beyond ↦ masked_above word mask place i wide room beyond ];
+          let bit : bit_at word i < 2 = bit_at-lt word i in
+          let out : bit_at mask i ≡ 0 = bit_at_mask_above low (low + width) i h in
+          let none : bit_at place i ≡ 0 = shifted_from value low i (omega arith) ∙ bit_at_above value width (i - low) fits (omega arith) in
+          elim (cases_lt i 64) as (λ _. bit_at (bit_or (bit_and word (18446744073709551615 - mask)) place) i ≡ bit_at word i) [
+            | inl within_word ↦ masked_bit word mask place i small within_word ∙ omega arith
+            | inr beyond ↦ masked_above word mask place i wide room beyond
+          ];
     }

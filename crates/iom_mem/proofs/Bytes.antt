@@ -1,6 +1,6 @@
 -- Bytes of memory from an address on: all inside, or one outside.
-use Rattle.std.proofs.Common.{◌≡◌, ◌+◌, ◌-◌, ◌<◌, ◌≤◌, ℕ, zero, suc, List, [], ◌∷◌, ◌++◌, length, take, drop, get_or, Option, Some, None, Bool, true, false, nat_eq, sym, ◌∙◌, ap, subst, refl, inl, inr, arith, leb}
-use Rattle.std.specs.Prelude.{slice_get, nat_le}
+use Rattle.std.proofs.Common.{◌≡◌, ◌+◌, ◌-◌, ◌<◌, ◌≤◌, ℕ, zero, suc, List, [], ◌∷◌, length, take, drop, get_or, Option, Some, None, Bool, false, nat_eq, sym, ◌∙◌, ap, refl, inl, inr, arith}
+use Rattle.std.specs.Prelude.{slice_get}
 use Rattle.std.specs.Bool.{OnTrue}
 use Rattle.std.specs.Option.{is_some}
 use Rattle.std.proofs.lemmas.List.{drop_more}
@@ -59,7 +59,7 @@ bytes_at_inside memory addr at zero e h = refl
 bytes_at_inside memory addr at (suc count) e h =
     let first : byte memory addr ≡ Some (get_or memory.bytes at 0) = byte_inside memory addr at e (omega arith) in
     let rest : bytes_at memory (addr + 1) count ≡ Some (take count (drop (at + 1) memory.bytes)) =
-      bytes_at_inside memory (addr + 1) (at + 1) count (omega arith) (omega arith) in
+    bytes_at_inside memory (addr + 1) (at + 1) count (omega arith) (omega arith) in
     rw (first, rest, drop_more memory.bytes at 0 (omega arith)) refl
 
 pub bytes_at_below : (memory : Memory) (addr count : ℕ) → addr < memory.base → 0 < count → bytes_at memory addr count ≡ None
@@ -73,5 +73,6 @@ unfolding bytes_at
 bytes_at_past memory addr zero h some = absurd (omega arith)
 bytes_at_past memory addr (suc count) h some =
     elim (cases_lt addr (memory.base + length memory.bytes)) as (λ _. before (byte memory addr) (bytes_at memory (addr + 1) count) ≡ None) [
-      inl near ↦ ap (before (byte memory addr)) (bytes_at_past memory (addr + 1) count (omega arith) (omega arith)) ∙ before-none (byte memory addr)
-    | inr past ↦ ap (λ b. before b (bytes_at memory (addr + 1) count)) (byte_past memory addr past) ]
+      | inl near ↦ ap (before (byte memory addr)) (bytes_at_past memory (addr + 1) count (omega arith) (omega arith)) ∙ before-none (byte memory addr)
+      | inr past ↦ ap (λ b. before b (bytes_at memory (addr + 1) count)) (byte_past memory addr past)
+    ]

@@ -10,6 +10,9 @@ use std::alloc::Global;
 use std::marker::Model;
 use thiserror::Error;
 
+#[cfg(test)]
+mod tests;
+
 /// Why there is no memory of the base and size that were asked for.
 #[derive(Clone, Copy, Debug, PartialEq, Eq, Hash, Error)]
 pub enum MemFault {
@@ -64,7 +67,11 @@ impl Ram {
         if size == 0 || size % 4096 != 0 || size > MOST_BYTES || base > ADDRESS_END - size {
             return Err(MemFault::BadSize);
         }
-        let bytes = vec![in alloc; 0u8; size as usize].map_err(|_| MemFault::OutOfMemory)?;
+        // One allocation and one fill of it; `vec!` would write it byte by byte.
+        let mut bytes = Vec::new(alloc);
+        bytes
+            .resize(size as usize, 0)
+            .map_err(|_| MemFault::OutOfMemory)?;
         Ok(Ram { base, bytes })
     }
 
@@ -86,6 +93,7 @@ impl Ram {
 
     /// Reads the bytes from physical address `addr` on into `out`, and answers true; false where
     /// one of them is outside, and then `out` is unchanged. No bytes are read at any address.
+    #[tactic(auto, using(crate::proofs::Bytes::empty_read))]
     pub fn read(&self, addr: u64, out: &mut [u8]) -> bool
         ensures read { OnTrue result (bytes_at self.now addr (length out.old) ≡ Some out.new) }
         ensures outside { OnFalse result (bytes_at self.now addr (length out.old) ≡ None) }
@@ -102,6 +110,7 @@ impl Ram {
 
     /// Writes `bytes` from physical address `addr` on, and answers true; false where one of the
     /// places is outside, and then nothing is changed. No bytes are written at any address.
+    #[tactic(auto, using(crate::proofs::Bytes::empty_write))]
     pub fn write(&mut self, addr: u64, bytes: &[u8]) -> bool
         ensures inside { result ≡ is_some (bytes_at self.old addr (length bytes.now)) }
         ensures written { OnTrue result (self.new ≡ put self.old addr bytes.now) }
