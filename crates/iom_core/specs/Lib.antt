@@ -1,0 +1,5 @@
+pub mod Registers
+pub mod State
+pub mod Access
+pub mod Table
+pub mod Run

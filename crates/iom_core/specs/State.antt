@@ -1,0 +1,11 @@
+-- The platform's state.
+use Rattle.iom_mem.specs.Memory.{Memory}
+use Rattle.iom_core.specs.Registers.{Registers, reset}
+
+pub record State : Type 0 where
+  pub memory : Memory
+  pub registers : Registers
+
+-- a platform that nothing has happened to yet
+abbrev pub opening : Memory → State
+opening memory = record { memory = memory; registers = reset }

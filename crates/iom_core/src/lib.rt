@@ -1,0 +1,10 @@
+//! The platform: memory, the IOMMU and the steps that its actors take.
+#![tactic(auto)]
+
+pub use platform::Platform;
+pub use step::{Answer, Step};
+
+mod platform;
+mod port;
+mod registers;
+mod step;

@@ -1,0 +1,65 @@
+ghost use Rattle.std.specs.Prelude.{◌≡◌, ◌<◌, ◌≤◌, ◌+◌, ◌%◌, ℕ, length, Ok, Some, None, IfOk, is_some};
+ghost use Rattle.iom_core.specs.declared.port.Access.TheVariants.{Granted, Denied, Outside};
+
+use crate::registers::{Mode, RegisterFile};
+use iom_bits::Cause;
+use iom_mem::Ram;
+
+/// How the bus answers a device's access.
+#[derive(Clone, Copy, Debug, PartialEq, Eq, Hash)]
+pub enum Access {
+    Granted,
+    Denied(Cause),
+    Outside,
+}
+
+/// A device's way to memory: what it takes of the platform for one access.
+#[derive(Drop)]
+pub struct Port<'a> {
+    pub ram: &'a mut Ram,
+    pub registers: &'a RegisterFile,
+}
+
+impl Port<'_> {
+    ghost use Rattle.iom_mem.specs.Memory.{bytes_at, put};
+    ghost use Rattle.iom_core.specs.Access.{address_of, answer_at, UnlessGranted, IfGranted};
+
+    /// Reads the bytes at `iova` into `out`, which is unchanged unless the access is granted.
+    pub fn read(&mut self, iova: u64, out: &mut [u8]) -> Access
+        ensures answer { result ≡ answer_at self.old.ram.now (length out.old) (address_of self.old.registers.now iova) }
+        ensures bytes { IfGranted result (IfOk (address_of self.old.registers.now iova) (λ addr. bytes_at self.old.ram.now addr (length out.old) ≡ Some out.new)) }
+        ensures unchanged { UnlessGranted result (out.new ≡ out.old) }
+        ensures memory { self.new.ram.now ≡ self.old.ram.now }
+        ensures same_reference { self.new.ram.ghost_name ≡ self.old.ram.ghost_name }
+    {
+        match self.registers.mode() {
+            Mode::Off => Access::Denied(Cause::Off),
+            Mode::Bare => {
+                if self.ram.read(iova, out) {
+                    Access::Granted
+                } else {
+                    Access::Outside
+                }
+            }
+        }
+    }
+
+    /// Writes `bytes` at `iova`. Memory is unchanged unless the access is granted.
+    pub fn write(&mut self, iova: u64, bytes: &[u8]) -> Access
+        ensures answer { result ≡ answer_at self.old.ram.now (length bytes.now) (address_of self.old.registers.now iova) }
+        ensures written { IfGranted result (IfOk (address_of self.old.registers.now iova) (λ addr. self.new.ram.now ≡ put self.old.ram.now addr bytes.now)) }
+        ensures unchanged { UnlessGranted result (self.new.ram.now ≡ self.old.ram.now) }
+        ensures same_reference { self.new.ram.ghost_name ≡ self.old.ram.ghost_name }
+    {
+        match self.registers.mode() {
+            Mode::Off => Access::Denied(Cause::Off),
+            Mode::Bare => {
+                if self.ram.write(iova, bytes) {
+                    Access::Granted
+                } else {
+                    Access::Outside
+                }
+            }
+        }
+    }
+}
