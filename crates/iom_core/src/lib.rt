@@ -8,3 +8,5 @@ mod platform;
 mod port;
 mod registers;
 mod step;
+#[cfg(test)]
+mod tests;

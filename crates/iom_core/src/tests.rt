@@ -1,0 +1,41 @@
+use crate::{Answer, Platform, Step};
+use iom_mem::Ram;
+use std::test::Fail;
+
+const BASE: u64 = 0x8000_0000;
+
+#[test]
+fn device_reads_what_the_hart_stored(rt: HostRuntime) -> Result<(), Fail> {
+    let ram = Ram::new(rt.alloc(), BASE, 0x10_0000)?;
+    let mut platform = Platform::new(rt.alloc(), ram)?;
+    let steps = [
+        Step::Store {
+            addr: BASE,
+            size: 8,
+            value: 0x0807_0605_0403_0201,
+        },
+        Step::RegWrite {
+            off: 16,
+            size: 8,
+            value: 1,
+        },
+        Step::DmaRead {
+            did: 5,
+            iova: BASE,
+            len: 8,
+        },
+    ];
+    let mut answers = [Answer::Idle, Answer::Idle, Answer::Idle];
+    platform.run(&steps, &mut answers);
+    assert_eq!(rt; answers[0], Answer::Done);
+    assert_eq!(rt; answers[1], Answer::Done);
+    match &answers[2] {
+        Answer::Bytes(bytes) => assert_eq!(rt;
+            bytes.as_slice(),
+            [1, 2, 3, 4, 5, 6, 7, 8].as_slice()
+        ),
+        other => panic!(rt; "answered {other:?}"),
+    }
+    assert_eq!(rt; platform.ram().word(BASE), Some(0x0807_0605_0403_0201));
+    Ok(())
+}

@@ -1,0 +1,80 @@
+-- Lines and the output to them.
+use Rattle.std.specs.Prelude.{ℕ, ◌≡◌, ◌==◌, ◌++◌, List, [], ◌∷◌, length, codes, Option, Some, None, if◌then◌else◌}
+use Rattle.std.specs.List.{slice_split, flat_map}
+use Rattle.iom_core.specs.State.{State}
+use Rattle.iom_core.specs.Table.{next}
+use Rattle.iom_core.specs.Run.{end_of}
+use Rattle.iom_core.specs.declared.step.Step.{Step}
+use Rattle.iom_tool.specs.declared.script.Line.{Line}
+use Rattle.iom_tool.specs.declared.script.Line.TheVariants as line
+use Rattle.iom_tool.specs.Script.{line_of}
+use Rattle.iom_tool.specs.Texts.{text_of}
+
+-- what is answered to a line in a state; None: nothing
+abbrev pub reply : State → Line → Option (List ℕ)
+reply state line.Blank = None
+reply state line.Bad = Some (codes "bad")
+reply state (line.Does step) = Some (text_of (next state step).answer)
+
+-- the steps that a line is, one or none
+abbrev pub steps_in : Line → List Step
+steps_in line.Blank = []
+steps_in line.Bad = []
+steps_in (line.Does step) = step ∷ []
+
+abbrev pub steps_of : List ℕ → List Step
+steps_of text = steps_in (line_of text)
+
+-- the state after the steps of some lines
+abbrev pub after : State → List (List ℕ) → State
+after state lines = end_of state (flat_map steps_of lines)
+
+-- an answer with its line end
+abbrev pub printed : Option (List ℕ) → List ℕ
+printed None = []
+printed (Some text) = text ++ 10 ∷ []
+
+-- what is written for one line
+abbrev pub output_to : State → List ℕ → List ℕ
+output_to state text = printed (reply state (line_of text))
+
+-- what is written for some lines, each answered in the state after those before
+abbrev pub output_of : State → List (List ℕ) → List ℕ
+output_of state [] = []
+output_of state (text ∷ lines) = output_to state text ++ output_of (end_of state (steps_of text)) lines
+
+-- all but the last, and the last, of a list that begins with `first`
+abbrev pub all_but_last : List ℕ → List (List ℕ) → List (List ℕ)
+all_but_last first [] = []
+all_but_last first (second ∷ rest) = first ∷ all_but_last second rest
+
+abbrev pub last_of : List ℕ → List (List ℕ) → List ℕ
+last_of first [] = first
+last_of first (second ∷ rest) = last_of second rest
+
+-- the lines of a text that have their end, and what stands after the last of them
+abbrev pub ended_in : List (List ℕ) → List (List ℕ)
+ended_in [] = []
+ended_in (first ∷ rest) = all_but_last first rest
+
+abbrev pub open_in : List (List ℕ) → List ℕ
+open_in [] = []
+open_in (first ∷ rest) = last_of first rest
+
+abbrev pub ended_lines : List ℕ → List (List ℕ)
+ended_lines text = ended_in (slice_split (λ c. c == 10) text)
+
+abbrev pub open_line : List ℕ → List ℕ
+open_line text = open_in (slice_split (λ c. c == 10) text)
+
+-- a last line that lacks its end is one where it has a byte
+abbrev pub last_line : List ℕ → List (List ℕ)
+last_line [] = []
+last_line (byte ∷ bytes) = (byte ∷ bytes) ∷ []
+
+abbrev pub lines_of : List ℕ → List (List ℕ)
+lines_of text = ended_lines text ++ last_line (open_line text)
+
+-- what is written for a whole script
+abbrev pub output : State → List ℕ → List ℕ
+output state text = output_of state (lines_of text)

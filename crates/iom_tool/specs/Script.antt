@@ -1,0 +1,143 @@
+-- What a line of a script says: nothing, a step, or no line that there is.
+use Rattle.std.specs.Prelude.{ℕ, ◌≡◌, ◌==◌, ◌||◌, Bool, nat_lt, List, [], ◌∷◌, length, codes, bytes_eq, Option, Some, None, if◌then◌else◌}
+use Rattle.std.specs.Option.{option_and_then}
+use Rattle.std.specs.List.{list_any}
+use Rattle.iom_core.specs.declared.step.Step.{Step}
+use Rattle.iom_core.specs.declared.step.Step.TheVariants as step
+use Rattle.iom_tool.specs.declared.script.Line.{Line}
+use Rattle.iom_tool.specs.declared.script.Line.TheVariants as line
+use Rattle.iom_tool.specs.Words.{words_of, number, bytes_of}
+
+-- the second, where there is a first
+infixl 10 ◌>>=◌
+abbrev pub ◌>>=◌ : {A B : Type 0} → Option A → (A → Option B) → Option B
+found >>= f = option_and_then f found
+
+-- load ADDR SIZE
+unfoldable pub load : List (List ℕ) → Option Step
+load (addr ∷ size ∷ []) = do
+  addr ← number addr
+  size ← number size
+  Some (step.Load addr size)
+load _ = None
+
+-- store ADDR SIZE VALUE
+unfoldable pub store : List (List ℕ) → Option Step
+store (addr ∷ size ∷ value ∷ []) = do
+  addr ← number addr
+  size ← number size
+  value ← number value
+  Some (step.Store addr size value)
+store _ = None
+
+-- reg read OFF SIZE
+unfoldable pub reg_read : List (List ℕ) → Option Step
+reg_read (off ∷ size ∷ []) = do
+  off ← number off
+  size ← number size
+  Some (step.RegRead off size)
+reg_read _ = None
+
+-- reg write OFF SIZE VALUE
+unfoldable pub reg_write : List (List ℕ) → Option Step
+reg_write (off ∷ size ∷ value ∷ []) = do
+  off ← number off
+  size ← number size
+  value ← number value
+  Some (step.RegWrite off size value)
+reg_write _ = None
+
+unfoldable pub reg : List (List ℕ) → Option Step
+reg [] = None
+reg (way ∷ operands) =
+    if bytes_eq way (codes "read") then reg_read operands
+    else if bytes_eq way (codes "write") then reg_write operands
+    else None
+
+-- cmd
+unfoldable pub cmd : List (List ℕ) → Option Step
+cmd [] = Some step.Command
+cmd _ = None
+
+-- dma read DID IOVA LEN
+unfoldable pub dma_read : List (List ℕ) → Option Step
+dma_read (did ∷ iova ∷ len ∷ []) = do
+  did ← number did
+  iova ← number iova
+  len ← number len
+  Some (step.DmaRead did iova len)
+dma_read _ = None
+
+-- dma write DID IOVA DATA
+unfoldable pub dma_write : List (List ℕ) → Option Step
+dma_write (did ∷ iova ∷ bytes ∷ []) = do
+  did ← number did
+  iova ← number iova
+  bytes ← bytes_of bytes
+  Some (step.DmaWrite did iova (record { items = bytes }))
+dma_write _ = None
+
+unfoldable pub dma : List (List ℕ) → Option Step
+dma [] = None
+dma (way ∷ operands) =
+    if bytes_eq way (codes "read") then dma_read operands
+    else if bytes_eq way (codes "write") then dma_write operands
+    else None
+
+-- dev read N OFF SIZE
+unfoldable pub dev_read : List (List ℕ) → Option Step
+dev_read (dev ∷ off ∷ size ∷ []) = do
+  dev ← number dev
+  off ← number off
+  size ← number size
+  Some (step.DevRead dev off size)
+dev_read _ = None
+
+-- dev write N OFF SIZE VALUE
+unfoldable pub dev_write : List (List ℕ) → Option Step
+dev_write (dev ∷ off ∷ size ∷ value ∷ []) = do
+  dev ← number dev
+  off ← number off
+  size ← number size
+  value ← number value
+  Some (step.DevWrite dev off size value)
+dev_write _ = None
+
+-- dev step N
+unfoldable pub dev_step : List (List ℕ) → Option Step
+dev_step (dev ∷ []) = do
+  dev ← number dev
+  Some (step.Device dev)
+dev_step _ = None
+
+unfoldable pub dev : List (List ℕ) → Option Step
+dev [] = None
+dev (way ∷ operands) =
+    if bytes_eq way (codes "read") then dev_read operands
+    else if bytes_eq way (codes "write") then dev_write operands
+    else if bytes_eq way (codes "step") then dev_step operands
+    else None
+
+-- by its first word
+unfoldable pub step_of : List ℕ → List (List ℕ) → Option Step
+step_of verb operands =
+    if bytes_eq verb (codes "load") then load operands
+    else if bytes_eq verb (codes "store") then store operands
+    else if bytes_eq verb (codes "reg") then reg operands
+    else if bytes_eq verb (codes "cmd") then cmd operands
+    else if bytes_eq verb (codes "dma") then dma operands
+    else if bytes_eq verb (codes "dev") then dev operands
+    else None
+
+abbrev pub step_or_bad : Option Step → Line
+step_or_bad (Some step) = line.Does step
+step_or_bad None = line.Bad
+
+unfoldable pub meaning : List (List ℕ) → Line
+meaning [] = line.Blank
+meaning (verb ∷ operands) = step_or_bad (step_of verb operands)
+
+-- a line of at most 512 bytes, without its end
+unfoldable pub line_of : List ℕ → Line
+line_of text =
+    if nat_lt 512 (length text) || list_any (λ c. c == 10) text then line.Bad else meaning (words_of text)
