@@ -1,5 +1,5 @@
 -- What digits write.
-use Rattle.std.proofs.Common.{◌≡◌, ◌+◌, ◌*◌, ◌^◌, ◌<◌, ◌≤◌, ◌==◌, ◌&&◌, ℕ, zero, suc, List, [], ◌∷◌, length, drop, get_or, Bool, true, false, Option, Some, None, nat_lt, nat_eq, sym, ◌∙◌, ap, refl, arith}
+use Rattle.std.proofs.Common.{◌≡◌, ◌+◌, ◌*◌, ◌^◌, ◌<◌, ◌≤◌, ◌&&◌, ℕ, List, [], ◌∷◌, length, drop, get_or, Bool, true, false, Some, None, nat_lt, nat_eq, sym, ◌∙◌, ap, refl, arith}
 use Rattle.std.specs.Char.{is_digit, digit_value}
 use Rattle.std.specs.List.{list_all}
 use Rattle.std.specs.Str.Parse.{digits_value, digits_value_after}
@@ -17,7 +17,7 @@ no_less : (radix value : ℕ) (word : List ℕ) → 1 ≤ radix → value ≤ di
 no_less radix value [] some = omega arith
 no_less radix value (c ∷ word) some =
     let rest : value * radix + digit_value c ≤ digits_value_after radix (value * radix + digit_value c) word =
-      no_less radix (value * radix + digit_value c) word some in
+    no_less radix (value * radix + digit_value c) word some in
     at_least radix value (digit_value c) (digits_value_after radix (value * radix + digit_value c) word) some rest
 
 refused : (a b : Bool) (number : ℕ) → 2 ^ 64 ≤ number → a && b && nat_lt number (2 ^ 64) ≡ false
@@ -29,10 +29,10 @@ pub too_large : (radix : ℕ) (word : List ℕ) (value at digit : ℕ) → 1 ≤
 unfolding number_in
 too_large radix word value at digit some inside same is large =
     let more : value * radix + digit ≤ digits_value_after radix (value * radix + digit) (drop (at + 1) word) =
-      no_less radix (value * radix + digit) (drop (at + 1) word) some in
+    no_less radix (value * radix + digit) (drop (at + 1) word) some in
     let step : digits_value radix word ≡ digits_value_after radix (value * radix + digit) (drop (at + 1) word) =
-      same ∙ ap (digits_value_after radix value) (drop_more word at 0 inside)
-      ∙ ap (λ d. digits_value_after radix (value * radix + d) (drop (at + 1) word)) (sym is) in
+    same ∙ ap (digits_value_after radix value) (drop_more word at 0 inside)
+    ∙ ap (λ d. digits_value_after radix (value * radix + d) (drop (at + 1) word)) (sym is) in
     let over : 2 ^ 64 ≤ digits_value radix word = omega (arith, step, more, large) in
     rw (refused (nat_lt 0 (length word)) (list_all (λ c. is_digit c radix) word) (digits_value radix word) over) refl
 

@@ -2,3 +2,4 @@ pub mod Words
 pub mod Script
 pub mod Texts
 pub mod Output
+pub mod Running

@@ -1,5 +1,5 @@
 -- Lines and the output to them.
-use Rattle.std.specs.Prelude.{ℕ, ◌≡◌, ◌==◌, ◌++◌, List, [], ◌∷◌, length, codes, Option, Some, None, if◌then◌else◌}
+use Rattle.std.specs.Prelude.{ℕ, ◌==◌, ◌++◌, List, [], ◌∷◌, codes, Option, Some, None}
 use Rattle.std.specs.List.{slice_split, flat_map}
 use Rattle.iom_core.specs.State.{State}
 use Rattle.iom_core.specs.Table.{next}

@@ -174,9 +174,7 @@ fn dev_step(operands: &[&[u8]]) -> Option<Step>
     let [dev] = operands else {
         return None;
     };
-    Some(Step::Device {
-        dev: number(dev)?,
-    })
+    Some(Step::Device { dev: number(dev)? })
 }
 
 #[tactic(auto, unfolding(crate::specs::Script::dev))]

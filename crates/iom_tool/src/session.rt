@@ -1,4 +1,4 @@
-ghost use Rattle.std.specs.Prelude.{◌≡◌, [], Option};
+ghost use Rattle.std.specs.Prelude.{◌≡◌, []};
 ghost use Rattle.std.specs.Option.{option_map, unwrap_or};
 ghost use Rattle.iom_core.specs.Run.{end_of};
 ghost use Rattle.iom_tool.specs.Script.{line_of};
@@ -20,8 +20,31 @@ pub fn answer_to(platform: &mut Platform, text: &[u8]) -> Option<Reply>
     }
 }
 
-/// Lines given one at a time.
+/// A script given a line at a time.
 #[derive(Drop)]
 pub struct Session<'a> {
-    platform: &'a mut Platform,
+    /// The platform that its lines drive.
+    pub platform: &'a mut Platform,
+}
+
+impl<'a> Session<'a> {
+    pub fn new(platform: &'a mut Platform) -> Session<'a>
+        ensures same_reference { result.platform.ghost_name ≡ platform.entry.ghost_name }
+        ensures platform { result.platform.now ≡ platform.old }
+    {
+        Session { platform }
+    }
+
+    /// Carries out a line, given without its line end, and answers its text: empty for a blank line,
+    /// `bad` for what is no line, as where the text is above 512 bytes or holds a line end.
+    pub fn line(&mut self, text: &[u8]) -> Reply
+        ensures reply { result.items ≡ unwrap_or (reply self.old.platform.now (line_of text.now)) [] }
+        ensures state { self.new.platform.now ≡ end_of self.old.platform.now (steps_of text.now) }
+        ensures same_reference { self.new.platform.ghost_name ≡ self.old.platform.ghost_name }
+    {
+        match answer_to(self.platform, text) {
+            Some(reply) => reply,
+            None => Reply::new(),
+        }
+    }
 }

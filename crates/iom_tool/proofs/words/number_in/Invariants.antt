@@ -7,7 +7,7 @@ use Rattle.iom_tool.proofs.words.number_in.Given as goal
 -- what is left gives the number, and decides whether all are digits
 abbrev pub invariant-loop-c : goal.invariant-loop-c
 invariant-loop-c l = record {
-    value : digits_value l.radix l.word ≡ digits_value_after l.radix l.value (drop l.c-index l.word);
-    digits : list_all (λ c. is_digit c l.radix) l.word ≡ list_all (λ c. is_digit c l.radix) (drop l.c-index l.word);
-    fits : l.value < 2 ^ 64;
-  }
+  value : digits_value l.radix l.word ≡ digits_value_after l.radix l.value (drop l.c-index l.word);
+  digits : list_all (λ c. is_digit c l.radix) l.word ≡ list_all (λ c. is_digit c l.radix) (drop l.c-index l.word);
+  fits : l.value < 2 ^ 64;
+}

@@ -1,4 +1,4 @@
-use Rattle.std.proofs.Common.{◌<◌, length, nat_lt, rules, tests}
+use Rattle.std.proofs.Common.{length, nat_lt, rules, tests}
 use Rattle.std.proofs.lemmas.Iterator.{YieldsList-from_take}
 use Rattle.std.proofs.lemmas.Iterator.Consumers.{YieldsList-end, YieldsList-at, YieldsList-from_filter}
 use Rattle.std.proofs.lemmas.Iterator.Splits.{YieldsList-from_slice_split}

@@ -1,0 +1,37 @@
+-- The digits of a number, written from the front.
+use Rattle.std.proofs.Common.{◌≡◌, ◌+◌, ◌/◌, ◌%◌, ◌^◌, ◌<◌, ◌≤◌, ◌++◌, ℕ, List, [], ◌∷◌, length, map, false, ◌∙◌, ap, arith, append_assoc, length-append}
+use Rattle.std.specs.Fmt.{digit_glyph}
+use Rattle.std.specs.Int.Digits.{digits_of}
+use Rattle.std.proofs.lemmas.List.{map-append, length-map}
+use Rattle.std.proofs.lemmas.Int.Digits.{digits_of_step, length-digits_of_step, length-digits_of-le}
+use Rattle.iom_tool.specs.Texts.{digits_in}
+
+pub room_before : (radix number used : ℕ) → 2 ≤ radix → 0 < number → used + length (digits_of radix number) ≤ 256 →
+    used + length (digits_of radix (number / radix)) < 256
+room_before radix number used least some room = omega (arith, length-digits_of_step radix number least some)
+
+pub room_for_last : (radix number : ℕ) (before now : List ℕ) → 2 ≤ radix → 0 < number →
+    length before + length (digits_of radix number) ≤ 256 → now ≡ before ++ digits_in radix (number / radix) → length now < 256
+room_for_last radix number before now least some room is =
+    omega (
+      arith,
+      room_before radix number (length before) least some room,
+      ap length is,
+      length-append before (digits_in radix (number / radix)),
+      length-map (digits_of radix (number / radix)) (digit_glyph false),
+    )
+
+pub last_written : (radix number glyph : ℕ) (before now : List ℕ) → 2 ≤ radix → 0 < number →
+    now ≡ before ++ digits_in radix (number / radix) → glyph ≡ digit_glyph false (number % radix) →
+    now ++ glyph ∷ [] ≡ before ++ digits_in radix number
+last_written radix number glyph before now least some is last =
+    let all : digits_in radix number ≡ digits_in radix (number / radix) ++ digit_glyph false (number % radix) ∷ [] =
+    ap (map (digit_glyph false)) (digits_of_step radix number least some)
+    ∙ map-append (digit_glyph false) (digits_of radix (number / radix)) (number % radix ∷ []) in
+    rw (is, last, all) (append_assoc before (digits_in radix (number / radix)) (digit_glyph false (number % radix) ∷ []))
+
+pub sixteen_digits : (number : ℕ) → number < 2 ^ 64 → length (digits_of 16 number) ≤ 16
+sixteen_digits number small = length-digits_of-le 16 16 number (omega arith) small
+
+pub five_digits : (number : ℕ) → number < 2 ^ 16 → length (digits_of 10 number) ≤ 5
+five_digits number small = length-digits_of-le 10 5 number (omega arith) (omega arith)

@@ -1,0 +1,129 @@
+-- What a run over a reader and a writer leaves, however it ends. A reader tells what it has left and a writer what it
+-- holds, or neither: None.
+use Rattle.std.specs.Prelude.{ℕ, ◌≡◌, ◌^◌, ◌<◌, ◌≤◌, ◌⊎◌, ◌++◌, List, [], ◌∷◌, length, take, Option, Result, Ok, Err}
+use Rattle.std.specs.Io.KnownBytes.{Appends, Consumes, IsAtEnd}
+use Rattle.iom_core.specs.State.{State}
+use Rattle.iom_tool.specs.declared.fault.RunFault.{RunFault}
+use Rattle.iom_tool.specs.declared.fault.RunFault.TheVariants as fault
+use Rattle.iom_tool.specs.Output.{after, output_of, ended_lines, open_line, lines_of, output}
+
+-- what the writer holds, and the platform's state
+pub record Progress : Type 0 where
+  pub written : Option (List ℕ)
+  pub state : State
+
+abbrev pub progress : Option (List ℕ) → State → Progress
+progress written state = record { written = written; state = state }
+
+-- at most 2^26 bytes and 2^20 lines, a line beginning with its first byte
+pub record IsWithinLimits (text : List ℕ) : Type 0 where
+  pub bytes : length text ≤ 2 ^ 26
+  pub lines : length (lines_of text) ≤ 2 ^ 20
+
+-- one more byte is too much
+abbrev pub IsAtLimit : List ℕ → Type 0
+IsAtLimit text = (length text ≡ 2 ^ 26) ⊎ (length (ended_lines text) ≡ 2 ^ 20)
+
+-- the steps of these lines are done, their answers are written, and nothing else
+pub record Answered (old new : Progress) (lines : List (List ℕ)) : Type 0 where
+  pub state : new.state ≡ after old.state lines
+  pub written : Appends old.written new.written (output_of old.state lines)
+
+-- the steps of these lines are done; the answers to all but the last stand whole, and of the answer to the last stands some
+-- front, or all where `last` is empty
+pub record HalfAnswered (old new : Progress) (lines : List (List ℕ)) : Type 0 where
+  pub whole : List (List ℕ)
+  pub last : List (List ℕ)
+  pub split : lines ≡ whole ++ last
+  pub one : length last ≤ 1
+  pub state : new.state ≡ after old.state lines
+  pub front : List ℕ
+  pub rest : List ℕ
+  pub answer : front ++ rest ≡ output_of (after old.state whole) last
+  pub written : Appends old.written new.written (output_of old.state whole ++ front)
+
+-- Ok: all that there was to read was read, and answered
+pub record IsDone (unread left : Option (List ℕ)) (old new : Progress) : Type 0 where
+  pub text : List ℕ
+  pub took : Consumes unread left text
+  pub all : IsAtEnd left
+  pub within : IsWithinLimits text
+  pub state : new.state ≡ after old.state (lines_of text)
+  pub written : Appends old.written new.written (output old.state text)
+
+-- a read failed: what was read before is a text whose lines that have their end are answered
+pub record StopsReading (unread left : Option (List ℕ)) (old new : Progress) : Type 0 where
+  pub text : List ℕ
+  pub took : Consumes unread left text
+  pub within : IsWithinLimits text
+  pub answered : Answered old new (ended_lines text)
+
+-- a write or the flush failed: the steps of the lines that were read whole are done
+pub record StopsWriting (unread left : Option (List ℕ)) (old new : Progress) : Type 0 where
+  pub text : List ℕ
+  pub took : Consumes unread left text
+  pub within : IsWithinLimits text
+  pub lines : List (List ℕ)
+  pub read : (lines ≡ ended_lines text) ⊎ (IsAtEnd left × (lines ≡ lines_of text))
+  pub answered : HalfAnswered old new lines
+
+-- a byte too much was read: the lines before that have their end are answered
+pub record StopsAtLimit (unread left : Option (List ℕ)) (old new : Progress) : Type 0 where
+  pub text : List ℕ
+  pub byte : ℕ
+  pub took : Consumes unread left (text ++ byte ∷ [])
+  pub limit : IsAtLimit text
+  pub answered : Answered old new (ended_lines text)
+
+abbrev pub Ends : Option (List ℕ) → Option (List ℕ) → Progress → Progress → Result (Unit {0}) RunFault → Type 0
+Ends unread left old new (Ok done) = IsDone unread left old new
+Ends unread left old new (Err fault.Read) = StopsReading unread left old new
+Ends unread left old new (Err fault.Write) = StopsWriting unread left old new
+Ends unread left old new (Err fault.TooLong) = StopsAtLimit unread left old new
+
+-- some front of a text stands written
+pub record WritesFront (old new : Option (List ℕ)) (text : List ℕ) : Type 0 where
+  pub front : List ℕ
+  pub rest : List ℕ
+  pub whole : front ++ rest ≡ text
+  pub written : Appends old new front
+
+-- A text was fed since `start`, in whatever pieces: its lines that have their end are answered, the line that is open is kept
+-- as far as it matters, and lines and bytes are counted
+pub record Fed (start now : Progress) (kept : List ℕ) (lines bytes : ℕ) (text : List ℕ) : Type 0 where
+  pub answered : Answered start now (ended_lines text)
+  pub keeps : kept ≡ take 513 (open_line text)
+  pub counts_lines : lines ≡ length (ended_lines text)
+  pub counts_bytes : bytes ≡ length text
+  pub within : IsWithinLimits text
+
+-- the same where a write failed within a piece
+pub record FailsInPiece (start now : Progress) (text piece : List ℕ) : Type 0 where
+  pub taken : List ℕ
+  pub left : List ℕ
+  pub split : piece ≡ taken ++ left
+  pub some : 0 < length taken
+  pub within : IsWithinLimits (text ++ taken)
+  pub answered : HalfAnswered start now (ended_lines (text ++ taken))
+
+-- the same where a byte of a piece was too much
+pub record EndsInPiece (start now : Progress) (text piece : List ℕ) : Type 0 where
+  pub taken : List ℕ
+  pub byte : ℕ
+  pub left : List ℕ
+  pub split : piece ≡ taken ++ byte ∷ left
+  pub limit : IsAtLimit (text ++ taken)
+  pub answered : Answered start now (ended_lines (text ++ taken))
+
+abbrev pub AfterPiece : Progress → Progress → List ℕ → ℕ → ℕ → List ℕ → List ℕ → Result (Unit {0}) RunFault → Type 0
+AfterPiece start now kept lines bytes text piece (Ok done) = Fed start now kept lines bytes (text ++ piece)
+AfterPiece start now kept lines bytes text piece (Err fault.Read) = ⊥
+AfterPiece start now kept lines bytes text piece (Err fault.Write) = FailsInPiece start now text piece
+AfterPiece start now kept lines bytes text piece (Err fault.TooLong) = EndsInPiece start now text piece
+
+-- after the end of the input
+abbrev pub AfterEnd : Progress → Progress → List ℕ → Result (Unit {0}) RunFault → Type 0
+AfterEnd start now text (Ok done) = Answered start now (lines_of text)
+AfterEnd start now text (Err fault.Read) = ⊥
+AfterEnd start now text (Err fault.Write) = HalfAnswered start now (lines_of text)
+AfterEnd start now text (Err fault.TooLong) = ⊥
