@@ -1,10 +1,42 @@
 # Short names over the toolchain's commands.
-.PHONY: test check-rt
+#
+#   make run < FILE           run a script on standard input; builds the program first where it is not current
+#   make test                 every proof from nothing, the edits that must be refused, every test
+#   make bench [OTHER=FILE]   lines per second, beside another program where one is named
+#   make install PREFIX=..    copy the program to PREFIX/bin, /usr/local/bin where PREFIX is not given
 
-check-rt:
-	@command -v rt >/dev/null || { echo "rt, the command of the Rattle kit, is not on the path" >&2; exit 1; }
+PREFIX = /usr/local
+program = crates/rviommu/out/rviommu
+sources = $(shell find crates -name out -prune -o -type f \( -name '*.rt' -o -name '*.antt' \) -print)
 
-# Every proof from nothing, the edits that must be refused, every test.
-test: check-rt
+# On standard error, so that standard output has the program's answers alone.
+has_rt = command -v rt >/dev/null || { echo "rt, the command of the Rattle kit, is not on the path" >&2; exit 1; }
+has_python = command -v python3 >/dev/null || { echo "python3 is not on the path" >&2; exit 1; }
+# rt builds the program and then runs it, here on nothing.
+build = cd crates/rviommu && rt run </dev/null >/dev/null
+
+.PHONY: run test bench install
+
+$(program): crates.txt $(sources)
+	@$(has_rt)
+	@$(build)
+	@touch $@
+
+run: $(program)
+	@$(program)
+
+test:
+	@$(has_rt)
+	@$(has_python)
 	rt ci
 	sh tests/refused_memory.sh
+	@test -x $(program) || { $(build); }
+	tests/program.py $(program)
+
+bench: $(program)
+	@$(has_python)
+	bench/bench.py $(program) $(OTHER)
+
+install: $(program)
+	install -d $(DESTDIR)$(PREFIX)/bin
+	install -m 755 $(program) $(DESTDIR)$(PREFIX)/bin/rviommu

@@ -11,5 +11,7 @@ mod feeder;
 mod running;
 mod script;
 mod session;
+#[cfg(test)]
+mod tests;
 mod text;
 mod words;

@@ -1,0 +1,496 @@
+#!/usr/bin/env python3
+"""program.py PROGRAM    Runs the built program from outside, and compares what it writes and how it ends.
+
+Prints one line a check, and 'program: N passed, M failed' at the end. The status is 1 where a check failed.
+"""
+import glob
+import os
+import re
+import resource
+import select
+import signal
+import subprocess
+import sys
+import tempfile
+import time
+import tty
+
+EXAMPLES = os.path.join(os.path.dirname(os.path.abspath(__file__)), os.pardir, "examples")
+ANSWER_SECONDS = 10
+RUN_SECONDS = 120
+QUIET_SECONDS = 0.2
+
+MOST_LINES = 2**20
+MOST_BYTES = 2**26
+MOST_IN_LINE = 512
+
+# A line with a known answer, of the built-in platform.
+ASK = b"reg read 8 4"
+ANSWER = b"0x2\n"
+
+READ_FAILED = (1, b"rviommu: read failed\n")
+WRITE_FAILED = (1, b"rviommu: write failed\n")
+TOO_LONG = (1, b"rviommu: script too long\n")
+OUT_OF_MEMORY = (1, b"rviommu: out of memory\n")
+WELL = (0, b"")
+
+
+class Failure(Exception):
+    """A check that isn't met, and why."""
+
+
+class Skip(Exception):
+    """A check that can't be tried here, and why."""
+
+
+CHECKS = []
+
+
+def check(name):
+    def add(function):
+        CHECKS.append((name, function))
+        return function
+
+    return add
+
+
+def short(data):
+    return repr(data) if len(data) <= 200 else f"{data[:100]!r} .. {data[-80:]!r} ({len(data)} bytes)"
+
+
+def want(what, seen, wanted):
+    if seen != wanted:
+        if isinstance(seen, bytes):
+            seen, wanted = short(seen), short(wanted)
+        raise Failure(f"{what} is {seen}, wanted {wanted}")
+
+
+def run(words=(), given=b"", at_pipe=False, **how):
+    """Runs the program on these bytes, in a file or a pipe; returns its status, standard output and standard error."""
+    with tempfile.TemporaryFile() as script, tempfile.TemporaryFile() as errors:
+        script.write(given)
+        script.seek(0)
+        source = {"input": given} if at_pipe else {"stdin": script}
+        how = {**source, "stdout": subprocess.PIPE, "stderr": errors, **how}
+        try:
+            ended = subprocess.run([PROGRAM, *words], timeout=RUN_SECONDS, **how)
+        except subprocess.TimeoutExpired:
+            raise Failure(f"the program had not ended after {RUN_SECONDS} seconds") from None
+        errors.seek(0)
+        return ended.returncode, ended.stdout, errors.read()
+
+
+def want_run(given, wanted_out, ending=WELL, **how):
+    """Wants a run without words to write exactly this, and to end with this status and text on standard error."""
+    status, out, errors = run((), given, **how)
+    if wanted_out is not None and out != wanted_out:
+        ended = f"status {status}, standard error {short(errors)}"
+        raise Failure(f"standard output is {short(out)}, wanted {short(wanted_out)} ({ended})")
+    want("status and standard error", (status, errors), ending)
+
+
+# A conversation over two pipes.
+
+
+class Talk:
+    def __init__(self):
+        self.errors = tempfile.TemporaryFile()
+        pipes = {"stdin": subprocess.PIPE, "stdout": subprocess.PIPE, "bufsize": 0}
+        self.program = subprocess.Popen([PROGRAM], stderr=self.errors, **pipes)
+
+    def __enter__(self):
+        return self
+
+    def __exit__(self, *_):
+        if self.program.poll() is None:
+            self.program.kill()
+        self.program.wait()
+        for file in (self.program.stdin, self.program.stdout, self.errors):
+            file.close()
+
+    def send(self, data):
+        try:
+            self.program.stdin.write(data)
+        except BrokenPipeError:
+            raise Failure(f"the program closed its input before {short(data)}") from None
+
+    def take(self, seconds):
+        """Returns what the program has written, or None after so many seconds with nothing."""
+        if not select.select([self.program.stdout], [], [], seconds)[0]:
+            return None
+        return os.read(self.program.stdout.fileno(), 1 << 16)
+
+    def want_answer(self, sent, wanted):
+        """Wants exactly this text, as soon as it is there."""
+        seen, until = b"", time.monotonic() + ANSWER_SECONDS
+        while seen.count(b"\n") < wanted.count(b"\n"):
+            some = self.take(max(0, until - time.monotonic()))
+            if some is None:
+                raise Failure(f"no answer to {short(sent)} after {ANSWER_SECONDS} seconds, only {short(seen)}")
+            if not some:
+                raise Failure(f"the program ended its output after {short(sent)}")
+            seen += some
+        want(f"the answer to {short(sent)}", seen, wanted)
+
+    def want_nothing(self, sent):
+        some = self.take(QUIET_SECONDS)
+        if some is not None:
+            raise Failure(f"{short(sent)} was answered {short(some)}, wanted nothing")
+
+    def want_end(self):
+        self.program.stdin.close()
+        some = self.take(ANSWER_SECONDS)
+        if some is None:
+            raise Failure(f"the program had not ended {ANSWER_SECONDS} seconds after its input")
+        want("what was written after the end of the input", some, b"")
+        try:
+            status = self.program.wait(ANSWER_SECONDS)
+        except subprocess.TimeoutExpired:
+            raise Failure("the program closed its output and did not end") from None
+        self.errors.seek(0)
+        want("status and standard error", (status, self.errors.read()), WELL)
+
+
+CONVERSATION = [
+    ("reg read 8 4", "0x2"),
+    ("dma read 5 0x80000000 8", "denied 256"),
+    ("", None),
+    ("reg write 16 8 1   # mode Bare", "done"),
+    ("store 0x80000000 8 0x0807060504030201", "done"),
+    ("dma read 5 0x80000000 8", "0102030405060708"),
+    (" \t\r# only a comment", None),
+    ("jump", "bad"),
+    ("load 0x80000000 4", "0x4030201"),
+    ("dma write 5 0x80000fff Ab", "done"),
+    ("load 0x80000fff 1\r", "0xab"),
+    ("dma read 5 0x80000ffc 8", "misuse"),
+    ("load 0x80100000 1", "bus error"),
+    ("reg read 32 8", "bad access"),
+    ("dev step 0", "no device"),
+    ("cmd", "idle"),
+]
+
+
+@check("at a pipe each line is answered before the next is sent")
+def _():
+    with Talk() as talk:
+        for line, answer in CONVERSATION:
+            sent = line.encode() + b"\n"
+            talk.send(sent)
+            if answer is None:
+                talk.want_nothing(sent)
+            else:
+                talk.want_answer(sent, answer.encode() + b"\n")
+        talk.want_end()
+
+
+@check("at a pipe a line is answered once its end is there, and not before")
+def _():
+    with Talk() as talk:
+        talk.send(b"reg rea")
+        talk.want_nothing(b"reg rea")
+        talk.send(b"d 8 4")
+        talk.want_nothing(b"reg read 8 4")
+        talk.send(b"\ncmd\njump\ncm")
+        talk.want_answer(b"reg read 8 4, cmd, jump", b"0x2\nidle\nbad\n")
+        talk.want_nothing(b"cm")
+        talk.send(b"d\n")
+        talk.want_answer(b"cmd", b"idle\n")
+        talk.want_end()
+
+
+def add_examples():
+    scripts, answers = (sorted(glob.glob(os.path.join(EXAMPLES, it))) for it in ("*.script", "*.answers"))
+    names = {os.path.splitext(it)[0] for it in scripts + answers}
+
+    @check("examples: there are some, each with a script and its answers")
+    def _():
+        if not scripts:
+            raise Failure("no file examples/*.script")
+        for name in sorted(names):
+            for ending in (".script", ".answers"):
+                if not os.path.isfile(name + ending):
+                    raise Failure(f"examples/{os.path.basename(name)}{ending} is missing")
+
+    for path in scripts:
+
+        @check(f"examples/{os.path.basename(path)}")
+        def _(path=path):
+            with open(path, "rb") as script, open(os.path.splitext(path)[0] + ".answers", "rb") as answers:
+                want_run(script.read(), answers.read())
+
+
+add_examples()
+
+
+@check("a long script gives the same from a file and through a pipe")
+def _():
+    lines, answers = [], []
+    for at in range(20_000):
+        address, value = 0x80000000 + at * 40 % 0x100000, at * 0x9E3779B97F4A7C15 % 2**64
+        lines.append(f"store {address:#x} 8 {value:#x}\nload {address} 8{' ' * (at % 97)}\n")
+        answers.append(f"done\n{value:#x}\n")
+    given, wanted = "".join(lines).encode(), "".join(answers).encode()
+    want_run(given, wanted)
+    want_run(given, wanted, at_pipe=True)
+
+
+# Words.
+
+
+def add_help(word):
+    @check(f"{word}: status 0, the usage on standard output")
+    def _():
+        status, out, errors = run([word], ASK + b"\n")
+        want("status and standard error", (status, errors), WELL)
+        if b"usage" not in out.lower():
+            raise Failure(f"standard output has no usage: {short(out)}")
+
+
+add_help("--help")
+add_help("-h")
+
+
+@check("--version: status 0, the name and a version")
+def _():
+    status, out, errors = run(["--version"], ASK + b"\n")
+    want("status and standard error", (status, errors), WELL)
+    if not re.fullmatch(rb"rviommu v?[0-9]+(\.[0-9]+)*\S*\n", out):
+        raise Failure(f"standard output is {short(out)}")
+
+
+def add_refused(*words):
+    @check(f"words that there are not are refused with status 2: {' '.join(words)}")
+    def _():
+        status, out, errors = run(words, ASK + b"\n")
+        want("status", status, 2)
+        want("standard output", out, b"")
+        if not errors.strip():
+            raise Failure("standard error is empty")
+
+
+add_refused("jump")
+add_refused("--jump")
+add_refused("-j")
+
+
+# Inputs and outputs that fail.
+
+SHORT = b"cmd\n" + ASK + b"\n"
+LONG = (ASK + b"\n") * 100_000
+SCRIPTS = [("a short script", SHORT), ("a long script", LONG)]
+
+
+def add_full(name, given):
+    @check(f"write failed: a full device as standard output, {name}")
+    def _():
+        try:
+            full = open("/dev/full", "wb", buffering=0)
+        except OSError as error:
+            raise Skip(f"/dev/full: {error.strerror}") from None
+        with full:
+            want_run(given, None, WRITE_FAILED, stdout=full)
+
+
+def closed_pipe():
+    """Returns the writing end of a pipe that nobody reads."""
+    reader, writer = os.pipe()
+    os.close(reader)
+    return os.fdopen(writer, "wb", buffering=0)
+
+
+def add_closed(name, given):
+    @check(f"write failed: a closed pipe as standard output, {name}, SIGPIPE ignored")
+    def _():
+        with closed_pipe() as writer:
+            # (Python ignores SIGPIPE, and the program inherits it)
+            want_run(given, None, WRITE_FAILED, stdout=writer, restore_signals=False)
+
+    @check(f"write failed: a closed pipe as standard output, {name}, SIGPIPE at its default")
+    def _():
+        with closed_pipe() as writer:
+            status, _, errors = run((), given, stdout=writer, restore_signals=True)
+        if (status, errors) == (-signal.SIGPIPE, b""):
+            raise Skip("the signal SIGPIPE ended the program, as it ends any that leaves it at its default")
+        want("status and standard error", (status, errors), WRITE_FAILED)
+
+
+for each in SCRIPTS:
+    add_full(*each)
+for each in SCRIPTS:
+    add_closed(*each)
+
+
+@check("write failed: the reader of a pipe leaves after the first answer")
+def _():
+    with Talk() as talk:
+        talk.send(ASK + b"\n")
+        talk.want_answer(ASK, ANSWER)
+        # nobody reads now; the rest of the script stands in the pipe
+        talk.program.stdout.close()
+        try:
+            talk.send(SHORT)
+            talk.program.stdin.close()
+            status = talk.program.wait(ANSWER_SECONDS)
+        except subprocess.TimeoutExpired:
+            raise Failure(f"the program had not ended after {ANSWER_SECONDS} seconds") from None
+        talk.errors.seek(0)
+        errors = talk.errors.read()
+    if (status, errors) == (-signal.SIGPIPE, b""):
+        raise Skip("the signal SIGPIPE ended the program, as it ends any that leaves it at its default")
+    want("status and standard error", (status, errors), WRITE_FAILED)
+
+
+@check("read failed: a folder as standard input")
+def _():
+    folder = os.open("/", os.O_RDONLY)
+    try:
+        want_run(b"", b"", READ_FAILED, stdin=folder)
+    finally:
+        os.close(folder)
+
+
+def add_hang_up(name, sent, answers):
+    @check(f"read failed: a terminal that hangs up after {name}")
+    def _():
+        try:
+            terminal, far = os.openpty()
+        except OSError as error:
+            raise Skip(f"no terminal: {error.strerror}") from None
+        try:
+            tty.setraw(far)
+            os.write(far, sent)
+            os.close(far)
+            # what was sent is read, and the read after it fails
+            want_run(b"", answers, READ_FAILED, stdin=terminal)
+        finally:
+            os.close(terminal)
+
+
+add_hang_up("two lines", ASK + b"\ncmd\n", ANSWER + b"idle\n")
+add_hang_up("two lines and a part of a third", ASK + b"\ncmd\n" + ASK, ANSWER + b"idle\n")
+
+
+@check("out of memory: enough to begin with, and too little for the built-in memory")
+def _():
+    for kib in range(512, 65536, 128):
+        limit = lambda: resource.setrlimit(resource.RLIMIT_AS, (kib * 1024, kib * 1024))
+        status, out, errors = run((), ASK + b"\n", preexec_fn=limit)
+        if (status, errors) == OUT_OF_MEMORY:
+            return want("standard output", out, b"")
+        if status == 0:
+            if kib == 512:
+                raise Skip("a limit on memory has no effect here")
+            raise Failure(f"no limit gave this text; the program runs well from {kib} KiB on")
+    raise Failure(f"the program ends with status {status} under each limit: {short(errors)}")
+
+
+# Ends of lines and of the input.
+
+
+@check("an empty input gives nothing")
+def _():
+    want_run(b"", b"")
+
+
+@check("a last line without a line end is answered")
+def _():
+    want_run(b"cmd\n" + ASK, b"idle\n" + ANSWER)
+    want_run(ASK, ANSWER)
+    want_run(ASK + b" # said", ANSWER)
+    want_run(b"cmd\n# nothing", b"idle\n")
+    want_run(b"cmd\n \t\r", b"idle\n")
+    want_run(b"\n\ncmd\n\njump", b"idle\nbad\n")
+
+
+@check("a byte that is no blank belongs to a word")
+def _():
+    for byte in (b"\0", b"\v", b"\f", b"\x80", b"\xff"):
+        want_run(b"cmd" + byte + b"\n" + byte + b"\n#" + byte + b"\ncmd", b"bad\nbad\nidle\n")
+    want_run(b"\xef\xbb\xbfcmd\ncmd\r\ncmd#\ncmd\t# cmd\nCMD", b"bad\nidle\nidle\nidle\nbad\n")
+
+
+def of_length(start, filler, length):
+    return start + filler * (length - len(start))
+
+
+def add_length(name, start, filler, answer):
+    @check(f"a line of {MOST_IN_LINE} bytes is read and one of {MOST_IN_LINE + 1} is bad: {name}")
+    def _():
+        fits, is_over = (of_length(start, filler, it) for it in (MOST_IN_LINE, MOST_IN_LINE + 1))
+        for end in (b"\n", b""):
+            want_run(fits + end, answer)
+            want_run(is_over + end, b"bad\n")
+            want_run(b"cmd\n" + fits + b"\n" + is_over + b"\n" + fits + end, b"idle\n" + answer + b"bad\n" + answer)
+        # a line is as long as its bytes, and the byte before the line end may be CR
+        want_run(fits[:-1] + b"\r\n" + fits + b"\r\ncmd\n", answer + b"bad\nidle\n")
+
+
+add_length("a command and blanks", ASK, b" ", ANSWER)
+add_length("blanks alone", b"", b" ", b"")
+add_length("a comment alone", b"#", b"x", b"")
+add_length("a command and a comment", ASK + b" #", b"#", ANSWER)
+
+
+@check("a line far too long is bad, once, and the next is read")
+def _():
+    for length in (4096, 8192, 100_000, 1_000_000):
+        want_run(of_length(ASK + b"#", b"x", length) + b"\ncmd\n", b"bad\nidle\n")
+        want_run(of_length(b"", b" ", length) + ASK, b"bad\n")
+
+
+# The limits of a whole script.
+
+
+@check("2^20 lines are read")
+def _():
+    given = ASK + b"\n" * (MOST_LINES - 1) + ASK
+    want_run(given, ANSWER * 2)
+    want_run(given + b"\n", ANSWER * 2)
+    want_run(b"\n" * MOST_LINES, b"")
+
+
+@check("script too long: one line more than 2^20, and the answers before it stand")
+def _():
+    given = ASK + b"\n" * (MOST_LINES - 1) + ASK + b"\n"
+    for more in (ASK + b"\n", ASK, b"\n", b" ", b"#"):
+        want_run(given + more, ANSWER * 2, TOO_LONG)
+    want_run(b"\n" * MOST_LINES + ASK + b"\n", b"", TOO_LONG)
+
+
+@check("2^26 bytes are read; script too long: one byte more, and the answers before it stand")
+def _():
+    line = of_length(b"#", b"x", MOST_IN_LINE - 1) + b"\n"
+    first, last = of_length(ASK, b" ", MOST_IN_LINE - 1) + b"\n", of_length(ASK, b" ", MOST_IN_LINE - 1)
+    given = first + line * (MOST_BYTES // MOST_IN_LINE - 2) + last
+    want_run(given + b"\n", ANSWER * 2)
+    want_run(given + b" ", ANSWER * 2)
+    want_run(given + b"\n\n", ANSWER * 2, TOO_LONG)
+    # here the end of the last line is one byte too far
+    want_run(given + b" \n", ANSWER, TOO_LONG)
+
+
+def main():
+    global PROGRAM
+    if len(sys.argv) != 2:
+        sys.exit("usage: program.py PROGRAM")
+    PROGRAM = os.path.abspath(sys.argv[1])
+    if not os.path.isfile(PROGRAM) or not os.access(PROGRAM, os.X_OK):
+        sys.exit(f"program.py: {sys.argv[1]} is no program that can be run")
+    passed = failed = 0
+    for name, function in CHECKS:
+        try:
+            function()
+        except Skip as why:
+            print(f"skip {name}: {why}", flush=True)
+        except (Failure, OSError) as why:
+            failed += 1
+            print(f"FAIL {name}: {why}", flush=True)
+        else:
+            passed += 1
+            print(f"ok   {name}", flush=True)
+    print(f"program: {passed} passed, {failed} failed")
+    sys.exit(1 if failed else 0)
+
+
+main()
