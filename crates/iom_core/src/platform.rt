@@ -68,7 +68,8 @@ impl Platform {
     pub fn run(&mut self, steps: &[Step], out: &mut [Answer])
         requires { length steps.now ≡ length out.old }
         ensures answers { out.new ≡ answers self.old steps.now }
-        ensures last_state { slice_get (states self.old steps.now) (length steps.now) ≡ Some self.new }
+        ensures last_state { slice_get (states self.old steps.now) (length steps.now)
+            ≡ Some self.new }
         ensures end { self.new ≡ end_of self.old steps.now }
     {
         for (i, step) in steps.iter().enumerate() {

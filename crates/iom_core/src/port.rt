@@ -26,8 +26,10 @@ impl Port<'_> {
 
     /// Reads the bytes at `iova` into `out`, which is unchanged unless the access is granted.
     pub fn read(&mut self, iova: u64, out: &mut [u8]) -> Access
-        ensures answer { result ≡ answer_at self.old.ram.now (length out.old) (address_of self.old.registers.now iova) }
-        ensures bytes { IfGranted result (IfOk (address_of self.old.registers.now iova) (λ addr. bytes_at self.old.ram.now addr (length out.old) ≡ Some out.new)) }
+        ensures answer { result
+            ≡ answer_at self.old.ram.now (length out.old) (address_of self.old.registers.now iova) }
+        ensures bytes { IfGranted result (IfOk (address_of self.old.registers.now iova)
+            (λ addr. bytes_at self.old.ram.now addr (length out.old) ≡ Some out.new)) }
         ensures unchanged { UnlessGranted result (out.new ≡ out.old) }
         ensures memory { self.new.ram.now ≡ self.old.ram.now }
         ensures same_reference { self.new.ram.ghost_name ≡ self.old.ram.ghost_name }
@@ -46,8 +48,10 @@ impl Port<'_> {
 
     /// Writes `bytes` at `iova`. Memory is unchanged unless the access is granted.
     pub fn write(&mut self, iova: u64, bytes: &[u8]) -> Access
-        ensures answer { result ≡ answer_at self.old.ram.now (length bytes.now) (address_of self.old.registers.now iova) }
-        ensures written { IfGranted result (IfOk (address_of self.old.registers.now iova) (λ addr. self.new.ram.now ≡ put self.old.ram.now addr bytes.now)) }
+        ensures answer { result
+            ≡ answer_at self.old.ram.now (length bytes.now) (address_of self.old.registers.now iova) }
+        ensures written { IfGranted result (IfOk (address_of self.old.registers.now iova)
+            (λ addr. self.new.ram.now ≡ put self.old.ram.now addr bytes.now)) }
         ensures unchanged { UnlessGranted result (self.new.ram.now ≡ self.old.ram.now) }
         ensures same_reference { self.new.ram.ghost_name ≡ self.old.ram.ghost_name }
     {

@@ -1,6 +1,6 @@
 use arrayvec::ArrayVec;
 
-/// One event of the platform. Every number is 64 bits wide, and those that don't fit are answered `Misuse`.
+/// One event of the platform. Every number is 64 bits wide; one that doesn't fit is answered `Misuse`.
 #[derive(Clone, Debug, Drop, PartialEq)]
 pub enum Step {
     /// The hart reads `size` bytes at physical address `addr`.
@@ -69,7 +69,8 @@ pub enum Answer {
     Bytes(ArrayVec<u8, 64>),
     /// There was nothing to do.
     Idle,
-    /// The IOMMU denied the device's access; the number is its cause (RISC-V IOMMU Architecture 1.0, CAUSE).
+    /// The IOMMU denied the device's access; the number is its cause (RISC-V IOMMU Architecture 1.0,
+    /// "Fault/Event-Queue", CAUSE).
     Denied(u16),
     /// A byte lies outside memory.
     BusError,
@@ -77,6 +78,7 @@ pub enum Answer {
     BadAccess,
     /// No such block device.
     NoDevice,
-    /// No step of this platform: a size, an alignment, a device id or a length that there is not, or a value that doesn't fit.
+    /// No step of this platform: a size, an alignment, a device id or a length that there is not, or a
+    /// value that doesn't fit.
     Misuse,
 }

@@ -18,7 +18,7 @@ mod tests;
 pub enum MemFault {
     #[error("the base of memory is not a multiple of 4096")]
     BadBase,
-    #[error("the size of memory is not a multiple of 4096 from 4096 to 64 MiB, or ends above address 2^56")]
+    #[error("the size of memory is not a multiple of 4096 up to 64 MiB, or its end is above 2^56")]
     BadSize,
     #[error("out of memory")]
     OutOfMemory,
@@ -59,7 +59,8 @@ impl Ram {
     pub fn new(alloc: Global, base: u64, size: u64) -> Result<Ram, MemFault>
         ensures refused { IfSome (refusal_of base size) (λ fault. result ≡ Err fault) }
         ensures made { IfOk result (λ ram. ram ≡ zeroed base size) }
-        ensures accepted { IfNone (refusal_of base size) (IfErr result (λ fault. fault ≡ MemFault.OutOfMemory)) }
+        ensures accepted { IfNone (refusal_of base size)
+            (IfErr result (λ fault. fault ≡ MemFault.OutOfMemory)) }
     {
         if base % 4096 != 0 {
             return Err(MemFault::BadBase);
@@ -142,8 +143,10 @@ impl Ram {
     // Where the `len` bytes from `addr` on stand; None where one is outside.
     #[tactic(auto, using(crate::proofs::Bytes::bytes_at_inside, crate::proofs::Bytes::bytes_at_below, crate::proofs::Bytes::bytes_at_past))]
     fn place(&self, addr: u64, len: usize) -> Option<usize>
-        ensures place { IfSome result (λ at. (self.now.base + at ≡ addr) × (at + len ≤ size_of self.now)) }
-        ensures inside { IfSome result (λ at. bytes_at self.now addr len ≡ Some (take len (drop at self.now.bytes))) }
+        ensures place { IfSome result
+            (λ at. (self.now.base + at ≡ addr) × (at + len ≤ size_of self.now)) }
+        ensures inside { IfSome result
+            (λ at. bytes_at self.now addr len ≡ Some (take len (drop at self.now.bytes))) }
         ensures outside { IfNone result (0 < len → bytes_at self.now addr len ≡ None) }
     {
         let at = addr.checked_sub(self.base)?;

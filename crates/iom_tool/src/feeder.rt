@@ -16,7 +16,8 @@ const MOST_LINES: u64 = 1 << 20;
 /// The most bytes of a script.
 pub const MOST_BYTES: u64 = 1 << 26;
 
-// Writes a text with as few calls of the writer as it needs. A call that is interrupted or takes no byte is a fault.
+// Writes a text with as few calls of the writer as it needs. A call that is interrupted or takes no
+// byte is a fault.
 fn write_out<W: Write>(writer: &mut W, text: &[u8]) -> Result<(), RunFault>
     ensures ok { OnOk result (Appends (W.contents writer.old) (W.contents writer.new) text.now) }
     ensures front { WritesFront (W.contents writer.old) (W.contents writer.new) text.now }
@@ -32,11 +33,13 @@ fn write_out<W: Write>(writer: &mut W, text: &[u8]) -> Result<(), RunFault>
     Ok(())
 }
 
-// Carries out a line and writes its answer, with its line end, by one call where the writer takes it.
+// Carries out a line and writes its answer, with its line end, by one call where the writer takes it whole.
 fn answer<W: Write>(platform: &mut Platform, line: &[u8], writer: &mut W) -> Result<(), RunFault>
     ensures state { platform.new ≡ end_of platform.old (steps_of line.now) }
-    ensures ok { OnOk result (Appends (W.contents writer.old) (W.contents writer.new) (output_to platform.old line.now)) }
-    ensures front { WritesFront (W.contents writer.old) (W.contents writer.new) (output_to platform.old line.now) }
+    ensures ok { OnOk result
+        (Appends (W.contents writer.old) (W.contents writer.new) (output_to platform.old line.now)) }
+    ensures front { WritesFront (W.contents writer.old) (W.contents writer.new)
+        (output_to platform.old line.now) }
     ensures fault { IfErr result (λ fault. fault ≡ RunFault.Write) }
 {
     let Some(reply) = answer_to(platform, line) else {
@@ -55,8 +58,10 @@ fn answer_last<W: Write>(
     writer: &mut W,
 ) -> Result<(), RunFault>
     ensures state { platform.new ≡ after platform.old (last_line line.now) }
-    ensures ok { OnOk result (Appends (W.contents writer.old) (W.contents writer.new) (output_of platform.old (last_line line.now))) }
-    ensures front { WritesFront (W.contents writer.old) (W.contents writer.new) (output_of platform.old (last_line line.now)) }
+    ensures ok { OnOk result (Appends (W.contents writer.old) (W.contents writer.new)
+        (output_of platform.old (last_line line.now))) }
+    ensures front { WritesFront (W.contents writer.old) (W.contents writer.new)
+        (output_of platform.old (last_line line.now)) }
     ensures fault { IfErr result (λ fault. fault ≡ RunFault.Write) }
 {
     if line.is_empty() {
@@ -101,8 +106,10 @@ impl Feeder {
         writer: &mut W,
     ) -> Result<(), RunFault>
         ensures fed { (start : Progress) (text : List ℕ)
-            → Fed start (progress (W.contents writer.old) platform.old) self.old.line.items self.old.lines self.old.bytes text
-            → AfterPiece start (progress (W.contents writer.new) platform.new) self.new.line.items self.new.lines self.new.bytes text (byte ∷ []) result }
+            → Fed start (progress (W.contents writer.old) platform.old)
+            self.old.line.items self.old.lines self.old.bytes text
+            → AfterPiece start (progress (W.contents writer.new) platform.new)
+            self.new.line.items self.new.lines self.new.bytes text (byte ∷ []) result }
     {
         if self.bytes >= MOST_BYTES || self.lines >= MOST_LINES {
             return Err(RunFault::TooLong);
@@ -127,8 +134,10 @@ impl Feeder {
         writer: &mut W,
     ) -> Result<(), RunFault>
         ensures fed { (start : Progress) (text : List ℕ)
-            → Fed start (progress (W.contents writer.old) platform.old) self.old.line.items self.old.lines self.old.bytes text
-            → AfterPiece start (progress (W.contents writer.new) platform.new) self.new.line.items self.new.lines self.new.bytes text piece.now result }
+            → Fed start (progress (W.contents writer.old) platform.old)
+            self.old.line.items self.old.lines self.old.bytes text
+            → AfterPiece start (progress (W.contents writer.new) platform.new)
+            self.new.line.items self.new.lines self.new.bytes text piece.now result }
     {
         for byte in piece {
             self.byte(platform, *byte, writer)?;
@@ -143,7 +152,8 @@ impl Feeder {
         writer: &mut W,
     ) -> Result<(), RunFault>
         ensures fed { (start : Progress) (text : List ℕ)
-            → Fed start (progress (W.contents writer.old) platform.old) self.old.line.items self.old.lines self.old.bytes text
+            → Fed start (progress (W.contents writer.old) platform.old)
+            self.old.line.items self.old.lines self.old.bytes text
             → AfterEnd start (progress (W.contents writer.new) platform.new) text result }
     {
         answer_last(platform, self.line.as_slice(), writer)?;

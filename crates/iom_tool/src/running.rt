@@ -18,7 +18,9 @@ pub fn run<R: Read, W: Write>(
     reader: &mut R,
     writer: &mut W,
 ) -> Result<(), RunFault>
-    ensures { Ends (R.remaining reader.old) (R.remaining reader.new) (progress (W.contents writer.old) platform.old) (progress (W.contents writer.new) platform.new) result }
+    ensures { Ends (R.remaining reader.old) (R.remaining reader.new)
+        (progress (W.contents writer.old) platform.old)
+        (progress (W.contents writer.new) platform.new) result }
 {
     let mut feeder = Feeder::new();
     let mut piece = [0; 1];

@@ -267,7 +267,7 @@ fn long_lines(rt: HostRuntime) -> Result<(), Fail> {
 }
 
 #[test]
-fn a_session_answers_lines(rt: HostRuntime) -> Result<(), Fail> {
+fn answers_single_lines(rt: HostRuntime) -> Result<(), Fail> {
     let mut platform = built_in(rt.alloc())?;
     let mut session = Session::new(&mut platform);
     let cases: [(&[u8], &[u8]); 22] = [

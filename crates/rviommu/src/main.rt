@@ -22,7 +22,8 @@ const BASE: u64 = 0x8000_0000;
 
 const SIZE: u64 = 0x10_0000;
 
-// Runs a script on the built-in memory. Its answers are written by blocks, but before it waits for input.
+// Runs a script on the built-in memory. Its answers are written by blocks, but before it waits for
+// input.
 fn run(alloc: Global, input: impl Read + Drop, output: impl Write + Drop) -> Result<(), Fault> {
     let ram = Ram::new(alloc, BASE, SIZE)?;
     let mut platform = Platform::new(alloc, ram)?;
@@ -39,7 +40,8 @@ fn run(alloc: Global, input: impl Read + Drop, output: impl Write + Drop) -> Res
     Ok(ended?)
 }
 
-// Help and version that were asked for, or what is wrong with the words: printed, with the status to end with.
+// Help and version that were asked for, or what is wrong with the words: printed, with the status to
+// end with.
 fn shown(rt: &(impl Print + Eprint), error: Error) -> Result<ExitCode, Fault> {
     if error.kind() == ErrorKind::OutOfMemory {
         return Err(Fault::OutOfMemory);

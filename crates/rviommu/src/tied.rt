@@ -1,7 +1,8 @@
 use std::cell::RefCell;
 use std::io::{self, Error, ErrorKind, Read, Write};
 
-/// A reader that flushes the output before it waits for input, so that each answer is seen before the next line is read.
+/// A reader that flushes the output before it waits for input, so that each answer is seen before the
+/// next line is read.
 #[derive(Drop)]
 pub struct Tied<'a, R, W> {
     pub input: R,
