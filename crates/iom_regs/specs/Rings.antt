@@ -1,0 +1,13 @@
+-- The registers of one queue, as they are kept: a new base is ignored while the queue is on.
+use Rattle.std.specs.Prelude.{ℕ, ◌%◌, if◌then◌else◌}
+use Rattle.iom_regs.specs.Table.{entries_of, queue_base_of, is_on}
+use Rattle.iom_regs.specs.declared.ring.Ring.{Ring}
+
+abbrev pub with_base : ℕ → Ring → Ring
+with_base value ring =
+    if is_on ring.control then ring
+    else record ring {
+      base = queue_base_of value;
+      head = ring.head % entries_of value;
+      tail = ring.tail % entries_of value;
+    }

@@ -1,0 +1,192 @@
+-- The register table: RISC-V IOMMU Architecture 1.0, "Memory-mapped register interface". Sections named below are of it.
+-- A register that is not named here reads 0 and ignores writes.
+use Rattle.std.specs.Prelude.{ℕ, ◌+◌, ◌*◌, ◌/◌, ◌%◌, ◌^◌, ◌==◌, ◌&&◌, ◌||◌, Bool, not, Option, Some, None, nat_le, if◌then◌else◌}
+use Rattle.std.specs.Int.{bit_at}
+use Rattle.iom_bits.specs.Bits.{field_of}
+
+-- a number for each register that can change, as a read shows it
+pub record Registers : Type 0 where
+  pub ddtp : ℕ
+  pub cqb : ℕ
+  pub cqh : ℕ
+  pub cqt : ℕ
+  pub fqb : ℕ
+  pub fqh : ℕ
+  pub fqt : ℕ
+  pub cqcsr : ℕ
+  pub fqcsr : ℕ
+  pub ipsr : ℕ
+
+pub data Name : Type 0 where
+  Capabilities : Name
+  Fctl : Name
+  Ddtp : Name
+  Cqb : Name
+  Cqh : Name
+  Cqt : Name
+  Fqb : Name
+  Fqh : Name
+  Fqt : Name
+  Cqcsr : Name
+  Fqcsr : Name
+  Ipsr : Name
+
+-- four aligned bytes are a register, a half of one, or nothing
+pub data Slot : Type 0 where
+  Whole : Name → Slot
+  Low : Name → Slot
+  High : Name → Slot
+  Free : Slot
+
+abbrev pub slot_at : ℕ → Slot
+slot_at off =
+    if off == 0 then Low Capabilities
+    else if off == 4 then High Capabilities
+    else if off == 8 then Whole Fctl
+    else if off == 16 then Low Ddtp
+    else if off == 20 then High Ddtp
+    else if off == 24 then Low Cqb
+    else if off == 28 then High Cqb
+    else if off == 32 then Whole Cqh
+    else if off == 36 then Whole Cqt
+    else if off == 40 then Low Fqb
+    else if off == 44 then High Fqb
+    else if off == 48 then Whole Fqh
+    else if off == 52 then Whole Fqt
+    else if off == 72 then Whole Cqcsr
+    else if off == 76 then Whole Fqcsr
+    else if off == 84 then Whole Ipsr
+    else Free
+
+-- what a read shows. "IOMMU capabilities": version 1.0, Sv39, Sv39x4, IGS = WSI, PAS = 56. "Features-control register": WSI
+abbrev pub shown : Registers → Name → ℕ
+shown r Capabilities = 0x3810020210
+shown r Fctl = 2
+shown r Ddtp = r.ddtp
+shown r Cqb = r.cqb
+shown r Cqh = r.cqh
+shown r Cqt = r.cqt
+shown r Fqb = r.fqb
+shown r Fqh = r.fqh
+shown r Fqt = r.fqt
+shown r Cqcsr = r.cqcsr
+shown r Fqcsr = r.fqcsr
+shown r Ipsr = r.ipsr
+
+-- "Device-directory-table pointer": the mode, bits 3:0 (0 Off, 1 Bare, 2 to 4 for one to three levels), and the PPN, bits 53:10
+abbrev pub ddtp_of : ℕ → ℕ
+ddtp_of value = field_of value 0 4 + 2 ^ 10 * field_of value 10 44
+
+-- "Command-queue base" and "Fault-queue base": LOG2SZ-1, bits 4:0, and the PPN, bits 53:10
+abbrev pub queue_base_of : ℕ → ℕ
+queue_base_of value = field_of value 0 5 + 2 ^ 10 * field_of value 10 44
+
+-- how many entries a queue of this base has: 2 to the power of LOG2SZ
+abbrev pub entries_of : ℕ → ℕ
+entries_of base = 2 ^ (field_of base 0 5 + 1)
+
+-- a queue is on where bit 16 of its control and status register is set
+abbrev pub is_on : ℕ → Bool
+is_on control = bit_at control 16 == 1
+
+-- a written number turns a queue on: bit 0 of it is set, and the queue was off
+abbrev pub turns_on : ℕ → ℕ → Bool
+turns_on control value = bit_at value 0 == 1 && bit_at control 0 == 0
+
+-- a flag that a written 1 clears
+abbrev pub flag_after : ℕ → ℕ → ℕ → ℕ
+flag_after old value bit = if bit_at value bit == 1 then 0 else 2 ^ bit * bit_at old bit
+
+-- "Command-queue control and status": cqen 0 and cie 1 are written; cqmf 8, cmd_to 9, cmd_ill 10 and fence_w_ip 11 are
+-- cleared by 1, and by the rise of cqen; cqon 16 is cqen
+abbrev pub cqcsr_of : ℕ → ℕ → ℕ
+cqcsr_of old value =
+    (if turns_on old value then field_of value 0 2
+    else field_of value 0 2 + (flag_after old value 8 + flag_after old value 9 + flag_after old value 10 + flag_after old value 11))
+    + 2 ^ 16 * bit_at value 0
+
+-- "Fault-queue control and status": fqen 0 and fie 1 are written; fqmf 8 and fqof 9 are cleared by 1, and by the rise of fqen;
+-- fqon 16 is fqen
+abbrev pub fqcsr_of : ℕ → ℕ → ℕ
+fqcsr_of old value =
+    (if turns_on old value then field_of value 0 2
+    else field_of value 0 2 + (flag_after old value 8 + flag_after old value 9))
+    + 2 ^ 16 * bit_at value 0
+
+-- what a written number makes of the registers
+abbrev pub written : Name → ℕ → Registers → Registers
+written Capabilities value r = r
+written Fctl value r = r
+written Ddtp value r = if nat_le (field_of value 0 4) 4 then record r { ddtp = ddtp_of value } else r
+written Cqb value r =
+    if is_on r.cqcsr then r
+    else record r { cqb = queue_base_of value; cqh = r.cqh % entries_of value; cqt = r.cqt % entries_of value }
+written Cqh value r = r
+written Cqt value r = record r { cqt = value % entries_of r.cqb }
+written Fqb value r =
+    if is_on r.fqcsr then r
+    else record r { fqb = queue_base_of value; fqh = r.fqh % entries_of value; fqt = r.fqt % entries_of value }
+written Fqh value r = record r { fqh = value % entries_of r.fqb }
+written Fqt value r = r
+written Cqcsr value r = record r { cqcsr = cqcsr_of r.cqcsr value; cqh = if turns_on r.cqcsr value then 0 else r.cqh }
+written Fqcsr value r = record r { fqcsr = fqcsr_of r.fqcsr value; fqt = if turns_on r.fqcsr value then 0 else r.fqt }
+written Ipsr value r = record r { ipsr = flag_after r.ipsr value 0 + flag_after r.ipsr value 1 }
+
+-- "Interrupt pending status": cip, bit 0, is set where cie is and one of cqmf, cmd_to, cmd_ill and fence_w_ip is; fip, bit 1,
+-- where fie is and fqmf or fqof is. Nothing but a write clears them
+abbrev pub asks_command : ℕ → Bool
+asks_command control = bit_at control 1 == 1 && not (field_of control 8 4 == 0)
+
+abbrev pub asks_fault : ℕ → Bool
+asks_fault control = bit_at control 1 == 1 && not (field_of control 8 2 == 0)
+
+abbrev pub pending_after : ℕ → ℕ → Bool → ℕ
+pending_after ipsr bit asked = if asked then 2 ^ bit else 2 ^ bit * bit_at ipsr bit
+
+abbrev pub with_pending : Registers → Registers
+with_pending r = record r {
+  ipsr =
+      pending_after r.ipsr 0 (asks_command r.cqcsr) + pending_after r.ipsr 1 (asks_fault r.fqcsr);
+}
+
+-- an access: four or eight bytes at a multiple of as many, within the 4096 bytes of registers, and not eight bytes over two
+-- registers
+abbrev pub is_legal : ℕ → ℕ → Bool
+is_legal off size =
+    (size == 4 || size == 8) && off % size == 0 && nat_le (off + size) 4096
+    && not (size == 8 && (off == 8 || off == 32 || off == 48 || off == 72 || off == 80))
+
+abbrev pub shown_at : Registers → Slot → ℕ
+shown_at r (Whole name) = shown r name
+shown_at r (Low name) = shown r name % 2 ^ 32
+shown_at r (High name) = shown r name / 2 ^ 32
+shown_at r Free = 0
+
+abbrev pub shown_wide : Registers → ℕ → ℕ
+shown_wide r off = shown_at r (slot_at off) + 2 ^ 32 * shown_at r (slot_at (off + 4))
+
+-- None: the access is not legal
+abbrev pub read : Registers → ℕ → ℕ → Option ℕ
+read r off size =
+    if is_legal off size then Some (if size == 4 then shown_at r (slot_at off) else shown_wide r off) else None
+
+-- four bytes: half of a register is written as the whole with the other half as it reads
+abbrev pub written_at : Slot → ℕ → Registers → Registers
+written_at (Whole name) value r = written name value r
+written_at (Low name) value r = written name (value + 2 ^ 32 * (shown r name / 2 ^ 32)) r
+written_at (High name) value r = written name (shown r name % 2 ^ 32 + 2 ^ 32 * value) r
+written_at Free value r = r
+
+-- eight bytes
+abbrev pub written_wide : Slot → ℕ → Registers → Registers
+written_wide (Whole name) value r = r
+written_wide (Low name) value r = written name value r
+written_wide (High name) value r = r
+written_wide Free value r = r
+
+abbrev pub after_write : Registers → ℕ → ℕ → ℕ → Registers
+after_write r off size value =
+    with_pending (if size == 4 then written_at (slot_at off) value r else written_wide (slot_at off) value r)
+
+abbrev pub reset : Registers
+reset = record { ddtp = 0; cqb = 0; cqh = 0; cqt = 0; fqb = 0; fqh = 0; fqt = 0; cqcsr = 0; fqcsr = 0; ipsr = 0 }

@@ -1,0 +1,35 @@
+-- What the registers say to the rest of the IOMMU.
+use Rattle.std.specs.Prelude.{ℕ, ◌-◌, ◌==◌, if◌then◌else◌}
+use Rattle.iom_bits.specs.Bits.{field_of}
+use Rattle.iom_regs.specs.Table.{Registers, entries_of, is_on}
+use Rattle.iom_regs.specs.declared.views.Mode.{Mode}
+use Rattle.iom_regs.specs.declared.views.Mode.TheVariants as mode
+use Rattle.iom_regs.specs.declared.views.Which.{Which}
+use Rattle.iom_regs.specs.declared.views.Which.TheVariants as which
+use Rattle.iom_regs.specs.declared.views.Queue.{Queue}
+
+-- "Device-directory-table pointer": the mode, and the PPN of the root
+abbrev pub mode_of : Registers → Mode
+mode_of r =
+    if field_of r.ddtp 0 4 == 0 then mode.Off
+    else if field_of r.ddtp 0 4 == 1 then mode.Bare
+    else mode.Levels (field_of r.ddtp 0 4 - 1)
+
+abbrev pub root_of : Registers → ℕ
+root_of r = field_of r.ddtp 10 44
+
+abbrev pub queue_of : Registers → Which → Queue
+queue_of r which.Commands = record {
+  on = is_on r.cqcsr;
+  base = field_of r.cqb 10 44;
+  entries = entries_of r.cqb;
+  head = r.cqh;
+  tail = r.cqt;
+}
+queue_of r which.Faults = record {
+  on = is_on r.fqcsr;
+  base = field_of r.fqb 10 44;
+  entries = entries_of r.fqb;
+  head = r.fqh;
+  tail = r.fqt;
+}

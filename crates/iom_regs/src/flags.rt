@@ -1,0 +1,92 @@
+ghost use Rattle.std.specs.Prelude.{◌≡◌, ◌+◌, ◌*◌, ◌^◌, ◌<◌, ◌≤◌, ◌/◌, ◌%◌};
+ghost use Rattle.std.specs.Int.{bit_at};
+ghost use Rattle.iom_regs.specs.Table.{flag_after, turns_on, cqcsr_of, fqcsr_of, pending_after};
+
+use iom_bits::field;
+
+// One bit of a word, at its place.
+#[tactic(auto, using(crate::proofs::Shifts::bit_placed))]
+fn flag(word: u64, bit: u32) -> u64
+    requires { bit < 64 }
+    ensures { result ≡ 2 ^ bit * bit_at word bit }
+{
+    field(word, bit, 1) << bit
+}
+
+// A flag that a written 1 clears.
+fn flag_after(old: u64, value: u64, bit: u32) -> u64
+    requires { bit < 64 }
+    ensures { result ≡ flag_after old value bit }
+{
+    if field(value, bit, 1) == 1 {
+        0
+    } else {
+        flag(old, bit)
+    }
+}
+
+/// Whether a number that is written to a queue's control turns the queue on.
+pub fn turns_on(control: u64, value: u64) -> bool
+    ensures { result ≡ turns_on control value }
+{
+    field(value, 0, 1) == 1 && field(control, 0, 1) == 0
+}
+
+/// What a written number makes of the command queue's control and status.
+pub fn commands_control(old: u64, value: u64) -> u64
+    ensures { result ≡ cqcsr_of old value }
+{
+    let low = if turns_on(old, value) {
+        field(value, 0, 2)
+    } else {
+        field(value, 0, 2)
+            + (flag_after(old, value, 8)
+                + flag_after(old, value, 9)
+                + flag_after(old, value, 10)
+                + flag_after(old, value, 11))
+    };
+    low + (field(value, 0, 1) << 16)
+}
+
+/// What a written number makes of the fault queue's control and status.
+pub fn faults_control(old: u64, value: u64) -> u64
+    ensures { result ≡ fqcsr_of old value }
+{
+    let low = if turns_on(old, value) {
+        field(value, 0, 2)
+    } else {
+        field(value, 0, 2) + (flag_after(old, value, 8) + flag_after(old, value, 9))
+    };
+    low + (field(value, 0, 1) << 16)
+}
+
+/// What a written number makes of the pending interrupts.
+pub fn pending_cleared(old: u64, value: u64) -> u64
+    ensures { result ≡ flag_after old value 0 + flag_after old value 1 }
+{
+    flag_after(old, value, 0) + flag_after(old, value, 1)
+}
+
+/// A pending interrupt: set where its cause stands, else as it was.
+pub fn pending_after(ipsr: u64, bit: u32, asked: bool) -> u64
+    requires { bit < 2 }
+    ensures { result ≡ pending_after ipsr bit asked }
+{
+    if asked { 1 << bit } else { flag(ipsr, bit) }
+}
+
+/// The low half of a register replaced.
+pub fn with_low(word: u64, value: u64) -> u64
+    requires { value < 2 ^ 32 }
+    ensures { result ≡ value + 2 ^ 32 * (word / 2 ^ 32) }
+{
+    value + (field(word, 32, 32) << 32)
+}
+
+/// The high half of a register replaced.
+pub fn with_high(word: u64, value: u64) -> u64
+    requires { value < 2 ^ 32 }
+    ensures { result ≡ word % 2 ^ 32 + 2 ^ 32 * value }
+{
+    field(word, 0, 32) + (value << 32)
+}

@@ -1,0 +1,97 @@
+ghost use Rattle.std.specs.Prelude.{◌≡◌, ◌+◌, ◌*◌, ◌%◌, ◌^◌, ◌<◌, ◌≤◌, ◌/◌};
+ghost use Rattle.iom_bits.specs.Bits.{field_of};
+ghost use Rattle.iom_regs.specs.Table.{entries_of, is_on};
+ghost use Rattle.iom_regs.specs.Queues.{with_bit};
+
+use crate::flags::{with_high, with_low};
+use iom_bits::{field, with_field};
+
+/// The registers of one queue.
+#[derive(Clone, Copy, Debug, PartialEq, Eq, Hash)]
+pub struct Ring {
+    pub base: u64,
+    pub head: u64,
+    pub tail: u64,
+    pub control: u64,
+}
+
+/// How many entries a queue of this base has.
+#[tactic(auto, using(crate::proofs::Shifts::entries_shifted))]
+pub fn entries(base: u64) -> u64
+    ensures value { result ≡ entries_of base }
+    ensures some { 0 < result }
+    ensures most { result ≤ 2 ^ 32 }
+{
+    2 << field(base, 0, 5)
+}
+
+impl Ring {
+    ghost use Rattle.iom_regs.specs.Rings.{with_base};
+
+    pub fn reset() -> Self
+        ensures { result ≡ record { base = 0; head = 0; tail = 0; control = 0 } }
+    {
+        Ring {
+            base: 0,
+            head: 0,
+            tail: 0,
+            control: 0,
+        }
+    }
+
+    pub fn is_on(&self) -> bool
+        ensures { result ≡ is_on self.now.control }
+    {
+        field(self.control, 16, 1) == 1
+    }
+
+    pub fn set_base(&mut self, value: u64)
+        ensures { self.new ≡ with_base value self.old }
+    {
+        if !self.is_on() {
+            let entries = entries(value);
+            self.base = field(value, 0, 5) + (field(value, 10, 44) << 10);
+            self.head %= entries;
+            self.tail %= entries;
+        }
+    }
+
+    /// Writes the low half of the base.
+    pub fn set_base_low(&mut self, value: u64)
+        requires { value < 2 ^ 32 }
+        ensures { self.new
+            ≡ with_base (value + 2 ^ 32 * (self.old.base / 2 ^ 32)) self.old }
+    {
+        let base = with_low(self.base, value);
+        self.set_base(base);
+    }
+
+    /// Writes the high half of the base.
+    pub fn set_base_high(&mut self, value: u64)
+        requires { value < 2 ^ 32 }
+        ensures { self.new
+            ≡ with_base (self.old.base % 2 ^ 32 + 2 ^ 32 * value) self.old }
+    {
+        let base = with_high(self.base, value);
+        self.set_base(base);
+    }
+
+    pub fn set_head(&mut self, value: u64)
+        ensures { self.new ≡ record self.old { head = value % entries_of self.old.base } }
+    {
+        self.head = value % entries(self.base);
+    }
+
+    pub fn set_tail(&mut self, value: u64)
+        ensures { self.new ≡ record self.old { tail = value % entries_of self.old.base } }
+    {
+        self.tail = value % entries(self.base);
+    }
+
+    pub fn raise(&mut self, bit: u32)
+        requires { bit < 64 }
+        ensures { self.new ≡ record self.old { control = with_bit self.old.control bit } }
+    {
+        self.control = with_field(self.control, bit, 1, 1);
+    }
+}
