@@ -1,24 +1,21 @@
 -- A device's access: RISC-V IOMMU Architecture 1.0, "Process to translate an IOVA".
-use Rattle.std.specs.Prelude.{ℕ, ◌==◌, Result, Ok, Err, is_some, if◌then◌else◌}
+use Rattle.std.specs.Prelude.{ℕ, Result, Ok, Err, is_some, if◌then◌else◌}
 use Rattle.iom_bits.specs.declared.causes.Cause.{Cause}
-use Rattle.iom_bits.specs.declared.causes.Cause.TheVariants.{Off}
-use Rattle.iom_bits.specs.Bits.{field_of}
+use Rattle.iom_bits.specs.declared.causes.Cause.TheVariants as cause
 use Rattle.iom_mem.specs.Memory.{Memory, bytes_at}
-use Rattle.iom_core.specs.Registers.{Registers}
-use Rattle.iom_core.specs.declared.registers.Mode.{Mode}
-use Rattle.iom_core.specs.declared.registers.Mode.TheVariants as mode
+use Rattle.iom_regs.specs.Table.{Registers}
+use Rattle.iom_regs.specs.Views.{mode_of}
+use Rattle.iom_regs.specs.declared.views.Mode.{Mode}
+use Rattle.iom_regs.specs.declared.views.Mode.TheVariants as mode
 use Rattle.iom_core.specs.declared.port.Access.{Access}
 use Rattle.iom_core.specs.declared.port.Access.TheVariants.{Granted, Denied, Outside}
 
--- the mode of the device directory
-abbrev pub mode_of : Registers → Mode
-mode_of registers = if field_of registers.ddtp 0 4 == 0 then mode.Off else mode.Bare
-
 -- the physical address that an IOVA stands for, or the cause of the fault: with mode Off all is disallowed, with mode Bare
--- the address is the IOVA itself
+-- the address is the IOVA itself; no directory is read yet, and with one its entries count as outside memory
 abbrev pub address_by : Mode → ℕ → Result ℕ Cause
-address_by mode.Off iova = Err Off
+address_by mode.Off iova = Err cause.Off
 address_by mode.Bare iova = Ok iova
+address_by (mode.Levels levels) iova = Err cause.DirAccess
 
 abbrev pub address_of : Registers → ℕ → Result ℕ Cause
 address_of registers iova = address_by (mode_of registers) iova

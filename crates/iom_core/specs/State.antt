@@ -1,6 +1,6 @@
 -- The platform's state.
 use Rattle.iom_mem.specs.Memory.{Memory}
-use Rattle.iom_core.specs.Registers.{Registers, reset}
+use Rattle.iom_regs.specs.Table.{Registers, reset}
 
 pub record State : Type 0 where
   pub memory : Memory

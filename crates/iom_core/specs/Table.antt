@@ -4,7 +4,7 @@ use Rattle.iom_bits.specs.declared.causes.Cause.{Cause}
 use Rattle.iom_bits.specs.Bytes.{number_of_bytes, bytes_of_number}
 use Rattle.iom_bits.specs.Causes.{cause_number}
 use Rattle.iom_mem.specs.Memory.{Memory, bytes_at, put}
-use Rattle.iom_core.specs.Registers.{read, after_write, is_legal}
+use Rattle.iom_regs.specs.Table.{read, after_write, is_legal}
 use Rattle.iom_core.specs.State.{State}
 use Rattle.iom_core.specs.Access.{address_of}
 use Rattle.iom_core.specs.declared.step.Step.{Step}

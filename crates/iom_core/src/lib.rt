@@ -6,7 +6,6 @@ pub use step::{Answer, Step};
 
 mod platform;
 mod port;
-mod registers;
 mod step;
 #[cfg(test)]
 mod tests;

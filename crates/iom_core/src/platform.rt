@@ -1,12 +1,12 @@
-ghost use Rattle.std.specs.Prelude.{◌≡◌, ◌+◌, ◌*◌, ◌%◌, ◌^◌, ◌<◌, ◌≤◌, ◌==◌, ◌&&◌, length, take, Some, IfOk, IsTrue, slice_get};
+ghost use Rattle.std.specs.Prelude.{◌≡◌, length, Some, IfOk, IsTrue, slice_get};
 ghost use Rattle.iom_core.specs.Table.{is_size, is_aligned, fits, is_device_access};
 
 use crate::port::{Access, Port};
-use crate::registers::RegisterFile;
 use crate::step::{Answer, Step};
 use arrayvec::ArrayVec;
 use iom_bits::le_u64;
 use iom_mem::Ram;
+use iom_regs::Regs;
 use std::alloc::{AllocError, Global};
 use std::marker::Model;
 
@@ -14,7 +14,7 @@ use std::marker::Model;
 #[derive(Debug, Drop)]
 pub struct Platform {
     ram: Ram,
-    registers: RegisterFile,
+    registers: Regs,
 }
 
 impl Model for Platform {
@@ -36,7 +36,7 @@ impl Platform {
     {
         Ok(Platform {
             ram,
-            registers: RegisterFile::reset(),
+            registers: Regs::reset(),
         })
     }
 

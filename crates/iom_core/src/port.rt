@@ -1,9 +1,8 @@
-ghost use Rattle.std.specs.Prelude.{◌≡◌, ◌<◌, ◌≤◌, ◌+◌, ◌%◌, ℕ, length, Ok, Some, None, IfOk, is_some};
-ghost use Rattle.iom_core.specs.declared.port.Access.TheVariants.{Granted, Denied, Outside};
+ghost use Rattle.std.specs.Prelude.{◌≡◌, length, Some, IfOk};
 
-use crate::registers::{Mode, RegisterFile};
 use iom_bits::Cause;
 use iom_mem::Ram;
+use iom_regs::{Mode, Regs};
 
 /// How the bus answers a device's access.
 #[derive(Clone, Copy, Debug, PartialEq, Eq, Hash)]
@@ -17,7 +16,7 @@ pub enum Access {
 #[derive(Drop)]
 pub struct Port<'a> {
     pub ram: &'a mut Ram,
-    pub registers: &'a RegisterFile,
+    pub registers: &'a Regs,
 }
 
 impl Port<'_> {
@@ -34,15 +33,10 @@ impl Port<'_> {
         ensures memory { self.new.ram.now ≡ self.old.ram.now }
         ensures same_reference { self.new.ram.ghost_name ≡ self.old.ram.ghost_name }
     {
-        match self.registers.mode() {
-            Mode::Off => Access::Denied(Cause::Off),
-            Mode::Bare => {
-                if self.ram.read(iova, out) {
-                    Access::Granted
-                } else {
-                    Access::Outside
-                }
-            }
+        match self.address(iova) {
+            Err(cause) => Access::Denied(cause),
+            Ok(addr) if self.ram.read(addr, out) => Access::Granted,
+            Ok(_) => Access::Outside,
         }
     }
 
@@ -55,15 +49,21 @@ impl Port<'_> {
         ensures unchanged { UnlessGranted result (self.new.ram.now ≡ self.old.ram.now) }
         ensures same_reference { self.new.ram.ghost_name ≡ self.old.ram.ghost_name }
     {
+        match self.address(iova) {
+            Err(cause) => Access::Denied(cause),
+            Ok(addr) if self.ram.write(addr, bytes) => Access::Granted,
+            Ok(_) => Access::Outside,
+        }
+    }
+
+    // The physical address that an IOVA stands for.
+    fn address(&self, iova: u64) -> Result<u64, Cause>
+        ensures { result ≡ address_of self.now.registers.now iova }
+    {
         match self.registers.mode() {
-            Mode::Off => Access::Denied(Cause::Off),
-            Mode::Bare => {
-                if self.ram.write(iova, bytes) {
-                    Access::Granted
-                } else {
-                    Access::Outside
-                }
-            }
+            Mode::Off => Err(Cause::Off),
+            Mode::Bare => Ok(iova),
+            Mode::Levels(_) => Err(Cause::DirAccess),
         }
     }
 }

@@ -1,4 +1,4 @@
-ghost use Rattle.std.specs.Prelude.{◌≡◌, ◌≤◌, ◌<◌, ◌+◌, ◌++◌, ℕ, List, [], ◌∷◌, IfErr, OnOk};
+ghost use Rattle.std.specs.Prelude.{◌≡◌, ℕ, List, [], ◌∷◌, IfErr, OnOk};
 ghost use Rattle.std.specs.Io.KnownBytes.{Appends, Keeps};
 ghost use Rattle.iom_core.specs.Run.{end_of};
 ghost use Rattle.iom_tool.specs.Output.{steps_of, after, output_to, output_of, last_line};
@@ -146,14 +146,10 @@ impl Feeder {
     }
 
     /// Answers a last line that lacks its line end, and flushes.
-    pub fn finish<W: Write>(
-        &mut self,
-        platform: &mut Platform,
-        writer: &mut W,
-    ) -> Result<(), RunFault>
+    pub fn finish<W: Write>(self, platform: &mut Platform, writer: &mut W) -> Result<(), RunFault>
         ensures fed { (start : Progress) (text : List ℕ)
             → Fed start (progress (W.contents writer.old) platform.old)
-            self.old.line.items self.old.lines self.old.bytes text
+            self.line.items self.lines self.bytes text
             → AfterEnd start (progress (W.contents writer.new) platform.new) text result }
     {
         answer_last(platform, self.line.as_slice(), writer)?;

@@ -1,4 +1,3 @@
-ghost use Rattle.std.specs.Prelude.{◌≡◌};
 ghost use Rattle.iom_tool.specs.Running.{progress, Ends};
 
 use crate::fault::RunFault;
