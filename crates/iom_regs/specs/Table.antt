@@ -113,7 +113,10 @@ fqcsr_of old value =
     else field_of value 0 2 + (flag_after old value 8 + flag_after old value 9))
     + 2 ^ 16 * bit_at value 0
 
--- what a written number makes of the registers
+-- what a written number makes of the registers: "IOMMU capabilities", "Features-control register",
+-- "Device-directory-table pointer", "Command-queue base", "Command-queue head", "Command-queue tail", "Fault-queue base",
+-- "Fault-queue head", "Fault-queue tail", "Command-queue control and status", "Fault-queue control and status" and
+-- "Interrupt pending status", in this order
 abbrev pub written : Name → ℕ → Registers → Registers
 written Capabilities value r = r
 written Fctl value r = r

@@ -7,4 +7,6 @@ pub use views::{Mode, Queue, Which};
 mod file;
 mod flags;
 mod ring;
+#[cfg(test)]
+mod tests;
 mod views;

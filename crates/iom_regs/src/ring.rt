@@ -1,5 +1,4 @@
 ghost use Rattle.std.specs.Prelude.{◌≡◌, ◌+◌, ◌*◌, ◌%◌, ◌^◌, ◌<◌, ◌≤◌, ◌/◌};
-ghost use Rattle.iom_bits.specs.Bits.{field_of};
 ghost use Rattle.iom_regs.specs.Table.{entries_of, is_on};
 ghost use Rattle.iom_regs.specs.Queues.{with_bit};
 

@@ -1,0 +1,147 @@
+use crate::{Mode, Queue, Regs, Which};
+
+const READ: bool = false;
+
+const WRITE: bool = true;
+
+// A read's number; 0 for a write that is taken; None for what is refused.
+fn access(regs: &mut Regs, is_write: bool, off: u64, size: u64, value: u64) -> Option<u64> {
+    if !is_write {
+        return regs.read(off, size);
+    }
+    if size == 4 && value >= 1 << 32 {
+        return None;
+    }
+    if regs.write(off, size, value) {
+        Some(0)
+    } else {
+        None
+    }
+}
+
+#[derive(Clone, Copy, Debug)]
+enum Event {
+    // Four bytes at an offset.
+    Write(u64, u64),
+    Command,
+    Cqmf,
+    CmdIll,
+    Fence,
+    Record,
+    Fqof,
+    Fqmf,
+}
+
+// What cqcsr, fqcsr, ipsr, cqh and fqt show after an event.
+fn after(regs: &mut Regs, event: Event) -> [Option<u64>; 5] {
+    match event {
+        Event::Write(off, value) => {
+            access(regs, true, off, 4, value);
+        }
+        Event::Command => regs.pass_command(),
+        Event::Cqmf => regs.set_cqmf(),
+        Event::CmdIll => regs.set_cmd_ill(),
+        Event::Fence => regs.set_fence(),
+        Event::Record => regs.pass_record(),
+        Event::Fqof => regs.set_fqof(),
+        Event::Fqmf => regs.set_fqmf(),
+    }
+    [
+        access(regs, false, 72, 4, 0),
+        access(regs, false, 76, 4, 0),
+        access(regs, false, 84, 4, 0),
+        access(regs, false, 32, 4, 0),
+        access(regs, false, 52, 4, 0),
+    ]
+}
+
+fn views(regs: &Regs) -> (Mode, u64, Queue, Queue) {
+    (
+        regs.mode(),
+        regs.root(),
+        regs.queue(Which::Commands),
+        regs.queue(Which::Faults),
+    )
+}
+
+// The numbers are worked out by hand from the architecture's register table.
+#[test]
+fn registers_are_as_in_the_table(rt: HostRuntime) {
+    let mut regs = Regs::reset();
+    // offset, size, what is written, and what is read there then
+    let writes = [
+        (0, 8, 0xffff_ffff_ffff_ffff, 0x38_1002_0210),
+        (4, 4, 0, 0x38),
+        (8, 4, 0, 2),
+        (80, 4, 1, 0),
+        (4088, 8, 1, 0),
+        (16, 8, 0xffff_ffff_ffff_fff2, 0x3f_ffff_ffff_fc02),
+        (16, 4, 0x1405, 0xffff_fc02),
+        (20, 4, 0xffc0_0001, 1),
+        (16, 8, 5, 0x1_ffff_fc02),
+        (16, 8, 0x2000_0404, 0x2000_0404),
+        (36, 4, 7, 1),
+        (24, 8, 0xffc0_0000_2000_0be3, 0x2000_0803),
+        (36, 4, 27, 11),
+        (32, 4, 5, 0),
+        (40, 8, 0x2000_0c02, 0x2000_0c02),
+        (48, 4, 29, 5),
+        (52, 4, 6, 0),
+        (40, 4, 0x2000_0fe1, 0x2000_0c01),
+        (72, 4, 0xffff_ffff, 0x1_0003),
+        (24, 8, 0, 0x2000_0803),
+        (76, 4, 0xffff_ffff, 0x1_0003),
+        (44, 4, 5, 0),
+    ];
+    for (off, size, value, want) in writes {
+        access(&mut regs, true, off, size, value);
+        let got = access(&mut regs, false, off, size, 0);
+        assert_eq!(rt; got, Some(want), "at {off}, {size}");
+    }
+    for (off, size) in [(0, 2), (2, 4), (4, 8), (8, 8), (72, 8), (80, 8), (4096, 4)] {
+        assert_eq!(rt;
+            access(&mut regs, false, off, size, 0),
+            None,
+            "at {off}, {size}"
+        );
+        assert_eq!(rt;
+            access(&mut regs, true, off, size, 0),
+            None,
+            "at {off}, {size}"
+        );
+    }
+    let events = [
+        (Event::Record, [0x1_0003, 0x1_0003, 2, 0, 1]),
+        (Event::Command, [0x1_0003, 0x1_0003, 2, 1, 1]),
+        (Event::Fence, [0x1_0803, 0x1_0003, 3, 1, 1]),
+        (Event::Fqof, [0x1_0803, 0x1_0203, 3, 1, 1]),
+        (Event::Write(84, 3), [0x1_0803, 0x1_0203, 3, 1, 1]),
+        (Event::Write(72, 0x802), [2, 0x1_0203, 3, 1, 1]),
+        (Event::Write(84, 1), [2, 0x1_0203, 2, 1, 1]),
+        (Event::CmdIll, [0x402, 0x1_0203, 3, 1, 1]),
+        (Event::Cqmf, [0x502, 0x1_0203, 3, 1, 1]),
+        (Event::Fqmf, [0x502, 0x1_0303, 3, 1, 1]),
+        (Event::Write(76, 0x100), [0x502, 0x200, 3, 1, 1]),
+        (Event::Write(84, 2), [0x502, 0x200, 1, 1, 1]),
+        (Event::Write(24, 0x2000_0800), [0x502, 0x200, 1, 1, 1]),
+        (Event::Write(72, 1), [0x1_0001, 0x200, 1, 0, 1]),
+    ];
+    for (event, want) in events {
+        assert_eq!(rt; after(&mut regs, event), want.map(Some), "after {event:?}");
+    }
+    let commands = Queue {
+        on: true,
+        base: 0x8_0002,
+        entries: 2,
+        head: 0,
+        tail: 1,
+    };
+    let faults = Queue {
+        on: false,
+        base: 0x8_0003,
+        entries: 4,
+        head: 1,
+        tail: 1,
+    };
+    assert_eq!(rt; views(&regs), (Mode::Levels(3), 0x8_0001, commands, faults));
+}
