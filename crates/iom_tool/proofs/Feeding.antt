@@ -190,6 +190,7 @@ too_many_bytes start now kept lines bytes byte text h many =
       byte = byte;
       left = [];
       split = refl;
+      within = subst IsWithinLimits (sym same) h.within;
       limit = subst IsAtLimit (sym same) (inl at);
       answered = subst (λ t. Answered start now (ended_lines t)) (sym same) h.answered;
     }
@@ -205,6 +206,7 @@ too_many_lines start now kept lines bytes byte text h many =
       byte = byte;
       left = [];
       split = refl;
+      within = subst IsWithinLimits (sym same) h.within;
       limit = subst IsAtLimit (sym same) (inr at);
       answered = subst (λ t. Answered start now (ended_lines t)) (sym same) h.answered;
     }
@@ -299,6 +301,7 @@ within_piece start now kept lines bytes text piece before left byte fault.TooLon
       left = h.left ++ left;
       split = split ∙ ap (λ l. before ++ (l ++ left)) h.split ∙ ap (λ l. before ++ l) (append_assoc h.taken (h.byte ∷ h.left) left)
           ∙ sym (append_assoc before h.taken (h.byte ∷ (h.left ++ left)));
+      within = subst IsWithinLimits same h.within;
       limit = subst IsAtLimit same h.limit;
       answered = subst (λ t. Answered start now (ended_lines t)) same h.answered;
     }
@@ -380,6 +383,7 @@ piece_ends unread left less start now new kept kept' piece lines bytes lines' by
       text = h.text;
       byte = ends.byte;
       took = subst (λ p. Consumes unread less (h.text ++ p)) none.1 (read_more unread left less h.text piece h.took more);
+      within = subst IsWithinLimits same ends.within;
       limit = subst IsAtLimit same ends.limit;
       answered = subst (λ t. Answered start new (ended_lines t)) same ends.answered;
     }

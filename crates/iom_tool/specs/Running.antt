@@ -72,6 +72,7 @@ pub record StopsAtLimit (unread left : Option (List ℕ)) (old new : Progress) :
   pub text : List ℕ
   pub byte : ℕ
   pub took : Consumes unread left (text ++ byte ∷ [])
+  pub within : IsWithinLimits text
   pub limit : IsAtLimit text
   pub answered : Answered old new (ended_lines text)
 
@@ -112,6 +113,7 @@ pub record EndsInPiece (start now : Progress) (text piece : List ℕ) : Type 0 w
   pub byte : ℕ
   pub left : List ℕ
   pub split : piece ≡ taken ++ byte ∷ left
+  pub within : IsWithinLimits (text ++ taken)
   pub limit : IsAtLimit (text ++ taken)
   pub answered : Answered start now (ended_lines (text ++ taken))
 
