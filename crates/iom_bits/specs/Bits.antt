@@ -1,6 +1,10 @@
 -- Bits of a word. A word is a number; its bit 0 is the lowest.
-use Rattle.std.specs.Prelude.{ℕ, ◌≡◌, ◌+◌, ◌*◌, ◌/◌, ◌%◌, ◌^◌, ◌<◌, ◌≤◌}
+use Rattle.std.specs.Prelude.{ℕ, ◌≡◌, ◌+◌, ◌*◌, ◌/◌, ◌%◌, ◌^◌, ◌<◌, ◌≤◌, ◌==◌, Bool}
 use Rattle.std.specs.Int.{bit_at}
+
+-- whether a bit of a word is 1
+unfoldable pub has_bit : ℕ → ℕ → Bool
+has_bit word bit = bit_at word bit == 1
 
 -- the number of the `width` bits from bit `low` on
 abbrev pub field_of : ℕ → ℕ → ℕ → ℕ

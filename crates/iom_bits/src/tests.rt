@@ -1,4 +1,4 @@
-use crate::{Cause, Kind, field, le_u16, le_u32, le_u64, with_field};
+use crate::{Cause, Kind, field, has_bit, le_u16, le_u32, le_u64, with_field};
 
 #[test]
 fn takes_and_replaces_bits(rt: HostRuntime) {
@@ -7,6 +7,8 @@ fn takes_and_replaces_bits(rt: HostRuntime) {
     assert_eq!(rt; field(pointer, 0, 4), 4);
     assert_eq!(rt; field(pointer, 10, 44), 0x80005);
     assert_eq!(rt; field(u64::MAX, 0, 64), u64::MAX);
+    assert!(rt; has_bit(pointer, 2) && !has_bit(pointer, 0));
+    assert!(rt; has_bit(1 << 63, 63) && !has_bit(1 << 63, 62));
     assert_eq!(rt; with_field(pointer, 10, 44, 0x80006), 0x2000_1804);
     assert_eq!(rt; with_field(u64::MAX, 63, 1, 0), u64::MAX >> 1);
     assert_eq!(rt; with_field(1, 0, 64, 2), 2);

@@ -1,6 +1,15 @@
 ghost use Rattle.std.specs.Prelude.{◌≡◌, ◌+◌, ◌<◌, ◌≤◌, ◌^◌};
-ghost use Rattle.iom_bits.specs.Bits.{field_of, with_field_of, IsField, ReplacesField};
+ghost use Rattle.iom_bits.specs.Bits.{has_bit, field_of, with_field_of, IsField, ReplacesField};
 ghost use Rattle.iom_bits.specs.Bytes.{number_of_bytes};
+
+/// Whether bit `bit` of `word` is 1. Bit 0 is the lowest.
+#[tactic(auto, unfolding(crate::specs::Bits::has_bit))]
+pub fn has_bit(word: u64, bit: u32) -> bool
+    requires { bit < 64 }
+    ensures { result ≡ has_bit word bit }
+{
+    (word >> bit) & 1 == 1
+}
 
 /// The `width` bits of `word` from bit `low` on, as a number. Bit 0 is the lowest.
 pub fn field(word: u64, low: u32, width: u32) -> u64

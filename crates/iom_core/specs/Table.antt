@@ -79,7 +79,7 @@ bytes_from memory len (Ok addr) = bytes_of (bytes_at memory addr len)
 
 unfoldable pub dma_read : State → ℕ → ℕ → ℕ → Answer
 dma_read state did iova len =
-    if is_device_access did iova len then bytes_from state.memory len (address_of state.registers iova) else answer.Misuse
+    if is_device_access did iova len then bytes_from state.memory len (address_of state.memory state.registers did iova) else answer.Misuse
 
 abbrev pub bytes_to : State → List ℕ → Result ℕ Cause → Outcome
 bytes_to state bytes (Err cause) = stays state (answer.Denied (cause_number cause))
@@ -87,7 +87,7 @@ bytes_to state bytes (Ok addr) = put_inside state addr bytes
 
 unfoldable pub dma_write : State → ℕ → ℕ → List ℕ → Outcome
 dma_write state did iova bytes =
-    if is_device_access did iova (length bytes) then bytes_to state bytes (address_of state.registers iova)
+    if is_device_access did iova (length bytes) then bytes_to state bytes (address_of state.memory state.registers did iova)
     else stays state answer.Misuse
 
 -- the step table; no commands and no block devices are there yet

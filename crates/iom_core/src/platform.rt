@@ -145,6 +145,7 @@ impl Platform {
         let mut port = Port {
             ram: &mut self.ram,
             registers: &self.registers,
+            did: did as u32,
         };
         match port.read(iova, bytes.as_mut_slice()) {
             Access::Granted => Answer::Bytes(bytes),
@@ -164,6 +165,7 @@ impl Platform {
         let mut port = Port {
             ram: &mut self.ram,
             registers: &self.registers,
+            did: did as u32,
         };
         match port.write(iova, bytes) {
             Access::Granted => Answer::Done,

@@ -1,6 +1,8 @@
-ghost use Rattle.std.specs.Prelude.{◌≡◌, length, Some, IfOk};
+ghost use Rattle.std.specs.Prelude.{◌≡◌, ◌<◌, ◌^◌, length, Some, IfOk};
+ghost use Rattle.iom_core.specs.Access.{address_in};
 
 use iom_bits::Cause;
+use iom_ddt::{Context, locate};
 use iom_mem::Ram;
 use iom_regs::{Mode, Regs};
 
@@ -17,6 +19,9 @@ pub enum Access {
 pub struct Port<'a> {
     pub ram: &'a mut Ram,
     pub registers: &'a Regs,
+    /// The device's id.
+    pub did: u32,
+    pub ghost did_fits: { did < 2 ^ 24 },
 }
 
 impl Port<'_> {
@@ -26,8 +31,8 @@ impl Port<'_> {
     /// Reads the bytes at `iova` into `out`, which is unchanged unless the access is granted.
     pub fn read(&mut self, iova: u64, out: &mut [u8]) -> Access
         ensures answer { result
-            ≡ answer_at self.old.ram.now (length out.old) (address_of self.old.registers.now iova) }
-        ensures bytes { IfGranted result (IfOk (address_of self.old.registers.now iova)
+            ≡ answer_at self.old.ram.now (length out.old) (address_of self.old.ram.now self.old.registers.now self.old.did iova) }
+        ensures bytes { IfGranted result (IfOk (address_of self.old.ram.now self.old.registers.now self.old.did iova)
             (λ addr. bytes_at self.old.ram.now addr (length out.old) ≡ Some out.new)) }
         ensures unchanged { UnlessGranted result (out.new ≡ out.old) }
         ensures memory { self.new.ram.now ≡ self.old.ram.now }
@@ -43,8 +48,8 @@ impl Port<'_> {
     /// Writes `bytes` at `iova`. Memory is unchanged unless the access is granted.
     pub fn write(&mut self, iova: u64, bytes: &[u8]) -> Access
         ensures answer { result
-            ≡ answer_at self.old.ram.now (length bytes.now) (address_of self.old.registers.now iova) }
-        ensures written { IfGranted result (IfOk (address_of self.old.registers.now iova)
+            ≡ answer_at self.old.ram.now (length bytes.now) (address_of self.old.ram.now self.old.registers.now self.old.did iova) }
+        ensures written { IfGranted result (IfOk (address_of self.old.ram.now self.old.registers.now self.old.did iova)
             (λ addr. self.new.ram.now ≡ put self.old.ram.now addr bytes.now)) }
         ensures unchanged { UnlessGranted result (self.new.ram.now ≡ self.old.ram.now) }
         ensures same_reference { self.new.ram.ghost_name ≡ self.old.ram.ghost_name }
@@ -58,12 +63,23 @@ impl Port<'_> {
 
     // The physical address that an IOVA stands for.
     fn address(&self, iova: u64) -> Result<u64, Cause>
-        ensures { result ≡ address_of self.now.registers.now iova }
+        ensures { result ≡ address_of self.now.ram.now self.now.registers.now self.now.did iova }
     {
         match self.registers.mode() {
             Mode::Off => Err(Cause::Off),
             Mode::Bare => Ok(iova),
-            Mode::Levels(_) => Err(Cause::DirAccess),
+            Mode::Levels(_) => address_in(&locate(self.ram, self.registers, self.did)?, iova),
         }
+    }
+}
+
+// The physical address that an IOVA stands for under a context.
+fn address_in(context: &Context, iova: u64) -> Result<u64, Cause>
+    ensures { result ≡ address_in context.now iova }
+{
+    if context.mode == 0 && context.gmode == 0 {
+        Ok(iova)
+    } else {
+        Err(Cause::DirBad)
     }
 }

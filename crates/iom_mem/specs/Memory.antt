@@ -16,7 +16,7 @@ abbrev pub byte : Memory → ℕ → Option ℕ
 byte memory addr =
     if nat_le memory.base addr then slice_get memory.bytes (addr - memory.base) else None
 
--- a byte before others, where they are all there
+-- a byte, or a word, before others, where they are all there
 abbrev pub before : Option ℕ → Option (List ℕ) → Option (List ℕ)
 before (Some first) (Some rest) = Some (first ∷ rest)
 before (Some first) None = None
@@ -30,6 +30,11 @@ bytes_at memory addr (suc count) = before (byte memory addr) (bytes_at memory (a
 -- the number of the eight bytes from a physical address on, the lowest byte first
 abbrev pub word : Memory → ℕ → Option ℕ
 word memory addr = option_map number_of_bytes (bytes_at memory addr 8)
+
+-- `count` words one after the other; None: a byte of them is outside
+abbrev pub words_at : Memory → ℕ → ℕ → Option (List ℕ)
+words_at memory addr zero = Some []
+words_at memory addr (suc count) = before (word memory addr) (words_at memory (addr + 8) count)
 
 -- the memory with `bytes` in the place of those from a physical address on
 abbrev pub put : Memory → ℕ → List ℕ → Memory

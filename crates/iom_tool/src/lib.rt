@@ -8,6 +8,8 @@ pub use text::Reply;
 
 mod fault;
 mod feeder;
+#[cfg(test)]
+mod rows;
 mod running;
 mod script;
 mod session;

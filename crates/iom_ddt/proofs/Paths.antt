@@ -1,0 +1,59 @@
+-- What an entry does to the verdict on a path, and what the context at its end does.
+use Rattle.std.proofs.Common.{◌≡◌, ◌+◌, ◌-◌, ◌*◌, ◌≤◌, ℕ, zero, suc, List, [], ◌∷◌, Option, Some, None, Result, Ok, Err, false, refl, sym, ◌∙◌, arith}
+use Rattle.std.proofs.lemmas.Grind.{common_steps}
+use Rattle.iom_bits.specs.declared.causes.Cause.{Cause}
+use Rattle.iom_mem.specs.Memory.{Memory, word, words_at}
+use Rattle.iom_regs.specs.Table.{Registers}
+use Rattle.iom_regs.specs.Views.{mode_of, root_of}
+use Rattle.iom_ddt.specs.declared.context.Context.{Context}
+use Rattle.iom_ddt.specs.Directory.{Met, Entry, Leaf, behind, ddi, decided_by, is_too_wide, levels_of, located, path_from, pointed_by, verdict_on}
+
+nothing : 1 ≤ 0 → ⊥
+nothing h = omega (arith, h)
+
+pointer_passes : (entry : Option ℕ) (from : ℕ → List Met) (table : ℕ) →
+    pointed_by entry ≡ Ok table → verdict_on (Entry entry ∷ behind entry from) ≡ verdict_on (from table)
+unfolding verdict_on
+pointer_passes None from table e = grind (arith, common_steps)
+pointer_passes (Some entry) from table e = grind (arith, common_steps)
+
+fault_stops : (entry : Option ℕ) (behind : List Met) (cause : Cause) →
+    pointed_by entry ≡ Err cause → verdict_on (Entry entry ∷ behind) ≡ Err cause
+unfolding verdict_on
+fault_stops entry behind cause e = rw e refl
+
+context_ends : (words : Option (List ℕ)) (result : Result Context Cause) →
+    decided_by (Leaf words) ≡ Some result → verdict_on (Leaf words ∷ []) ≡ result
+unfolding verdict_on
+context_ends words result e = rw e refl
+
+-- behind a pointer the verdict is that on the path from the next table on
+pub passes : (memory : Memory) (did table level part next : ℕ) (got : Result ℕ Cause) (whole : Result Context Cause) →
+    1 ≤ level → part ≡ ddi did level → got ≡ pointed_by (word memory (table * 4096 + part * 8)) → got ≡ Ok next →
+    verdict_on (path_from memory did level table) ≡ whole → verdict_on (path_from memory did (level - 1) next) ≡ whole
+passes memory did table zero part next got whole some index read is left = elim (nothing some) [ ]
+passes memory did table (suc level) part next got whole some index read is left =
+    let one_less : suc level - 1 ≡ level = omega arith in
+    rw (one_less, ← left, ← index) (sym (pointer_passes (word memory (table * 4096 + part * 8)) (path_from memory did level) next (sym read ∙ is)))
+
+-- a fault is the verdict
+pub stops : (memory : Memory) (did table level part : ℕ) (got : Result ℕ Cause) (cause : Cause) (whole : Result Context Cause) →
+    1 ≤ level → part ≡ ddi did level → got ≡ pointed_by (word memory (table * 4096 + part * 8)) → got ≡ Err cause →
+    verdict_on (path_from memory did level table) ≡ whole → Err cause ≡ whole
+stops memory did table zero part got cause whole some index read is left = elim (nothing some) [ ]
+stops memory did table (suc level) part got cause whole some index read is left =
+    rw (← left, ← index) (sym (fault_stops (word memory (table * 4096 + part * 8)) (behind (word memory (table * 4096 + part * 8)) (path_from memory did level)) cause (sym read ∙ is)))
+
+-- at the end the context, or what is wrong with it, is the verdict
+pub ends : (memory : Memory) (did table level part : ℕ) (result whole : Result Context Cause) →
+    level ≡ 0 → part ≡ ddi did 0 → decided_by (Leaf (words_at memory (table * 4096 + part * 32) 4)) ≡ Some result →
+    verdict_on (path_from memory did level table) ≡ whole → result ≡ whole
+ends memory did table level part result whole last index read left =
+    rw (← left, last, ← index) (sym (context_ends (words_at memory (table * 4096 + part * 32) 4) result read))
+
+-- an id that isn't too wide is located by the path from the root
+pub located_by_path : (memory : Memory) (registers : Registers) (did levels : ℕ) →
+    levels ≡ levels_of (mode_of registers) → is_too_wide levels did ≡ false →
+    verdict_on (path_from memory did (levels - 1) (root_of registers)) ≡ located memory registers did
+unfolding located
+located_by_path memory registers did levels same narrow = rw (← same, narrow) refl

@@ -1,0 +1,18 @@
+-- Device contexts: RISC-V IOMMU Architecture 1.0, "Device-context fields" and "Device-context configuration checks".
+use Rattle.std.specs.Prelude.{ℕ, ◌≡◌, ◌≢◌, ◌<◌, ◌^◌, ◌%◌, ◌==◌, ◌||◌, Bool, IsTrue}
+use Rattle.iom_ddt.specs.declared.context.Context.{Context}
+
+-- the modes of a stage: 0 is Bare, 8 is Sv39 for the first stage and Sv39x4 for the second
+abbrev pub is_mode : ℕ → Bool
+is_mode mode = mode == 0 || mode == 8
+
+-- its fields fit, its modes are there, and the second stage's root table is aligned to its 16 KiB
+pub record IsWellFormed (c : Context) : Type 0 where
+  pub custom : c.custom < 2 ^ 8
+  pub second_mode : IsTrue (is_mode c.gmode)
+  pub second_root : c.gppn < 2 ^ 44
+  pub second_root_aligned : c.gmode ≢ 0 → c.gppn % 4 ≡ 0
+  pub guest : c.gscid < 2 ^ 16
+  pub process : c.pscid < 2 ^ 20
+  pub first_mode : IsTrue (is_mode c.mode)
+  pub first_root : c.ppn < 2 ^ 44

@@ -1,0 +1,96 @@
+ghost use Rattle.std.specs.Prelude.{◌≡◌, ◌<◌, ◌≤◌, ◌^◌, ◌*◌, ◌+◌, IfOk, Some};
+ghost use Rattle.iom_mem.specs.Memory.{word, words_at};
+ghost use Rattle.iom_regs.specs.Views.{mode_of};
+ghost use Rattle.iom_ddt.specs.Directory.{ddi, is_too_wide, pointed_by, decided_by, levels_of, located, Leaf};
+
+use crate::{Context, context_of};
+use iom_bits::{Cause, field, has_bit};
+use iom_mem::Ram;
+use iom_regs::{Mode, Regs};
+
+/// The context of a device id of at most 24 bits, under a mode that has a directory ("Process to locate the
+/// Device-context").
+///
+/// `TooWide` where the id has bits above those of the directory's levels, which is tested first. Then of the entries on the
+/// way and of the context, the first that is outside memory (`DirAccess`), has V = 0 (`DirInvalid`) or is misconfigured
+/// (`DirBad`).
+#[tactic(auto, unfolding(crate::specs::Directory::located))]
+pub fn locate(ram: &Ram, registers: &Regs, did: u32) -> Result<Context, Cause>
+    requires directory { 1 ≤ levels_of (mode_of registers.now) }
+    requires width { did < 2 ^ 24 }
+    ensures { result ≡ located ram.now registers.now did }
+{
+    let levels = levels_of(registers.mode());
+    let did = did as u64;
+    if is_too_wide(levels, did) {
+        return Err(Cause::TooWide);
+    }
+    let mut table = registers.root();
+    for level in (1..levels).rev() {
+        table = pointed_by(ram, table * 4096 + ddi(did, level) * 8)?;
+    }
+    context_at(ram, table * 4096 + ddi(did, 0) * 32)
+}
+
+fn levels_of(mode: Mode) -> u8
+    ensures { result ≡ levels_of mode }
+{
+    match mode {
+        Mode::Off | Mode::Bare => 0,
+        Mode::Levels(levels) => levels,
+    }
+}
+
+fn is_too_wide(levels: u8, did: u64) -> bool
+    ensures { result ≡ is_too_wide levels did }
+{
+    levels < 3 && ddi(did, 2) != 0 || levels < 2 && ddi(did, 1) != 0
+}
+
+// The part of a device id that is the index into the table of a level; at level 0 are the contexts.
+fn ddi(did: u64, level: u8) -> u64
+    ensures part { result ≡ ddi did level }
+    ensures fits { result < 2 ^ 9 }
+{
+    match level {
+        0 => field(did, 0, 7),
+        1 => field(did, 7, 9),
+        _ => field(did, 16, 8),
+    }
+}
+
+// The PPN of the table that the entry at a physical address points to.
+fn pointed_by(ram: &Ram, place: u64) -> Result<u64, Cause>
+    ensures entry { result ≡ pointed_by (word ram.now place) }
+    ensures fits { IfOk result (λ table. table < 2 ^ 44) }
+{
+    let entry = ram.word(place).ok_or(Cause::DirAccess)?;
+    if !has_bit(entry, 0) {
+        Err(Cause::DirInvalid)
+    } else if field(entry, 1, 9) != 0 || field(entry, 54, 10) != 0 {
+        Err(Cause::DirBad)
+    } else {
+        Ok(field(entry, 10, 44))
+    }
+}
+
+// The context at a physical address.
+fn context_at(ram: &Ram, place: u64) -> Result<Context, Cause>
+    requires { place < 2 ^ 57 }
+    ensures { decided_by (Leaf (words_at ram.now place 4)) ≡ Some result }
+{
+    let words = words_at(ram, place).ok_or(Cause::DirAccess)?;
+    context_of(words)
+}
+
+fn words_at(ram: &Ram, place: u64) -> Option<[u64; 4]>
+    requires { place < 2 ^ 57 }
+    ensures { result ≡ words_at ram.now place 4 }
+{
+    Some([
+        ram.word(place)?,
+        ram.word(place + 8)?,
+        ram.word(place + 16)?,
+        ram.word(place + 24)?,
+    ])
+}

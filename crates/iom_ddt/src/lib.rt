@@ -1,0 +1,12 @@
+//! The device directory and device contexts (RISC-V IOMMU Architecture 1.0, "Device-directory-table").
+#![tactic(auto)]
+
+pub use context::Context;
+pub use directory::locate;
+pub use words::{context_of, encode_context};
+
+mod context;
+mod directory;
+#[cfg(test)]
+mod tests;
+mod words;
