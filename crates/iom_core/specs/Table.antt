@@ -1,10 +1,11 @@
 -- What a step answers and what it leaves, one row a step, the tests of a row in their order.
 use Rattle.std.specs.Prelude.{ℕ, ◌+◌, ◌*◌, ◌%◌, ◌^◌, ◌==◌, ◌&&◌, ◌||◌, Bool, not, Option, Some, None, Result, Ok, Err, List, length, is_some, nat_lt, nat_le, if◌then◌else◌}
-use Rattle.iom_bits.specs.declared.causes.Cause.{Cause}
+use Rattle.iom_bits.specs.declared.causes.Kind.TheVariants.{Read, Write}
 use Rattle.iom_bits.specs.Bytes.{number_of_bytes, bytes_of_number}
 use Rattle.iom_bits.specs.Causes.{cause_number}
 use Rattle.iom_mem.specs.Memory.{Memory, bytes_at, put}
 use Rattle.iom_regs.specs.Table.{read, after_write, is_legal}
+use Rattle.iom_nested.specs.declared.translation.Fault.{Fault}
 use Rattle.iom_core.specs.State.{State}
 use Rattle.iom_core.specs.Access.{address_of}
 use Rattle.iom_core.specs.declared.step.Step.{Step}
@@ -73,21 +74,23 @@ abbrev pub bytes_of : Option (List ℕ) → Answer
 bytes_of (Some bytes) = answer.Bytes (record { items = bytes })
 bytes_of None = answer.BusError
 
-abbrev pub bytes_from : Memory → ℕ → Result ℕ Cause → Answer
-bytes_from memory len (Err cause) = answer.Denied (cause_number cause)
+abbrev pub bytes_from : Memory → ℕ → Result ℕ Fault → Answer
+bytes_from memory len (Err fault) = answer.Denied (cause_number fault.cause)
 bytes_from memory len (Ok addr) = bytes_of (bytes_at memory addr len)
 
 unfoldable pub dma_read : State → ℕ → ℕ → ℕ → Answer
 dma_read state did iova len =
-    if is_device_access did iova len then bytes_from state.memory len (address_of state.memory state.registers did iova) else answer.Misuse
+    if is_device_access did iova len then bytes_from state.memory len (address_of state.memory state.registers did iova Read)
+    else answer.Misuse
 
-abbrev pub bytes_to : State → List ℕ → Result ℕ Cause → Outcome
-bytes_to state bytes (Err cause) = stays state (answer.Denied (cause_number cause))
+abbrev pub bytes_to : State → List ℕ → Result ℕ Fault → Outcome
+bytes_to state bytes (Err fault) = stays state (answer.Denied (cause_number fault.cause))
 bytes_to state bytes (Ok addr) = put_inside state addr bytes
 
 unfoldable pub dma_write : State → ℕ → ℕ → List ℕ → Outcome
 dma_write state did iova bytes =
-    if is_device_access did iova (length bytes) then bytes_to state bytes (address_of state.memory state.registers did iova)
+    if is_device_access did iova (length bytes)
+    then bytes_to state bytes (address_of state.memory state.registers did iova Write)
     else stays state answer.Misuse
 
 -- the step table; no commands and no block devices are there yet

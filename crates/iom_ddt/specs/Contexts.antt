@@ -1,10 +1,14 @@
 -- Device contexts: RISC-V IOMMU Architecture 1.0, "Device-context fields" and "Device-context configuration checks".
-use Rattle.std.specs.Prelude.{ℕ, ◌≡◌, ◌≢◌, ◌<◌, ◌^◌, ◌%◌, ◌==◌, ◌||◌, Bool, IsTrue}
+use Rattle.std.specs.Prelude.{ℕ, ◌≡◌, ◌≢◌, ◌<◌, ◌^◌, ◌%◌, ◌==◌, ◌&&◌, ◌||◌, Bool, IsTrue}
 use Rattle.iom_ddt.specs.declared.context.Context.{Context}
 
 -- the modes of a stage: 0 is Bare, 8 is Sv39 for the first stage and Sv39x4 for the second
 abbrev pub is_mode : ℕ → Bool
 is_mode mode = mode == 0 || mode == 8
+
+-- neither stage translates
+abbrev pub is_bare : Context → Bool
+is_bare c = c.mode == 0 && c.gmode == 0
 
 -- its fields fit, its modes are there, and the second stage's root table is aligned to its 16 KiB
 pub record IsWellFormed (c : Context) : Type 0 where

@@ -1,4 +1,4 @@
-ghost use Rattle.std.specs.Prelude.{◌↔◌, IsTrue};
+ghost use Rattle.std.specs.Prelude.{◌≡◌, ◌↔◌, IsTrue};
 
 /// What the directory says of one device (base format, "Device-context fields").
 ///
@@ -28,7 +28,7 @@ pub struct Context {
 }
 
 impl Context {
-    ghost use Rattle.iom_ddt.specs.Contexts.{IsWellFormed};
+    ghost use Rattle.iom_ddt.specs.Contexts.{is_bare, IsWellFormed};
 
     /// Whether its modes are there, the second stage's root is aligned and each field fits.
     pub fn is_well_formed(self) -> bool
@@ -37,5 +37,12 @@ impl Context {
         let fits = self.gppn >> 44 == 0 && self.pscid >> 20 == 0 && self.ppn >> 44 == 0;
         let aligned = self.gmode == 0 || self.gppn % 4 == 0;
         fits && aligned && matches!(self.gmode, 0 | 8) && matches!(self.mode, 0 | 8)
+    }
+
+    /// Whether neither stage translates.
+    pub fn is_bare(self) -> bool
+        ensures { result ≡ is_bare self }
+    {
+        self.mode == 0 && self.gmode == 0
     }
 }

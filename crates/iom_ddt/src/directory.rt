@@ -1,6 +1,7 @@
 ghost use Rattle.std.specs.Prelude.{◌≡◌, ◌<◌, ◌≤◌, ◌^◌, ◌*◌, ◌+◌, IfOk, Some};
 ghost use Rattle.iom_mem.specs.Memory.{word, words_at};
 ghost use Rattle.iom_regs.specs.Views.{mode_of};
+ghost use Rattle.iom_ddt.specs.Contexts.{IsWellFormed};
 ghost use Rattle.iom_ddt.specs.Directory.{ddi, is_too_wide, pointed_by, decided_by, levels_of, located, Leaf};
 
 use crate::{Context, context_of};
@@ -18,7 +19,8 @@ use iom_regs::{Mode, Regs};
 pub fn locate(ram: &Ram, registers: &Regs, did: u32) -> Result<Context, Cause>
     requires directory { 1 ≤ levels_of (mode_of registers.now) }
     requires width { did < 2 ^ 24 }
-    ensures { result ≡ located ram.now registers.now did }
+    ensures verdict { result ≡ located ram.now registers.now did }
+    ensures sound { IfOk result (λ context. IsWellFormed context) }
 {
     let levels = levels_of(registers.mode());
     let did = did as u64;
@@ -77,7 +79,8 @@ fn pointed_by(ram: &Ram, place: u64) -> Result<u64, Cause>
 // The context at a physical address.
 fn context_at(ram: &Ram, place: u64) -> Result<Context, Cause>
     requires { place < 2 ^ 57 }
-    ensures { decided_by (Leaf (words_at ram.now place 4)) ≡ Some result }
+    ensures verdict { decided_by (Leaf (words_at ram.now place 4)) ≡ Some result }
+    ensures sound { IfOk result (λ context. IsWellFormed context) }
 {
     let words = words_at(ram, place).ok_or(Cause::DirAccess)?;
     context_of(words)

@@ -4,8 +4,8 @@ use Rattle.iom_ddt.specs.Directory.{levels_of}
 use Rattle.iom_ddt.proofs.Paths.{passes, stops, ends, located_by_path}
 use Rattle.iom_ddt.proofs.directory.locate.Goals as goal
 
-pub returns-in_err-table : goal.returns-in_err-table
-returns-in_err-table c =
+pub returns-in_err-table-clause-verdict : goal.returns-in_err-table-clause-verdict
+returns-in_err-table-clause-verdict c =
     let p = err_from_is_err_and c.from_residual.result c.from_residual.ensures.1 in
     rw (p.1, p.2) (stops _ _ _ _ _ _ _ _ (omega (arith, c.loop-level-test.true)) c.ddi.ensures.part c.pointed_by.ensures.entry c.in_err-table.was c.loop-level.invariant.left)
     ∙ located_by_path _ _ _ _ (c.levels_of-levels.ensures ∙ ap levels_of c.mode.ensures.mode) (sym c.is_too_wide.ensures ∙ c.if-is_too_wide.false)
@@ -17,7 +17,7 @@ loop-level-preserved c = record {
   left = passes _ _ _ _ _ _ _ _ (omega (arith, c.loop-level-test.true)) c.ddi.ensures.part c.pointed_by.ensures.entry c.in_ok-table.was c.loop-level.invariant.left;
 }
 
-pub returns : goal.returns
-returns c =
-    ends _ _ _ _ _ _ _ (omega (arith, c.loop-level-test.false)) c.ddi-2.ensures.part c.context_at.ensures c.loop-level.invariant.left
+pub returns-clause-verdict : goal.returns-clause-verdict
+returns-clause-verdict c =
+    ends _ _ _ _ _ _ _ (omega (arith, c.loop-level-test.false)) c.ddi-2.ensures.part c.context_at.ensures.verdict c.loop-level.invariant.left
     ∙ located_by_path _ _ _ _ (c.levels_of-levels.ensures ∙ ap levels_of c.mode.ensures.mode) (sym c.is_too_wide.ensures ∙ c.if-is_too_wide.false)

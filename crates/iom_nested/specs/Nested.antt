@@ -1,0 +1,55 @@
+-- The translation by both stages of a context: RISC-V IOMMU Architecture 1.0, "Process to translate an IOVA"; RISC-V
+-- Privileged Architecture 1.12, "Two-Stage Address Translation".
+use Rattle.std.specs.Prelude.{ℕ, ◌+◌, ◌*◌, ◌/◌, ◌%◌, false, Option, Some, None, Result, Ok, Err}
+use Rattle.iom_bits.specs.declared.causes.Kind.{Kind}
+use Rattle.iom_mem.specs.Memory.{Memory}
+use Rattle.iom_ddt.specs.declared.context.Context.{Context}
+use Rattle.iom_walk.specs.Outcome.{outcome_of}
+use Rattle.iom_walk.specs.declared.shape.Shape.{Shape}
+use Rattle.iom_walk.specs.declared.outcome.Outcome.{Outcome}
+use Rattle.iom_walk.specs.declared.outcome.Outcome.TheVariants as outcome
+use Rattle.iom_nested.specs.Stages.{first_shape_of, second_shape_of, ram_got, table_got}
+use Rattle.iom_nested.specs.Faults.{Failure, EntryOutside, FirstStage, SecondForEntry, SecondForAccess, fault_of}
+use Rattle.iom_nested.specs.declared.translation.Fault.{Fault}
+use Rattle.iom_nested.specs.declared.translation.Hit.{Hit}
+use Rattle.iom_nested.specs.declared.translation.Reached.{Reached}
+
+-- where the first stage leads: a guest-physical address, or a physical one under a Bare second stage, and the level and
+-- global of its leaf
+abbrev pub reached_by : ℕ → Outcome → Result Reached Failure
+reached_by iova (outcome.Leaf leaf) =
+    Ok (record { addr = leaf.frame * 4096 + iova % 4096; level = leaf.level; global = leaf.global })
+reached_by iova outcome.Outside = Err EntryOutside
+reached_by iova (outcome.Guest place) = Err (SecondForEntry place)
+reached_by iova outcome.Fault = Err FirstStage
+
+-- a Bare first stage leads to the IOVA itself
+abbrev pub first_stage : Memory → Context → ℕ → Kind → Option Shape → Result Reached Failure
+first_stage memory context iova kind None = Ok (record { addr = iova; level = 0; global = false })
+first_stage memory context iova kind (Some shape) =
+    reached_by iova (outcome_of (table_got memory context) shape context.ppn iova kind)
+
+-- the second stage's frame, for the access's own kind; the first stage's level and global
+abbrev pub hit_by : Reached → Outcome → Result Hit Failure
+hit_by reached (outcome.Leaf leaf) = Ok (record { frame = leaf.frame; level = reached.level; global = reached.global })
+hit_by reached outcome.Outside = Err EntryOutside
+hit_by reached (outcome.Guest place) = Err (SecondForAccess reached.addr)
+hit_by reached outcome.Fault = Err (SecondForAccess reached.addr)
+
+abbrev pub second_stage : Memory → Context → Kind → Option Shape → Reached → Result Hit Failure
+second_stage memory context kind None reached =
+    Ok (record { frame = reached.addr / 4096; level = reached.level; global = reached.global })
+second_stage memory context kind (Some shape) reached =
+    hit_by reached (outcome_of (ram_got memory) shape context.gppn reached.addr kind)
+
+abbrev pub behind_first : Memory → Context → Kind → Result Reached Failure → Result Hit Failure
+behind_first memory context kind (Ok reached) = second_stage memory context kind (second_shape_of context) reached
+behind_first memory context kind (Err failure) = Err failure
+
+abbrev pub told_of : {A : Type 0} → Kind → Result A Failure → Result A Fault
+told_of kind (Ok found) = Ok found
+told_of kind (Err failure) = Err (fault_of kind failure)
+
+unfoldable pub translation : Memory → Context → ℕ → Kind → Result Hit Fault
+translation memory context iova kind =
+    told_of kind (behind_first memory context kind (first_stage memory context iova kind (first_shape_of context)))

@@ -1,0 +1,57 @@
+ghost use Rattle.std.specs.Prelude.{◌≡◌, ◌<◌, ◌^◌, IsSome};
+ghost use Rattle.iom_ddt.specs.Contexts.{IsWellFormed};
+ghost use Rattle.iom_nested.specs.Stages.{guest_got, second_shape_of, table_got};
+
+use crate::physical::Physical;
+use iom_bits::Kind;
+use iom_ddt::Context;
+use iom_mem::Ram;
+use iom_walk::{Got, Outcome, Shape, Words, walk};
+
+/// A guest's memory as a source of words: memory behind the second stage. Addresses are guest-physical, each translated for a
+/// read.
+#[derive(Drop)]
+pub struct Second<'a> {
+    ram: &'a Ram,
+    shape: Shape,
+    root: u64,
+    ghost root_fits: { root < 2 ^ 44 },
+}
+
+impl<'a> Second<'a> {
+    /// Lends memory through the second stage of a context that has one.
+    pub fn new(ram: &'a Ram, context: &Context) -> Second<'a>
+        requires well_formed { IsWellFormed context.now }
+        requires staged { IsSome (second_shape_of context.now) }
+        ensures { ⟦<Second<'a> as Words>⟧.at result ≡ table_got ram.now context.now }
+    {
+        Second {
+            ram,
+            shape: second_shape(context).unwrap(),
+            root: context.gppn,
+        }
+    }
+}
+
+impl Words for Second<'_> {
+    ghost at = { λ source. guest_got source.ram.now source.shape source.root };
+
+    fn word(&self, addr: u64) -> Got {
+        match walk(&Physical { ram: self.ram }, self.shape, self.root, addr, Kind::Read) {
+            Outcome::Leaf(leaf) => Physical { ram: self.ram }.word(leaf.frame * 4096 + addr % 4096),
+            Outcome::Outside => Got::Outside,
+            Outcome::Guest(_) | Outcome::Fault => Got::Guest,
+        }
+    }
+}
+
+/// The shape of the second stage's tables; None where it is Bare.
+pub fn second_shape(context: &Context) -> Option<Shape>
+    ensures { result ≡ second_shape_of context.now }
+{
+    if context.gmode == 8 {
+        Some(Shape::Sv39x4)
+    } else {
+        None
+    }
+}

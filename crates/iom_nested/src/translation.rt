@@ -1,0 +1,140 @@
+ghost use Rattle.std.specs.Prelude.{◌≡◌, ◌≢◌, ◌<◌, ◌^◌, false, None, IfOk};
+ghost use Rattle.iom_ddt.specs.Contexts.{is_bare, IsWellFormed};
+ghost use Rattle.iom_nested.specs.Stages.{first_shape_of, second_shape_of};
+ghost use Rattle.iom_nested.specs.Faults.{fault_of, EntryOutside};
+ghost use Rattle.iom_nested.specs.Nested.{first_stage, second_stage, told_of, translation};
+
+use crate::physical::Physical;
+use crate::second::{Second, second_shape};
+use iom_bits::{Cause, Kind};
+use iom_ddt::Context;
+use iom_mem::Ram;
+use iom_walk::{Outcome, Shape, walk};
+
+/// Where a page leads.
+#[derive(Clone, Copy, Debug, PartialEq, Eq, Hash)]
+pub struct Hit {
+    /// The PPN of the page's frame, 44 bits: its physical address divided by 4096.
+    pub frame: u64,
+    /// The level of the first stage's leaf, 0 to 2; 0 where that stage is Bare.
+    pub level: u8,
+    /// Whether the first stage's mapping is global; false where that stage is Bare.
+    pub global: bool,
+}
+
+/// Why a page leads nowhere.
+#[derive(Clone, Copy, Debug, PartialEq, Eq, Hash)]
+pub struct Fault {
+    pub cause: Cause,
+    /// For a guest page fault the guest-physical address with bits 1:0 cleared, and bit 0 set where it is that of an entry
+    /// of the first stage; else 0.
+    pub iotval2: u64,
+}
+
+/// Where the first stage leads: the guest-physical address under a second stage, else the physical one.
+#[derive(Clone, Copy)]
+struct Reached {
+    addr: u64,
+    level: u8,
+    global: bool,
+}
+
+/// Translates an IOVA by the stages of a context, of which at least one isn't Bare ("Process to translate an IOVA").
+///
+/// First-stage tables stand in the guest's memory where there is a second stage, and are read through it. The fault is an
+/// `Access` where an entry of either stage is outside memory, a `Page` fault of the first stage, or a `Guest` fault of the
+/// second, each for the access's own kind.
+#[tactic(auto, unfolding(crate::specs::Nested::translation))]
+pub fn translate(ram: &Ram, context: &Context, iova: u64, kind: Kind) -> Result<Hit, Fault>
+    requires well_formed { IsWellFormed context.now }
+    requires translated { is_bare context.now ≡ false }
+    ensures translation { result ≡ translation ram.now context.now iova kind }
+    ensures fits { IfOk result (λ hit. (hit.frame < 2 ^ 44) × (hit.level < 4)) }
+{
+    let reached = first_stage(ram, context, iova, kind)?;
+    second_stage(ram, context, reached, kind)
+}
+
+fn first_stage(ram: &Ram, context: &Context, iova: u64, kind: Kind) -> Result<Reached, Fault>
+    requires well_formed { IsWellFormed context.now }
+    ensures reached { result
+        ≡ told_of kind (first_stage ram.now context.now iova kind (first_shape_of context.now)) }
+    ensures fits { IfOk result
+        (λ reached. (first_shape_of context.now ≢ None → reached.addr < 2 ^ 56) × (reached.level < 4)) }
+{
+    let Some(shape) = first_shape(context) else {
+        return Ok(Reached {
+            addr: iova,
+            level: 0,
+            global: false,
+        });
+    };
+    let outcome = match second_shape(context) {
+        Some(_) => walk(&Second::new(ram, context), shape, context.ppn, iova, kind),
+        None => walk(&Physical { ram }, shape, context.ppn, iova, kind),
+    };
+    match outcome {
+        Outcome::Leaf(leaf) => Ok(Reached {
+            addr: leaf.frame * 4096 + iova % 4096,
+            level: leaf.level,
+            global: leaf.global,
+        }),
+        Outcome::Outside => Err(entry_outside(kind)),
+        Outcome::Guest(place) => Err(Fault {
+            cause: Cause::Guest(kind),
+            iotval2: (place & !3) + 1,
+        }),
+        Outcome::Fault => Err(Fault {
+            cause: Cause::Page(kind),
+            iotval2: 0,
+        }),
+    }
+}
+
+fn second_stage(ram: &Ram, context: &Context, reached: Reached, kind: Kind) -> Result<Hit, Fault>
+    requires well_formed { IsWellFormed context.now }
+    requires level { reached.level < 4 }
+    requires inside { second_shape_of context.now ≡ None → reached.addr < 2 ^ 56 }
+    ensures hit { result
+        ≡ told_of kind (second_stage ram.now context.now kind (second_shape_of context.now) reached) }
+    ensures fits { IfOk result (λ hit. (hit.frame < 2 ^ 44) × (hit.level < 4)) }
+{
+    let frame = match second_shape(context) {
+        None => reached.addr / 4096,
+        Some(shape) => match walk(&Physical { ram }, shape, context.gppn, reached.addr, kind) {
+            Outcome::Leaf(leaf) => leaf.frame,
+            Outcome::Outside => return Err(entry_outside(kind)),
+            Outcome::Guest(_) | Outcome::Fault => {
+                return Err(Fault {
+                    cause: Cause::Guest(kind),
+                    iotval2: reached.addr & !3,
+                });
+            }
+        },
+    };
+    Ok(Hit {
+        frame,
+        level: reached.level,
+        global: reached.global,
+    })
+}
+
+fn entry_outside(kind: Kind) -> Fault
+    ensures { result ≡ fault_of kind EntryOutside }
+{
+    Fault {
+        cause: Cause::Access(kind),
+        iotval2: 0,
+    }
+}
+
+// The shape of the first stage's tables; None where it is Bare.
+fn first_shape(context: &Context) -> Option<Shape>
+    ensures { result ≡ first_shape_of context.now }
+{
+    if context.mode == 8 {
+        Some(Shape::Sv39)
+    } else {
+        None
+    }
+}

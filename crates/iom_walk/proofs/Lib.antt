@@ -1,0 +1,4 @@
+pub mod Entries
+pub mod Frames
+pub mod Paths
+pub mod Walks

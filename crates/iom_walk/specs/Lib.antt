@@ -1,0 +1,4 @@
+pub mod Shape
+pub mod Verdict
+pub mod Path
+pub mod Outcome

@@ -1,0 +1,63 @@
+-- How a walk ends: RISC-V Privileged Architecture 1.12, "Virtual Address Translation Process", step 8. A pointer's G is that of
+-- all mappings behind it: "Addressing and Memory Protection". The width rule's fault is that of "Sv39: Page-Based 39-bit
+-- Virtual-Memory System" and "Guest Physical Address Translation".
+use Rattle.std.specs.Prelude.{ℕ, ◌≡◌, ◌+◌, ◌*◌, ◌/◌, ◌%◌, ◌^◌, ◌<◌, Bool, true, false, not, List, Option, Some, None, if◌then◌else◌}
+use Rattle.std.specs.List.{find, list_any}
+use Rattle.iom_bits.specs.declared.causes.Kind.{Kind}
+use Rattle.iom_walk.specs.declared.source.Got.{Got}
+use Rattle.iom_walk.specs.declared.shape.Shape.{Shape}
+use Rattle.iom_walk.specs.declared.entry.Verdict.{Verdict}
+use Rattle.iom_walk.specs.declared.entry.Verdict.TheVariants as verdict
+use Rattle.iom_walk.specs.declared.outcome.Leaf.{Leaf}
+use Rattle.iom_walk.specs.declared.outcome.Outcome.{Outcome}
+use Rattle.iom_walk.specs.declared.outcome.Outcome.TheVariants as outcome
+use Rattle.iom_walk.specs.Shape.{levels, is_in_width}
+use Rattle.iom_walk.specs.Verdict.{is_pointer, is_global, ppn, word_of}
+use Rattle.iom_walk.specs.Path.{Entry, verdict_on, path_of, IsLongestPath}
+
+-- the frame of an address under a leaf: the leaf's PPN, and below it the low 9 * level bits of the address's page number
+abbrev pub frame_of : ℕ → ℕ → ℕ → ℕ
+frame_of address level word = ppn word + address / 4096 % 2 ^ (9 * level)
+
+-- the mapping of an address by a leaf of some level
+abbrev pub leaf_of : Bool → ℕ → ℕ → ℕ → Leaf
+leaf_of global address level word = record { frame = frame_of address level word; level = level; global = global }
+
+-- what the entry that isn't a pointer gives
+abbrev pub conclude : Bool → ℕ → Entry → Verdict → Outcome
+conclude global address entry verdict.Outside = outcome.Outside
+conclude global address entry verdict.Guest = outcome.Guest entry.place
+conclude global address entry verdict.Fault = outcome.Fault
+conclude global address entry (verdict.Pointer word) = outcome.Fault
+conclude global address entry (verdict.Leaf word) = outcome.Leaf (leaf_of global address entry.level word)
+
+abbrev pub conclude_at : Kind → Bool → ℕ → Option Entry → Outcome
+conclude_at kind global address None = outcome.Fault
+conclude_at kind global address (Some entry) = conclude global address entry (verdict_on kind entry)
+
+-- what the first entry of a path that isn't a pointer gives; the mapping is global where an entry of the path is, the last
+-- of which is the leaf
+unfoldable pub verdict_on_path : Kind → ℕ → List Entry → Outcome
+verdict_on_path kind address path =
+    conclude_at kind (list_any (λ entry. is_global (word_of entry.got)) path) address
+    (find (λ entry. not (is_pointer (verdict_on kind entry))) path)
+
+-- how a walk ends: as its longest path says; an address that breaks the width rule has no path, and is a fault
+unfoldable pub outcome_of : (ℕ → Got) → Shape → ℕ → ℕ → Kind → Outcome
+outcome_of at shape root address kind =
+    if is_in_width shape address then verdict_on_path kind address (path_of at shape root address) else outcome.Fault
+
+-- the same in the words of paths: there is a longest one, and every longest one gives this end; or the address breaks the
+-- width rule
+pub record IsOutcome (at : ℕ → Got) (shape : Shape) (root address : ℕ) (kind : Kind) (end : Outcome) : Type 0 where
+  pub some_path : is_in_width shape address ≡ true → (path : List Entry) × IsLongestPath at shape root address path
+  pub of_path : (path : List Entry) → is_in_width shape address ≡ true → IsLongestPath at shape root address path →
+      end ≡ verdict_on_path kind address path
+  pub of_none : is_in_width shape address ≡ false → end ≡ outcome.Fault
+
+-- the bounds of a mapping
+abbrev pub LeafFits : Shape → Outcome → Type 0
+LeafFits shape (outcome.Leaf leaf) = (leaf.frame < 2 ^ 44) × (leaf.level < levels shape)
+LeafFits shape outcome.Outside = Unit {0}
+LeafFits shape (outcome.Guest place) = Unit {0}
+LeafFits shape outcome.Fault = Unit {0}

@@ -1,0 +1,67 @@
+//! The shapes of page tables.
+
+ghost use Rattle.std.specs.Prelude.{◌≡◌, ◌<◌, ◌≤◌, ◌^◌};
+
+use iom_bits::{field, has_bit};
+
+/// How many levels of tables there are, how an address is divided into indexes, and how wide it may be.
+#[derive(Clone, Copy, Debug, PartialEq, Eq, Hash)]
+pub enum Shape {
+    /// Three levels. Bits 63:39 of an address repeat bit 38.
+    Sv39,
+    /// Three levels, of which the root has four times as many entries. An address, a guest-physical one, is below
+    /// 2^41.
+    Sv39x4,
+}
+
+impl Shape {
+    ghost use Rattle.iom_walk.specs.Shape.{levels, widening, index_of, is_in_width};
+
+    /// How many levels there are. The level of the root is one less; that of the last table is 0.
+    pub(crate) fn levels(self) -> u8
+        ensures value { result ≡ levels self }
+        ensures most { result ≤ 4 }
+    {
+        match self {
+            Shape::Sv39 | Shape::Sv39x4 => 3,
+        }
+    }
+
+    // By how many bits the index into the root is wider than the nine of the others.
+    fn widening(self) -> u32
+        ensures value { result ≡ widening self }
+        ensures most { result ≤ 2 }
+    {
+        match self {
+            Shape::Sv39 => 0,
+            Shape::Sv39x4 => 2,
+        }
+    }
+
+    /// The index of the entry that `addr` is met at in a table of level `level`: below 2^11 in the root of
+    /// Sv39x4, below 2^9 in all other tables.
+    #[tactic(auto, unfolding(crate::specs::Shape::index_of))]
+    pub(crate) fn index(self, addr: u64, level: u8) -> u64
+        requires { level < levels self }
+        ensures index { result ≡ index_of self addr level }
+        ensures fits { result < 2 ^ 11 }
+    {
+        let low = 12 + 9 * level as u32;
+        if level + 1 == self.levels() {
+            field(addr, low, 9 + self.widening())
+        } else {
+            field(addr, low, 9)
+        }
+    }
+
+    /// Whether `addr` is within the width that the shape allows.
+    #[tactic(auto, unfolding(crate::specs::Shape::is_in_width))]
+    pub(crate) fn covers(self, addr: u64) -> bool
+        ensures { result ≡ is_in_width self addr }
+    {
+        match self {
+            Shape::Sv39 => field(addr, 39, 25) == if has_bit(addr, 38) { 0x1ff_ffff } else { 0 },
+            Shape::Sv39x4 => field(addr, 41, 23) == 0,
+        }
+    }
+}

@@ -1,0 +1,25 @@
+//! What a walk reads its entries from.
+
+ghost use Rattle.std.specs.Prelude.{◌≡◌, ℕ};
+ghost use Rattle.iom_walk.specs.declared.source.Got.{Got};
+
+/// What a source of words has at an address.
+#[derive(Clone, Copy, Debug, PartialEq, Eq, Hash)]
+pub enum Got {
+    /// The eight bytes there as a number, the lowest byte first.
+    Word(u64),
+    /// One of the eight bytes lies outside memory.
+    Outside,
+    /// The address is a guest-physical one that the second stage didn't translate.
+    Guest,
+}
+
+/// A source of words: physical memory, or a guest's memory, whose addresses the second stage translates.
+pub trait Words {
+    /// What it has at each address.
+    ghost at: { Self → ℕ → Got };
+
+    /// What it has at `addr`, a physical or a guest-physical address.
+    fn word(&self, addr: u64) -> Got
+        ensures { result ≡ at self.now addr };
+}

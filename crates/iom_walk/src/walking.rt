@@ -1,0 +1,52 @@
+//! The walk itself.
+
+ghost use Rattle.std.specs.Prelude.{◌≡◌, ◌<◌, ◌^◌};
+ghost use Rattle.iom_walk.specs.Path.{path_of};
+ghost use Rattle.iom_walk.specs.Outcome.{outcome_of, verdict_on_path, IsOutcome, LeafFits};
+
+use crate::entry::{GLOBAL, Verdict, judge, ppn_of};
+use crate::outcome::{Outcome, leaf_of};
+use crate::shape::Shape;
+use crate::source::Words;
+use iom_bits::{Kind, has_bit};
+
+/// Walks page tables of this shape for an access of kind `kind` to `addr`, an IOVA or a guest-physical
+/// address. `root` is the PPN of the root: its address divided by 4096. That address and the entries' are ones
+/// of `words`, each below 2^56 + 2^14.
+#[tactic(auto, using(crate::proofs::Paths::is_outcome), unfolding(crate::specs::Outcome::outcome_of))]
+pub fn walk<W: Words>(words: &W, shape: Shape, root: u64, addr: u64, kind: Kind) -> Outcome
+    requires { root < 2 ^ 44 }
+    ensures outcome { result ≡ outcome_of (W.at words.now) shape root addr kind }
+    ensures path { IsOutcome (W.at words.now) shape root addr kind result }
+    ensures leaf { LeafFits shape result }
+{
+    if shape.covers(addr) {
+        descend(words, shape, root, addr, kind)
+    } else {
+        Outcome::Fault
+    }
+}
+
+// The walk of an address that is no wider than its shape allows.
+fn descend<W: Words>(words: &W, shape: Shape, root: u64, addr: u64, kind: Kind) -> Outcome
+    requires { root < 2 ^ 44 }
+    ensures outcome { result ≡ verdict_on_path kind addr (path_of (W.at words.now) shape root addr) }
+    ensures leaf { LeafFits shape result }
+{
+    let mut table = root;
+    let mut global = false;
+    for level in (0..shape.levels()).rev() {
+        let place = table * 4096 + shape.index(addr, level) * 8;
+        match judge(words.word(place), level, kind) {
+            Verdict::Outside => return Outcome::Outside,
+            Verdict::Guest => return Outcome::Guest(place),
+            Verdict::Fault => return Outcome::Fault,
+            Verdict::Leaf(word) => return Outcome::Leaf(leaf_of(word, addr, level, global)),
+            Verdict::Pointer(word) => {
+                global |= has_bit(word, GLOBAL);
+                table = ppn_of(word);
+            }
+        }
+    }
+    Outcome::Fault
+}
