@@ -37,7 +37,13 @@ impl Words for Second<'_> {
     ghost at = { λ source. guest_got source.ram.now source.shape source.root };
 
     fn word(&self, addr: u64) -> Got {
-        match walk(&Physical { ram: self.ram }, self.shape, self.root, addr, Kind::Read) {
+        match walk(
+            &Physical { ram: self.ram },
+            self.shape,
+            self.root,
+            addr,
+            Kind::Read,
+        ) {
             Outcome::Leaf(leaf) => Physical { ram: self.ram }.word(leaf.frame * 4096 + addr % 4096),
             Outcome::Outside => Got::Outside,
             Outcome::Guest(_) | Outcome::Fault => Got::Guest,

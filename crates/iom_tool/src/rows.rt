@@ -4,7 +4,123 @@ use crate::run;
 use iom_core::Platform;
 use iom_mem::Ram;
 use std::alloc::Global;
+use std::process::Abort;
 use std::test::Fail;
+
+/// Device 5 has a first stage: the page at 0x40201000 is the frame at 0x80010000.
+const FIRST_STAGE: &[(u64, u64)] = &[
+    (0x8000_10a0, 1),
+    (0x8000_10b8, 0x8000_0000_0008_0002),
+    (0x8000_2008, 0x2000_0c01),
+    (0x8000_3008, 0x2000_1001),
+    (0x8000_4008, 0x2000_40d7),
+    (0x8001_0abc, 0x8877_6655_4433_2211),
+];
+
+/// Device 5 has both stages, the second without an entry: the page at 0x40201000 is the guest's frame at 0x40000.
+const BOTH_STAGES: &[(u64, u64)] = &[
+    (0x8000_10a0, 1),
+    (0x8000_10a8, 0x8000_7000_0008_0020),
+    (0x8000_10b8, 0x8000_0000_0000_0030),
+    (0x8003_0008, 0xc401),
+    (0x8003_1008, 0xc801),
+    (0x8003_2008, 0x10_00d7),
+    (0x8004_0abc, 0xa4a3_a2a1),
+];
+
+const AT_ONE_LEVEL: &str = "\
+store 0x800010a0 8 1
+store 0x80000100 4 0x04030201
+reg write 16 8 0x20000402
+dma read 5 0x80000100 4 # 01020304
+";
+
+const AT_THREE_LEVELS: &str = "\
+store 0x800010a0 8 1
+store 0x80000100 4 0x04030201
+store 0x80005008 8 0x20001801
+store 0x80006008 8 0x20000401
+reg write 16 8 0x20001404
+dma read 0x10085 0x80000100 4 # 01020304
+dma read 0x10005 0x80000100 4 # denied 258
+";
+
+const TOO_WIDE: &str = "\
+reg write 16 8 0x20000402
+dma read 128 0x1000 4 # denied 260
+dma read 4 0x1000 8 # denied 258
+";
+
+const MISCONFIGURED: &str = "\
+reg write 16 8 0x20000402
+store 0x800010a0 8 0x21
+dma read 5 0x1000 8 # denied 259
+store 0x800010a0 8 0x11
+dma read 5 0x1000 8 # denied 13
+";
+
+const UPPER_ENTRIES: &str = "\
+reg write 16 8 0x20001403
+dma read 0x85 0x40201abc 1 # denied 258
+store 0x80005008 8 0x20000403
+dma read 0x85 0x40201abc 1 # denied 259
+store 0x80005008 8 0x3ffffffffffc01
+dma read 0x85 0x40201abc 1 # denied 257
+store 0x80005008 8 0x20000401
+dma read 0x85 0x40201abc 1 # 11
+";
+
+const FIRST_BIT_OF_TA: &str = "\
+reg write 16 8 0x20000402
+store 0x800010b0 8 1
+dma read 5 0x40201abc 8 # 1122334455667788
+";
+
+const READ_ONLY_PAGE: &str = "\
+reg write 16 8 0x20000402
+store 0x80004008 8 0x20004057
+dma read 5 0x40201abc 1 # 11
+dma write 5 0x40201abc ff # denied 15
+";
+
+const UPPER_HALF: &str = "\
+reg write 16 8 0x20000402
+dma read 5 0x4000000000 1 # denied 13
+store 0x80002800 8 0x200000d7
+dma read 5 0xffffffc000010abc 8 # 1122334455667788
+";
+
+const SUPERPAGE: &str = "\
+reg write 16 8 0x20000402
+store 0x80003008 8 0x200004d7
+dma read 5 0x40201abc 4 # denied 13
+store 0x80003008 8 0x200000d7
+store 0x80001abc 4 0x04030201
+dma read 5 0x40201abc 4 # 01020304
+";
+
+const SECOND_STAGE_FAULTS: &str = "\
+reg write 16 8 0x20000402
+dma read 5 0x40201abc 4 # denied 21
+store 0x80020000 8 0x200000d7
+dma read 5 0x40201abc 4 # a1a2a3a4
+store 0x80020000 8 0x20000053
+dma write 5 0x40201abc ff # denied 23
+";
+
+const ENTRY_OUTSIDE: &str = "\
+reg write 16 8 0x20000402
+store 0x800010b8 8 0x8000000000000100
+store 0x80020000 8 0x200000d7
+dma read 5 0x40000000 8 # denied 5
+dma write 5 0x40000000 00 # denied 7
+";
+
+const SECOND_STAGE_ALONE: &str = "\
+reg write 16 8 0x20000402
+store 0x800010b8 8 0
+dma read 5 0x20000000003 1 # denied 21
+";
 
 /// A memory of 1 MiB at 0x80000000 with words at some addresses.
 fn platform_with(alloc: Global, words: &[(u64, u64)]) -> Result<Platform, Fail> {
@@ -39,96 +155,47 @@ fn played(alloc: Global, words: &[(u64, u64)], script: &str) -> Result<Row, Fail
     Ok(Row { written, told })
 }
 
-/// Device 5 has a first stage; 0x40201000 is the page at 0x80010000.
-const FIRST_STAGE: &[(u64, u64)] = &[
-    (0x8000_10a0, 1),
-    (0x8000_10b8, 0x8000_0000_0008_0002),
-    (0x8000_2008, 0x2000_0c01),
-    (0x8000_3008, 0x2000_1001),
-    (0x8000_4008, 0x2000_40d7),
-    (0x8001_0abc, 0x8877_6655_4433_2211),
-];
-
-#[test]
-fn context_at_one_level(rt: HostRuntime) -> Result<(), Fail> {
-    let row = played(
-        rt.alloc(),
-        &[],
-        "\
-store 0x800010a0 8 1
-store 0x80000100 4 0x04030201
-reg write 16 8 0x20000402
-dma read 5 0x80000100 4 # 01020304
-",
-    )?;
-    assert_eq!(rt; row.written.as_slice(), row.told.as_slice());
+// Plays scripts on one memory, and compares.
+fn compare(
+    rt: &impl Abort,
+    alloc: Global,
+    words: &[(u64, u64)],
+    scripts: &[&str],
+) -> Result<(), Fail> {
+    for script in scripts {
+        let row = played(alloc, words, script)?;
+        assert_eq!(rt; row.written.as_slice(), row.told.as_slice(), "of {script}");
+    }
     Ok(())
 }
 
 #[test]
-fn context_at_three_levels(rt: HostRuntime) -> Result<(), Fail> {
-    let row = played(
-        rt.alloc(),
-        &[],
-        "\
-store 0x800010a0 8 1
-store 0x80000100 4 0x04030201
-store 0x80005008 8 0x20001801
-store 0x80006008 8 0x20000401
-reg write 16 8 0x20001404
-dma read 0x10085 0x80000100 4 # 01020304
-dma read 0x10005 0x80000100 4 # denied 258
-",
-    )?;
-    assert_eq!(rt; row.written.as_slice(), row.told.as_slice());
-    Ok(())
-}
-
-#[test]
-fn id_too_wide_and_no_context(rt: HostRuntime) -> Result<(), Fail> {
-    let row = played(
+fn directory(rt: HostRuntime) -> Result<(), Fail> {
+    compare(&rt, rt.alloc(), &[], &[AT_ONE_LEVEL, AT_THREE_LEVELS])?;
+    compare(
+        &rt,
         rt.alloc(),
         FIRST_STAGE,
-        "\
-reg write 16 8 0x20000402
-dma read 128 0x1000 4 # denied 260
-dma read 4 0x1000 8 # denied 258
-",
-    )?;
-    assert_eq!(rt; row.written.as_slice(), row.told.as_slice());
-    Ok(())
+        &[TOO_WIDE, MISCONFIGURED, UPPER_ENTRIES],
+    )
 }
 
 #[test]
-fn misconfigured_context(rt: HostRuntime) -> Result<(), Fail> {
-    let row = played(
+fn first_stage(rt: HostRuntime) -> Result<(), Fail> {
+    compare(
+        &rt,
         rt.alloc(),
         FIRST_STAGE,
-        "\
-reg write 16 8 0x20000402
-store 0x800010a0 8 0x21
-dma read 5 0x1000 8 # denied 259
-",
-    )?;
-    assert_eq!(rt; row.written.as_slice(), row.told.as_slice());
-    Ok(())
+        &[FIRST_BIT_OF_TA, READ_ONLY_PAGE, UPPER_HALF, SUPERPAGE],
+    )
 }
 
 #[test]
-fn entries_of_the_directory(rt: HostRuntime) -> Result<(), Fail> {
-    let row = played(
+fn both_stages(rt: HostRuntime) -> Result<(), Fail> {
+    compare(
+        &rt,
         rt.alloc(),
-        FIRST_STAGE,
-        "\
-reg write 16 8 0x20001403
-dma read 0x85 0x40201abc 1 # denied 258
-store 0x80005008 8 0x20000403
-dma read 0x85 0x40201abc 1 # denied 259
-store 0x80005008 8 0x3ffffffffffc01
-dma read 0x85 0x40201abc 1 # denied 257
-store 0x80005008 8 0x20000401
-",
-    )?;
-    assert_eq!(rt; row.written.as_slice(), row.told.as_slice());
-    Ok(())
+        BOTH_STAGES,
+        &[SECOND_STAGE_FAULTS, ENTRY_OUTSIDE, SECOND_STAGE_ALONE],
+    )
 }
