@@ -6,6 +6,9 @@ pub record State : Type 0 where
   pub memory : Memory
   pub registers : Registers
 
+abbrev pub state_of : Memory → Registers → State
+state_of memory registers = record { memory = memory; registers = registers }
+
 -- a platform that nothing has happened to yet
 abbrev pub opening : Memory → State
-opening memory = record { memory = memory; registers = reset }
+opening memory = state_of memory reset

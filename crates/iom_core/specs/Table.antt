@@ -5,9 +5,13 @@ use Rattle.iom_bits.specs.Bytes.{number_of_bytes, bytes_of_number}
 use Rattle.iom_bits.specs.Causes.{cause_number}
 use Rattle.iom_mem.specs.Memory.{Memory, bytes_at, put}
 use Rattle.iom_regs.specs.Table.{read, after_write, is_legal}
-use Rattle.iom_nested.specs.declared.translation.Fault.{Fault}
+use Rattle.iom_queue.specs.Fetching.{fetch_of}
+use Rattle.iom_queue.specs.declared.fetch.Fetch.{Fetch}
+use Rattle.iom_queue.specs.declared.fetch.Fetch.TheVariants as fetch
 use Rattle.iom_core.specs.State.{State}
-use Rattle.iom_core.specs.Access.{address_of}
+use Rattle.iom_core.specs.Access.{address_of, left_by_read, left_by_write}
+use Rattle.iom_core.specs.Commands.{after_command}
+use Rattle.iom_core.specs.declared.port.Denial.{Denial}
 use Rattle.iom_core.specs.declared.step.Step.{Step}
 use Rattle.iom_core.specs.declared.step.Step.TheVariants as step
 use Rattle.iom_core.specs.declared.step.Answer.{Answer}
@@ -74,33 +78,53 @@ abbrev pub bytes_of : Option (List ℕ) → Answer
 bytes_of (Some bytes) = answer.Bytes (record { items = bytes })
 bytes_of None = answer.BusError
 
-abbrev pub bytes_from : Memory → ℕ → Result ℕ Fault → Answer
-bytes_from memory len (Err fault) = answer.Denied (cause_number fault.cause)
-bytes_from memory len (Ok addr) = bytes_of (bytes_at memory addr len)
+abbrev pub answer_read : State → ℕ → Result ℕ Denial → Answer
+answer_read state len (Err denial) = answer.Denied (cause_number denial.cause)
+answer_read state len (Ok addr) = bytes_of (bytes_at state.memory addr len)
 
-unfoldable pub dma_read : State → ℕ → ℕ → ℕ → Answer
+unfoldable pub dma_read : State → ℕ → ℕ → ℕ → Outcome
 dma_read state did iova len =
-    if is_device_access did iova len then bytes_from state.memory len (address_of state.memory state.registers did iova Read)
-    else answer.Misuse
+    if is_device_access did iova len
+    then record {
+      answer = answer_read state len (address_of state did iova Read);
+      state = left_by_read state did iova Read (address_of state did iova Read);
+    }
+    else stays state answer.Misuse
 
-abbrev pub bytes_to : State → List ℕ → Result ℕ Fault → Outcome
-bytes_to state bytes (Err fault) = stays state (answer.Denied (cause_number fault.cause))
-bytes_to state bytes (Ok addr) = put_inside state addr bytes
+abbrev pub answer_write : State → ℕ → Result ℕ Denial → Answer
+answer_write state len (Err denial) = answer.Denied (cause_number denial.cause)
+answer_write state len (Ok addr) = if is_some (bytes_at state.memory addr len) then answer.Done else answer.BusError
 
 unfoldable pub dma_write : State → ℕ → ℕ → List ℕ → Outcome
 dma_write state did iova bytes =
     if is_device_access did iova (length bytes)
-    then bytes_to state bytes (address_of state.memory state.registers did iova Write)
+    then record {
+      answer = answer_write state (length bytes) (address_of state did iova Write);
+      state = left_by_write state did iova bytes (address_of state did iova Write);
+    }
     else stays state answer.Misuse
 
--- the step table; no commands and no block devices are there yet
+-- a step of the command unit is done, also where it stops the queue
+abbrev pub idle_or_done : Fetch → Answer
+idle_or_done fetch.Idle = answer.Idle
+idle_or_done fetch.Fault = answer.Done
+idle_or_done fetch.Illegal = answer.Done
+idle_or_done (fetch.Ready command) = answer.Done
+
+unfoldable pub command : State → Outcome
+command state = record {
+  answer = idle_or_done (fetch_of state.registers state.memory);
+  state = after_command state (fetch_of state.registers state.memory);
+}
+
+-- the step table; no block devices are there yet
 unfoldable pub next : State → Step → Outcome
 next state (step.Load addr size) = stays state (load state addr size)
 next state (step.Store addr size value) = store state addr size value
 next state (step.RegRead off size) = stays state (reg_read state off size)
 next state (step.RegWrite off size value) = reg_write state off size value
-next state step.Command = stays state answer.Idle
-next state (step.DmaRead did iova len) = stays state (dma_read state did iova len)
+next state step.Command = command state
+next state (step.DmaRead did iova len) = dma_read state did iova len
 next state (step.DmaWrite did iova bytes) = dma_write state did iova bytes.items
 next state (step.DevRead dev off size) = stays state answer.NoDevice
 next state (step.DevWrite dev off size value) = stays state answer.NoDevice

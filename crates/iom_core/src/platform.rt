@@ -1,4 +1,5 @@
 ghost use Rattle.std.specs.Prelude.{◌≡◌, length, Some, IfOk, IsTrue, slice_get};
+ghost use Rattle.iom_bits.specs.Bytes.{bytes_of_number};
 ghost use Rattle.iom_core.specs.Table.{is_size, is_aligned, fits, is_device_access};
 
 use crate::port::{Access, Port};
@@ -6,6 +7,7 @@ use crate::step::{Answer, Step};
 use arrayvec::ArrayVec;
 use iom_bits::le_u64;
 use iom_mem::Ram;
+use iom_queue::{Command, Fetch, next_command};
 use iom_regs::Regs;
 use std::alloc::{AllocError, Global};
 use std::marker::Model;
@@ -27,7 +29,8 @@ impl Model for Platform {
 
 impl Platform {
     ghost use Rattle.iom_core.specs.State.{opening};
-    ghost use Rattle.iom_core.specs.Table.{next, load, store, reg_read, reg_write, dma_read, dma_write};
+    ghost use Rattle.iom_core.specs.Table.{next, load, store, reg_read, reg_write, command, dma_read, dma_write};
+    ghost use Rattle.iom_core.specs.Commands.{carried_out};
     ghost use Rattle.iom_core.specs.Run.{answers, states, end_of};
 
     /// A platform with this memory, its registers at reset.
@@ -57,7 +60,7 @@ impl Platform {
             Step::Store { addr, size, value } => self.store(*addr, *size, *value),
             Step::RegRead { off, size } => self.reg_read(*off, *size),
             Step::RegWrite { off, size, value } => self.reg_write(*off, *size, *value),
-            Step::Command => Answer::Idle,
+            Step::Command => self.command(),
             Step::DmaRead { did, iova, len } => self.dma_read(*did, *iova, *len),
             Step::DmaWrite { did, iova, bytes } => self.dma_write(*did, *iova, bytes.as_slice()),
             Step::DevRead { .. } | Step::DevWrite { .. } | Step::Device { .. } => Answer::NoDevice,
@@ -132,10 +135,46 @@ impl Platform {
         }
     }
 
+    #[tactic(auto, unfolding(crate::specs::Table::command, crate::specs::Commands::after_command))]
+    fn command(&mut self) -> Answer
+        ensures answer { result ≡ (command self.old).answer }
+        ensures state { self.new ≡ (command self.old).state }
+    {
+        match next_command(&self.registers, &self.ram) {
+            Fetch::Idle => return Answer::Idle,
+            Fetch::Fault => self.registers.set_cqmf(),
+            Fetch::Illegal => self.registers.set_cmd_ill(),
+            Fetch::Ready(command) => self.carry_out(&command),
+        }
+        Answer::Done
+    }
+
+    fn carry_out(&mut self, command: &Command)
+        ensures { self.new ≡ carried_out self.old command.now }
+    {
+        if let Command::Fence {
+            av,
+            wsi,
+            value,
+            addr,
+            ..
+        } = *command
+        {
+            if av && !self.ram.write(addr, &data_bytes(value)) {
+                self.registers.set_cqmf();
+                return;
+            }
+            if wsi {
+                self.registers.set_fence();
+            }
+        }
+        self.registers.pass_command();
+    }
+
     #[tactic(auto, unfolding(crate::specs::Table::dma_read))]
     fn dma_read(&mut self, did: u64, iova: u64, len: u64) -> Answer
-        ensures answer { result ≡ dma_read self.old did iova len }
-        ensures state { self.new ≡ self.old }
+        ensures answer { result ≡ (dma_read self.old did iova len).answer }
+        ensures state { self.new ≡ (dma_read self.old did iova len).state }
     {
         if !is_device_access(did, iova, len) {
             return Answer::Misuse;
@@ -144,7 +183,7 @@ impl Platform {
         bytes.truncate(len as usize);
         let mut port = Port {
             ram: &mut self.ram,
-            registers: &self.registers,
+            registers: &mut self.registers,
             did: did as u32,
         };
         match port.read(iova, bytes.as_mut_slice()) {
@@ -164,7 +203,7 @@ impl Platform {
         }
         let mut port = Port {
             ram: &mut self.ram,
-            registers: &self.registers,
+            registers: &mut self.registers,
             did: did as u32,
         };
         match port.write(iova, bytes) {
@@ -173,6 +212,13 @@ impl Platform {
             Access::Outside => Answer::BusError,
         }
     }
+}
+
+// A fence's data, the lowest byte first.
+fn data_bytes(value: u32) -> [u8; 4]
+    ensures { result ≡ bytes_of_number 4 value }
+{
+    value.to_le_bytes()
 }
 
 fn is_size(size: u64) -> bool

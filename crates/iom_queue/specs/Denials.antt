@@ -1,0 +1,40 @@
+-- Which denied accesses are recorded, and how: RISC-V IOMMU Architecture 1.0, "Fault/Event-Queue (FQ)".
+use Rattle.std.specs.Prelude.{ℕ, Bool, true, false, not, if◌then◌else◌}
+use Rattle.iom_bits.specs.Causes.{cause_number}
+use Rattle.iom_bits.specs.declared.causes.Kind.{Kind}
+use Rattle.iom_bits.specs.declared.causes.Kind.TheVariants.{Read, Write}
+use Rattle.iom_bits.specs.declared.causes.Cause.{Cause}
+use Rattle.iom_bits.specs.declared.causes.Cause.TheVariants.{Access, Page, Guest, Off, DirAccess, DirInvalid, DirBad, TooWide}
+use Rattle.iom_queue.specs.declared.record.Record.{Record}
+
+-- TTYP of an untranslated read and of an untranslated write
+abbrev pub transaction_type : Kind → ℕ
+transaction_type Read = 2
+transaction_type Write = 3
+
+-- the record of a denied access: no process id, the whole IOVA as iotval
+unfoldable pub denial_record : Cause → Kind → ℕ → ℕ → ℕ → Record
+denial_record cause kind did iova iotval2 = record {
+  cause = cause_number cause;
+  pid = 0;
+  pv = false;
+  privileged = false;
+  ttyp = transaction_type kind;
+  did = did;
+  iotval = iova;
+  iotval2 = iotval2;
+}
+
+-- the causes that a device context with DTF = 1 keeps from being recorded: those of the two stages of translation
+abbrev pub is_silenced : Cause → Bool
+is_silenced (Access kind) = true
+is_silenced (Page kind) = true
+is_silenced (Guest kind) = true
+is_silenced Off = false
+is_silenced DirAccess = false
+is_silenced DirInvalid = false
+is_silenced DirBad = false
+is_silenced TooWide = false
+
+abbrev pub is_reported : Cause → Bool → Bool
+is_reported cause dtf = if dtf then not (is_silenced cause) else true

@@ -1,0 +1,6 @@
+pub mod Words
+pub mod Commands
+pub mod Records
+pub mod Denials
+pub mod Fetching
+pub mod Delivery

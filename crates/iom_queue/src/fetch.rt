@@ -1,0 +1,77 @@
+ghost use Rattle.std.specs.Prelude.{◌≡◌, ◌+◌, ◌<◌, ◌^◌};
+ghost use Rattle.iom_queue.specs.Fetching.{is_idle, command_addr, pair_at, fetch_of, IsFetch};
+
+use crate::command::{Command, decode_command};
+use iom_bits::has_bit;
+use iom_mem::Ram;
+use iom_regs::{Regs, Which};
+
+// The offset of cqcsr, the command queue's control and status.
+const CQCSR: u64 = 72;
+
+// Bits of cqcsr.
+const CQMF: u32 = 8;
+
+const CMD_ILL: u32 = 10;
+
+// How many bytes a command has.
+const COMMAND_SIZE: u64 = 16;
+
+/// What the command unit finds (RISC-V IOMMU Architecture 1.0, "Command-Queue (CQ)").
+#[derive(Clone, Copy, Debug, PartialEq, Eq, Hash)]
+pub enum Fetch {
+    /// There is nothing to do: the queue is off, stopped by cqmf or cmd_ill, or empty.
+    Idle,
+    /// A byte of the command lies outside memory.
+    Fault,
+    /// The words at the head stand for no command.
+    Illegal,
+    /// The command at the head.
+    Ready(Command),
+}
+
+/// The command at the head of the command queue. Nothing is changed: it stays at the head.
+#[tactic(auto, unfolding(crate::specs::Fetching::fetch_of))]
+pub fn next_command(registers: &Regs, ram: &Ram) -> Fetch
+    ensures value { result ≡ fetch_of registers.now ram.now }
+    ensures meaning { IsFetch registers.now ram.now result }
+{
+    if is_idle(registers) {
+        return Fetch::Idle;
+    }
+    let Some(words) = pair_at(ram, command_addr(registers)) else {
+        return Fetch::Fault;
+    };
+    match decode_command(words) {
+        Some(command) => Fetch::Ready(command),
+        None => Fetch::Illegal,
+    }
+}
+
+fn is_idle(registers: &Regs) -> bool
+    ensures { result ≡ is_idle registers.now }
+{
+    let queue = registers.queue(Which::Commands);
+    let control = registers.read(CQCSR, 4).unwrap();
+    !queue.on || has_bit(control, CQMF) || has_bit(control, CMD_ILL) || queue.head == queue.tail
+}
+
+// The physical address of the command at the head.
+#[tactic(auto, using(crate::proofs::Places::head_small))]
+fn command_addr(registers: &Regs) -> u64
+    ensures value { result ≡ command_addr registers.now }
+    ensures small { result < 2 ^ 57 }
+{
+    let queue = registers.queue(Which::Commands);
+    queue.base * 4096 + queue.head * COMMAND_SIZE
+}
+
+// The two words from physical address `addr` on; None where a byte of them is outside memory.
+fn pair_at(ram: &Ram, addr: u64) -> Option<[u64; 2]>
+    requires { addr + 8 < 2 ^ 64 }
+    ensures { result ≡ pair_at ram.now addr }
+{
+    let first = ram.word(addr)?;
+    let second = ram.word(addr + 8)?;
+    Some([first, second])
+}

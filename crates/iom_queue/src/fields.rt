@@ -1,0 +1,19 @@
+ghost use Rattle.std.specs.Prelude.{◌≡◌, ◌*◌, ◌^◌, ◌<◌};
+ghost use Rattle.iom_queue.specs.Words.{bit};
+
+/// A flag at its bit of a word.
+pub fn flag(value: bool, low: u32) -> u64
+    requires { low < 64 }
+    ensures { result ≡ 2 ^ low * bit value }
+{
+    (value as u64) << low
+}
+
+/// An operand at its place in a word, from bit `low` on.
+pub fn operand(value: u64, low: u32) -> u64
+    requires place { low < 64 }
+    requires fits { 2 ^ low * value < 2 ^ 64 }
+    ensures { result ≡ 2 ^ low * value }
+{
+    value << low
+}

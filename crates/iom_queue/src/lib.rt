@@ -1,0 +1,15 @@
+//! The queues between software and the IOMMU: commands, fault records, fetch and delivery.
+#![tactic(auto)]
+
+pub use command::{Command, decode_command, encode_command};
+pub use delivery::deliver;
+pub use fetch::{Fetch, next_command};
+pub use record::{Record, decode_record, encode_record, is_reported};
+
+mod command;
+mod delivery;
+mod fetch;
+mod fields;
+mod record;
+#[cfg(test)]
+mod tests;
