@@ -24,7 +24,7 @@ const BOTH_STAGES: &[(u64, u64)] = &[
     (0x8000_10b8, 0x8000_0000_0000_0030),
     (0x8003_0008, 0xc401),
     (0x8003_1008, 0xc801),
-    (0x8003_2008, 0x10_00d7),
+    (0x8003_2008, 0x1_00d7),
     (0x8004_0abc, 0xa4a3_a2a1),
 ];
 
@@ -47,16 +47,22 @@ dma read 0x10005 0x80000100 4 # denied 258
 
 const TOO_WIDE: &str = "\
 reg write 16 8 0x20000402
+reg write 40 8 0x20020001
+reg write 76 4 1
 dma read 128 0x1000 4 # denied 260
-dma read 4 0x1000 8 # denied 258
+load 0x80080000 8 # 0x800800000104
 ";
 
 const MISCONFIGURED: &str = "\
 reg write 16 8 0x20000402
+reg write 40 8 0x20020001
+reg write 76 4 1
 store 0x800010a0 8 0x21
 dma read 5 0x1000 8 # denied 259
+reg read 52 4 # 0x1
 store 0x800010a0 8 0x11
 dma read 5 0x1000 8 # denied 13
+reg read 52 4 # 0x1
 ";
 
 const UPPER_ENTRIES: &str = "\
@@ -72,19 +78,27 @@ dma read 0x85 0x40201abc 1 # 11
 
 const FIRST_BIT_OF_TA: &str = "\
 reg write 16 8 0x20000402
+reg write 40 8 0x20020001
+reg write 76 4 1
 store 0x800010b0 8 1
 dma read 5 0x40201abc 8 # 1122334455667788
 ";
 
 const READ_ONLY_PAGE: &str = "\
 reg write 16 8 0x20000402
+reg write 40 8 0x20020001
+reg write 76 4 1
 store 0x80004008 8 0x20004057
 dma read 5 0x40201abc 1 # 11
 dma write 5 0x40201abc ff # denied 15
+load 0x80080000 8 # 0x50c0000000f
+load 0x80080010 8 # 0x40201abc
 ";
 
 const UPPER_HALF: &str = "\
 reg write 16 8 0x20000402
+reg write 40 8 0x20020001
+reg write 76 4 1
 dma read 5 0x4000000000 1 # denied 13
 store 0x80002800 8 0x200000d7
 dma read 5 0xffffffc000010abc 8 # 1122334455667788
@@ -92,6 +106,8 @@ dma read 5 0xffffffc000010abc 8 # 1122334455667788
 
 const SUPERPAGE: &str = "\
 reg write 16 8 0x20000402
+reg write 40 8 0x20020001
+reg write 76 4 1
 store 0x80003008 8 0x200004d7
 dma read 5 0x40201abc 4 # denied 13
 store 0x80003008 8 0x200000d7
@@ -101,25 +117,100 @@ dma read 5 0x40201abc 4 # 01020304
 
 const SECOND_STAGE_FAULTS: &str = "\
 reg write 16 8 0x20000402
+reg write 40 8 0x20020001
+reg write 76 4 1
 dma read 5 0x40201abc 4 # denied 21
+load 0x80080000 8 # 0x50800000015
+load 0x80080018 8 # 0x30009
 store 0x80020000 8 0x200000d7
 dma read 5 0x40201abc 4 # a1a2a3a4
 store 0x80020000 8 0x20000053
 dma write 5 0x40201abc ff # denied 23
+load 0x80080020 8 # 0x50c00000017
+load 0x80080038 8 # 0x40abc
 ";
 
 const ENTRY_OUTSIDE: &str = "\
 reg write 16 8 0x20000402
+reg write 40 8 0x20020001
+reg write 76 4 1
 store 0x800010b8 8 0x8000000000000100
 store 0x80020000 8 0x200000d7
 dma read 5 0x40000000 8 # denied 5
+store 0x80080038 8 0xff
 dma write 5 0x40000000 00 # denied 7
+load 0x80080038 8 # 0x0
 ";
 
 const SECOND_STAGE_ALONE: &str = "\
 reg write 16 8 0x20000402
+reg write 40 8 0x20020001
+reg write 76 4 1
 store 0x800010b8 8 0
 dma read 5 0x20000000003 1 # denied 21
+load 0x80080010 8 # 0x20000000003
+load 0x80080018 8 # 0x20000000000
+";
+
+const NO_CONTEXT: &str = "\
+reg write 16 8 0x20000402
+reg write 40 8 0x20020001
+reg write 76 4 1
+dma read 5 0x1000 8 # denied 258
+load 0x80080000 8 # 0x50800000102
+reg read 52 4 # 0x1
+";
+
+const QUEUE_OF_TWO: &str = "\
+reg write 16 8 0x20000402
+reg write 40 8 0x20020000
+reg write 76 4 3
+dma read 5 0x1000 1 # denied 13
+reg read 52 4 # 0x1
+reg read 84 4 # 0x2
+reg write 84 4 2
+reg read 84 4 # 0x0
+dma read 5 0x1000 1 # denied 13
+reg read 76 4 # 0x10203
+reg write 84 4 2
+reg read 84 4 # 0x2
+reg write 76 4 0x203
+reg read 76 4 # 0x10003
+dma read 5 0x1000 1 # denied 13
+reg read 76 4 # 0x10203
+";
+
+const ILLEGAL_THEN_FENCE: &str = "\
+reg write 24 8 0x20024003
+reg write 72 4 1
+store 0x80090000 8 0x801
+reg write 36 4 1
+cmd
+reg read 72 4 # 0x10401
+reg read 32 4 # 0x0
+cmd # idle
+store 0x80090000 8 0xdeadbeef00000402
+store 0x80090008 8 0x20000040
+reg write 72 4 0x401
+cmd
+load 0x80000100 4 # 0xdeadbeef
+reg read 32 4 # 0x1
+";
+
+const FENCE_OF_NO_MEMORY: &str = "\
+reg write 24 8 0x20024003
+reg write 72 4 1
+reg write 72 4 3
+store 0x80090000 8 0x802
+reg write 36 4 1
+cmd
+reg read 72 4 # 0x10803
+reg read 84 4 # 0x1
+reg write 84 4 1
+reg read 84 4 # 0x1
+reg write 72 4 0x803
+reg write 84 4 1
+reg read 84 4 # 0x0
 ";
 
 /// A memory of 1 MiB at 0x80000000 with words at some addresses.
@@ -171,7 +262,12 @@ fn compare(
 
 #[test]
 fn directory(rt: HostRuntime) -> Result<(), Fail> {
-    compare(&rt, rt.alloc(), &[], &[AT_ONE_LEVEL, AT_THREE_LEVELS])?;
+    compare(
+        &rt,
+        rt.alloc(),
+        &[],
+        &[AT_ONE_LEVEL, AT_THREE_LEVELS, NO_CONTEXT],
+    )?;
     compare(
         &rt,
         rt.alloc(),
@@ -197,5 +293,16 @@ fn both_stages(rt: HostRuntime) -> Result<(), Fail> {
         rt.alloc(),
         BOTH_STAGES,
         &[SECOND_STAGE_FAULTS, ENTRY_OUTSIDE, SECOND_STAGE_ALONE],
+    )
+}
+
+#[test]
+fn queues(rt: HostRuntime) -> Result<(), Fail> {
+    compare(&rt, rt.alloc(), FIRST_STAGE, &[QUEUE_OF_TWO])?;
+    compare(
+        &rt,
+        rt.alloc(),
+        &[],
+        &[ILLEGAL_THEN_FENCE, FENCE_OF_NO_MEMORY],
     )
 }
