@@ -213,6 +213,50 @@ reg write 84 4 1
 reg read 84 4 # 0x0
 ";
 
+const ROOT_THAT_POINTS_AT_ITSELF: &str = "\
+reg write 16 8 0x20000402
+reg write 40 8 0x20020001
+reg write 76 4 1
+store 0x80002008 8 0x20000801
+dma read 5 0x40201abc 1 # denied 13
+";
+
+const FAULT_QUEUE_ON_TABLES: &str = "\
+reg write 16 8 0x20000402
+reg write 40 8 0x20001001
+reg write 76 4 1
+dma read 5 0x4000000000 1 # denied 13
+load 0x80004008 8 # 0x0
+dma read 5 0x40201abc 1 # denied 13
+reg read 52 4 # 0x2
+";
+
+const FENCE_OVER_THE_NEXT_COMMAND: &str = "\
+reg write 24 8 0x20024003
+reg write 72 4 1
+store 0x80090000 8 0x80100000402
+store 0x80090008 8 0x20024004
+store 0x80090010 8 3
+reg write 36 4 2
+cmd
+cmd
+reg read 72 4 # 0x10401
+reg read 32 4 # 0x1
+";
+
+const QUEUES_AT_THE_END_OF_MEMORY: &str = "\
+reg write 40 8 0x20040001
+reg write 76 4 1
+dma read 5 0x1000 8 # denied 256
+reg read 76 4 # 0x10101
+reg write 24 8 0x20040003
+reg write 72 4 1
+reg write 36 4 1
+cmd
+reg read 72 4 # 0x10101
+cmd # idle
+";
+
 /// A memory of 1 MiB at 0x80000000 with words at some addresses.
 fn platform_with(alloc: Global, words: &[(u64, u64)]) -> Result<Platform, Fail> {
     let mut ram = Ram::new(alloc, 0x8000_0000, 0x10_0000)?;
@@ -304,5 +348,21 @@ fn queues(rt: HostRuntime) -> Result<(), Fail> {
         rt.alloc(),
         &[],
         &[ILLEGAL_THEN_FENCE, FENCE_OF_NO_MEMORY],
+    )
+}
+
+#[test]
+fn tables_and_queues_made_to_harm(rt: HostRuntime) -> Result<(), Fail> {
+    compare(
+        &rt,
+        rt.alloc(),
+        FIRST_STAGE,
+        &[ROOT_THAT_POINTS_AT_ITSELF, FAULT_QUEUE_ON_TABLES],
+    )?;
+    compare(
+        &rt,
+        rt.alloc(),
+        &[],
+        &[FENCE_OVER_THE_NEXT_COMMAND, QUEUES_AT_THE_END_OF_MEMORY],
     )
 }
