@@ -3,7 +3,7 @@ use Rattle.std.specs.Prelude.{ℕ, ◌+◌, ◌*◌, ◌%◌, ◌^◌, ◌==◌,
 use Rattle.iom_bits.specs.declared.causes.Kind.TheVariants.{Read, Write}
 use Rattle.iom_bits.specs.Bytes.{number_of_bytes, bytes_of_number}
 use Rattle.iom_bits.specs.Causes.{cause_number}
-use Rattle.iom_mem.specs.Memory.{Memory, bytes_at, put}
+use Rattle.iom_mem.specs.Memory.{bytes_at, put}
 use Rattle.iom_regs.specs.Table.{read, after_write, is_legal}
 use Rattle.iom_queue.specs.Fetching.{fetch_of}
 use Rattle.iom_queue.specs.declared.fetch.Fetch.{Fetch}

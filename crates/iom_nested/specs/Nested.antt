@@ -1,6 +1,6 @@
 -- The translation by both stages of a context: RISC-V IOMMU Architecture 1.0, "Process to translate an IOVA"; RISC-V
 -- Privileged Architecture 1.12, "Two-Stage Address Translation".
-use Rattle.std.specs.Prelude.{ℕ, ◌+◌, ◌*◌, ◌/◌, ◌%◌, false, Option, Some, None, Result, Ok, Err}
+use Rattle.std.specs.Prelude.{ℕ, ◌+◌, ◌*◌, ◌/◌, ◌%◌, ◌^◌, ◌<◌, false, Option, Some, None, Result, Ok, Err}
 use Rattle.iom_bits.specs.declared.causes.Kind.{Kind}
 use Rattle.iom_mem.specs.Memory.{Memory}
 use Rattle.iom_ddt.specs.declared.context.Context.{Context}
@@ -28,6 +28,10 @@ abbrev pub first_stage : Memory → Context → ℕ → Kind → Option Shape �
 first_stage memory context iova kind None = Ok (record { addr = iova; level = 0; global = false })
 first_stage memory context iova kind (Some shape) =
     reached_by iova (outcome_of (table_got memory context) shape context.ppn iova kind)
+
+-- the bounds of a hit
+abbrev pub HitFits : Hit → Type 0
+HitFits hit = (hit.frame < 2 ^ 44) × (hit.level < 4)
 
 -- the second stage's frame, for the access's own kind; the first stage's level and global
 abbrev pub hit_by : Reached → Outcome → Result Hit Failure

@@ -2,7 +2,7 @@ ghost use Rattle.std.specs.Prelude.{◌≡◌, ◌≢◌, ◌<◌, ◌^◌, fals
 ghost use Rattle.iom_ddt.specs.Contexts.{is_bare, IsWellFormed};
 ghost use Rattle.iom_nested.specs.Stages.{first_shape_of, second_shape_of};
 ghost use Rattle.iom_nested.specs.Faults.{fault_of, EntryOutside};
-ghost use Rattle.iom_nested.specs.Nested.{first_stage, second_stage, told_of, translation};
+ghost use Rattle.iom_nested.specs.Nested.{HitFits, first_stage, second_stage, told_of, translation};
 
 use crate::physical::Physical;
 use crate::second::{Second, second_shape};
@@ -49,7 +49,7 @@ pub fn translate(ram: &Ram, context: &Context, iova: u64, kind: Kind) -> Result<
     requires well_formed { IsWellFormed context.now }
     requires translated { is_bare context.now ≡ false }
     ensures translation { result ≡ translation ram.now context.now iova kind }
-    ensures fits { IfOk result (λ hit. (hit.frame < 2 ^ 44) × (hit.level < 4)) }
+    ensures fits { IfOk result HitFits }
 {
     let reached = first_stage(ram, context, iova, kind)?;
     second_stage(ram, context, reached, kind)
@@ -97,7 +97,7 @@ fn second_stage(ram: &Ram, context: &Context, reached: Reached, kind: Kind) -> R
     requires inside { second_shape_of context.now ≡ None → reached.addr < 2 ^ 56 }
     ensures hit { result
         ≡ told_of kind (second_stage ram.now context.now kind (second_shape_of context.now) reached) }
-    ensures fits { IfOk result (λ hit. (hit.frame < 2 ^ 44) × (hit.level < 4)) }
+    ensures fits { IfOk result HitFits }
 {
     let frame = match second_shape(context) {
         None => reached.addr / 4096,

@@ -1,4 +1,5 @@
--- Which denied accesses are recorded, and how: RISC-V IOMMU Architecture 1.0, "Fault/Event-Queue (FQ)".
+-- Which denied accesses are recorded, and how: RISC-V IOMMU Architecture 1.0, "Fault/Event-Queue (FQ)", "Fault record" and the
+-- column of the CAUSE encodings on DTF.
 use Rattle.std.specs.Prelude.{ℕ, Bool, true, false, not, if◌then◌else◌}
 use Rattle.iom_bits.specs.Causes.{cause_number}
 use Rattle.iom_bits.specs.declared.causes.Kind.{Kind}
@@ -36,5 +37,6 @@ is_silenced DirInvalid = false
 is_silenced DirBad = false
 is_silenced TooWide = false
 
-abbrev pub is_reported : Cause → Bool → Bool
+-- whether a denial for this cause is recorded
+unfoldable pub is_reported : Cause → Bool → Bool
 is_reported cause dtf = if dtf then not (is_silenced cause) else true

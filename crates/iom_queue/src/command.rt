@@ -127,7 +127,8 @@ fn first_word(command: &Command) -> u64
 fn invalidation(func3: u64, av: bool, pscid: u32, gv: bool, gscid: u16) -> u64
     requires func3 { func3 < 2 ^ 3 }
     requires pscid { pscid < 2 ^ 20 }
-    ensures { result ≡ 1 + 2 ^ 7 * func3 + 2 ^ 10 * bit av + 2 ^ 12 * pscid + 2 ^ 33 * bit gv + 2 ^ 44 * gscid }
+    ensures { result
+        ≡ 1 + 2 ^ 7 * func3 + 2 ^ 10 * bit av + 2 ^ 12 * pscid + 2 ^ 33 * bit gv + 2 ^ 44 * gscid }
 {
     IOTINVAL
         + operand(func3, 7)

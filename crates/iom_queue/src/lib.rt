@@ -1,4 +1,5 @@
-//! The queues between software and the IOMMU: commands, fault records, fetch and delivery.
+//! The queues between software and the IOMMU (RISC-V IOMMU Architecture 1.0, "In-memory queue
+//! interface"): commands, fault records, fetch and delivery.
 #![tactic(auto)]
 
 pub use command::{Command, decode_command, encode_command};

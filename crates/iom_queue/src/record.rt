@@ -56,6 +56,7 @@ impl Record {
 /// Whether an access that is denied for this cause makes a record, where DTF of the device context is
 /// `dtf`. DTF = 1 silences faults of the two stages; the causes that come before a device context is
 /// found are always recorded.
+#[tactic(auto, unfolding(crate::specs::Denials::is_reported))]
 pub fn is_reported(cause: Cause, dtf: bool) -> bool
     ensures { result ≡ is_reported cause dtf }
 {
