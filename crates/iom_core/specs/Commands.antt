@@ -1,6 +1,6 @@
 -- A step of the command unit: RISC-V IOMMU Architecture 1.0, "Command-Queue (CQ)". It takes one command and carries it out
--- whole. No translation and no context is cached, so an invalidation changes nothing.
-use Rattle.std.specs.Prelude.{ℕ, Bool, true, false, is_some, if◌then◌else◌}
+-- whole.
+use Rattle.std.specs.Prelude.{ℕ, Bool, true, false, Some, is_some, if◌then◌else◌}
 use Rattle.iom_bits.specs.Bytes.{bytes_of_number}
 use Rattle.iom_mem.specs.Memory.{bytes_at, put}
 use Rattle.iom_regs.specs.Queues.{command_passed, with_cqmf, with_cmd_ill, with_fence}
@@ -8,6 +8,8 @@ use Rattle.iom_queue.specs.declared.command.Command.{Command}
 use Rattle.iom_queue.specs.declared.command.Command.TheVariants.{Vma, Gvma, Fence, Iodir}
 use Rattle.iom_queue.specs.declared.fetch.Fetch.{Fetch}
 use Rattle.iom_queue.specs.declared.fetch.Fetch.TheVariants as fetch
+use Rattle.iom_cache.specs.Drops.{drops_page, drops_context}
+use Rattle.iom_cache.specs.Places.{emptied_by}
 use Rattle.iom_core.specs.State.{State}
 
 -- the queue's memory could not be read, or a fence's not be written: the command stays
@@ -35,11 +37,18 @@ after_fence true wsi value addr state =
     else queue_fault state
 after_fence false wsi value addr state = passed (fenced wsi state)
 
+-- an invalidation empties the places that it drops
+abbrev pub without_pages : Command → State → State
+without_pages command state = record state { pages = emptied_by drops_page (Some command) state.pages }
+
+abbrev pub without_contexts : Command → State → State
+without_contexts command state = record state { contexts = emptied_by drops_context (Some command) state.contexts }
+
 abbrev pub carried_out : State → Command → State
-carried_out state (Vma av page pscv pscid gv gscid) = passed state
-carried_out state (Gvma av page pscid gv gscid) = passed state
+carried_out state (Vma av page pscv pscid gv gscid) = passed (without_pages (Vma av page pscv pscid gv gscid) state)
+carried_out state (Gvma av page pscid gv gscid) = passed (without_pages (Gvma av page pscid gv gscid) state)
 carried_out state (Fence av wsi pr pw value addr) = after_fence av wsi value addr state
-carried_out state (Iodir dv did) = passed state
+carried_out state (Iodir dv did) = passed (without_contexts (Iodir dv did) state)
 
 unfoldable pub after_command : State → Fetch → State
 after_command state fetch.Idle = state

@@ -1,4 +1,5 @@
 pub mod State
+pub mod Translate
 pub mod Access
 pub mod Commands
 pub mod Table

@@ -9,9 +9,10 @@ use Rattle.iom_queue.specs.Fetching.{fetch_of}
 use Rattle.iom_queue.specs.declared.fetch.Fetch.{Fetch}
 use Rattle.iom_queue.specs.declared.fetch.Fetch.TheVariants as fetch
 use Rattle.iom_core.specs.State.{State}
-use Rattle.iom_core.specs.Access.{address_of, left_by_read, left_by_write}
+use Rattle.iom_core.specs.Translate.{address_of}
+use Rattle.iom_core.specs.Access.{left_by_read, left_by_write, request_of}
 use Rattle.iom_core.specs.Commands.{after_command}
-use Rattle.iom_core.specs.declared.port.Denial.{Denial}
+use Rattle.iom_core.specs.declared.request.Denial.{Denial}
 use Rattle.iom_core.specs.declared.step.Step.{Step}
 use Rattle.iom_core.specs.declared.step.Step.TheVariants as step
 use Rattle.iom_core.specs.declared.step.Answer.{Answer}
@@ -86,8 +87,8 @@ unfoldable pub dma_read : State → ℕ → ℕ → ℕ → Outcome
 dma_read state did iova len =
     if is_device_access did iova len
     then record {
-      answer = answer_read state len (address_of state did iova Read);
-      state = left_by_read state did iova Read (address_of state did iova Read);
+      answer = answer_read state len (address_of state (request_of did iova Read));
+      state = left_by_read state (request_of did iova Read);
     }
     else stays state answer.Misuse
 
@@ -99,8 +100,8 @@ unfoldable pub dma_write : State → ℕ → ℕ → List ℕ → Outcome
 dma_write state did iova bytes =
     if is_device_access did iova (length bytes)
     then record {
-      answer = answer_write state (length bytes) (address_of state did iova Write);
-      state = left_by_write state did iova bytes (address_of state did iova Write);
+      answer = answer_write state (length bytes) (address_of state (request_of did iova Write));
+      state = left_by_write state (request_of did iova Write) bytes;
     }
     else stays state answer.Misuse
 

@@ -6,6 +6,8 @@ pub use step::{Answer, Step};
 
 mod platform;
 mod port;
+mod request;
 mod step;
 #[cfg(test)]
 mod tests;
+mod translate;

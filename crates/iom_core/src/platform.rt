@@ -6,6 +6,7 @@ use crate::port::{Access, Port};
 use crate::step::{Answer, Step};
 use arrayvec::ArrayVec;
 use iom_bits::le_u64;
+use iom_cache::{ContextCache, TransCache};
 use iom_mem::Ram;
 use iom_queue::{Command, Fetch, next_command};
 use iom_regs::Regs;
@@ -17,6 +18,8 @@ use std::marker::Model;
 pub struct Platform {
     ram: Ram,
     registers: Regs,
+    contexts: ContextCache,
+    pages: TransCache,
 }
 
 impl Model for Platform {
@@ -24,7 +27,12 @@ impl Model for Platform {
 
     ghost Value = { State };
 
-    ghost view = { λ p. record { memory = p.ram; registers = p.registers } };
+    ghost view = { λ p. record {
+      memory = p.ram;
+      registers = p.registers;
+      contexts = p.contexts;
+      pages = p.pages;
+    } };
 }
 
 impl Platform {
@@ -33,13 +41,15 @@ impl Platform {
     ghost use Rattle.iom_core.specs.Commands.{carried_out};
     ghost use Rattle.iom_core.specs.Run.{answers, states, end_of};
 
-    /// A platform with this memory, its registers at reset.
-    pub fn new(_alloc: Global, ram: Ram) -> Result<Platform, AllocError>
+    /// A platform with this memory, its registers at reset and both caches empty. The fault is want of memory for the caches.
+    pub fn new(alloc: Global, ram: Ram) -> Result<Platform, AllocError>
         ensures { IfOk result (λ platform. platform ≡ opening ram) }
     {
         Ok(Platform {
             ram,
             registers: Regs::reset(),
+            contexts: ContextCache::new(alloc)?,
+            pages: TransCache::new(alloc)?,
         })
     }
 
@@ -47,6 +57,20 @@ impl Platform {
         ensures { result.now ≡ self.now.memory }
     {
         &self.ram
+    }
+
+    /// The translation cache.
+    pub fn trans(&self) -> &TransCache
+        ensures { result.now ≡ self.now.pages }
+    {
+        &self.pages
+    }
+
+    /// The context cache.
+    pub fn contexts(&self) -> &ContextCache
+        ensures { result.now ≡ self.now.contexts }
+    {
+        &self.contexts
     }
 
     /// Carries out one step, and answers what the step table says. It takes no memory.
@@ -152,20 +176,23 @@ impl Platform {
     fn carry_out(&mut self, command: &Command)
         ensures { self.new ≡ carried_out self.old command.now }
     {
-        if let Command::Fence {
-            av,
-            wsi,
-            value,
-            addr,
-            ..
-        } = *command
-        {
-            if av && !self.ram.write(addr, &data_bytes(value)) {
-                self.registers.set_cqmf();
-                return;
-            }
-            if wsi {
-                self.registers.set_fence();
+        match *command {
+            Command::Vma { .. } | Command::Gvma { .. } => self.pages.drop_matching(command),
+            Command::Iodir { .. } => self.contexts.drop_matching(command),
+            Command::Fence {
+                av,
+                wsi,
+                value,
+                addr,
+                ..
+            } => {
+                if av && !self.ram.write(addr, &data_bytes(value)) {
+                    self.registers.set_cqmf();
+                    return;
+                }
+                if wsi {
+                    self.registers.set_fence();
+                }
             }
         }
         self.registers.pass_command();
@@ -184,6 +211,8 @@ impl Platform {
         let mut port = Port {
             ram: &mut self.ram,
             registers: &mut self.registers,
+            contexts: &mut self.contexts,
+            pages: &mut self.pages,
             did: did as u32,
         };
         match port.read(iova, bytes.as_mut_slice()) {
@@ -204,6 +233,8 @@ impl Platform {
         let mut port = Port {
             ram: &mut self.ram,
             registers: &mut self.registers,
+            contexts: &mut self.contexts,
+            pages: &mut self.pages,
             did: did as u32,
         };
         match port.write(iova, bytes) {

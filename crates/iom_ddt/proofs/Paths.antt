@@ -53,7 +53,7 @@ ends memory did table level part result whole last index read left =
 
 -- an id that isn't too wide is located by the path from the root
 pub located_by_path : (memory : Memory) (registers : Registers) (did levels : ℕ) →
-    levels ≡ levels_of (mode_of registers) → is_too_wide levels did ≡ false →
+    levels ≡ levels_of (mode_of registers) → is_too_wide (levels_of (mode_of registers)) did ≡ false →
     verdict_on (path_from memory did (levels - 1) (root_of registers)) ≡ located memory registers did
 unfolding located
-located_by_path memory registers did levels same narrow = rw (← same, narrow) refl
+located_by_path memory registers did levels same narrow = rw (narrow, same) refl

@@ -22,11 +22,11 @@ pub fn locate(ram: &Ram, registers: &Regs, did: u32) -> Result<Context, Cause>
     ensures verdict { result ≡ located ram.now registers.now did }
     ensures sound { IfOk result (λ context. IsWellFormed context) }
 {
-    let levels = levels_of(registers.mode());
-    let did = did as u64;
-    if is_too_wide(levels, did) {
+    if is_too_wide(registers, did) {
         return Err(Cause::TooWide);
     }
+    let levels = levels_of(registers.mode());
+    let did = did as u64;
     let mut table = registers.root();
     for level in (1..levels).rev() {
         table = pointed_by(ram, table * 4096 + ddi(did, level) * 8)?;
@@ -43,9 +43,12 @@ fn levels_of(mode: Mode) -> u8
     }
 }
 
-fn is_too_wide(levels: u8, did: u64) -> bool
-    ensures { result ≡ is_too_wide levels did }
+/// Whether a device id has bits above those that the directory's levels take as indexes.
+pub fn is_too_wide(registers: &Regs, did: u32) -> bool
+    ensures { result ≡ is_too_wide (levels_of (mode_of registers.now)) did }
 {
+    let levels = levels_of(registers.mode());
+    let did = did as u64;
     levels < 3 && ddi(did, 2) != 0 || levels < 2 && ddi(did, 1) != 0
 }
 

@@ -2,7 +2,7 @@
 #![tactic(auto)]
 
 pub use context::Context;
-pub use directory::locate;
+pub use directory::{is_too_wide, locate};
 pub use words::{context_of, encode_context};
 
 mod context;

@@ -1,10 +1,10 @@
 -- The digits of a number, written from the front.
-use Rattle.std.proofs.Common.{◌≡◌, ◌+◌, ◌/◌, ◌%◌, ◌^◌, ◌<◌, ◌≤◌, ◌++◌, ℕ, List, [], ◌∷◌, length, map, false, ◌∙◌, ap, arith, append_assoc, length-append}
+use Rattle.std.proofs.Common.{◌≡◌, ◌+◌, ◌/◌, ◌%◌, ◌^◌, ◌<◌, ◌≤◌, ◌++◌, ℕ, ◌==◌, Bool, true, codes, if◌then◌else◌, List, [], ◌∷◌, length, map, false, ◌∙◌, ap, arith, append_assoc, length-append}
 use Rattle.std.specs.Fmt.{digit_glyph}
 use Rattle.std.specs.Int.Digits.{digits_of}
 use Rattle.std.proofs.lemmas.List.{map-append, length-map}
 use Rattle.std.proofs.lemmas.Int.Digits.{digits_of_step, length-digits_of_step, length-digits_of-le}
-use Rattle.iom_tool.specs.Texts.{digits_in}
+use Rattle.iom_tool.specs.Texts.{digits_in, numeral}
 
 pub room_before : (radix number used : ℕ) → 2 ≤ radix → 0 < number → used + length (digits_of radix number) ≤ 256 →
     used + length (digits_of radix (number / radix)) < 256
@@ -35,3 +35,12 @@ sixteen_digits number small = length-digits_of-le 16 16 number (omega arith) sma
 
 pub five_digits : (number : ℕ) → number < 2 ^ 16 → length (digits_of 10 number) ≤ 5
 five_digits number small = length-digits_of-le 10 5 number (omega arith) (omega arith)
+
+short_either : (is_zero : Bool) (digits : List ℕ) → length digits ≤ 16 → length (if is_zero then codes "0" else digits) ≤ 16
+short_either true digits short = omega arith
+short_either false digits short = short
+
+pub short_numeral : (number : ℕ) → number < 2 ^ 64 → length (numeral 16 number) ≤ 16
+short_numeral number small =
+    short_either (number == 0) (digits_in 16 number)
+    (omega (arith, length-map (digits_of 16 number) (digit_glyph false), sixteen_digits number small))

@@ -1,5 +1,6 @@
 pub mod Words
 pub mod Script
 pub mod Texts
+pub mod Debugger
 pub mod Output
 pub mod Running

@@ -8,6 +8,7 @@ use Rattle.iom_core.specs.declared.step.Step.{Step}
 use Rattle.iom_tool.specs.declared.script.Line.{Line}
 use Rattle.iom_tool.specs.declared.script.Line.TheVariants as line
 use Rattle.iom_tool.specs.Script.{line_of}
+use Rattle.iom_tool.specs.Debugger.{answer_in}
 use Rattle.iom_tool.specs.Texts.{text_of}
 
 -- what is answered to a line in a state; None: nothing
@@ -15,12 +16,14 @@ abbrev pub reply : State → Line → Option (List ℕ)
 reply state line.Blank = None
 reply state line.Bad = Some (codes "bad")
 reply state (line.Does step) = Some (text_of (next state step).answer)
+reply state (line.Asks question) = Some (answer_in state question)
 
 -- the steps that a line is, one or none
 abbrev pub steps_in : Line → List Step
 steps_in line.Blank = []
 steps_in line.Bad = []
 steps_in (line.Does step) = step ∷ []
+steps_in (line.Asks question) = []
 
 abbrev pub steps_of : List ℕ → List Step
 steps_of text = steps_in (line_of text)

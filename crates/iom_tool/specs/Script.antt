@@ -1,4 +1,4 @@
--- What a line of a script says: nothing, a step, or no line that there is.
+-- What a line of a script says: nothing, a step, a question, or no line that there is.
 use Rattle.std.specs.Prelude.{ℕ, ◌==◌, ◌||◌, nat_lt, List, [], ◌∷◌, length, codes, bytes_eq, Option, Some, None, if◌then◌else◌}
 use Rattle.std.specs.Option.{option_and_then}
 use Rattle.std.specs.List.{list_any}
@@ -6,6 +6,8 @@ use Rattle.iom_core.specs.declared.step.Step.{Step}
 use Rattle.iom_core.specs.declared.step.Step.TheVariants as step
 use Rattle.iom_tool.specs.declared.script.Line.{Line}
 use Rattle.iom_tool.specs.declared.script.Line.TheVariants as line
+use Rattle.iom_tool.specs.declared.script.Question.{Question}
+use Rattle.iom_tool.specs.declared.script.Question.TheVariants as question
 use Rattle.iom_tool.specs.Words.{words_of, number, bytes_of}
 
 -- the second, where there is a first
@@ -118,7 +120,18 @@ dev (way ∷ operands) =
     else if bytes_eq way (codes "step") then dev_step operands
     else None
 
--- by its first word
+-- place page I
+unfoldable pub place_page : List (List ℕ) → Option Question
+place_page (i ∷ []) = do
+  i ← number i
+  Some (question.Page i)
+place_page _ = None
+
+unfoldable pub place : List (List ℕ) → Option Question
+place [] = None
+place (cache ∷ operands) = if bytes_eq cache (codes "page") then place_page operands else None
+
+-- a step by its first word
 unfoldable pub step_of : List ℕ → List (List ℕ) → Option Step
 step_of verb operands =
     if bytes_eq verb (codes "load") then load operands
@@ -129,13 +142,18 @@ step_of verb operands =
     else if bytes_eq verb (codes "dev") then dev operands
     else None
 
-abbrev pub step_or_bad : Option Step → Line
-step_or_bad (Some step) = line.Does step
-step_or_bad None = line.Bad
+-- a question by its first word, which is that of no step
+unfoldable pub question_of : List ℕ → List (List ℕ) → Option Question
+question_of verb operands = if bytes_eq verb (codes "place") then place operands else None
+
+abbrev pub line_by : Option Step → Option Question → Line
+line_by (Some step) asked = line.Does step
+line_by None (Some question) = line.Asks question
+line_by None None = line.Bad
 
 unfoldable pub meaning : List (List ℕ) → Line
 meaning [] = line.Blank
-meaning (verb ∷ operands) = step_or_bad (step_of verb operands)
+meaning (verb ∷ operands) = line_by (step_of verb operands) (question_of verb operands)
 
 -- a line of at most 512 bytes, without its end
 unfoldable pub line_of : List ℕ → Line

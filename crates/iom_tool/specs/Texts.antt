@@ -13,8 +13,11 @@ digits_in radix number = map (digit_glyph false) (digits_of radix number)
 abbrev pub numeral : ℕ → ℕ → List ℕ
 numeral radix number = if number == 0 then codes "0" else digits_in radix number
 
+abbrev pub hexed : ℕ → List ℕ
+hexed number = codes "0x" ++ numeral 16 number
+
 unfoldable pub text_of : Answer → List ℕ
-text_of (answer.Value value) = codes "0x" ++ numeral 16 value
+text_of (answer.Value value) = hexed value
 text_of answer.Done = codes "done"
 text_of (answer.Bytes bytes) = encode_lower bytes.items
 text_of answer.Idle = codes "idle"

@@ -6,6 +6,7 @@ pub use running::run;
 pub use session::Session;
 pub use text::Reply;
 
+mod debugger;
 mod fault;
 mod feeder;
 #[cfg(test)]

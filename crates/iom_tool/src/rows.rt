@@ -257,6 +257,180 @@ reg read 72 4 # 0x10101
 cmd # idle
 ";
 
+const STALE_UNTIL_INVALIDATED: &str = "\
+reg write 16 8 0x20000402
+reg write 40 8 0x20020001
+reg write 76 4 1
+reg write 24 8 0x20024003
+reg write 72 4 1
+dma read 5 0x40201abc 1 # 11
+store 0x80004008 8 0
+dma read 5 0x40201abc 1 # 11
+store 0x80090000 8 1
+reg write 36 4 1
+cmd
+reg read 32 4 # 0x1
+dma read 5 0x40201abc 1 # denied 13
+cmd # idle
+";
+
+const DIRECTORY_INVALIDATED_LAST: &str = "\
+reg write 16 8 0x20000402
+reg write 40 8 0x20020001
+reg write 76 4 1
+reg write 24 8 0x20024003
+reg write 72 4 1
+dma read 5 0x40201abc 1 # 11
+store 0x800010b8 8 0x8000000000080005
+store 0x80090000 8 0x1
+store 0x80090010 8 0x81
+store 0x80090020 8 0x3
+reg write 36 4 3
+cmd
+cmd
+dma read 5 0x40201abc 1 # 11
+cmd
+dma read 5 0x40201abc 1 # 11
+store 0x80090030 8 0x3
+store 0x80090040 8 0x1
+store 0x80090050 8 0x81
+reg write 36 4 6
+cmd
+cmd
+cmd
+dma read 5 0x40201abc 1 # denied 13
+";
+
+const ONE_PAGE_OF_A_SUPERPAGE: &str = "\
+reg write 16 8 0x20000402
+reg write 40 8 0x20020001
+reg write 76 4 1
+reg write 24 8 0x20024003
+reg write 72 4 1
+store 0x80003008 8 0x200000d7
+dma read 5 0x40201abc 1 # 00
+dma read 5 0x40202abc 1 # 00
+store 0x80003008 8 0
+store 0x80090000 8 0x401
+store 0x80090008 8 0x10080400
+reg write 36 4 1
+cmd
+dma read 5 0x40202abc 1 # denied 13
+";
+
+const GLOBAL_ENTRY: &str = "\
+reg write 16 8 0x20000402
+reg write 40 8 0x20020001
+reg write 76 4 1
+reg write 24 8 0x20024003
+reg write 72 4 1
+store 0x800010b0 8 0x3000
+store 0x80004008 8 0x200040f7
+dma read 5 0x40201abc 1 # 11
+store 0x80004008 8 0
+store 0x80090000 8 0x100003001
+store 0x80090010 8 0x3001
+reg write 36 4 2
+cmd
+dma read 5 0x40201abc 1 # 11
+cmd
+dma read 5 0x40201abc 1 # denied 13
+";
+
+const ENTRY_OF_A_GUEST: &str = "\
+reg write 16 8 0x20000402
+reg write 40 8 0x20020001
+reg write 76 4 1
+reg write 24 8 0x20024003
+reg write 72 4 1
+store 0x80020000 8 0x200000d7
+dma read 5 0x40201abc 4 # a1a2a3a4
+store 0x80032008 8 0
+store 0x80090000 8 1
+store 0x80090010 8 0x700200000001
+reg write 36 4 2
+cmd
+dma read 5 0x40201abc 4 # a1a2a3a4
+cmd
+dma read 5 0x40201abc 4 # denied 13
+";
+
+const OLDEST_PLACE_LEAVES: &str = "\
+reg write 16 8 0x20000402
+reg write 40 8 0x20020001
+reg write 76 4 1
+store 0x80003008 8 0x200000d7
+dma read 5 0x40200000 1 # 00
+dma read 5 0x40201000 1 # 00
+dma read 5 0x40202000 1 # 00
+dma read 5 0x40203000 1 # 00
+dma read 5 0x40204000 1 # 00
+dma read 5 0x40205000 1 # 00
+dma read 5 0x40206000 1 # 00
+dma read 5 0x40207000 1 # 00
+dma read 5 0x40208000 1 # 00
+dma read 5 0x40209000 1 # 00
+dma read 5 0x4020a000 1 # 00
+dma read 5 0x4020b000 1 # 00
+dma read 5 0x4020c000 1 # 00
+dma read 5 0x4020d000 1 # 00
+dma read 5 0x4020e000 1 # 00
+dma read 5 0x4020f000 1 # 00
+dma read 5 0x40210000 1 # 00
+dma read 5 0x40211000 1 # 00
+dma read 5 0x40212000 1 # 00
+dma read 5 0x40213000 1 # 00
+dma read 5 0x40214000 1 # 00
+dma read 5 0x40215000 1 # 00
+dma read 5 0x40216000 1 # 00
+dma read 5 0x40217000 1 # 00
+dma read 5 0x40218000 1 # 00
+dma read 5 0x40219000 1 # 00
+dma read 5 0x4021a000 1 # 00
+dma read 5 0x4021b000 1 # 00
+dma read 5 0x4021c000 1 # 00
+dma read 5 0x4021d000 1 # 00
+dma read 5 0x4021e000 1 # 00
+dma read 5 0x4021f000 1 # 00
+dma read 5 0x40220000 1 # 00
+dma read 5 0x40221000 1 # 00
+dma read 5 0x40222000 1 # 00
+dma read 5 0x40223000 1 # 00
+dma read 5 0x40224000 1 # 00
+dma read 5 0x40225000 1 # 00
+dma read 5 0x40226000 1 # 00
+dma read 5 0x40227000 1 # 00
+dma read 5 0x40228000 1 # 00
+dma read 5 0x40229000 1 # 00
+dma read 5 0x4022a000 1 # 00
+dma read 5 0x4022b000 1 # 00
+dma read 5 0x4022c000 1 # 00
+dma read 5 0x4022d000 1 # 00
+dma read 5 0x4022e000 1 # 00
+dma read 5 0x4022f000 1 # 00
+dma read 5 0x40230000 1 # 00
+dma read 5 0x40231000 1 # 00
+dma read 5 0x40232000 1 # 00
+dma read 5 0x40233000 1 # 00
+dma read 5 0x40234000 1 # 00
+dma read 5 0x40235000 1 # 00
+dma read 5 0x40236000 1 # 00
+dma read 5 0x40237000 1 # 00
+dma read 5 0x40238000 1 # 00
+dma read 5 0x40239000 1 # 00
+dma read 5 0x4023a000 1 # 00
+dma read 5 0x4023b000 1 # 00
+dma read 5 0x4023c000 1 # 00
+dma read 5 0x4023d000 1 # 00
+dma read 5 0x4023e000 1 # 00
+dma read 5 0x4023f000 1 # 00
+dma read 5 0x40240000 1 # 00
+place page 0 # page did=0x5 pscid=0x0 gscid=- page=0x40201 kind=read frame=0x80001 level=0x1 global=0x0
+store 0x80003008 8 0
+dma read 5 0x40200000 1 # denied 13
+dma read 5 0x40240000 1 # 00
+";
+
 /// A memory of 1 MiB at 0x80000000 with words at some addresses.
 fn platform_with(alloc: Global, words: &[(u64, u64)]) -> Result<Platform, Fail> {
     let mut ram = Ram::new(alloc, 0x8000_0000, 0x10_0000)?;
@@ -365,4 +539,21 @@ fn tables_and_queues_made_to_harm(rt: HostRuntime) -> Result<(), Fail> {
         &[],
         &[FENCE_OVER_THE_NEXT_COMMAND, QUEUES_AT_THE_END_OF_MEMORY],
     )
+}
+
+#[test]
+fn caches(rt: HostRuntime) -> Result<(), Fail> {
+    compare(
+        &rt,
+        rt.alloc(),
+        FIRST_STAGE,
+        &[
+            STALE_UNTIL_INVALIDATED,
+            DIRECTORY_INVALIDATED_LAST,
+            ONE_PAGE_OF_A_SUPERPAGE,
+            GLOBAL_ENTRY,
+            OLDEST_PLACE_LEAVES,
+        ],
+    )?;
+    compare(&rt, rt.alloc(), BOTH_STAGES, &[ENTRY_OF_A_GUEST])
 }

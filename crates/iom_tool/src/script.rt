@@ -1,5 +1,5 @@
 ghost use Rattle.std.specs.Prelude.{◌≡◌, map};
-ghost use Rattle.iom_tool.specs.Script.{load, store, reg_read, reg_write, reg, cmd, dma_read, dma_write, dma, dev_read, dev_write, dev_step, dev, step_of, meaning, line_of};
+ghost use Rattle.iom_tool.specs.Script.{load, store, reg_read, reg_write, reg, cmd, dma_read, dma_write, dma, dev_read, dev_write, dev_step, dev, place_page, place, step_of, question_of, meaning, line_of};
 
 use crate::words::{bytes_of, number, words};
 use iom_core::Step;
@@ -12,6 +12,14 @@ pub enum Line {
     /// It is no line that there is.
     Bad,
     Does(Step),
+    Asks(Question),
+}
+
+/// A question about the state. It is no step.
+#[derive(Clone, Copy, Debug, PartialEq, Eq, Hash)]
+pub enum Question {
+    /// What stands at this place of the translation cache; the oldest is place 0.
+    Page(u64),
 }
 
 /// The longest line, in bytes without its end.
@@ -192,6 +200,29 @@ fn dev(operands: &[&[u8]]) -> Option<Step>
     }
 }
 
+#[tactic(auto, unfolding(crate::specs::Script::place_page))]
+fn place_page(operands: &[&[u8]]) -> Option<Question>
+    ensures { result ≡ place_page (map (λ word. word.now) operands.now) }
+{
+    let [i] = operands else {
+        return None;
+    };
+    Some(Question::Page(number(i)?))
+}
+
+#[tactic(auto, unfolding(crate::specs::Script::place))]
+fn place(operands: &[&[u8]]) -> Option<Question>
+    ensures { result ≡ place (map (λ word. word.now) operands.now) }
+{
+    let [cache, operands @ ..] = operands else {
+        return None;
+    };
+    match *cache {
+        b"page" => place_page(operands),
+        _ => None,
+    }
+}
+
 #[tactic(auto, unfolding(crate::specs::Script::step_of))]
 fn step_of(verb: &[u8], operands: &[&[u8]]) -> Option<Step>
     ensures { result ≡ step_of verb.now (map (λ word. word.now) operands.now) }
@@ -207,6 +238,16 @@ fn step_of(verb: &[u8], operands: &[&[u8]]) -> Option<Step>
     }
 }
 
+#[tactic(auto, unfolding(crate::specs::Script::question_of))]
+fn question_of(verb: &[u8], operands: &[&[u8]]) -> Option<Question>
+    ensures { result ≡ question_of verb.now (map (λ word. word.now) operands.now) }
+{
+    match verb {
+        b"place" => place(operands),
+        _ => None,
+    }
+}
+
 #[tactic(auto, unfolding(crate::specs::Script::meaning))]
 fn meaning(words: &[&[u8]]) -> Line
     ensures { result ≡ meaning (map (λ word. word.now) words.now) }
@@ -214,9 +255,10 @@ fn meaning(words: &[&[u8]]) -> Line
     let [verb, operands @ ..] = words else {
         return Line::Blank;
     };
-    match step_of(verb, operands) {
-        Some(step) => Line::Does(step),
-        None => Line::Bad,
+    match (step_of(verb, operands), question_of(verb, operands)) {
+        (Some(step), _) => Line::Does(step),
+        (None, Some(question)) => Line::Asks(question),
+        (None, None) => Line::Bad,
     }
 }
 

@@ -4,6 +4,7 @@ ghost use Rattle.iom_core.specs.Run.{end_of};
 ghost use Rattle.iom_tool.specs.Script.{line_of};
 ghost use Rattle.iom_tool.specs.Output.{reply, steps_of};
 
+use crate::debugger::answer_in;
 use crate::script::{Line, line_of};
 use crate::text::{Reply, bad, text_of};
 use iom_core::Platform;
@@ -17,6 +18,7 @@ pub fn answer_to(platform: &mut Platform, text: &[u8]) -> Option<Reply>
         Line::Blank => None,
         Line::Bad => Some(bad()),
         Line::Does(step) => Some(text_of(&platform.step(&step))),
+        Line::Asks(question) => Some(answer_in(platform, question)),
     }
 }
 

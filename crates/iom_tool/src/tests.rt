@@ -270,7 +270,7 @@ fn long_lines(rt: HostRuntime) -> Result<(), Fail> {
 fn answers_single_lines(rt: HostRuntime) -> Result<(), Fail> {
     let mut platform = built_in(rt.alloc())?;
     let mut session = Session::new(&mut platform);
-    let cases: [(&[u8], &[u8]); 22] = [
+    let cases: [(&[u8], &[u8]); 26] = [
         (b"reg read 8 4", b"0x2"),
         (b"", b""),
         (b" \t\r# load", b""),
@@ -293,6 +293,10 @@ fn answers_single_lines(rt: HostRuntime) -> Result<(), Fail> {
         (b"dev write 0 0x70 4 1", b"no device"),
         (b"show u64 0x80000000", b"bad"),
         (b"trace 0", b"bad"),
+        (b"place page 0", b"none"),
+        (b"place page 0xffffffffffffffff", b"none"),
+        (b"place page", b"bad"),
+        (b"place context 0", b"bad"),
     ];
     for (line, want) in cases {
         assert_eq!(rt; session.line(line).as_slice(), want);

@@ -2,7 +2,7 @@ ghost use Rattle.std.specs.Prelude.{◌≡◌, ◌+◌, ◌++◌, ◌<◌, ◌�
 ghost use Rattle.std.specs.Fmt.{digit_glyph};
 ghost use Rattle.std.specs.Int.Digits.{digits_of};
 ghost use Rattle.hex.specs.Hex.{encode_lower};
-ghost use Rattle.iom_tool.specs.Texts.{digits_in, numeral, text_of};
+ghost use Rattle.iom_tool.specs.Texts.{digits_in, numeral, hexed, text_of};
 
 use arrayvec::ArrayVec;
 use iom_core::Answer;
@@ -10,9 +10,11 @@ use iom_core::Answer;
 /// The text of one answer, without a line end.
 pub type Reply = ArrayVec<u8, 256>;
 
-fn push_text(out: &mut Reply, text: &[u8])
+/// Appends bytes.
+pub fn push_text(out: &mut Reply, text: &[u8])
     requires { length out.old.items + length text.now ≤ 256 }
-    ensures { out.new.items ≡ out.old.items ++ text.now }
+    ensures text { out.new.items ≡ out.old.items ++ text.now }
+    ensures room { length out.new.items ≡ length out.old.items + length text.now }
 {
     let _fits = out.try_extend_from_slice(text);
 }
@@ -64,7 +66,8 @@ fn hex_text(bytes: &[u8]) -> Reply
     out
 }
 
-fn plain(text: &[u8]) -> Reply
+/// A text as it is.
+pub fn plain(text: &[u8]) -> Reply
     requires { length text.now ≤ 256 }
     ensures { result.items ≡ text.now }
 {
@@ -73,11 +76,21 @@ fn plain(text: &[u8]) -> Reply
     out
 }
 
-fn value_text(value: u64) -> Reply
-    ensures { result.items ≡ codes "0x" ++ numeral 16 value }
+/// Appends a number as `0x` and hex digits in lower case.
+pub fn push_hexed(out: &mut Reply, number: u64)
+    requires { length out.old.items + 18 < 256 }
+    ensures text { out.new.items ≡ out.old.items ++ hexed number }
+    ensures room { length out.new.items ≤ length out.old.items + 18 }
 {
-    let mut out = plain(b"0x");
-    push_numeral(&mut out, value, 16);
+    push_text(out, b"0x");
+    push_numeral(out, number, 16);
+}
+
+fn value_text(value: u64) -> Reply
+    ensures { result.items ≡ hexed value }
+{
+    let mut out = Reply::new();
+    push_hexed(&mut out, value);
     out
 }
 

@@ -1,0 +1,42 @@
+-- A cache is a list of places, oldest first; None is an empty place. RISC-V IOMMU Architecture 1.0, "Caching in-memory data
+-- structures", leaves the number of entries and their replacement to the implementation; this is the model's.
+use Rattle.std.specs.Prelude.{ℕ, ◌++◌, ◌==◌, Bool, List, [], ◌∷◌, length, drop, map, Option, Some, None, if◌then◌else◌}
+use Rattle.iom_cache.specs.declared.place.Place.{Place}
+use Rattle.iom_cache.specs.declared.place.Place.TheVariants.{Beyond, Empty, Live}
+
+-- what the live place with the key holds
+abbrev pub find : {K V : Type 0} → (K → Bool) → List (Option (K × V)) → Option V
+find is_key [] = None
+find is_key (None ∷ places) = find is_key places
+find is_key (Some entry ∷ places) = if is_key entry.0 then Some entry.1 else find is_key places
+
+-- the oldest place leaves where there is no room for another
+abbrev pub made_room : {X : Type 0} → ℕ → List X → List X
+made_room room places = if length places == room then drop 1 places else places
+
+-- a fill appends; None: no fill
+abbrev pub filled_by : {K V : Type 0} → ℕ → Option (K × V) → List (Option (K × V)) → List (Option (K × V))
+filled_by room None places = places
+filled_by room (Some entry) places = made_room room places ++ Some entry ∷ []
+
+-- a place after a drop
+abbrev pub dropped_by : {K V : Type 0} → (K → V → Bool) → Option (K × V) → Option (K × V)
+dropped_by drops None = None
+dropped_by drops (Some entry) = if drops entry.0 entry.1 then None else Some entry
+
+-- each place that a command drops becomes empty where it stands; None: no command
+abbrev pub emptied_by : {C K V : Type 0} → (C → K → V → Bool) → Option C → List (Option (K × V)) → List (Option (K × V))
+emptied_by drops None places = places
+emptied_by drops (Some command) places = map (dropped_by (drops command)) places
+
+-- what each live place holds is such
+abbrev pub EachLive : {K V : Type 0} → (V → Type 0) → List (Option (K × V)) → Type 0
+EachLive P [] = Unit {0}
+EachLive P (None ∷ places) = EachLive P places
+EachLive P (Some entry ∷ places) = P entry.1 × EachLive P places
+
+-- what is said of a place that there may be
+abbrev pub place_in : {K V : Type 0} → Option (Option (K × V)) → Place K V
+place_in None = Beyond
+place_in (Some None) = Empty
+place_in (Some (Some entry)) = Live entry.0 entry.1

@@ -1,0 +1,105 @@
+ghost use Rattle.std.specs.Prelude.{◌≡◌, map, Some};
+ghost use Rattle.iom_cache.specs.Places.{dropped_by};
+ghost use Rattle.iom_cache.specs.Drops.{drops_context};
+
+use crate::Place;
+use crate::drops::drops_device;
+use circular_buffer::HeapCircularBuffer;
+use iom_ddt::Context;
+use iom_queue::Command;
+use std::alloc::{AllocError, Global};
+use std::marker::Model;
+
+/// How many places there are.
+const PLACES: usize = 16;
+
+/// The context cache: at most 16 places, oldest first, each empty or with the context of a device id.
+#[derive(Debug, Drop)]
+pub struct ContextCache {
+    places: HeapCircularBuffer<Option<(u32, Context)>>,
+}
+
+impl Model for ContextCache {
+    ghost use Rattle.std.specs.Prelude.{ℕ, ◌≡◌, ◌≤◌, List, Option, length};
+    ghost use Rattle.iom_ddt.specs.declared.context.Context.{Context};
+    ghost use Rattle.iom_ddt.specs.Contexts.{IsWellFormed};
+    ghost use Rattle.iom_cache.specs.Places.{EachLive};
+
+    ghost Value = { List (Option (ℕ × Context)) };
+
+    ghost view = { λ cache. cache.places.items };
+
+    ghost invariant = { λ cache. (cache.places.capacity ≡ 16)
+        × (length cache.places.items ≤ 16) × EachLive IsWellFormed cache.places.items };
+}
+
+impl ContextCache {
+    ghost use Rattle.std.specs.Prelude.{◌≡◌, ◌≤◌, [], Some, None, length, slice_get, IfOk, IfSome};
+    ghost use Rattle.iom_ddt.specs.Contexts.{IsWellFormed};
+    ghost use Rattle.iom_cache.specs.Places.{find, filled_by, emptied_by, place_in};
+    ghost use Rattle.iom_cache.specs.Keys.{same_did};
+    ghost use Rattle.iom_cache.specs.Drops.{drops_context};
+
+    /// A cache with no place yet. It takes the memory of all places, and no other call takes any.
+    pub fn new(alloc: Global) -> Result<ContextCache, AllocError>
+        ensures { IfOk result (λ cache. cache ≡ []) }
+    {
+        Ok(ContextCache {
+            places: HeapCircularBuffer::with_capacity(alloc, PLACES)?,
+        })
+    }
+
+    /// The context in the live place of this device id; None where there is none.
+    pub fn find(&self, did: u32) -> Option<Context>
+        ensures found { result ≡ find (same_did did) self.now }
+        ensures sound { IfSome result IsWellFormed }
+        ensures within { length self.now ≤ 16 }
+    {
+        for place in self.places.iter() {
+            if let Some((own, context)) = place
+                && did == *own
+            {
+                return Some(*context);
+            }
+        }
+        None
+    }
+
+    /// Appends a place for a device id that no live place has. Where there are 16 places the oldest, live or empty, leaves.
+    pub fn fill(&mut self, did: u32, context: Context)
+        requires absent { find (same_did did) self.old ≡ None }
+        requires well_formed { IsWellFormed context }
+        ensures { self.new ≡ filled_by 16 (Some (did, context)) self.old }
+    {
+        let _oldest = self.places.push_back(Some((did, context)));
+    }
+
+    /// Empties, where they stand, the places that a command drops ("IODIR").
+    pub fn drop_matching(&mut self, command: &Command)
+        ensures { self.new ≡ emptied_by drops_context (Some command.now) self.old }
+    {
+        empty_matching(command, self.places.make_contiguous());
+    }
+
+    /// What stands at place `i`, any number; the oldest is place 0.
+    pub fn place(&self, i: u64) -> Place<u32, Context>
+        ensures place { result ≡ place_in (slice_get self.now i) }
+        ensures within { length self.now ≤ 16 }
+    {
+        Place::of(self.places.get(i as usize))
+    }
+}
+
+fn empty_matching(command: &Command, places: &mut [Option<(u32, Context)>])
+    ensures { places.new ≡ map (dropped_by (drops_context command.now)) places.old }
+{
+    for place in places.iter_mut() {
+        *place = kept(command, *place);
+    }
+}
+
+fn kept(command: &Command, place: Option<(u32, Context)>) -> Option<(u32, Context)>
+    ensures { result ≡ dropped_by (drops_context command.now) place }
+{
+    place.filter(|(did, _)| !drops_device(command, *did))
+}

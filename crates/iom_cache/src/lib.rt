@@ -1,0 +1,16 @@
+//! The translation cache and the context cache (RISC-V IOMMU Architecture 1.0, "Caching in-memory data structures"): lists of
+//! places, oldest first, which fills append to and commands empty.
+#![tactic(auto)]
+
+pub use contexts::ContextCache;
+pub use key::{Key, key_of};
+pub use place::Place;
+pub use translations::TransCache;
+
+mod contexts;
+mod drops;
+mod key;
+mod place;
+#[cfg(test)]
+mod tests;
+mod translations;

@@ -1,0 +1,26 @@
+/// What stands at a place of a cache.
+#[derive(Clone, Copy, Debug, PartialEq, Eq, Hash)]
+pub enum Place<K, V> {
+    /// It is beyond the last place.
+    Beyond,
+    /// What stood there was dropped.
+    Empty,
+    /// An entry: its key, and what it says.
+    Live(K, V),
+}
+
+impl<K: Copy, V: Copy> Place<K, V> {
+    ghost use Rattle.std.specs.Prelude.{◌≡◌, option_copied};
+    ghost use Rattle.iom_cache.specs.Places.{place_in};
+
+    // What is said of a place that there may be.
+    pub(crate) fn of(place: Option<&Option<(K, V)>>) -> Place<K, V>
+        ensures { result ≡ place_in (option_copied place.entry) }
+    {
+        match place {
+            None => Place::Beyond,
+            Some(None) => Place::Empty,
+            Some(Some((key, value))) => Place::Live(*key, *value),
+        }
+    }
+}

@@ -1,0 +1,202 @@
+use crate::{ContextCache, Key, Place, TransCache, key_of};
+use iom_bits::Kind;
+use iom_ddt::Context;
+use iom_nested::Hit;
+use iom_queue::Command;
+use std::alloc::{AllocError, Global};
+use std::test::Fail;
+
+const HIT: Hit = Hit {
+    frame: 0x80010,
+    level: 0,
+    global: false,
+};
+
+const GLOBAL: Hit = Hit {
+    frame: 0x80010,
+    level: 0,
+    global: true,
+};
+
+const SUPERPAGE: Hit = Hit {
+    frame: 0x80010,
+    level: 1,
+    global: false,
+};
+
+const CONTEXT: Context = Context {
+    dtf: false,
+    custom: 0,
+    gmode: 8,
+    gppn: 0x80020,
+    gscid: 7,
+    tav: false,
+    pscid: 3,
+    mode: 0,
+    ppn: 0,
+};
+
+fn process_key(page: u64) -> Key {
+    Key {
+        did: 5,
+        pscid: Some(3),
+        gscid: None,
+        page,
+        kind: Kind::Read,
+    }
+}
+
+fn guest_key(page: u64) -> Key {
+    Key {
+        did: 5,
+        pscid: None,
+        gscid: Some(7),
+        page,
+        kind: Kind::Read,
+    }
+}
+
+fn vma(av: bool, page: u64, pscv: bool) -> Command {
+    Command::Vma {
+        av,
+        page,
+        pscv,
+        pscid: 3,
+        gv: false,
+        gscid: 0,
+    }
+}
+
+fn gvma(gv: bool, gscid: u16) -> Command {
+    Command::Gvma {
+        av: false,
+        page: 0,
+        pscid: 0,
+        gv,
+        gscid,
+    }
+}
+
+// Fills where no live place has the key, with a hit that fits.
+fn fill(cache: &mut TransCache, key: Key, hit: Hit) {
+    if cache.find(&key).is_none() && hit.frame < 1 << 44 && hit.level < 4 {
+        cache.fill(key, hit);
+    }
+}
+
+// A cache with the pages below `end` of one process, filled in their order.
+fn filled(alloc: Global, end: u64) -> Result<TransCache, AllocError> {
+    let mut cache = TransCache::new(alloc)?;
+    for page in 0..end {
+        fill(&mut cache, process_key(page), HIT);
+    }
+    Ok(cache)
+}
+
+// Whether a cache that has only this entry is empty after the command.
+fn is_dropped(alloc: Global, command: Command, key: Key, hit: Hit) -> Result<bool, AllocError> {
+    let mut cache = TransCache::new(alloc)?;
+    fill(&mut cache, key, hit);
+    cache.drop_matching(&command);
+    Ok(cache.find(&key).is_none())
+}
+
+// A cache with the contexts of the devices below `end`, filled in their order.
+fn filled_contexts(alloc: Global, end: u32) -> Result<ContextCache, AllocError> {
+    let mut cache = ContextCache::new(alloc)?;
+    for did in 0..end {
+        if cache.find(did).is_none() && CONTEXT.is_well_formed() {
+            cache.fill(did, CONTEXT);
+        }
+    }
+    Ok(cache)
+}
+
+fn place(cache: &TransCache, i: u64) -> Place<Key, Hit> {
+    cache.place(i)
+}
+
+fn context_place(cache: &ContextCache, i: u64) -> Place<u32, Context> {
+    cache.place(i)
+}
+
+fn drop_matching(cache: &mut TransCache, command: Command) {
+    cache.drop_matching(&command);
+}
+
+fn drop_contexts(cache: &mut ContextCache, command: Command) {
+    cache.drop_matching(&command);
+}
+
+#[test]
+fn oldest_leaves(rt: HostRuntime) -> Result<(), Fail> {
+    let empty = filled(rt.alloc(), 0)?;
+    assert_eq!(rt; place(&empty, 0), Place::Beyond);
+    let cache = filled(rt.alloc(), 65)?;
+    assert_eq!(rt; place(&cache, 0), Place::Live(process_key(1), HIT));
+    assert_eq!(rt; place(&cache, 63), Place::Live(process_key(64), HIT));
+    assert_eq!(rt; place(&cache, 64), Place::Beyond);
+    assert_eq!(rt; place(&cache, u64::MAX), Place::Beyond);
+    Ok(())
+}
+
+#[test]
+fn drop_leaves_an_empty_place(rt: HostRuntime) -> Result<(), Fail> {
+    let mut cache = filled(rt.alloc(), 3)?;
+    drop_matching(&mut cache, vma(true, 1, false));
+    assert_eq!(rt; place(&cache, 0), Place::Live(process_key(0), HIT));
+    assert_eq!(rt; place(&cache, 1), Place::Empty);
+    assert_eq!(rt; place(&cache, 2), Place::Live(process_key(2), HIT));
+    assert_eq!(rt; place(&cache, 3), Place::Beyond);
+    Ok(())
+}
+
+#[test]
+fn drops_by_the_table(rt: HostRuntime) -> Result<(), Fail> {
+    let host = process_key(0x40201);
+    let guest = guest_key(0x40201);
+    let cases = [
+        (vma(false, 0, false), host, GLOBAL, true),
+        // PSCV leaves global entries, GV 0 leaves those of guests.
+        (vma(false, 0, true), host, GLOBAL, false),
+        (vma(false, 0, true), host, HIT, true),
+        (vma(false, 0, false), guest, HIT, false),
+        // AV goes by the superpage of 512 pages.
+        (vma(true, 0x403ff, false), host, SUPERPAGE, true),
+        (vma(true, 0x403ff, false), host, HIT, false),
+        (vma(true, 0x40400, false), host, SUPERPAGE, false),
+        (gvma(false, 0), guest, HIT, true),
+        (gvma(false, 0), host, HIT, false),
+        (gvma(true, 6), guest, HIT, false),
+        (Command::Iodir { dv: false, did: 0 }, host, HIT, false),
+    ];
+    for (command, key, hit, want) in cases {
+        assert_eq!(rt;
+            is_dropped(rt.alloc(), command, key, hit)?,
+            want,
+            "{command:?}"
+        );
+    }
+    Ok(())
+}
+
+#[test]
+fn keeps_sixteen_contexts(rt: HostRuntime) -> Result<(), Fail> {
+    let mut cache = filled_contexts(rt.alloc(), 17)?;
+    assert_eq!(rt; context_place(&cache, 0), Place::Live(1, CONTEXT));
+    assert_eq!(rt; context_place(&cache, 15), Place::Live(16, CONTEXT));
+    assert_eq!(rt; context_place(&cache, 16), Place::Beyond);
+    drop_contexts(&mut cache, vma(false, 0, false));
+    drop_contexts(&mut cache, Command::Iodir { dv: true, did: 2 });
+    assert_eq!(rt; context_place(&cache, 0), Place::Live(1, CONTEXT));
+    assert_eq!(rt; context_place(&cache, 1), Place::Empty);
+    drop_contexts(&mut cache, Command::Iodir { dv: false, did: 2 });
+    assert_eq!(rt; context_place(&cache, 15), Place::Empty);
+    Ok(())
+}
+
+#[test]
+fn key_has_the_ids_of_its_stages(rt: HostRuntime) {
+    let key = key_of(&CONTEXT, 5, 0x4020_1abc, Kind::Read);
+    assert_eq!(rt; key, guest_key(0x40201));
+}

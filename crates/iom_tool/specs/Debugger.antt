@@ -1,0 +1,44 @@
+-- Questions about the state, which are no steps, and the texts of their answers.
+use Rattle.std.specs.Prelude.{ℕ, ◌++◌, Bool, List, codes, Option, Some, None, slice_get, if◌then◌else◌}
+use Rattle.iom_bits.specs.declared.causes.Kind.{Kind}
+use Rattle.iom_bits.specs.declared.causes.Kind.TheVariants.{Read, Write}
+use Rattle.iom_nested.specs.declared.translation.Hit.{Hit}
+use Rattle.iom_cache.specs.Places.{place_in}
+use Rattle.iom_cache.specs.declared.key.Key.{Key}
+use Rattle.iom_cache.specs.declared.place.Place.{Place}
+use Rattle.iom_cache.specs.declared.place.Place.TheVariants.{Beyond, Empty, Live}
+use Rattle.iom_core.specs.State.{State}
+use Rattle.iom_tool.specs.Texts.{hexed}
+use Rattle.iom_tool.specs.declared.script.Question.{Question}
+use Rattle.iom_tool.specs.declared.script.Question.TheVariants as question
+
+-- a value and its name
+abbrev pub named : List ℕ → List ℕ → List ℕ
+named name value = codes " " ++ name ++ codes "=" ++ value
+
+abbrev pub id_text : Option ℕ → List ℕ
+id_text None = codes "-"
+id_text (Some id) = hexed id
+
+abbrev pub kind_text : Kind → List ℕ
+kind_text Read = codes "read"
+kind_text Write = codes "write"
+
+abbrev pub flag : Bool → ℕ
+flag set = if set then 1 else 0
+
+abbrev pub page_text : Key → Hit → List ℕ
+page_text key hit =
+    codes "page" ++ named (codes "did") (hexed key.did) ++ named (codes "pscid") (id_text key.pscid)
+    ++ named (codes "gscid") (id_text key.gscid) ++ named (codes "page") (hexed key.page)
+    ++ named (codes "kind") (kind_text key.kind) ++ named (codes "frame") (hexed hit.frame)
+    ++ named (codes "level") (hexed hit.level) ++ named (codes "global") (hexed (flag hit.global))
+
+-- a place beyond the last one, an empty one, or what a live one holds
+unfoldable pub place_text : Place Key Hit → List ℕ
+place_text Beyond = codes "none"
+place_text Empty = codes "empty"
+place_text (Live key hit) = page_text key hit
+
+abbrev pub answer_in : State → Question → List ℕ
+answer_in state (question.Page i) = place_text (place_in (slice_get state.pages i))
