@@ -1,2 +1,3 @@
-mod Live
+pub mod Live
+pub mod Kept
 mod Shifts

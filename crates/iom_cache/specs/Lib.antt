@@ -1,3 +1,4 @@
 pub mod Places
 pub mod Keys
 pub mod Drops
+pub mod Entries

@@ -29,14 +29,20 @@ abbrev pub emptied_by : {C K V : Type 0} → (C → K → V → Bool) → Option
 emptied_by drops None places = places
 emptied_by drops (Some command) places = map (dropped_by (drops command)) places
 
--- what each live place holds is such
-abbrev pub EachLive : {K V : Type 0} → (V → Type 0) → List (Option (K × V)) → Type 0
+-- each live place holds such an entry
+abbrev pub EachLive : {K V : Type 0} → (K × V → Type 0) → List (Option (K × V)) → Type 0
 EachLive P [] = Unit {0}
 EachLive P (None ∷ places) = EachLive P places
-EachLive P (Some entry ∷ places) = P entry.1 × EachLive P places
+EachLive P (Some entry ∷ places) = P entry × EachLive P places
 
 -- what is said of a place that there may be
 abbrev pub place_in : {K V : Type 0} → Option (Option (K × V)) → Place K V
 place_in None = Beyond
 place_in (Some None) = Empty
 place_in (Some (Some entry)) = Live entry.0 entry.1
+
+-- where an entry stands at the place, it is such
+abbrev pub IfLive : {K V : Type 0} → Place K V → (K × V → Type 0) → Type 0
+IfLive Beyond P = Unit {0}
+IfLive Empty P = Unit {0}
+IfLive (Live key value) P = P (key, value)

@@ -22,21 +22,19 @@ pub struct ContextCache {
 impl Model for ContextCache {
     ghost use Rattle.std.specs.Prelude.{ℕ, ◌≡◌, ◌≤◌, List, Option, length};
     ghost use Rattle.iom_ddt.specs.declared.context.Context.{Context};
-    ghost use Rattle.iom_ddt.specs.Contexts.{IsWellFormed};
-    ghost use Rattle.iom_cache.specs.Places.{EachLive};
 
     ghost Value = { List (Option (ℕ × Context)) };
 
     ghost view = { λ cache. cache.places.items };
 
-    ghost invariant = { λ cache. (cache.places.capacity ≡ 16)
-        × (length cache.places.items ≤ 16) × EachLive IsWellFormed cache.places.items };
+    ghost invariant = { λ cache. (cache.places.capacity ≡ 16) × (length cache.places.items ≤ 16) };
 }
 
 impl ContextCache {
     ghost use Rattle.std.specs.Prelude.{◌≡◌, ◌≤◌, [], Some, None, length, slice_get, IfOk, IfSome};
     ghost use Rattle.iom_ddt.specs.Contexts.{IsWellFormed};
-    ghost use Rattle.iom_cache.specs.Places.{find, filled_by, emptied_by, place_in};
+    ghost use Rattle.iom_cache.specs.Places.{find, filled_by, emptied_by, place_in, EachLive, IfLive};
+    ghost use Rattle.iom_cache.specs.Entries.{HoldsContext};
     ghost use Rattle.iom_cache.specs.Keys.{same_did};
     ghost use Rattle.iom_cache.specs.Drops.{drops_context};
 
@@ -52,7 +50,7 @@ impl ContextCache {
     /// The context in the live place of this device id; None where there is none.
     pub fn find(&self, did: u32) -> Option<Context>
         ensures found { result ≡ find (same_did did) self.now }
-        ensures sound { IfSome result IsWellFormed }
+        ensures sound { EachLive HoldsContext self.now → IfSome result IsWellFormed }
         ensures within { length self.now ≤ 16 }
     {
         for place in self.places.iter() {
@@ -68,7 +66,6 @@ impl ContextCache {
     /// Appends a place for a device id that no live place has. Where there are 16 places the oldest, live or empty, leaves.
     pub fn fill(&mut self, did: u32, context: Context)
         requires absent { find (same_did did) self.old ≡ None }
-        requires well_formed { IsWellFormed context }
         ensures { self.new ≡ filled_by 16 (Some (did, context)) self.old }
     {
         let _oldest = self.places.push_back(Some((did, context)));
@@ -82,8 +79,10 @@ impl ContextCache {
     }
 
     /// What stands at place `i`, any number; the oldest is place 0.
+    #[tactic(auto, using(crate::proofs::Live::live_at))]
     pub fn place(&self, i: u64) -> Place<u32, Context>
         ensures place { result ≡ place_in (slice_get self.now i) }
+        ensures sound { EachLive HoldsContext self.now → IfLive result HoldsContext }
         ensures within { length self.now ≤ 16 }
     {
         Place::of(self.places.get(i as usize))

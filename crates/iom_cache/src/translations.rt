@@ -24,21 +24,19 @@ impl Model for TransCache {
     ghost use Rattle.std.specs.Prelude.{◌≡◌, ◌≤◌, List, Option, length};
     ghost use Rattle.iom_cache.specs.declared.key.Key.{Key};
     ghost use Rattle.iom_nested.specs.declared.translation.Hit.{Hit};
-    ghost use Rattle.iom_nested.specs.Nested.{HitFits};
-    ghost use Rattle.iom_cache.specs.Places.{EachLive};
 
     ghost Value = { List (Option (Key × Hit)) };
 
     ghost view = { λ cache. cache.places.items };
 
-    ghost invariant = { λ cache. (cache.places.capacity ≡ 64)
-        × (length cache.places.items ≤ 64) × EachLive HitFits cache.places.items };
+    ghost invariant = { λ cache. (cache.places.capacity ≡ 64) × (length cache.places.items ≤ 64) };
 }
 
 impl TransCache {
     ghost use Rattle.std.specs.Prelude.{◌≡◌, ◌≤◌, [], Some, None, length, slice_get, IfOk, IfSome};
     ghost use Rattle.iom_nested.specs.Nested.{HitFits};
-    ghost use Rattle.iom_cache.specs.Places.{find, filled_by, emptied_by, place_in};
+    ghost use Rattle.iom_cache.specs.Places.{find, filled_by, emptied_by, place_in, EachLive, IfLive};
+    ghost use Rattle.iom_cache.specs.Entries.{HoldsHit};
     ghost use Rattle.iom_cache.specs.Keys.{same_key};
     ghost use Rattle.iom_cache.specs.Drops.{drops_page};
 
@@ -54,7 +52,7 @@ impl TransCache {
     /// What the live place with this key says; None where there is none.
     pub fn find(&self, key: &Key) -> Option<Hit>
         ensures found { result ≡ find (same_key key.now) self.now }
-        ensures sound { IfSome result HitFits }
+        ensures sound { EachLive HoldsHit self.now → IfSome result HitFits }
         ensures within { length self.now ≤ 64 }
     {
         for place in self.places.iter() {
@@ -70,7 +68,6 @@ impl TransCache {
     /// Appends a place for a key that no live place has. Where there are 64 places the oldest, live or empty, leaves.
     pub fn fill(&mut self, key: Key, hit: Hit)
         requires absent { find (same_key key) self.old ≡ None }
-        requires fits { HitFits hit }
         ensures { self.new ≡ filled_by 64 (Some (key, hit)) self.old }
     {
         let _oldest = self.places.push_back(Some((key, hit)));
@@ -84,8 +81,10 @@ impl TransCache {
     }
 
     /// What stands at place `i`, any number; the oldest is place 0.
+    #[tactic(auto, using(crate::proofs::Live::live_at))]
     pub fn place(&self, i: u64) -> Place<Key, Hit>
         ensures place { result ≡ place_in (slice_get self.now i) }
+        ensures sound { EachLive HoldsHit self.now → IfLive result HoldsHit }
         ensures within { length self.now ≤ 64 }
     {
         Place::of(self.places.get(i as usize))

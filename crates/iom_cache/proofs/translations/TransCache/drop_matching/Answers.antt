@@ -1,9 +1,7 @@
 use Rattle.std.proofs.Common.{◌≡◌, length, map, rules}
 use Rattle.std.specs.List.{refill}
-use Rattle.iom_nested.specs.Nested.{HitFits}
 use Rattle.iom_cache.specs.Places.{dropped_by}
 use Rattle.iom_cache.specs.Drops.{drops_page}
-use Rattle.iom_cache.proofs.Live.{live_emptied}
 use Rattle.iom_cache.proofs.translations.TransCache.drop_matching.Goals as goal
 
 pub invariant_of-self : goal.invariant_of-self
@@ -11,4 +9,4 @@ invariant_of-self c =
     let emptied : refill (length c.self.inside.places.items) c.self.inside.places.items c.empty_matching.new.places
     ≡ map (dropped_by (drops_page c.args.command.now)) c.self.inside.places.items = search rules in
     rw emptied
-    (c.self.invariant.0, search rules, live_emptied HitFits (drops_page c.args.command.now) c.self.inside.places.items c.self.invariant.2)
+    (c.self.invariant.0, search rules)
