@@ -1,3 +1,4 @@
 pub mod Loads
 pub mod Runs
 pub mod Wide
+pub mod Untouched

@@ -3,8 +3,7 @@ use Rattle.std.proofs.Common.{◌≡◌, ◌+◌, ◌-◌, ◌*◌, ◌≤◌, �
 use Rattle.std.specs.Prelude.{replicate}
 use Rattle.std.proofs.lemmas.List.{drop-replicate, length-take-le}
 use Rattle.iom_bits.specs.Bytes.{number_of_bytes}
-use Rattle.iom_mem.specs.Memory.{bytes_at}
-use Rattle.iom_core.specs.State.{State}
+use Rattle.iom_mem.specs.Memory.{Memory, bytes_at}
 use Rattle.iom_core.specs.Table.{is_aligned, load}
 use Rattle.iom_core.specs.declared.step.Answer.TheVariants as answer
 
@@ -22,13 +21,13 @@ eight_zeros = 0 ∷ 0 ∷ 0 ∷ 0 ∷ 0 ∷ 0 ∷ 0 ∷ 0 ∷ []
 aligned_is_small : (addr size : ℕ) → is_aligned addr size ≡ true → size ≤ 8
 aligned_is_small addr size h = grind arith
 
-pub loaded : (state : State) (addr size : ℕ) (out : List ℕ) (value : ℕ) → is_aligned addr size ≡ true →
-    bytes_at state.memory addr (length (take size eight_zeros)) ≡ Some out →
+pub loaded : (memory : Memory) (addr size : ℕ) (out : List ℕ) (value : ℕ) → is_aligned addr size ≡ true →
+    bytes_at memory addr (length (take size eight_zeros)) ≡ Some out →
     value ≡ number_of_bytes (out ++ drop size eight_zeros) →
-    answer.Value value ≡ load state addr size
+    answer.Value value ≡ load memory addr size
 unfolding load
-loaded state addr size out value aligned read number =
+loaded memory addr size out value aligned read number =
     let count : length (take size eight_zeros) ≡ size = length-take-le size eight_zeros (aligned_is_small addr size aligned) in
-    let there : bytes_at state.memory addr size ≡ Some out = subst (λ (n : ℕ). bytes_at state.memory addr n ≡ Some out) count read in
+    let there : bytes_at memory addr size ≡ Some out = subst (λ (n : ℕ). bytes_at memory addr n ≡ Some out) count read in
     let rest : number_of_bytes (drop size eight_zeros) ≡ 0 = ap number_of_bytes (drop-replicate size 8 0) ∙ number_of_zeros (8 - size) in
     rw (number ∙ number_of_padded out (drop size eight_zeros) rest, aligned, there) refl

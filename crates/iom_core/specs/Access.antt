@@ -1,60 +1,202 @@
--- A device's access: RISC-V IOMMU Architecture 1.0, "Process to translate an IOVA"; what a denied one leaves: "Fault/Event-Queue
--- (FQ)".
-use Rattle.std.specs.Prelude.{ℕ, List, length, Result, Ok, Err, is_some, if◌then◌else◌}
+-- A device's access: where it leads, what it leaves in the caches, and how the bus answers it. RISC-V IOMMU Architecture 1.0,
+-- "Process to translate an IOVA", "Caching in-memory data structures" and "Fault/Event-Queue (FQ)".
+use Rattle.std.specs.Prelude.{ℕ, ◌+◌, ◌*◌, ◌%◌, Bool, true, false, List, [], length, Option, Some, None, Result, Ok, Err, is_some, if◌then◌else◌}
+use Rattle.iom_bits.specs.declared.causes.Cause.{Cause}
+use Rattle.iom_bits.specs.declared.causes.Cause.TheVariants as cause
 use Rattle.iom_bits.specs.declared.causes.Kind.{Kind}
-use Rattle.iom_mem.specs.Memory.{bytes_at, put}
-use Rattle.iom_queue.specs.Denials.{denial_record}
+use Rattle.iom_bits.specs.declared.causes.Kind.TheVariants as kind
+use Rattle.iom_mem.specs.Memory.{Memory, bytes_at, put}
+use Rattle.iom_regs.specs.Table.{Registers}
+use Rattle.iom_regs.specs.Views.{mode_of}
+use Rattle.iom_regs.specs.declared.views.Mode.{Mode}
+use Rattle.iom_regs.specs.declared.views.Mode.TheVariants as mode
+use Rattle.iom_ddt.specs.Contexts.{is_bare}
+use Rattle.iom_ddt.specs.Directory.{is_too_wide, levels_of, located}
+use Rattle.iom_ddt.specs.declared.context.Context.{Context}
+use Rattle.iom_nested.specs.Nested.{translation}
+use Rattle.iom_nested.specs.declared.translation.Fault.{Fault}
+use Rattle.iom_nested.specs.declared.translation.Hit.{Hit}
 use Rattle.iom_queue.specs.Delivery.{Delivery, delivered}
-use Rattle.iom_core.specs.State.{State}
-use Rattle.iom_core.specs.Translate.{looked_up, address_of}
-use Rattle.iom_core.specs.declared.port.Access.{Access}
-use Rattle.iom_core.specs.declared.port.Access.TheVariants.{Granted, Denied, Outside}
-use Rattle.iom_core.specs.declared.request.Request.{Request}
-use Rattle.iom_core.specs.declared.request.Denial.{Denial}
+use Rattle.iom_queue.specs.Denials.{denial_record, is_reported}
+use Rattle.iom_cache.specs.Keys.{key_of, same_key, same_did}
+use Rattle.iom_cache.specs.Places.{find, filled_by, Look, look}
+use Rattle.iom_cache.specs.declared.key.Key.{Key}
+use Rattle.iom_virtq.specs.Bus.{Ask, Read, Write, Reply, reply_of}
+use Rattle.iom_virtq.specs.declared.access.Access.TheVariants as access
+use Rattle.iom_core.specs.State.{Machine, context_room, page_room}
 
-abbrev pub request_of : ℕ → ℕ → Kind → Request
-request_of did iova kind = record { did = did; iova = iova; kind = kind }
+-- what a device asks of the IOMMU: an access at an IOVA
+pub record Request : Type 0 where
+  pub did : ℕ
+  pub iova : ℕ
+  pub kind : Kind
 
--- the answer to an access of some bytes there
-abbrev pub answer_at : State → ℕ → Result ℕ Denial → Access
-answer_at s count (Err denial) = Denied denial.cause
-answer_at s count (Ok addr) = if is_some (bytes_at s.memory addr count) then Granted else Outside
+-- why a request is denied
+pub record Denial : Type 0 where
+  pub cause : Cause
+  -- of a guest page fault the guest-physical address, else 0
+  pub iotval2 : ℕ
+  -- whether it makes a fault record
+  pub reported : Bool
 
-abbrev pub left_by_delivery : State → Delivery → State
-left_by_delivery s left = record s { memory = left.memory; registers = left.registers }
+-- the way that a request is led
+pub data Way : Type 0 where
+  -- by ddtp, whose mode is Bare: the address is the IOVA itself
+  ByRegister : Way
+  -- by the device's context, both of whose stages are Bare: so too
+  ByContext : Context → Way
+  -- by the stages of the device's context, which lead the page to a frame
+  Walked : Context → Hit → Way
+  -- nowhere
+  Denied : Denial → Way
+
+-- the way, and what is filled in each cache
+pub record Led : Type 0 where
+  pub way : Way
+  pub context : Option (ℕ × Context)
+  pub page : Option (Key × Hit)
+
+-- a fault before any page table is read: it has no guest-physical address, and always makes a record
+abbrev pub plain : Cause → Denial
+plain why = record { cause = why; iotval2 = 0; reported = true }
+
+-- a fault of a translation: the context's DTF may silence it
+abbrev pub translating : Context → Fault → Denial
+translating context fault =
+    record { cause = fault.cause; iotval2 = fault.iotval2; reported = is_reported fault.cause context.dtf }
+
+-- the context of a device id, from its live place or else from the directory; a live place is no help to an id that is too
+-- wide for the directory
+abbrev pub live_context : Machine → ℕ → Option Context
+live_context m did =
+    if is_too_wide (levels_of (mode_of m.registers)) did then None else find (same_did did) m.contexts
+
+unfoldable pub context_look : Machine → ℕ → Look ℕ Context Cause
+context_look m did = look did (live_context m did) (located m.memory m.registers did)
+
+-- where the page leads, from its live place or else by the stages
+abbrev pub request_key : Request → Context → Key
+request_key request context = key_of context request.did request.iova request.kind
+
+unfoldable pub page_look : Machine → Request → Context → Look Key Hit Fault
+page_look m request context =
+    look (request_key request context) (find (same_key (request_key request context)) m.pages)
+    (translation m.memory context request.iova request.kind)
+
+-- denied before any page table is read
+abbrev pub refused : Cause → Led
+refused why = record { way = Denied (plain why); context = None; page = None }
+
+-- by the page
+abbrev pub led_by_page : Context → Option (ℕ × Context) → Option (Key × Hit) → Result Hit Fault → Led
+led_by_page context learnt page (Ok hit) = record { way = Walked context hit; context = learnt; page = page }
+led_by_page context learnt page (Err fault) =
+    record { way = Denied (translating context fault); context = learnt; page = page }
+
+-- by the context, which is filled before the page is walked, so also where the walk fails
+abbrev pub led_by_context : Machine → Request → Option (ℕ × Context) → Result Context Cause → Led
+led_by_context m request learnt (Ok context) =
+    if is_bare context then record { way = ByContext context; context = learnt; page = None }
+    else led_by_page context learnt (page_look m request context).filled (page_look m request context).used
+led_by_context m request learnt (Err why) = record { way = Denied (plain why); context = learnt; page = None }
+
+-- by the mode: with Off all is disallowed, with Bare the address is the IOVA itself, otherwise the directory has the device's
+-- context
+abbrev pub led_by_mode : Mode → Machine → Request → Led
+led_by_mode mode.Off m request = refused cause.Off
+led_by_mode mode.Bare m request = record { way = ByRegister; context = None; page = None }
+led_by_mode (mode.Levels levels) m request =
+    led_by_context m request (context_look m request.did).filled (context_look m request.did).used
+
+unfoldable pub led : Machine → Request → Led
+led m request = led_by_mode (mode_of m.registers) m request
+
+-- the physical address that a way leads an IOVA to
+abbrev pub address_on : Way → ℕ → Result ℕ Denial
+address_on ByRegister iova = Ok iova
+address_on (ByContext context) iova = Ok iova
+address_on (Walked context hit) iova = Ok (hit.frame * 4096 + iova % 4096)
+address_on (Denied denial) iova = Err denial
+
+-- the machine after the look-ups
+abbrev pub learnt : Machine → Led → Machine
+learnt m led = record m {
+  contexts = filled_by context_room led.context m.contexts;
+  pages = filled_by page_room led.page m.pages;
+}
+
+-- the request of what a device asks
+abbrev pub request_at : ℕ → ℕ → Kind → Request
+request_at did iova kind = record { did = did; iova = iova; kind = kind }
+
+abbrev pub request_of : ℕ → Ask → Request
+request_of did (Read iova count) = request_at did iova kind.Read
+request_of did (Write iova bytes) = request_at did iova kind.Write
+
+-- how the bus answers, and what memory and the registers are then
+pub record Effect : Type 0 where
+  pub reply : Reply
+  pub memory : Memory
+  pub registers : Registers
+
+-- a byte there is outside memory
+abbrev pub outside : Machine → Effect
+outside m = record { reply = reply_of access.Outside []; memory = m.memory; registers = m.registers }
+
+abbrev pub read_there : Machine → Option (List ℕ) → Effect
+read_there m (Some bytes) =
+    record { reply = reply_of access.Ok bytes; memory = m.memory; registers = m.registers }
+read_there m None = outside m
+
+-- the bytes at a physical address are read, or written
+abbrev pub granted : Machine → Ask → ℕ → Effect
+granted m (Read iova count) addr = read_there m (bytes_at m.memory addr count)
+granted m (Write iova bytes) addr =
+    if is_some (bytes_at m.memory addr (length bytes))
+    then record { reply = reply_of access.Ok []; memory = put m.memory addr bytes; registers = m.registers }
+    else outside m
 
 -- a denial's record is delivered to the fault queue
-unfoldable pub left_by_denial : State → Request → Denial → State
-left_by_denial s request denial =
+unfoldable pub record_left : Registers → Memory → Request → Denial → Delivery
+record_left registers memory request denial =
     if denial.reported
-    then left_by_delivery s
-    (delivered s.registers s.memory
-    (denial_record denial.cause request.kind request.did request.iova denial.iotval2))
-    else s
+    then delivered registers memory
+    (denial_record denial.cause request.kind request.did request.iova denial.iotval2)
+    else record { registers = registers; memory = memory }
 
--- what a read leaves, behind its look-ups
-abbrev pub read_at : State → Request → Result ℕ Denial → State
-read_at s request (Ok addr) = s
-read_at s request (Err denial) = left_by_denial s request denial
+-- the machine with what a delivery leaves
+abbrev pub with_delivery : Machine → Delivery → Machine
+with_delivery m left = record m { memory = left.memory; registers = left.registers }
 
-unfoldable pub left_by_read : State → Request → State
-left_by_read s request = read_at (looked_up s request) request (address_of s request)
+abbrev pub denied : Machine → Request → Denial → Effect
+denied m request denial = record {
+  reply = reply_of (access.Denied denial.cause) [];
+  memory = (record_left m.registers m.memory request denial).memory;
+  registers = (record_left m.registers m.memory request denial).registers;
+}
 
--- what a write leaves, behind its look-ups: its bytes, where they are all in memory
-abbrev pub written_at : State → Request → List ℕ → Result ℕ Denial → State
-written_at s request bytes (Ok addr) =
-    if is_some (bytes_at s.memory addr (length bytes)) then record s { memory = put s.memory addr bytes } else s
-written_at s request bytes (Err denial) = left_by_denial s request denial
+abbrev pub effect_at : Machine → Request → Ask → Result ℕ Denial → Effect
+effect_at m request ask (Ok addr) = granted m ask addr
+effect_at m request ask (Err denial) = denied m request denial
 
-unfoldable pub left_by_write : State → Request → List ℕ → State
-left_by_write s request bytes = written_at (looked_up s request) request bytes (address_of s request)
+-- what a device asks, at the address that its way leads to
+unfoldable pub effect : Machine → ℕ → Ask → Effect
+effect m did ask =
+    effect_at m (request_of did ask) ask
+    (address_on (led m (request_of did ask)).way (request_of did ask).iova)
 
-abbrev pub IfGranted : Access → Type 0 → Type 0
-IfGranted Granted P = P
-IfGranted (Denied cause) P = Unit {0}
-IfGranted Outside P = Unit {0}
+-- how the bus answers what a device asks, and the machine that it leaves
+pub record Served : Type 0 where
+  pub reply : Reply
+  pub machine : Machine
 
-abbrev pub UnlessGranted : Access → Type 0 → Type 0
-UnlessGranted Granted P = Unit {0}
-UnlessGranted (Denied cause) P = P
-UnlessGranted Outside P = P
+abbrev pub served : Machine → ℕ → Ask → Served
+served m did ask = record {
+  reply = (effect m did ask).reply;
+  machine = record {
+    memory = (effect m did ask).memory;
+    registers = (effect m did ask).registers;
+    contexts = filled_by context_room (led m (request_of did ask)).context m.contexts;
+    pages = filled_by page_room (led m (request_of did ask)).page m.pages;
+  };
+}

@@ -1,57 +1,98 @@
 -- A step of the command unit: RISC-V IOMMU Architecture 1.0, "Command-Queue (CQ)". It takes one command and carries it out
 -- whole.
-use Rattle.std.specs.Prelude.{ℕ, Bool, true, false, Some, is_some, if◌then◌else◌}
+use Rattle.std.specs.Prelude.{ℕ, Bool, true, false, Option, Some, None, is_some, if◌then◌else◌}
 use Rattle.iom_bits.specs.Bytes.{bytes_of_number}
-use Rattle.iom_mem.specs.Memory.{bytes_at, put}
+use Rattle.iom_mem.specs.Memory.{Memory, bytes_at, put}
+use Rattle.iom_regs.specs.Table.{Registers}
 use Rattle.iom_regs.specs.Queues.{command_passed, with_cqmf, with_cmd_ill, with_fence}
+use Rattle.iom_queue.specs.Fetching.{fetch_of}
 use Rattle.iom_queue.specs.declared.command.Command.{Command}
 use Rattle.iom_queue.specs.declared.command.Command.TheVariants.{Vma, Gvma, Fence, Iodir}
 use Rattle.iom_queue.specs.declared.fetch.Fetch.{Fetch}
 use Rattle.iom_queue.specs.declared.fetch.Fetch.TheVariants as fetch
 use Rattle.iom_cache.specs.Drops.{drops_page, drops_context}
 use Rattle.iom_cache.specs.Places.{emptied_by}
-use Rattle.iom_core.specs.State.{State}
+use Rattle.iom_core.specs.State.{Machine}
 
--- the queue's memory could not be read, or a fence's not be written: the command stays
-abbrev pub queue_fault : State → State
-queue_fault state = record state { registers = with_cqmf state.registers }
+-- what the command unit finds
+abbrev pub fetched : Machine → Fetch
+fetched m = fetch_of m.registers m.memory
 
--- the command stays
-abbrev pub illegal : State → State
-illegal state = record state { registers = with_cmd_ill state.registers }
+-- whether there is a command to take, also where its memory can't be read
+abbrev pub is_taken : Fetch → Bool
+is_taken fetch.Idle = false
+is_taken fetch.Fault = true
+is_taken fetch.Illegal = true
+is_taken (fetch.Ready command) = true
 
--- the head goes on
-abbrev pub passed : State → State
-passed state = record state { registers = command_passed state.registers }
+-- a fence with AV stores DATA in four bytes: it can't be executed where one of them is outside memory
+abbrev pub can_execute : Memory → Command → Bool
+can_execute memory (Vma av page pscv pscid gv gscid) = true
+can_execute memory (Gvma av page pscid gv gscid) = true
+can_execute memory (Fence true wsi pr pw value addr) = is_some (bytes_at memory addr 4)
+can_execute memory (Fence false wsi pr pw value addr) = true
+can_execute memory (Iodir dv did) = true
+
+-- the command that is executed, where there is one
+abbrev pub executed_of : Memory → Fetch → Option Command
+executed_of memory fetch.Idle = None
+executed_of memory fetch.Fault = None
+executed_of memory fetch.Illegal = None
+executed_of memory (fetch.Ready command) = if can_execute memory command then Some command else None
+
+unfoldable pub executed_by : Machine → Option Command
+executed_by m = executed_of m.memory (fetched m)
+
+-- a fence's store
+abbrev pub memory_after : Command → Memory → Memory
+memory_after (Vma av page pscv pscid gv gscid) memory = memory
+memory_after (Gvma av page pscid gv gscid) memory = memory
+memory_after (Fence true wsi pr pw value addr) memory = put memory addr (bytes_of_number 4 value)
+memory_after (Fence false wsi pr pw value addr) memory = memory
+memory_after (Iodir dv did) memory = memory
 
 -- a fence with WSI sets fence_w_ip
-abbrev pub fenced : Bool → State → State
-fenced true state = record state { registers = with_fence state.registers }
-fenced false state = state
+abbrev pub fenced : Command → Registers → Registers
+fenced (Vma av page pscv pscid gv gscid) registers = registers
+fenced (Gvma av page pscid gv gscid) registers = registers
+fenced (Fence av true pr pw value addr) registers = with_fence registers
+fenced (Fence av false pr pw value addr) registers = registers
+fenced (Iodir dv did) registers = registers
 
--- a fence with AV first stores DATA in four bytes; where one of them is outside memory nothing else happens
-abbrev pub after_fence : Bool → Bool → ℕ → ℕ → State → State
-after_fence true wsi value addr state =
-    if is_some (bytes_at state.memory addr 4)
-    then passed (fenced wsi (record state { memory = put state.memory addr (bytes_of_number 4 value) }))
-    else queue_fault state
-after_fence false wsi value addr state = passed (fenced wsi state)
+abbrev pub after_fence : Machine → Command → Machine
+after_fence m command = record m { memory = memory_after command m.memory; registers = fenced command m.registers }
 
--- an invalidation empties the places that it drops
-abbrev pub without_pages : Command → State → State
-without_pages command state = record state { pages = emptied_by drops_page (Some command) state.pages }
+abbrev pub memory_left : Memory → Option Command → Memory
+memory_left memory None = memory
+memory_left memory (Some command) = memory_after command memory
 
-abbrev pub without_contexts : Command → State → State
-without_contexts command state = record state { contexts = emptied_by drops_context (Some command) state.contexts }
+-- each cache loses the places that the command drops
+abbrev pub without_dropped : Machine → Option Command → Machine
+without_dropped m command = record m {
+  contexts = emptied_by drops_context command m.contexts;
+  pages = emptied_by drops_page command m.pages;
+}
 
-abbrev pub carried_out : State → Command → State
-carried_out state (Vma av page pscv pscid gv gscid) = passed (without_pages (Vma av page pscv pscid gv gscid) state)
-carried_out state (Gvma av page pscid gv gscid) = passed (without_pages (Gvma av page pscid gv gscid) state)
-carried_out state (Fence av wsi pr pw value addr) = after_fence av wsi value addr state
-carried_out state (Iodir dv did) = passed (without_contexts (Iodir dv did) state)
+-- where no command is executed: the queue's memory could not be read, or a fence's not be written, or the command is illegal
+abbrev pub stopped : Fetch → Registers → Registers
+stopped fetch.Idle registers = registers
+stopped fetch.Fault registers = with_cqmf registers
+stopped fetch.Illegal registers = with_cmd_ill registers
+stopped (fetch.Ready command) registers = with_cqmf registers
 
-unfoldable pub after_command : State → Fetch → State
-after_command state fetch.Idle = state
-after_command state fetch.Fault = queue_fault state
-after_command state fetch.Illegal = illegal state
-after_command state (fetch.Ready command) = carried_out state command
+-- the head goes on behind a command that is executed, and behind no other
+abbrev pub registers_after : Fetch → Option Command → Registers → Registers
+registers_after found None registers = stopped found registers
+registers_after found (Some command) registers = command_passed (fenced command registers)
+
+-- what a command step leaves, by what it found and what of that it executes; each cache loses the places that the command drops
+abbrev pub left_by : Machine → Fetch → Option Command → Machine
+left_by m found command = record {
+  memory = memory_left m.memory command;
+  registers = registers_after found command m.registers;
+  contexts = emptied_by drops_context command m.contexts;
+  pages = emptied_by drops_page command m.pages;
+}
+
+unfoldable pub after_command : Machine → Machine
+after_command m = left_by m (fetched m) (executed_by m)

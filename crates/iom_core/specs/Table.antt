@@ -1,18 +1,17 @@
--- What a step answers and what it leaves, one row a step, the tests of a row in their order.
-use Rattle.std.specs.Prelude.{ℕ, ◌+◌, ◌*◌, ◌%◌, ◌^◌, ◌==◌, ◌&&◌, ◌||◌, Bool, not, Option, Some, None, Result, Ok, Err, List, length, is_some, nat_lt, nat_le, if◌then◌else◌}
-use Rattle.iom_bits.specs.declared.causes.Kind.TheVariants.{Read, Write}
+-- What a step asks of the bus and executes; what it answers and what it leaves, one row a step, the tests of a row in their order.
+use Rattle.std.specs.Prelude.{ℕ, ◌+◌, ◌*◌, ◌%◌, ◌^◌, ◌==◌, ◌&&◌, ◌||◌, Bool, true, false, not, Option, Some, None, List, length, is_some, nat_lt, nat_le, if◌then◌else◌}
+use Rattle.std.specs.Option.{option_map}
 use Rattle.iom_bits.specs.Bytes.{number_of_bytes, bytes_of_number}
 use Rattle.iom_bits.specs.Causes.{cause_number}
-use Rattle.iom_mem.specs.Memory.{bytes_at, put}
-use Rattle.iom_regs.specs.Table.{read, after_write, is_legal}
-use Rattle.iom_queue.specs.Fetching.{fetch_of}
-use Rattle.iom_queue.specs.declared.fetch.Fetch.{Fetch}
-use Rattle.iom_queue.specs.declared.fetch.Fetch.TheVariants as fetch
-use Rattle.iom_core.specs.State.{State}
-use Rattle.iom_core.specs.Translate.{address_of}
-use Rattle.iom_core.specs.Access.{left_by_read, left_by_write, request_of}
-use Rattle.iom_core.specs.Commands.{after_command}
-use Rattle.iom_core.specs.declared.request.Denial.{Denial}
+use Rattle.iom_mem.specs.Memory.{Memory, bytes_at, put}
+use Rattle.iom_regs.specs.Table.{Registers, read, after_write, is_legal}
+use Rattle.iom_queue.specs.declared.command.Command.{Command}
+use Rattle.iom_virtq.specs.Bus.{Ask, Read, Write, Reply}
+use Rattle.iom_virtq.specs.declared.access.Access.{Access}
+use Rattle.iom_virtq.specs.declared.access.Access.TheVariants as access
+use Rattle.iom_core.specs.State.{State, Machine, with_machine}
+use Rattle.iom_core.specs.Access.{Request, request_of, served}
+use Rattle.iom_core.specs.Commands.{after_command, executed_by, fetched, is_taken}
 use Rattle.iom_core.specs.declared.step.Step.{Step}
 use Rattle.iom_core.specs.declared.step.Step.TheVariants as step
 use Rattle.iom_core.specs.declared.step.Answer.{Answer}
@@ -39,94 +38,131 @@ fits value size = nat_lt value (2 ^ (8 * size))
 abbrev pub is_device_access : ℕ → ℕ → ℕ → Bool
 is_device_access did iova len = nat_lt did (2 ^ 24) && nat_lt 0 len && nat_le len 64 && nat_le (iova % 4096 + len) 4096
 
+-- what a device asks of the bus
+pub record Asking : Type 0 where
+  pub did : ℕ
+  pub ask : Ask
+
+abbrev pub asking_where : Bool → ℕ → Ask → Option Asking
+asking_where legal did ask = if legal then Some (record { did = did; ask = ask }) else None
+
+-- What a step asks of the bus; None: it makes no access, or is answered with a misuse.
+unfoldable pub asked : State → Step → Option Asking
+asked state (step.Load addr size) = None
+asked state (step.Store addr size value) = None
+asked state (step.RegRead off size) = None
+asked state (step.RegWrite off size value) = None
+asked state step.Command = None
+asked state (step.DmaRead did iova len) = asking_where (is_device_access did iova len) did (Read iova len)
+asked state (step.DmaWrite did iova bytes) =
+    asking_where (is_device_access did iova (length bytes.items)) did (Write iova bytes.items)
+asked state (step.DevRead dev off size) = None
+asked state (step.DevWrite dev off size value) = None
+asked state (step.Device dev) = None
+
+-- what it asks of the IOMMU
+abbrev pub request_in : Asking → Request
+request_in asking = request_of asking.did asking.ask
+
+abbrev pub request_of_step : State → Step → Option Request
+request_of_step state taken = option_map request_in (asked state taken)
+
+-- The command that a step executes; None: it is no command step, or one that was idle, faulted, met an illegal command, or a
+-- fence whose store could not be done.
+unfoldable pub executed : State → Step → Option Command
+executed state (step.Load addr size) = None
+executed state (step.Store addr size value) = None
+executed state (step.RegRead off size) = None
+executed state (step.RegWrite off size value) = None
+executed state step.Command = executed_by state.machine
+executed state (step.DmaRead did iova len) = None
+executed state (step.DmaWrite did iova bytes) = None
+executed state (step.DevRead dev off size) = None
+executed state (step.DevWrite dev off size value) = None
+executed state (step.Device dev) = None
+
 -- loads and stores of the hart
 abbrev pub value_of : Option (List ℕ) → Answer
 value_of (Some bytes) = answer.Value (number_of_bytes bytes)
 value_of None = answer.BusError
 
-unfoldable pub load : State → ℕ → ℕ → Answer
-load state addr size =
-    if is_aligned addr size then value_of (bytes_at state.memory addr size) else answer.Misuse
+unfoldable pub load : Memory → ℕ → ℕ → Answer
+load memory addr size = if is_aligned addr size then value_of (bytes_at memory addr size) else answer.Misuse
 
-abbrev pub put_inside : State → ℕ → List ℕ → Outcome
-put_inside state addr bytes =
-    if is_some (bytes_at state.memory addr (length bytes))
-    then record { answer = answer.Done; state = record state { memory = put state.memory addr bytes } }
-    else stays state answer.BusError
+-- what the machine is asked by the hart, or by the command unit: the answer, and the machine after it
+pub record Handled : Type 0 where
+  pub answer : Answer
+  pub machine : Machine
 
-unfoldable pub store : State → ℕ → ℕ → ℕ → Outcome
-store state addr size value =
-    if is_aligned addr size && fits value size then put_inside state addr (bytes_of_number size value)
-    else stays state answer.Misuse
+abbrev pub keeps : Machine → Answer → Handled
+keeps m given = record { answer = given; machine = m }
+
+abbrev pub put_inside : Machine → ℕ → List ℕ → Handled
+put_inside m addr bytes =
+    if is_some (bytes_at m.memory addr (length bytes))
+    then record { answer = answer.Done; machine = record m { memory = put m.memory addr bytes } }
+    else keeps m answer.BusError
+
+unfoldable pub store : Machine → ℕ → ℕ → ℕ → Handled
+store m addr size value =
+    if is_aligned addr size && fits value size then put_inside m addr (bytes_of_number size value)
+    else keeps m answer.Misuse
 
 -- registers of the IOMMU
 abbrev pub value_or_bad : Option ℕ → Answer
 value_or_bad (Some value) = answer.Value value
 value_or_bad None = answer.BadAccess
 
-unfoldable pub reg_read : State → ℕ → ℕ → Answer
-reg_read state off size = value_or_bad (read state.registers off size)
+unfoldable pub reg_read : Registers → ℕ → ℕ → Answer
+reg_read registers off size = value_or_bad (read registers off size)
 
-unfoldable pub reg_write : State → ℕ → ℕ → ℕ → Outcome
-reg_write state off size value =
-    if is_size size && not (fits value size) then stays state answer.Misuse
+unfoldable pub reg_write : Machine → ℕ → ℕ → ℕ → Handled
+reg_write m off size value =
+    if is_size size && not (fits value size) then keeps m answer.Misuse
     else if is_legal off size
-    then record { answer = answer.Done; state = record state { registers = after_write state.registers off size value } }
-    else stays state answer.BadAccess
+    then record { answer = answer.Done; machine = record m { registers = after_write m.registers off size value } }
+    else keeps m answer.BadAccess
 
 -- accesses of a device
-abbrev pub bytes_of : Option (List ℕ) → Answer
-bytes_of (Some bytes) = answer.Bytes (record { items = bytes })
-bytes_of None = answer.BusError
+abbrev pub answer_to : Ask → Access → List ℕ → Answer
+answer_to (Read iova count) access.Ok bytes = answer.Bytes (record { items = bytes })
+answer_to (Write iova given) access.Ok bytes = answer.Done
+answer_to (Read iova count) (access.Denied cause) bytes = answer.Denied (cause_number cause)
+answer_to (Write iova given) (access.Denied cause) bytes = answer.Denied (cause_number cause)
+answer_to (Read iova count) access.Outside bytes = answer.BusError
+answer_to (Write iova given) access.Outside bytes = answer.BusError
 
-abbrev pub answer_read : State → ℕ → Result ℕ Denial → Answer
-answer_read state len (Err denial) = answer.Denied (cause_number denial.cause)
-answer_read state len (Ok addr) = bytes_of (bytes_at state.memory addr len)
+abbrev pub answer_by_reply : Ask → Reply → Answer
+answer_by_reply ask reply = answer_to ask reply.access reply.bytes
 
-unfoldable pub dma_read : State → ℕ → ℕ → ℕ → Outcome
-dma_read state did iova len =
-    if is_device_access did iova len
-    then record {
-      answer = answer_read state len (address_of state (request_of did iova Read));
-      state = left_by_read state (request_of did iova Read);
-    }
-    else stays state answer.Misuse
-
-abbrev pub answer_write : State → ℕ → Result ℕ Denial → Answer
-answer_write state len (Err denial) = answer.Denied (cause_number denial.cause)
-answer_write state len (Ok addr) = if is_some (bytes_at state.memory addr len) then answer.Done else answer.BusError
-
-unfoldable pub dma_write : State → ℕ → ℕ → List ℕ → Outcome
-dma_write state did iova bytes =
-    if is_device_access did iova (length bytes)
-    then record {
-      answer = answer_write state (length bytes) (address_of state (request_of did iova Write));
-      state = left_by_write state (request_of did iova Write) bytes;
-    }
-    else stays state answer.Misuse
+abbrev pub probed : State → Option Asking → Outcome
+probed state (Some asking) = record {
+  answer = answer_by_reply asking.ask (served state.machine asking.did asking.ask).reply;
+  state = with_machine state (served state.machine asking.did asking.ask).machine;
+}
+probed state None = stays state answer.Misuse
 
 -- a step of the command unit is done, also where it stops the queue
-abbrev pub idle_or_done : Fetch → Answer
-idle_or_done fetch.Idle = answer.Idle
-idle_or_done fetch.Fault = answer.Done
-idle_or_done fetch.Illegal = answer.Done
-idle_or_done (fetch.Ready command) = answer.Done
+abbrev pub idle_or_done : Bool → Answer
+idle_or_done false = answer.Idle
+idle_or_done true = answer.Done
 
-unfoldable pub command : State → Outcome
-command state = record {
-  answer = idle_or_done (fetch_of state.registers state.memory);
-  state = after_command state (fetch_of state.registers state.memory);
-}
+abbrev pub command : Machine → Handled
+command m = record { answer = idle_or_done (is_taken (fetched m)); machine = after_command m }
+
+-- a step of the hart or of the command unit changes the machine alone
+abbrev pub handled : State → Handled → Outcome
+handled state given = record { answer = given.answer; state = with_machine state given.machine }
 
 -- the step table; no block devices are there yet
 unfoldable pub next : State → Step → Outcome
-next state (step.Load addr size) = stays state (load state addr size)
-next state (step.Store addr size value) = store state addr size value
-next state (step.RegRead off size) = stays state (reg_read state off size)
-next state (step.RegWrite off size value) = reg_write state off size value
-next state step.Command = command state
-next state (step.DmaRead did iova len) = dma_read state did iova len
-next state (step.DmaWrite did iova bytes) = dma_write state did iova bytes.items
+next state (step.Load addr size) = stays state (load state.machine.memory addr size)
+next state (step.Store addr size value) = handled state (store state.machine addr size value)
+next state (step.RegRead off size) = stays state (reg_read state.machine.registers off size)
+next state (step.RegWrite off size value) = handled state (reg_write state.machine off size value)
+next state step.Command = handled state (command state.machine)
+next state (step.DmaRead did iova len) = probed state (asked state (step.DmaRead did iova len))
+next state (step.DmaWrite did iova bytes) = probed state (asked state (step.DmaWrite did iova bytes))
 next state (step.DevRead dev off size) = stays state answer.NoDevice
 next state (step.DevWrite dev off size value) = stays state answer.NoDevice
 next state (step.Device dev) = stays state answer.NoDevice

@@ -2,12 +2,13 @@
 #![tactic(auto)]
 
 pub use platform::Platform;
+pub use port::Port;
 pub use step::{Answer, Step};
 
+mod access;
+mod command;
+mod hart;
+mod machine;
 mod platform;
 mod port;
-mod request;
 mod step;
-#[cfg(test)]
-mod tests;
-mod translate;

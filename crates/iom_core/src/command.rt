@@ -1,0 +1,104 @@
+//! The command unit (RISC-V IOMMU Architecture 1.0, "Command-Queue (CQ)").
+
+ghost use Rattle.std.specs.Prelude.{◌≡◌, Some};
+ghost use Rattle.std.specs.Bool.{OnFalse, OnTrue};
+ghost use Rattle.iom_queue.specs.declared.fetch.Fetch.TheVariants.{Ready};
+ghost use Rattle.iom_bits.specs.Bytes.{bytes_of_number};
+ghost use Rattle.iom_cache.specs.Drops.{drops_context, drops_page};
+ghost use Rattle.iom_cache.specs.Places.{emptied_by};
+ghost use Rattle.iom_core.specs.Code.{is_for_contexts, is_for_pages};
+ghost use Rattle.iom_core.specs.Commands.{after_command, after_fence, can_execute, executed_of, fetched, is_taken, left_by, without_dropped};
+
+use crate::machine::Machine;
+use iom_cache::{ContextCache, TransCache};
+use iom_queue::{Command, Fetch, next_command};
+
+impl Machine {
+    /// Takes one command and carries it out whole; false where there is none to take.
+    #[tactic(auto, unfolding(crate::specs::Commands::after_command, crate::specs::Commands::executed_by))]
+    pub fn command(&mut self) -> bool
+        ensures taken { result ≡ is_taken (fetched self.old) }
+        ensures left { self.new ≡ after_command self.old }
+    {
+        match next_command(&self.registers, &self.ram) {
+            Fetch::Idle => return false,
+            Fetch::Fault => self.registers.set_cqmf(),
+            Fetch::Illegal => self.registers.set_cmd_ill(),
+            Fetch::Ready(command) => self.carry_out(&command),
+        }
+        true
+    }
+
+    // Executes a command; a fence whose store can't be done is a fault of the queue.
+    fn carry_out(&mut self, command: &Command)
+        ensures { self.new ≡ left_by self.old (Ready command.now) (executed_of self.old.memory (Ready command.now)) }
+    {
+        if !self.fence(command) {
+            self.registers.set_cqmf();
+            return;
+        }
+        self.invalidate(command);
+        self.registers.pass_command();
+    }
+
+    // Stores a fence's data and notes its interrupt; false where the store can't be done, and then nothing changes.
+    fn fence(&mut self, command: &Command) -> bool
+        ensures can { result ≡ can_execute self.old.memory command.now }
+        ensures done { OnTrue result (self.new ≡ after_fence self.old command.now) }
+        ensures unchanged { OnFalse result (self.new ≡ self.old) }
+    {
+        if let Command::Fence { av, wsi, value, addr, .. } = *command {
+            if av && !self.ram.write(addr, &data_bytes(value)) {
+                return false;
+            }
+            if wsi {
+                self.registers.set_fence();
+            }
+        }
+        true
+    }
+
+    // Empties the places that a command drops.
+    #[tactic(auto, using(iom_cache::proofs::Live::live_emptied))]
+    fn invalidate(&mut self, command: &Command)
+        ensures { self.new ≡ without_dropped self.old (Some command.now) }
+    {
+        drop_pages(&mut self.pages, command);
+        drop_contexts(&mut self.contexts, command);
+    }
+}
+
+fn drop_pages(pages: &mut TransCache, command: &Command)
+    ensures { pages.new ≡ emptied_by drops_page (Some command.now) pages.old }
+{
+    if is_for_pages(command) {
+        pages.drop_matching(command);
+    }
+}
+
+fn drop_contexts(contexts: &mut ContextCache, command: &Command)
+    ensures { contexts.new ≡ emptied_by drops_context (Some command.now) contexts.old }
+{
+    if is_for_contexts(command) {
+        contexts.drop_matching(command);
+    }
+}
+
+fn is_for_pages(command: &Command) -> bool
+    ensures { result ≡ is_for_pages command.now }
+{
+    matches!(command, Command::Vma { .. } | Command::Gvma { .. })
+}
+
+fn is_for_contexts(command: &Command) -> bool
+    ensures { result ≡ is_for_contexts command.now }
+{
+    matches!(command, Command::Iodir { .. })
+}
+
+// A fence's data, the lowest byte first.
+fn data_bytes(value: u32) -> [u8; 4]
+    ensures { result ≡ bytes_of_number 4 value }
+{
+    value.to_le_bytes()
+}

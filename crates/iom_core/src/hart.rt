@@ -1,0 +1,85 @@
+//! What a hart does: loads and stores, and accesses to the IOMMU's registers.
+
+ghost use Rattle.std.specs.Prelude.{◌≡◌, IsTrue};
+ghost use Rattle.iom_core.specs.Table.{is_size, is_aligned, fits, load, reg_read, reg_write, store};
+
+use crate::machine::Machine;
+use crate::step::Answer;
+use iom_bits::le_u64;
+
+impl Machine {
+    #[tactic(auto, unfolding(crate::specs::Table::load))]
+    pub fn load(&self, addr: u64, size: u64) -> Answer
+        ensures { result ≡ load self.now.memory addr size }
+    {
+        if !is_aligned(addr, size) {
+            return Answer::Misuse;
+        }
+        let mut bytes = [0; 8];
+        if self.ram.read(addr, &mut bytes[..size as usize]) {
+            Answer::Value(le_u64(bytes))
+        } else {
+            Answer::BusError
+        }
+    }
+
+    #[tactic(auto, unfolding(crate::specs::Table::store))]
+    pub fn store(&mut self, addr: u64, size: u64, value: u64) -> Answer
+        ensures answer { result ≡ (store self.old addr size value).answer }
+        ensures left { self.new ≡ (store self.old addr size value).machine }
+    {
+        if !is_aligned(addr, size) || !fits(value, size) {
+            return Answer::Misuse;
+        }
+        if self.ram.write(addr, &value.to_le_bytes()[..size as usize]) {
+            Answer::Done
+        } else {
+            Answer::BusError
+        }
+    }
+
+    #[tactic(auto, unfolding(crate::specs::Table::reg_read))]
+    pub fn reg_read(&self, off: u64, size: u64) -> Answer
+        ensures { result ≡ reg_read self.now.registers off size }
+    {
+        match self.registers.read(off, size) {
+            Some(value) => Answer::Value(value),
+            None => Answer::BadAccess,
+        }
+    }
+
+    #[tactic(auto, unfolding(crate::specs::Table::reg_write))]
+    pub fn reg_write(&mut self, off: u64, size: u64, value: u64) -> Answer
+        ensures answer { result ≡ (reg_write self.old off size value).answer }
+        ensures left { self.new ≡ (reg_write self.old off size value).machine }
+    {
+        if is_size(size) && !fits(value, size) {
+            return Answer::Misuse;
+        }
+        if self.registers.write(off, size, value) {
+            Answer::Done
+        } else {
+            Answer::BadAccess
+        }
+    }
+}
+
+fn is_size(size: u64) -> bool
+    ensures { result ≡ is_size size }
+{
+    matches!(size, 1 | 2 | 4 | 8)
+}
+
+fn is_aligned(addr: u64, size: u64) -> bool
+    ensures { result ≡ is_aligned addr size }
+{
+    is_size(size) && addr % size == 0
+}
+
+// Whether a number fits into that many bytes, 1, 2, 4 or 8.
+fn fits(value: u64, size: u64) -> bool
+    requires { IsTrue (is_size size) }
+    ensures { result ≡ fits value size }
+{
+    size == 8 || value >> (8 * size) == 0
+}
