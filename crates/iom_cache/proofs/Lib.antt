@@ -1,3 +1,7 @@
 pub mod Live
 pub mod Kept
+pub mod Same
 mod Shifts
+pub mod Stamped
+pub mod Since
+pub mod Origins

@@ -2,3 +2,4 @@ pub mod Places
 pub mod Keys
 pub mod Drops
 pub mod Entries
+pub mod Origins

@@ -1,6 +1,6 @@
 -- A cache is a list of places, oldest first; None is an empty place. RISC-V IOMMU Architecture 1.0, "Caching in-memory data
 -- structures", leaves the number of entries and their replacement to the implementation; this is the model's.
-use Rattle.std.specs.Prelude.{ℕ, ◌++◌, ◌==◌, Bool, List, [], ◌∷◌, length, drop, map, Option, Some, None, if◌then◌else◌}
+use Rattle.std.specs.Prelude.{ℕ, ◌++◌, ◌==◌, Bool, List, [], ◌∷◌, length, drop, map, Contains, Option, Some, None, Result, Ok, Err, if◌then◌else◌}
 use Rattle.iom_cache.specs.declared.place.Place.{Place}
 use Rattle.iom_cache.specs.declared.place.Place.TheVariants.{Beyond, Empty, Live}
 
@@ -9,6 +9,11 @@ abbrev pub find : {K V : Type 0} → (K → Bool) → List (Option (K × V)) →
 find is_key [] = None
 find is_key (None ∷ places) = find is_key places
 find is_key (Some entry ∷ places) = if is_key entry.0 then Some entry.1 else find is_key places
+
+-- the same, by what the list has: the key and the value found stand in a live place; nothing found, and no live place has the key
+abbrev pub IsHeld : {K V : Type 0} → K → Option V → List (Option (K × V)) → Type 0
+IsHeld {K} {V} key None places = (value : V) → ¬ Contains places (Some (key, value))
+IsHeld key (Some value) places = Contains places (Some (key, value))
 
 -- the oldest place leaves where there is no room for another
 abbrev pub made_room : {X : Type 0} → ℕ → List X → List X
@@ -29,11 +34,28 @@ abbrev pub emptied_by : {C K V : Type 0} → (C → K → V → Bool) → Option
 emptied_by drops None places = places
 emptied_by drops (Some command) places = map (dropped_by (drops command)) places
 
+-- A look-up through a cache of what its source tells: what is used, and what is filled.
+pub record Look (K V E : Type 0) : Type 0 where
+  pub used : Result V E
+  pub filled : Option (K × V)
+
+-- what a live place holds is used, and nothing is filled; else what the source tells is used, and filled unless it is a refusal
+abbrev pub look : {K V E : Type 0} → K → Option V → Result V E → Look K V E
+look key (Some held) told = record { used = Ok held; filled = None }
+look key None (Ok value) = record { used = Ok value; filled = Some (key, value) }
+look key None (Err why) = record { used = Err why; filled = None }
+
 -- each live place holds such an entry
 abbrev pub EachLive : {K V : Type 0} → (K × V → Type 0) → List (Option (K × V)) → Type 0
 EachLive P [] = Unit {0}
 EachLive P (None ∷ places) = EachLive P places
 EachLive P (Some entry ∷ places) = P entry × EachLive P places
+
+-- no place holds anything
+abbrev pub NoneLive : {K V : Type 0} → List (Option (K × V)) → Type 0
+NoneLive [] = Unit {0}
+NoneLive (None ∷ places) = NoneLive places
+NoneLive (Some entry ∷ places) = ⊥
 
 -- what is said of a place that there may be
 abbrev pub place_in : {K V : Type 0} → Option (Option (K × V)) → Place K V
