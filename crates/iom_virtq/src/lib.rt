@@ -1,0 +1,14 @@
+//! What a device with a split queue stands on (VIRTIO 1.2, "Split Virtqueues"): the bus that it reads and
+//! writes by, and chains of descriptors.
+#![tactic(auto)]
+
+pub use access::Access;
+pub use bus::Bus;
+pub use chain::Chain;
+pub use parts::{ChainFault, More, Side};
+
+mod access;
+mod bus;
+mod chain;
+mod parts;
+mod pieces;

@@ -1,0 +1,49 @@
+//! The bytes of one side of some parts.
+
+ghost use Rattle.std.specs.Prelude.{◌≡◌, ◌*◌, ◌<◌, ◌≤◌, length, drop, true};
+ghost use Rattle.std.specs.List.{list_all};
+ghost use Rattle.iom_virtq.specs.Bus.{IsShort};
+ghost use Rattle.iom_virtq.specs.Chains.{items_from, address_of, run_length, IsPiece, fits};
+
+use crate::parts::{Part, Side};
+
+/// How many bytes the longest access has.
+const LONGEST_PIECE: u64 = 64;
+
+/// How many bytes a page has.
+const PAGE: u64 = 4096;
+
+/// How many bytes at most 64 parts have on a side.
+pub fn total_of(parts: &[Part], side: Side) -> u64
+    requires { length parts.now ≤ 64 }
+    ensures total { result ≡ length (items_from side 0 parts.now) }
+    ensures few { result ≤ 64 * 4294967295 }
+{
+    let mut total = 0;
+    for part in parts {
+        total += part.len_on(side);
+    }
+    total
+}
+
+/// The address of the byte at `position` of a side, and how many stand from it on in one part and one page, at most 64.
+pub fn piece_of(parts: &[Part], side: Side, position: u64) -> (u64, u64)
+    requires within { position < length (items_from side 0 parts.now) }
+    requires fit { list_all fits parts.now ≡ true }
+    ensures address { result.0 ≡ address_of (drop position (items_from side 0 parts.now)) }
+    ensures count { result.1 ≡ run_length (drop position (items_from side 0 parts.now)) }
+    ensures piece { IsPiece (drop position (items_from side 0 parts.now)) result.0 result.1 }
+    ensures short { IsShort result.0 result.1 }
+{
+    let mut rest = position;
+    for part in parts {
+        let len = part.len_on(side);
+        if rest < len {
+            let address = part.addr + rest;
+            let count = (len - rest).min(PAGE - address % PAGE).min(LONGEST_PIECE);
+            return (address, count);
+        }
+        rest -= len;
+    }
+    unreachable!()
+}
