@@ -1,10 +1,14 @@
 -- Bits of a word. A word is a number; its bit 0 is the lowest.
-use Rattle.std.specs.Prelude.{ℕ, ◌≡◌, ◌+◌, ◌*◌, ◌/◌, ◌%◌, ◌^◌, ◌<◌, ◌≤◌, ◌==◌, Bool}
+use Rattle.std.specs.Prelude.{ℕ, ◌≡◌, ◌+◌, ◌*◌, ◌/◌, ◌%◌, ◌^◌, ◌<◌, ◌≤◌, ◌==◌, Bool, if◌then◌else◌}
 use Rattle.std.specs.Int.{bit_at}
 
 -- whether a bit of a word is 1
 unfoldable pub has_bit : ℕ → ℕ → Bool
 has_bit word bit = bit_at word bit == 1
+
+-- a bit as a number: 1 where it is set
+abbrev pub flag : Bool → ℕ
+flag set = if set then 1 else 0
 
 -- the number of the `width` bits from bit `low` on
 abbrev pub field_of : ℕ → ℕ → ℕ → ℕ

@@ -1,5 +1,5 @@
 ghost use Rattle.std.specs.Prelude.{◌≡◌, ◌+◌, ◌<◌, ◌≤◌, ◌^◌};
-ghost use Rattle.iom_bits.specs.Bits.{has_bit, field_of, with_field_of, IsField, ReplacesField};
+ghost use Rattle.iom_bits.specs.Bits.{has_bit, flag, field_of, with_field_of, IsField, ReplacesField};
 ghost use Rattle.iom_bits.specs.Bytes.{number_of_bytes};
 
 /// Whether bit `bit` of `word` is 1. Bit 0 is the lowest.
@@ -9,6 +9,13 @@ pub fn has_bit(word: u64, bit: u32) -> bool
     ensures { result ≡ has_bit word bit }
 {
     (word >> bit) & 1 == 1
+}
+
+/// A bit as a number: 1 where it is set, else 0.
+pub fn flag(set: bool) -> u64
+    ensures { result ≡ flag set }
+{
+    set as u64
 }
 
 /// The `width` bits of `word` from bit `low` on, as a number. Bit 0 is the lowest.

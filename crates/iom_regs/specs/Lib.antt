@@ -1,4 +1,5 @@
 pub mod Table
+pub mod Controls
 pub mod Queues
 pub mod Rings
 pub mod Sound

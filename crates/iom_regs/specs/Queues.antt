@@ -25,11 +25,14 @@ abbrev pub with_fence : Registers → Registers
 with_fence r = with_pending (record r { cqcsr = with_bit r.cqcsr 11 })
 
 -- a fault record is stored at the tail; with fie set this asks for an interrupt
-abbrev pub record_passed : Registers → Registers
-record_passed r = with_pending (record r {
+abbrev pub tail_passed : Registers → Registers
+tail_passed r = record r {
   fqt = (r.fqt + 1) % entries_of r.fqb;
   ipsr = if bit_at r.fqcsr 1 == 1 then with_bit r.ipsr 1 else r.ipsr;
-})
+}
+
+abbrev pub record_passed : Registers → Registers
+record_passed r = with_pending (tail_passed r)
 
 -- the fault queue is full
 abbrev pub with_fqof : Registers → Registers

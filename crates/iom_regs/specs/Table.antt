@@ -1,6 +1,6 @@
 -- The register table: RISC-V IOMMU Architecture 1.0, "Memory-mapped register interface". Sections named below are of it.
 -- A register that is not named here reads 0 and ignores writes.
-use Rattle.std.specs.Prelude.{ℕ, ◌+◌, ◌*◌, ◌/◌, ◌%◌, ◌^◌, ◌==◌, ◌&&◌, ◌||◌, Bool, not, Option, Some, None, nat_le, if◌then◌else◌}
+use Rattle.std.specs.Prelude.{ℕ, ◌≡◌, ◌+◌, ◌*◌, ◌/◌, ◌%◌, ◌^◌, ◌==◌, ◌&&◌, ◌||◌, Bool, not, Option, Some, None, nat_le, if◌then◌else◌}
 use Rattle.std.specs.Int.{bit_at}
 use Rattle.iom_bits.specs.Bits.{field_of}
 
@@ -158,6 +158,12 @@ abbrev pub is_legal : ℕ → ℕ → Bool
 is_legal off size =
     (size == 4 || size == 8) && off % size == 0 && nat_le (off + size) 4096
     && not (size == 8 && (off == 8 || off == 32 || off == 48 || off == 72 || off == 80))
+
+-- eight aligned bytes are one register, or nothing
+abbrev pub IsOneRegister : Slot → Slot → Type 0
+IsOneRegister (Low name) (High other) = name ≡ other
+IsOneRegister Free Free = Unit
+IsOneRegister first second = ⊥
 
 abbrev pub shown_at : Registers → Slot → ℕ
 shown_at r (Whole name) = shown r name

@@ -1,11 +1,12 @@
 //! The IOMMU's registers (RISC-V IOMMU Architecture 1.0, "Memory-mapped register interface").
 #![tactic(auto)]
 
-pub use file::Regs;
+pub use regs::Regs;
 pub use views::{Mode, Queue, Which};
 
 mod file;
 mod flags;
+mod regs;
 mod ring;
 #[cfg(test)]
 mod tests;

@@ -1,5 +1,5 @@
 /// What stands between a device and memory ("Device-directory-table pointer").
-#[derive(Clone, Copy, Debug, PartialEq, Eq, Hash)]
+#[derive(Clone, Copy, Debug, PartialEq)]
 pub enum Mode {
     /// All accesses are disallowed.
     Off,
@@ -10,14 +10,14 @@ pub enum Mode {
 }
 
 /// The two queues that there are.
-#[derive(Clone, Copy, Debug, PartialEq, Eq, Hash)]
+#[derive(Clone, Copy)]
 pub enum Which {
     Commands,
     Faults,
 }
 
 /// A queue as its registers tell it.
-#[derive(Clone, Copy, Debug, PartialEq, Eq, Hash)]
+#[derive(Clone, Copy, Debug, PartialEq)]
 pub struct Queue {
     pub on: bool,
     /// The PPN of its first byte: its physical address divided by 4096.

@@ -1,0 +1,23 @@
+use Rattle.std.proofs.Common.{sym, ap, subst, ◌∙◌, ◌≡◌, arith}
+use Rattle.std.proofs.lemmas.Grind.{common_steps}
+use Rattle.iom_regs.specs.Controls.{IsCqcsr, IsFqcsr}
+use Rattle.iom_regs.specs.Table.{Registers}
+use Rattle.iom_regs.proofs.Controls.{cqcsr_bits, cqcsr_written, fqcsr_bits, fqcsr_written}
+use Rattle.iom_regs.proofs.regs.Regs.write.Goals as goal
+
+pub returns-clause-written : goal.returns-clause-written
+returns-clause-written c = grind (arith, common_steps)
+
+pub returns-clause-cqcsr : goal.returns-clause-cqcsr
+returns-clause-cqcsr c = λ at.
+    subst (IsCqcsr c.args.self.now.cqcsr c.args.value)
+    (sym (ap (λ (r : Registers). r.cqcsr) (returns-clause-written c)
+    ∙ cqcsr_written c.args.self.now c.args.off c.args.size c.args.value (sym c.is_legal.ensures ∙ c.if-not-is_legal.false) at))
+    (cqcsr_bits c.args.self.now.cqcsr c.args.value)
+
+pub returns-clause-fqcsr : goal.returns-clause-fqcsr
+returns-clause-fqcsr c = λ at.
+    subst (IsFqcsr c.args.self.now.fqcsr c.args.value)
+    (sym (ap (λ (r : Registers). r.fqcsr) (returns-clause-written c)
+    ∙ fqcsr_written c.args.self.now c.args.off c.args.size c.args.value (sym c.is_legal.ensures ∙ c.if-not-is_legal.false) at))
+    (fqcsr_bits c.args.self.now.fqcsr c.args.value)

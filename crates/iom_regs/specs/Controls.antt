@@ -1,0 +1,34 @@
+-- What a write makes of the control and status registers, bit by bit: "Command-queue control and status" and "Fault-queue
+-- control and status".
+use Rattle.std.specs.Prelude.{ℕ, ◌≡◌, ◌<◌, ◌^◌, ◌==◌, ◌||◌, if◌then◌else◌}
+use Rattle.std.specs.Int.{bit_at}
+use Rattle.iom_bits.specs.Bits.{field_of}
+use Rattle.iom_regs.specs.Table.{turns_on}
+
+-- a flag: cleared where the queue is turned on or a 1 is written to it, else as it was
+abbrev pub flag_bit : ℕ → ℕ → ℕ → ℕ
+flag_bit old value bit = if turns_on old value || bit_at value bit == 1 then 0 else bit_at old bit
+
+-- `new` is what `value`, written over `old`, makes of cqcsr
+pub record IsCqcsr (old value new : ℕ) : Type 0 where
+  pub cqen : bit_at new 0 ≡ bit_at value 0
+  pub cie : bit_at new 1 ≡ bit_at value 1
+  pub reserved_low : field_of new 2 6 ≡ 0
+  pub cqmf : bit_at new 8 ≡ flag_bit old value 8
+  pub cmd_to : bit_at new 9 ≡ flag_bit old value 9
+  pub cmd_ill : bit_at new 10 ≡ flag_bit old value 10
+  pub fence_w_ip : bit_at new 11 ≡ flag_bit old value 11
+  pub reserved_middle : field_of new 12 4 ≡ 0
+  pub cqon : bit_at new 16 ≡ bit_at value 0
+  pub above : new < 2 ^ 17
+
+-- `new` is what `value`, written over `old`, makes of fqcsr
+pub record IsFqcsr (old value new : ℕ) : Type 0 where
+  pub fqen : bit_at new 0 ≡ bit_at value 0
+  pub fie : bit_at new 1 ≡ bit_at value 1
+  pub reserved_low : field_of new 2 6 ≡ 0
+  pub fqmf : bit_at new 8 ≡ flag_bit old value 8
+  pub fqof : bit_at new 9 ≡ flag_bit old value 9
+  pub reserved_middle : field_of new 10 6 ≡ 0
+  pub fqon : bit_at new 16 ≡ bit_at value 0
+  pub above : new < 2 ^ 17

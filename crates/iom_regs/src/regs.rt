@@ -1,0 +1,181 @@
+ghost use Rattle.std.specs.Prelude.{◌≡◌, ◌+◌, ◌^◌, ◌<◌, ◌≤◌};
+ghost use Rattle.std.specs.Bool.{OnTrue, OnFalse};
+ghost use Rattle.iom_regs.specs.Table.{is_legal};
+
+use crate::file::File;
+use crate::views::{Mode, Queue, Which};
+use iom_bits::field;
+use std::marker::Model;
+
+/// The register file.
+#[derive(Clone, Copy, Debug)]
+pub struct Regs {
+    file: File,
+}
+
+impl Model for Regs {
+    ghost use Rattle.std.specs.Prelude.{◌≡◌};
+    ghost use Rattle.iom_regs.specs.Table.{Registers, with_pending};
+
+    ghost Value = { Registers };
+
+    ghost view = { λ r. r.file };
+
+    ghost inverse = { λ r. record { file = r } };
+
+    ghost invariant = { λ r. with_pending r.file ≡ r.file };
+}
+
+impl Regs {
+    ghost use Rattle.iom_regs.specs.Table.{reset, read, slot_at, after_write, with_pending, IsOneRegister};
+    ghost use Rattle.iom_regs.specs.Controls.{IsCqcsr, IsFqcsr};
+    ghost use Rattle.iom_regs.specs.Queues.{command_passed, with_cqmf, with_cmd_ill, with_fence, record_passed, with_fqof, with_fqmf};
+    ghost use Rattle.iom_regs.specs.Sound.{IsSound};
+    ghost use Rattle.iom_regs.specs.Views.{mode_of, root_of, queue_of};
+
+    /// The registers at reset: the IOMMU is off, and so are both queues.
+    pub fn reset() -> Self
+        ensures { result ≡ reset }
+    {
+        Regs {
+            file: File::reset(),
+        }
+    }
+
+    /// The number of the `size` bytes at offset `off`, 4 or 8; None where the access isn't legal.
+    pub fn read(&self, off: u64, size: u64) -> Option<u64>
+        ensures { result ≡ read self.now off size }
+    {
+        if !is_legal(off, size) {
+            return None;
+        }
+        let wide = self.file.wide(off / 8 * 8);
+        Some(if size == 8 {
+            wide
+        } else {
+            field(wide, (off % 8 * 8) as u32, 32)
+        })
+    }
+
+    /// Writes the `size` bytes of `value` at offset `off`, 4 or 8, and answers true; false where the
+    /// access isn't legal, and then nothing is changed.
+    pub fn write(&mut self, off: u64, size: u64, value: u64) -> bool
+        requires { size ≡ 4 → value < 2 ^ 32 }
+        ensures legal { result ≡ is_legal off size }
+        ensures written { OnTrue result (self.new ≡ after_write self.old off size value) }
+        ensures refused { OnFalse result (self.new ≡ self.old) }
+
+        // Of the whole: eight bytes are one register, and the control words bit by bit.
+        ensures one_register { OnTrue result
+            (size ≡ 8 → IsOneRegister (slot_at off) (slot_at (off + 4))) }
+        ensures cqcsr { OnTrue result (off ≡ 72 → IsCqcsr self.old.cqcsr value self.new.cqcsr) }
+        ensures fqcsr { OnTrue result (off ≡ 76 → IsFqcsr self.old.fqcsr value self.new.fqcsr) }
+    {
+        if !is_legal(off, size) {
+            return false;
+        }
+        if size == 8 {
+            self.file.set_wide(off, value);
+        } else {
+            self.file.set_four(off, value);
+        }
+        self.file.settle();
+        true
+    }
+
+    /// What stands between a device and memory.
+    pub fn mode(&self) -> Mode
+        ensures mode { result ≡ mode_of self.now }
+        ensures sound { IsSound self.now }
+        ensures settled { with_pending self.now ≡ self.now }
+    {
+        self.file.mode()
+    }
+
+    /// The PPN of the root of the device directory: its physical address divided by 4096.
+    pub fn root(&self) -> u64
+        ensures root { result ≡ root_of self.now }
+        ensures sound { IsSound self.now }
+        ensures settled { with_pending self.now ≡ self.now }
+    {
+        self.file.root()
+    }
+
+    /// A queue as its registers tell it.
+    pub fn queue(&self, which: Which) -> Queue
+        ensures queue { result ≡ queue_of self.now which }
+        ensures entries { result.entries ≤ 2 ^ 32 }
+        ensures head { result.head < result.entries }
+        ensures tail { result.tail < result.entries }
+        ensures sound { IsSound self.now }
+        ensures settled { with_pending self.now ≡ self.now }
+    {
+        self.file.queue(which)
+    }
+
+    /// The command at the head is done: the head goes on by one entry.
+    pub fn pass_command(&mut self)
+        ensures { self.new ≡ command_passed self.old }
+    {
+        self.file.pass_command();
+        self.file.settle();
+    }
+
+    /// The command queue could not be read, or a fence's store not be done: sets cqmf.
+    pub fn set_cqmf(&mut self)
+        ensures { self.new ≡ with_cqmf self.old }
+    {
+        self.file.raise_cqmf();
+        self.file.settle();
+    }
+
+    /// The command at the head is illegal: sets cmd_ill.
+    pub fn set_cmd_ill(&mut self)
+        ensures { self.new ≡ with_cmd_ill self.old }
+    {
+        self.file.raise_cmd_ill();
+        self.file.settle();
+    }
+
+    /// A fence asked for an interrupt: sets fence_w_ip.
+    pub fn set_fence(&mut self)
+        ensures { self.new ≡ with_fence self.old }
+    {
+        self.file.raise_fence();
+        self.file.settle();
+    }
+
+    /// A fault record is stored: the tail goes on by one entry, and fip is set where fie is.
+    pub fn pass_record(&mut self)
+        ensures { self.new ≡ record_passed self.old }
+    {
+        self.file.pass_record();
+        self.file.settle();
+    }
+
+    /// The fault queue is full: sets fqof.
+    pub fn set_fqof(&mut self)
+        ensures { self.new ≡ with_fqof self.old }
+    {
+        self.file.raise_fqof();
+        self.file.settle();
+    }
+
+    /// The fault queue could not be written: sets fqmf.
+    pub fn set_fqmf(&mut self)
+        ensures { self.new ≡ with_fqmf self.old }
+    {
+        self.file.raise_fqmf();
+        self.file.settle();
+    }
+}
+
+// Whether the registers take an access of `size` bytes at offset `off`.
+fn is_legal(off: u64, size: u64) -> bool
+    ensures { result ≡ is_legal off size }
+{
+    (size == 4 || size == 8)
+        && off % size == 0
+        && off <= 4096 - size
+        && !(size == 8 && matches!(off, 8 | 32 | 48 | 72 | 80))
+}
