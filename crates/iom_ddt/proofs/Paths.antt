@@ -1,26 +1,24 @@
 -- What an entry does to the verdict on a path, and what the context at its end does.
-use Rattle.std.proofs.Common.{◌≡◌, ◌+◌, ◌-◌, ◌*◌, ◌≤◌, ℕ, zero, suc, List, [], ◌∷◌, Option, Some, None, Result, Ok, Err, false, refl, sym, ◌∙◌, arith}
-use Rattle.std.proofs.lemmas.Grind.{common_steps}
+use Rattle.std.proofs.Common.{◌≡◌, ◌+◌, ◌-◌, ◌*◌, ◌≤◌, ℕ, zero, suc, List, [], ◌∷◌, Option, Some, Result, Ok, Err, false, refl, sym, ◌∙◌, arith}
 use Rattle.iom_bits.specs.declared.causes.Cause.{Cause}
 use Rattle.iom_mem.specs.Memory.{Memory, word, words_at}
 use Rattle.iom_regs.specs.Table.{Registers}
 use Rattle.iom_regs.specs.Views.{mode_of, root_of}
 use Rattle.iom_ddt.specs.declared.context.Context.{Context}
-use Rattle.iom_ddt.specs.Directory.{Met, Entry, Leaf, behind, ddi, decided_by, is_too_wide, levels_of, located, path_from, pointed_by, verdict_on}
+use Rattle.iom_ddt.specs.Directory.{Met, Entry, Leaf, behind, ddi, decided_by, is_too_wide, levels_of, IsContextOf, IsEnd, IsLocated, located, path_from, pointed_by, verdict_on}
 
 nothing : 1 ≤ 0 → ⊥
 nothing h = omega (arith, h)
 
 pointer_passes : (entry : Option ℕ) (from : ℕ → List Met) (table : ℕ) →
-    pointed_by entry ≡ Ok table → verdict_on (Entry entry ∷ behind entry from) ≡ verdict_on (from table)
+    pointed_by entry ≡ Ok table → verdict_on (Entry entry ∷ behind (pointed_by entry) from) ≡ verdict_on (from table)
 unfolding verdict_on
-pointer_passes None from table e = grind (arith, common_steps)
-pointer_passes (Some entry) from table e = grind (arith, common_steps)
+pointer_passes entry from table e = rw e refl
 
-fault_stops : (entry : Option ℕ) (behind : List Met) (cause : Cause) →
-    pointed_by entry ≡ Err cause → verdict_on (Entry entry ∷ behind) ≡ Err cause
+fault_stops : (entry : Option ℕ) (more : List Met) (cause : Cause) →
+    pointed_by entry ≡ Err cause → verdict_on (Entry entry ∷ more) ≡ Err cause
 unfolding verdict_on
-fault_stops entry behind cause e = rw e refl
+fault_stops entry more cause e = rw e refl
 
 context_ends : (words : Option (List ℕ)) (result : Result Context Cause) →
     decided_by (Leaf words) ≡ Some result → verdict_on (Leaf words ∷ []) ≡ result
@@ -42,7 +40,7 @@ pub stops : (memory : Memory) (did table level part : ℕ) (got : Result ℕ Cau
     verdict_on (path_from memory did level table) ≡ whole → Err cause ≡ whole
 stops memory did table zero part got cause whole some index read is left = elim (nothing some) [ ]
 stops memory did table (suc level) part got cause whole some index read is left =
-    rw (← left, ← index) (sym (fault_stops (word memory (table * 4096 + part * 8)) (behind (word memory (table * 4096 + part * 8)) (path_from memory did level)) cause (sym read ∙ is)))
+    rw (← left, ← index) (sym (fault_stops (word memory (table * 4096 + part * 8)) (behind (pointed_by (word memory (table * 4096 + part * 8))) (path_from memory did level)) cause (sym read ∙ is)))
 
 -- at the end the context, or what is wrong with it, is the verdict
 pub ends : (memory : Memory) (did table level part : ℕ) (result whole : Result Context Cause) →
@@ -57,3 +55,35 @@ pub located_by_path : (memory : Memory) (registers : Registers) (did levels : �
     verdict_on (path_from memory did (levels - 1) (root_of registers)) ≡ located memory registers did
 unfolding located
 located_by_path memory registers did levels same narrow = rw (narrow, same) refl
+
+-- the same of the relation: behind a pointer the path goes on
+pub goes_on : (memory : Memory) (did table level part next : ℕ) (got : Result ℕ Cause) (found : Result Context Cause) →
+    1 ≤ level → part ≡ ddi did level → got ≡ pointed_by (word memory (table * 4096 + part * 8)) → got ≡ Ok next →
+    IsEnd (path_from memory did (level - 1) next) found → IsEnd (path_from memory did level table) found
+goes_on memory did table zero part next got found some index read is end = elim (nothing some) [ ]
+goes_on memory did table (suc zero) part next got found some index read is end =
+    let points : pointed_by (word memory (table * 4096 + ddi did 1 * 8)) ≡ Ok next = rw index at (sym read ∙ is) in
+    rw points end
+goes_on memory did table (suc (suc level)) part next got found some index read is end =
+    let points : pointed_by (word memory (table * 4096 + ddi did (suc (suc level)) * 8)) ≡ Ok next = rw index at (sym read ∙ is) in
+    let one_less : suc (suc level) - 1 ≡ suc level = omega arith in
+    rw points (rw one_less at end)
+
+pub ends_in_fault : (memory : Memory) (did table level part : ℕ) (got : Result ℕ Cause) (cause : Cause) →
+    1 ≤ level → part ≡ ddi did level → got ≡ pointed_by (word memory (table * 4096 + part * 8)) → got ≡ Err cause →
+    IsEnd (path_from memory did level table) (Err cause)
+ends_in_fault memory did table zero part got cause some index read is = elim (nothing some) [ ]
+ends_in_fault memory did table (suc level) part got cause some index read is =
+    let points : pointed_by (word memory (table * 4096 + ddi did (suc level) * 8)) ≡ Err cause = rw index at (sym read ∙ is) in
+    rw points (cause, points, refl)
+
+pub ends_in_context : (memory : Memory) (did table level part : ℕ) (found : Result Context Cause) →
+    level ≡ 0 → part ≡ ddi did 0 → IsContextOf (words_at memory (table * 4096 + part * 32) 4) found →
+    IsEnd (path_from memory did level table) found
+ends_in_context memory did table level part found last index end = rw (last, ← index) end
+
+pub located_by_end : (memory : Memory) (registers : Registers) (did levels : ℕ) (found : Result Context Cause) →
+    levels ≡ levels_of (mode_of registers) → is_too_wide (levels_of (mode_of registers)) did ≡ false →
+    IsEnd (path_from memory did (levels - 1) (root_of registers)) found → IsLocated memory registers did found
+located_by_end memory registers did levels found same narrow end =
+    record { too_wide = λ wide. cc; on_path = λ narrowed. rw same at end }

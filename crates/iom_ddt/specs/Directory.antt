@@ -1,6 +1,6 @@
 -- The device directory: RISC-V IOMMU Architecture 1.0, "Device-directory-table" and "Process to locate the
 -- Device-context".
-use Rattle.std.specs.Prelude.{ℕ, zero, suc, ◌+◌, ◌-◌, ◌*◌, ◌==◌, ◌&&◌, ◌||◌, Bool, not, List, [], ◌∷◌, filter_map, Option, Some, None, Result, Ok, Err, nat_lt, if◌then◌else◌}
+use Rattle.std.specs.Prelude.{ℕ, zero, suc, ◌≡◌, ◌+◌, ◌-◌, ◌*◌, ◌==◌, ◌&&◌, ◌||◌, Bool, true, false, not, List, [], ◌∷◌, filter_map, get_or, Option, Some, None, Result, Ok, Err, nat_lt, if◌then◌else◌}
 use Rattle.iom_bits.specs.Bits.{has_bit, field_of}
 use Rattle.iom_bits.specs.declared.causes.Cause.{Cause}
 use Rattle.iom_bits.specs.declared.causes.Cause.TheVariants.{DirAccess, DirInvalid, DirBad, TooWide}
@@ -10,7 +10,7 @@ use Rattle.iom_regs.specs.Views.{mode_of, root_of}
 use Rattle.iom_regs.specs.declared.views.Mode.{Mode}
 use Rattle.iom_regs.specs.declared.views.Mode.TheVariants as mode
 use Rattle.iom_ddt.specs.declared.context.Context.{Context}
-use Rattle.iom_ddt.specs.Words.{context_in}
+use Rattle.iom_ddt.specs.Words.{context_in, IsEncoding}
 
 -- the parts of a device id, bits 6:0, 15:7 and 23:16: the index into the last table, and into those above it
 abbrev pub ddi : ℕ → ℕ → ℕ
@@ -29,25 +29,26 @@ pub data Met : Type 0 where
   Entry : Option ℕ → Met
   Leaf : Option (List ℕ) → Met
 
--- what is met behind an entry, in the table that its PPN, bits 53:10, points to; nothing where there is no entry
-abbrev pub behind : Option ℕ → (ℕ → List Met) → List Met
-behind None from = []
-behind (Some entry) from = from (field_of entry 10 44)
-
--- the path from a table on, with so many levels of tables below it
-abbrev pub path_from : Memory → ℕ → ℕ → ℕ → List Met
-path_from memory did zero table = Leaf (words_at memory (table * 4096 + ddi did 0 * 32) 4) ∷ []
-path_from memory did (suc level) table =
-    Entry (word memory (table * 4096 + ddi did (suc level) * 8))
-    ∷ behind (word memory (table * 4096 + ddi did (suc level) * 8)) (path_from memory did level)
-
--- an entry's PPN, or the fault that it is: outside memory, V = 0, or a bit set beside V and the PPN
+-- the table that an entry points to, by its PPN, bits 53:10; or the fault that it is: outside memory, V = 0, or a bit set
+-- beside V and the PPN
 abbrev pub pointed_by : Option ℕ → Result ℕ Cause
 pointed_by None = Err DirAccess
 pointed_by (Some entry) =
     if not (has_bit entry 0) then Err DirInvalid
     else if not (field_of entry 1 9 == 0 && field_of entry 54 10 == 0) then Err DirBad
     else Ok (field_of entry 10 44)
+
+-- what is met behind an entry, in the table that it points to; nothing behind a fault
+abbrev pub behind : Result ℕ Cause → (ℕ → List Met) → List Met
+behind (Ok table) from = from table
+behind (Err cause) from = []
+
+-- the path from a table on, with so many levels of tables below it
+abbrev pub path_from : Memory → ℕ → ℕ → ℕ → List Met
+path_from memory did zero table = Leaf (words_at memory (table * 4096 + ddi did 0 * 32) 4) ∷ []
+path_from memory did (suc level) table =
+    let entry : Option ℕ = word memory (table * 4096 + ddi did (suc level) * 8) in
+    Entry entry ∷ behind (pointed_by entry) (path_from memory did level)
 
 abbrev pub fault_in : Result ℕ Cause → Option (Result Context Cause)
 fault_in (Ok table) = None
@@ -78,3 +79,24 @@ unfoldable pub located : Memory → Registers → ℕ → Result Context Cause
 located memory registers did =
     if is_too_wide (levels_of (mode_of registers)) did then Err TooWide
     else verdict_on (path_from memory did (levels_of (mode_of registers) - 1) (root_of registers))
+
+-- The same without a decoder. The words of a context: those of a well-formed one are that context; those of none are invalid where
+-- V = 0, else misconfigured.
+abbrev pub IsContextOf : Option (List ℕ) → Result Context Cause → Type 0
+IsContextOf None found = found ≡ Err DirAccess
+IsContextOf (Some words) (Ok context) = IsEncoding context words
+IsContextOf (Some words) (Err cause) =
+    ((context : Context) → ¬ IsEncoding context words)
+    × (cause ≡ (if has_bit (get_or words 0 0) 0 then DirBad else DirInvalid))
+
+-- Every entry of the path points on, and the context's words are what was found; or the last entry is the fault that was.
+abbrev pub IsEnd : List Met → Result Context Cause → Type 0
+IsEnd [] found = ⊥
+IsEnd (Leaf words ∷ more) found = IsContextOf words found
+IsEnd (Entry entry ∷ []) found = (cause : Cause) × (pointed_by entry ≡ Err cause) × (found ≡ Err cause)
+IsEnd (Entry entry ∷ next ∷ more) found = IsEnd (next ∷ more) found
+
+pub record IsLocated (memory : Memory) (registers : Registers) (did : ℕ) (found : Result Context Cause) : Type 0 where
+  pub too_wide : is_too_wide (levels_of (mode_of registers)) did ≡ true → found ≡ Err TooWide
+  pub on_path : is_too_wide (levels_of (mode_of registers)) did ≡ false →
+      IsEnd (path_from memory did (levels_of (mode_of registers) - 1) (root_of registers)) found

@@ -1,14 +1,11 @@
 -- The four words of a device context: RISC-V IOMMU Architecture 1.0, "Base-format device-context" and "Device-context fields".
 -- A bit that no field names is reserved, and is 0.
 use Rattle.std.specs.Prelude.{ℕ, ◌≡◌, ◌+◌, ◌*◌, ◌^◌, ◌%◌, ◌==◌, ◌&&◌, ◌||◌, Bool, not, List, [], ◌∷◌, get_or, Result, Ok, Err, if◌then◌else◌}
-use Rattle.iom_bits.specs.Bits.{has_bit, field_of}
+use Rattle.iom_bits.specs.Bits.{has_bit, field_of, flag}
 use Rattle.iom_bits.specs.declared.causes.Cause.{Cause}
 use Rattle.iom_bits.specs.declared.causes.Cause.TheVariants.{DirInvalid, DirBad}
 use Rattle.iom_ddt.specs.declared.context.Context.{Context}
 use Rattle.iom_ddt.specs.Contexts.{is_mode, IsWellFormed}
-
-abbrev pub flag : Bool → ℕ
-flag b = if b then 1 else 0
 
 -- Translation control: V 0, DTF 4, custom 31:24.
 abbrev pub tc : Context → ℕ

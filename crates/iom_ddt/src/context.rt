@@ -4,7 +4,7 @@ ghost use Rattle.std.specs.Prelude.{◌≡◌, ◌↔◌, IsTrue};
 ///
 /// It is well formed where `gmode` and `mode` are 0 or 8, `gppn` is a multiple of 4 unless `gmode` is 0, and
 /// each field fits the bits named at it.
-#[derive(Clone, Copy, Debug, PartialEq, Eq, Hash)]
+#[derive(Clone, Copy, Debug, PartialEq)]
 pub struct Context {
     /// tc.DTF: page faults and access faults of the device make no record.
     pub dtf: bool,

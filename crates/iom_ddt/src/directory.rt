@@ -2,7 +2,7 @@ ghost use Rattle.std.specs.Prelude.{◌≡◌, ◌<◌, ◌≤◌, ◌^◌, ◌*
 ghost use Rattle.iom_mem.specs.Memory.{word, words_at};
 ghost use Rattle.iom_regs.specs.Views.{mode_of};
 ghost use Rattle.iom_ddt.specs.Contexts.{IsWellFormed};
-ghost use Rattle.iom_ddt.specs.Directory.{ddi, is_too_wide, pointed_by, decided_by, levels_of, located, Leaf};
+ghost use Rattle.iom_ddt.specs.Directory.{ddi, is_too_wide, pointed_by, decided_by, levels_of, located, Leaf, IsContextOf, IsLocated};
 
 use crate::{Context, context_of};
 use iom_bits::{Cause, field, has_bit};
@@ -20,6 +20,7 @@ pub fn locate(ram: &Ram, registers: &Regs, did: u32) -> Result<Context, Cause>
     requires directory { 1 ≤ levels_of (mode_of registers.now) }
     requires width { did < 2 ^ 24 }
     ensures verdict { result ≡ located ram.now registers.now did }
+    ensures meaning { IsLocated ram.now registers.now did result }
     ensures sound { IfOk result (λ context. IsWellFormed context) }
 {
     if is_too_wide(registers, did) {
@@ -83,6 +84,7 @@ fn pointed_by(ram: &Ram, place: u64) -> Result<u64, Cause>
 fn context_at(ram: &Ram, place: u64) -> Result<Context, Cause>
     requires { place < 2 ^ 57 }
     ensures verdict { decided_by (Leaf (words_at ram.now place 4)) ≡ Some result }
+    ensures meaning { IsContextOf (words_at ram.now place 4) result }
     ensures sound { IfOk result (λ context. IsWellFormed context) }
 {
     let words = words_at(ram, place).ok_or(Cause::DirAccess)?;

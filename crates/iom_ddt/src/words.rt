@@ -4,7 +4,7 @@ ghost use Rattle.iom_ddt.specs.Contexts.{IsWellFormed};
 ghost use Rattle.iom_ddt.specs.Words.{words_of, fields_in, context_in, IsEncoding};
 
 use crate::Context;
-use iom_bits::{Cause, field, has_bit};
+use iom_bits::{Cause, field, flag, has_bit};
 
 /// The context that the four words tc, iohgatp, ta and fsc encode ("Device-context fields").
 ///
@@ -60,10 +60,4 @@ fn fields_in(words: [u64; 4]) -> Context
         mode: field(fsc, 60, 4) as u8,
         ppn: field(fsc, 0, 44),
     }
-}
-
-fn flag(set: bool) -> u64
-    ensures { result ≡ Rattle.iom_ddt.specs.Words.flag set }
-{
-    if set { 1 } else { 0 }
 }

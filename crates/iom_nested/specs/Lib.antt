@@ -1,3 +1,5 @@
 pub mod Stages
 pub mod Faults
 pub mod Nested
+pub mod Code
+pub mod Pages

@@ -12,12 +12,12 @@ use Rattle.iom_walk.specs.declared.shape.Shape.TheVariants.{Sv39, Sv39x4}
 use Rattle.iom_walk.specs.declared.outcome.Outcome.{Outcome}
 use Rattle.iom_walk.specs.declared.outcome.Outcome.TheVariants as outcome
 
--- the shape of a stage's tables; None: the stage is Bare
+-- the shape of a stage's tables; None: the stage is Bare, which mode 0 alone says
 abbrev pub first_shape_of : Context → Option Shape
-first_shape_of context = if context.mode == 8 then Some Sv39 else None
+first_shape_of context = if context.mode == 0 then None else Some Sv39
 
 abbrev pub second_shape_of : Context → Option Shape
-second_shape_of context = if context.gmode == 8 then Some Sv39x4 else None
+second_shape_of context = if context.gmode == 0 then None else Some Sv39x4
 
 -- what memory has at a physical address
 abbrev pub got_word : Option ℕ → Got

@@ -3,7 +3,7 @@
 #![tactic(auto)]
 
 pub use second::Second;
-pub use translation::{Fault, Hit, translate};
+pub use translation::{Fault, Hit, one_hit_a_page, translate};
 
 mod physical;
 mod second;

@@ -2,7 +2,9 @@ ghost use Rattle.std.specs.Prelude.{◌≡◌, ◌≢◌, ◌<◌, ◌^◌, fals
 ghost use Rattle.iom_ddt.specs.Contexts.{is_bare, IsWellFormed};
 ghost use Rattle.iom_nested.specs.Stages.{first_shape_of, second_shape_of};
 ghost use Rattle.iom_nested.specs.Faults.{fault_of, EntryOutside};
+ghost use Rattle.iom_nested.specs.Code.{reached_in, reached_or_fault};
 ghost use Rattle.iom_nested.specs.Nested.{HitFits, first_stage, second_stage, told_of, translation};
+ghost use Rattle.iom_nested.specs.Pages.{OneHitAPage};
 
 use crate::physical::Physical;
 use crate::second::{Second, second_shape};
@@ -12,7 +14,7 @@ use iom_mem::Ram;
 use iom_walk::{Outcome, Shape, walk};
 
 /// Where a page leads.
-#[derive(Clone, Copy, Debug, PartialEq, Eq, Hash)]
+#[derive(Clone, Copy, Debug, PartialEq)]
 pub struct Hit {
     /// The PPN of the page's frame, 44 bits: its physical address divided by 4096.
     pub frame: u64,
@@ -23,7 +25,7 @@ pub struct Hit {
 }
 
 /// Why a page leads nowhere.
-#[derive(Clone, Copy, Debug, PartialEq, Eq, Hash)]
+#[derive(Clone, Copy, Debug, PartialEq)]
 pub struct Fault {
     pub cause: Cause,
     /// For a guest page fault the guest-physical address with bits 1:0 cleared, and bit 0 set where it is that of an entry
@@ -31,7 +33,7 @@ pub struct Fault {
     pub iotval2: u64,
 }
 
-/// Where the first stage leads: the guest-physical address under a second stage, else the physical one.
+// Where the first stage leads: the guest-physical address under a second stage, else the physical one.
 #[derive(Clone, Copy)]
 struct Reached {
     addr: u64,
@@ -55,9 +57,16 @@ pub fn translate(ram: &Ram, context: &Context, iova: u64, kind: Kind) -> Result<
     second_stage(ram, context, reached, kind)
 }
 
+/// A law of translations: over one memory, under one context, all addresses of a page have one hit, or none has a hit. The function itself
+/// does nothing.
+#[tactic(auto, using(crate::proofs::Pages::one_hit))]
+pub fn one_hit_a_page()
+    ensures { OneHitAPage }
+{}
+
 fn first_stage(ram: &Ram, context: &Context, iova: u64, kind: Kind) -> Result<Reached, Fault>
     requires well_formed { IsWellFormed context.now }
-    ensures reached { result
+    ensures reached { reached_or_fault result
         ≡ told_of kind (first_stage ram.now context.now iova kind (first_shape_of context.now)) }
     ensures fits { IfOk result
         (λ reached. (first_shape_of context.now ≢ None → reached.addr < 2 ^ 56) × (reached.level < 4)) }
@@ -96,7 +105,7 @@ fn second_stage(ram: &Ram, context: &Context, reached: Reached, kind: Kind) -> R
     requires level { reached.level < 4 }
     requires inside { second_shape_of context.now ≡ None → reached.addr < 2 ^ 56 }
     ensures hit { result
-        ≡ told_of kind (second_stage ram.now context.now kind (second_shape_of context.now) reached) }
+        ≡ told_of kind (second_stage ram.now context.now kind (second_shape_of context.now) (reached_in reached)) }
     ensures fits { IfOk result HitFits }
 {
     let frame = match second_shape(context) {
@@ -132,9 +141,9 @@ fn entry_outside(kind: Kind) -> Fault
 fn first_shape(context: &Context) -> Option<Shape>
     ensures { result ≡ first_shape_of context.now }
 {
-    if context.mode == 8 {
-        Some(Shape::Sv39)
-    } else {
+    if context.mode == 0 {
         None
+    } else {
+        Some(Shape::Sv39)
     }
 }

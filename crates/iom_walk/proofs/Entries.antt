@@ -4,7 +4,7 @@ use Rattle.std.proofs.lemmas.Grind.{common_steps}
 use Rattle.iom_bits.specs.declared.causes.Kind.{Kind}
 use Rattle.iom_bits.specs.declared.causes.Kind.TheVariants.{Read, Write}
 use Rattle.iom_walk.specs.declared.source.Got.{Got}
-use Rattle.iom_walk.specs.declared.entry.Verdict.TheVariants as verdict
+use Rattle.iom_walk.specs.Verdict as verdict
 use Rattle.iom_walk.specs.Verdict.{verdict_of, is_pointer, ppn, word_of}
 
 -- being a pointer doesn't depend on the access

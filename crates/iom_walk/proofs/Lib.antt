@@ -1,4 +1,5 @@
 pub mod Entries
 pub mod Frames
+pub mod Pages
 pub mod Paths
 pub mod Walks

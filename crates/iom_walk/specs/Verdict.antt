@@ -7,8 +7,19 @@ use Rattle.iom_bits.specs.declared.causes.Kind.{Kind}
 use Rattle.iom_bits.specs.declared.causes.Kind.TheVariants.{Read, Write}
 use Rattle.iom_walk.specs.declared.source.Got.{Got}
 use Rattle.iom_walk.specs.declared.source.Got.TheVariants as got
-use Rattle.iom_walk.specs.declared.entry.Verdict.{Verdict}
-use Rattle.iom_walk.specs.declared.entry.Verdict.TheVariants as verdict
+
+-- what an entry says to a walk
+pub data Verdict : Type 0 where
+  -- it lies outside memory
+  Outside : Verdict
+  -- it stands in a guest's memory where it couldn't be read
+  Guest : Verdict
+  -- it ends the walk in a page fault
+  Fault : Verdict
+  -- this word points to a table of the next level
+  Pointer : ℕ → Verdict
+  -- this word maps the address
+  Leaf : ℕ → Verdict
 
 -- the fields of an entry: flags, bits 9:8 for software, the PPN, ten reserved bits
 abbrev pub is_valid : ℕ → Bool
@@ -84,27 +95,27 @@ abbrev pub on_word : (Kind → ℕ → ℕ → Bool) → (ℕ → Verdict) → R
 on_word test gives = record { applies = λ kind level got. test kind level (word_of got); gives = gives }
 
 abbrev pub fault : ℕ → Verdict
-fault word = verdict.Fault
+fault word = Fault
 
 -- the table: what couldn't be read (step 2); V = 0, R = 0 with W = 1, reserved bits (step 3); R = W = X = 0, of which A, D and
 -- U are reserved (step 4); a leaf that is misaligned (step 6) or refuses the access (steps 5 and 7); a leaf
 abbrev pub rows : List Row
 rows =
-    record { applies = λ _ _ got. is_outside got; gives = λ _. verdict.Outside }
-    ∷ record { applies = λ _ _ got. is_guest got; gives = λ _. verdict.Guest }
+    record { applies = λ _ _ got. is_outside got; gives = λ _. Outside }
+    ∷ record { applies = λ _ _ got. is_guest got; gives = λ _. Guest }
     ∷ on_word (λ _ _ word. not (is_valid word)) fault
     ∷ on_word (λ _ _ word. not (is_readable word) && is_writable word) fault
     ∷ on_word (λ _ _ word. not (reserved word == 0)) fault
     ∷ on_word (λ _ level word. has_no_access word && is_bad_pointer level word) fault
-    ∷ on_word (λ _ _ word. has_no_access word) verdict.Pointer
+    ∷ on_word (λ _ _ word. has_no_access word) Pointer
     ∷ on_word (λ _ level word. is_misaligned level word) fault
     ∷ on_word (λ kind _ word. refuses kind word) fault
-    ∷ on_word (λ _ _ _. true) verdict.Leaf
+    ∷ on_word (λ _ _ _. true) Leaf
     ∷ []
 
 -- the first row that applies decides
 abbrev pub first_of : List Row → Kind → ℕ → Got → Verdict
-first_of [] kind level got = verdict.Fault
+first_of [] kind level got = Fault
 first_of (row ∷ more) kind level got =
     if row.applies kind level got then row.gives (word_of got) else first_of more kind level got
 
@@ -112,8 +123,8 @@ unfoldable pub verdict_of : Kind → ℕ → Got → Verdict
 verdict_of = first_of rows
 
 abbrev pub is_pointer : Verdict → Bool
-is_pointer verdict.Outside = false
-is_pointer verdict.Guest = false
-is_pointer verdict.Fault = false
-is_pointer (verdict.Pointer word) = true
-is_pointer (verdict.Leaf word) = false
+is_pointer Outside = false
+is_pointer Guest = false
+is_pointer Fault = false
+is_pointer (Pointer word) = true
+is_pointer (Leaf word) = false

@@ -1,6 +1,7 @@
 //! One entry of a page table, and what it says to a walk.
 
 ghost use Rattle.std.specs.Prelude.{◌≡◌, ◌*◌, ◌<◌, ◌^◌};
+ghost use Rattle.iom_walk.specs.Code.{verdict_in};
 ghost use Rattle.iom_walk.specs.Verdict.{verdict_of, ppn, has_no_access, is_bad_pointer, refuses};
 
 use crate::source::Got;
@@ -25,7 +26,7 @@ const ACCESSED: u32 = 6;
 const DIRTY: u32 = 7;
 
 /// What an entry says to a walk.
-#[derive(Clone, Copy, Debug, PartialEq, Eq, Hash)]
+#[derive(Clone, Copy)]
 pub enum Verdict {
     /// It lies outside memory.
     Outside,
@@ -59,7 +60,7 @@ pub fn pages_of(level: u8) -> u64
 #[tactic(auto, unfolding(crate::specs::Verdict::verdict_of))]
 pub fn judge(got: Got, level: u8, kind: Kind) -> Verdict
     requires { level < 4 }
-    ensures { result ≡ verdict_of kind level got }
+    ensures { verdict_in result ≡ verdict_of kind level got }
 {
     let word = match got {
         Got::Word(word) => word,

@@ -5,7 +5,7 @@
 pub use outcome::{Leaf, Outcome};
 pub use shape::Shape;
 pub use source::{Got, Words};
-pub use walking::walk;
+pub use walking::{one_end_a_page, walk};
 
 mod entry;
 mod outcome;

@@ -5,7 +5,7 @@ ghost use Rattle.std.specs.Prelude.{◌≡◌, ◌<◌, ◌≤◌, ◌^◌};
 use iom_bits::{field, has_bit};
 
 /// How many levels of tables there are, how an address is divided into indexes, and how wide it may be.
-#[derive(Clone, Copy, Debug, PartialEq, Eq, Hash)]
+#[derive(Clone, Copy)]
 pub enum Shape {
     /// Three levels. Bits 63:39 of an address repeat bit 38.
     Sv39,

@@ -4,7 +4,7 @@ ghost use Rattle.std.specs.Prelude.{◌≡◌, ℕ};
 ghost use Rattle.iom_walk.specs.declared.source.Got.{Got};
 
 /// What a source of words has at an address.
-#[derive(Clone, Copy, Debug, PartialEq, Eq, Hash)]
+#[derive(Clone, Copy, Debug, PartialEq)]
 pub enum Got {
     /// The eight bytes there as a number, the lowest byte first.
     Word(u64),

@@ -3,6 +3,7 @@
 ghost use Rattle.std.specs.Prelude.{◌≡◌, ◌<◌, ◌^◌};
 ghost use Rattle.iom_walk.specs.Path.{path_of};
 ghost use Rattle.iom_walk.specs.Outcome.{outcome_of, verdict_on_path, IsOutcome, LeafFits};
+ghost use Rattle.iom_walk.specs.Pages.{OneEndAPage};
 
 use crate::entry::{GLOBAL, Verdict, judge, ppn_of};
 use crate::outcome::{Outcome, leaf_of};
@@ -26,6 +27,12 @@ pub fn walk<W: Words>(words: &W, shape: Shape, root: u64, addr: u64, kind: Kind)
         Outcome::Fault
     }
 }
+
+/// A law of walks: over one source of words all addresses of a page have one end. The function itself does nothing.
+#[tactic(auto, using(crate::proofs::Pages::one_end))]
+pub fn one_end_a_page()
+    ensures { OneEndAPage }
+{}
 
 // The walk of an address that is no wider than its shape allows.
 fn descend<W: Words>(words: &W, shape: Shape, root: u64, addr: u64, kind: Kind) -> Outcome

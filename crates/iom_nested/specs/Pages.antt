@@ -1,0 +1,13 @@
+-- A hit is one of a page: RISC-V IOMMU Architecture 1.0, "Caching in-memory data structures", where translations are cached by
+-- page. A fault may tell the address itself.
+use Rattle.std.specs.Prelude.{ℕ, ◌≡◌, ◌/◌, Ok}
+use Rattle.iom_bits.specs.declared.causes.Kind.{Kind}
+use Rattle.iom_mem.specs.Memory.{Memory}
+use Rattle.iom_ddt.specs.declared.context.Context.{Context}
+use Rattle.iom_nested.specs.Nested.{translation}
+use Rattle.iom_nested.specs.declared.translation.Hit.{Hit}
+
+-- what one address of a page hits, each of them hits
+abbrev pub OneHitAPage : Type 0
+OneHitAPage = (memory : Memory) (context : Context) (iova other : ℕ) (kind : Kind) (hit : Hit) → iova / 4096 ≡ other / 4096 →
+    translation memory context iova kind ≡ Ok hit → translation memory context other kind ≡ Ok hit
