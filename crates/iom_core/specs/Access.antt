@@ -126,12 +126,12 @@ learnt m led = record m {
 }
 
 -- the request of what a device asks
-abbrev pub request_at : ℕ → ℕ → Kind → Request
-request_at did iova kind = record { did = did; iova = iova; kind = kind }
+abbrev pub access_to : ℕ → ℕ → Kind → Request
+access_to did iova kind = record { did = did; iova = iova; kind = kind }
 
 abbrev pub request_of : ℕ → Ask → Request
-request_of did (Read iova count) = request_at did iova kind.Read
-request_of did (Write iova bytes) = request_at did iova kind.Write
+request_of did (Read iova count) = access_to did iova kind.Read
+request_of did (Write iova bytes) = access_to did iova kind.Write
 
 -- how the bus answers, and what memory and the registers are then
 pub record Effect : Type 0 where

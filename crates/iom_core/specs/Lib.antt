@@ -3,4 +3,5 @@ pub mod Access
 pub mod Commands
 pub mod Table
 pub mod Run
+pub mod Warrants
 pub mod Code

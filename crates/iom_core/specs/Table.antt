@@ -9,7 +9,7 @@ use Rattle.iom_queue.specs.declared.command.Command.{Command}
 use Rattle.iom_virtq.specs.Bus.{Ask, Read, Write, Reply}
 use Rattle.iom_virtq.specs.declared.access.Access.{Access}
 use Rattle.iom_virtq.specs.declared.access.Access.TheVariants as access
-use Rattle.iom_core.specs.State.{State, Machine, with_machine}
+use Rattle.iom_core.specs.State.{State, with_machine}
 use Rattle.iom_core.specs.Access.{Request, request_of, served}
 use Rattle.iom_core.specs.Commands.{after_command, executed_by, fetched, is_taken}
 use Rattle.iom_core.specs.declared.step.Step.{Step}
@@ -89,24 +89,21 @@ value_of None = answer.BusError
 unfoldable pub load : Memory → ℕ → ℕ → Answer
 load memory addr size = if is_aligned addr size then value_of (bytes_at memory addr size) else answer.Misuse
 
--- what the machine is asked by the hart, or by the command unit: the answer, and the machine after it
-pub record Handled : Type 0 where
+-- what a store is answered, and memory after it
+pub record Stored : Type 0 where
   pub answer : Answer
-  pub machine : Machine
+  pub memory : Memory
 
-abbrev pub keeps : Machine → Answer → Handled
-keeps m given = record { answer = given; machine = m }
+abbrev pub put_inside : Memory → ℕ → List ℕ → Stored
+put_inside memory addr bytes =
+    if is_some (bytes_at memory addr (length bytes))
+    then record { answer = answer.Done; memory = put memory addr bytes }
+    else record { answer = answer.BusError; memory = memory }
 
-abbrev pub put_inside : Machine → ℕ → List ℕ → Handled
-put_inside m addr bytes =
-    if is_some (bytes_at m.memory addr (length bytes))
-    then record { answer = answer.Done; machine = record m { memory = put m.memory addr bytes } }
-    else keeps m answer.BusError
-
-unfoldable pub store : Machine → ℕ → ℕ → ℕ → Handled
-store m addr size value =
-    if is_aligned addr size && fits value size then put_inside m addr (bytes_of_number size value)
-    else keeps m answer.Misuse
+unfoldable pub store : Memory → ℕ → ℕ → ℕ → Stored
+store memory addr size value =
+    if is_aligned addr size && fits value size then put_inside memory addr (bytes_of_number size value)
+    else record { answer = answer.Misuse; memory = memory }
 
 -- registers of the IOMMU
 abbrev pub value_or_bad : Option ℕ → Answer
@@ -116,12 +113,17 @@ value_or_bad None = answer.BadAccess
 unfoldable pub reg_read : Registers → ℕ → ℕ → Answer
 reg_read registers off size = value_or_bad (read registers off size)
 
-unfoldable pub reg_write : Machine → ℕ → ℕ → ℕ → Handled
-reg_write m off size value =
-    if is_size size && not (fits value size) then keeps m answer.Misuse
+-- what a write of a register is answered, and the registers after it
+pub record Written : Type 0 where
+  pub answer : Answer
+  pub registers : Registers
+
+unfoldable pub reg_write : Registers → ℕ → ℕ → ℕ → Written
+reg_write registers off size value =
+    if is_size size && not (fits value size) then record { answer = answer.Misuse; registers = registers }
     else if is_legal off size
-    then record { answer = answer.Done; machine = record m { registers = after_write m.registers off size value } }
-    else keeps m answer.BadAccess
+    then record { answer = answer.Done; registers = after_write registers off size value }
+    else record { answer = answer.BadAccess; registers = registers }
 
 -- accesses of a device
 abbrev pub answer_to : Ask → Access → List ℕ → Answer
@@ -147,20 +149,29 @@ abbrev pub idle_or_done : Bool → Answer
 idle_or_done false = answer.Idle
 idle_or_done true = answer.Done
 
-abbrev pub command : Machine → Handled
-command m = record { answer = idle_or_done (is_taken (fetched m)); machine = after_command m }
+-- the state with other memory, or other registers
+abbrev pub with_memory : State → Memory → State
+with_memory state memory = with_machine state (record state.machine { memory = memory })
 
--- a step of the hart or of the command unit changes the machine alone
-abbrev pub handled : State → Handled → Outcome
-handled state given = record { answer = given.answer; state = with_machine state given.machine }
+abbrev pub with_registers : State → Registers → State
+with_registers state registers = with_machine state (record state.machine { registers = registers })
 
 -- the step table; no block devices are there yet
 unfoldable pub next : State → Step → Outcome
 next state (step.Load addr size) = stays state (load state.machine.memory addr size)
-next state (step.Store addr size value) = handled state (store state.machine addr size value)
+next state (step.Store addr size value) = record {
+  answer = (store state.machine.memory addr size value).answer;
+  state = with_memory state (store state.machine.memory addr size value).memory;
+}
 next state (step.RegRead off size) = stays state (reg_read state.machine.registers off size)
-next state (step.RegWrite off size value) = handled state (reg_write state.machine off size value)
-next state step.Command = handled state (command state.machine)
+next state (step.RegWrite off size value) = record {
+  answer = (reg_write state.machine.registers off size value).answer;
+  state = with_registers state (reg_write state.machine.registers off size value).registers;
+}
+next state step.Command = record {
+  answer = idle_or_done (is_taken (fetched state.machine));
+  state = with_machine state (after_command state.machine);
+}
 next state (step.DmaRead did iova len) = probed state (asked state (step.DmaRead did iova len))
 next state (step.DmaWrite did iova bytes) = probed state (asked state (step.DmaWrite did iova bytes))
 next state (step.DevRead dev off size) = stays state answer.NoDevice

@@ -25,8 +25,8 @@ impl Machine {
 
     #[tactic(auto, unfolding(crate::specs::Table::store))]
     pub fn store(&mut self, addr: u64, size: u64, value: u64) -> Answer
-        ensures answer { result ≡ (store self.old addr size value).answer }
-        ensures left { self.new ≡ (store self.old addr size value).machine }
+        ensures answer { result ≡ (store self.old.memory addr size value).answer }
+        ensures left { self.new ≡ record self.old { memory = (store self.old.memory addr size value).memory } }
     {
         if !is_aligned(addr, size) || !fits(value, size) {
             return Answer::Misuse;
@@ -50,8 +50,9 @@ impl Machine {
 
     #[tactic(auto, unfolding(crate::specs::Table::reg_write))]
     pub fn reg_write(&mut self, off: u64, size: u64, value: u64) -> Answer
-        ensures answer { result ≡ (reg_write self.old off size value).answer }
-        ensures left { self.new ≡ (reg_write self.old off size value).machine }
+        ensures answer { result ≡ (reg_write self.old.registers off size value).answer }
+        ensures left { self.new
+            ≡ record self.old { registers = (reg_write self.old.registers off size value).registers } }
     {
         if is_size(size) && !fits(value, size) {
             return Answer::Misuse;

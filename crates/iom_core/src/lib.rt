@@ -4,6 +4,7 @@
 pub use platform::Platform;
 pub use port::Port;
 pub use step::{Answer, Step};
+pub use warrant::Warrant;
 
 mod access;
 mod command;
@@ -12,3 +13,4 @@ mod machine;
 mod platform;
 mod port;
 mod step;
+mod warrant;
