@@ -6,7 +6,7 @@ ghost use Rattle.std.specs.Bool.{OnTrue, OnFalse};
 ghost use Rattle.std.specs.Option.{is_some};
 
 use iom_bits::le_u64;
-use std::alloc::Global;
+use std::alloc::{AllocError, Global};
 use std::marker::Model;
 use thiserror::Error;
 
@@ -14,7 +14,7 @@ use thiserror::Error;
 mod tests;
 
 /// Why there is no memory of the base and size that were asked for.
-#[derive(Clone, Copy, Debug, PartialEq, Eq, Hash, Error)]
+#[derive(Clone, Copy, Debug, PartialEq, Error)]
 pub enum MemFault {
     #[error("the base of memory is not a multiple of 4096")]
     BadBase,
@@ -76,6 +76,16 @@ impl Ram {
         Ok(Ram { base, bytes })
     }
 
+    /// A memory with the same base and the same bytes. The fault is want of memory for the copy.
+    pub fn try_clone(&self, alloc: Global) -> Result<Ram, AllocError>
+        ensures { IfOk result (λ ram. ram ≡ self.now) }
+    {
+        Ok(Ram {
+            base: self.base,
+            bytes: Vec::from_slice(alloc, &self.bytes)?,
+        })
+    }
+
     /// The first physical address.
     pub fn base(&self) -> u64
         ensures value { result ≡ self.now.base }
@@ -93,7 +103,8 @@ impl Ram {
     }
 
     /// Reads the bytes from physical address `addr` on into `out`, and answers true; false where
-    /// one of them is outside, and then `out` is unchanged. No bytes are read at any address.
+    /// one of them is outside, and then `out` is unchanged. An empty `out` is read anywhere, outside
+    /// memory too.
     #[tactic(auto, using(crate::proofs::Bytes::empty_read))]
     pub fn read(&self, addr: u64, out: &mut [u8]) -> bool
         ensures read { OnTrue result (bytes_at self.now addr (length out.old) ≡ Some out.new) }
@@ -110,7 +121,8 @@ impl Ram {
     }
 
     /// Writes `bytes` from physical address `addr` on, and answers true; false where one of the
-    /// places is outside, and then nothing is changed. No bytes are written at any address.
+    /// places is outside, and then nothing is changed. Empty `bytes` are written anywhere, outside
+    /// memory too.
     #[tactic(auto, using(crate::proofs::Bytes::empty_write))]
     pub fn write(&mut self, addr: u64, bytes: &[u8]) -> bool
         ensures inside { result ≡ is_some (bytes_at self.old addr (length bytes.now)) }

@@ -1,8 +1,7 @@
 -- Commands and the two words that stand for each in the command queue: RISC-V IOMMU Architecture 1.0, "Command-Queue (CQ)".
 -- A word is the sum of its fields at their places: opcode from bit 0, func3 from bit 7, and the operands; all other bits are 0.
 use Rattle.std.specs.Prelude.{ℕ, ◌≡◌, ◌+◌, ◌*◌, ◌/◌, ◌%◌, ◌^◌, ◌<◌, ◌==◌, ◌&&◌, List, [], ◌∷◌, Option, Some, None, if◌then◌else◌}
-use Rattle.iom_bits.specs.Bits.{has_bit, field_of}
-use Rattle.iom_queue.specs.Words.{bit}
+use Rattle.iom_bits.specs.Bits.{has_bit, flag, field_of}
 use Rattle.iom_queue.specs.declared.command.Command.{Command}
 use Rattle.iom_queue.specs.declared.command.Command.TheVariants.{Vma, Gvma, Fence, Iodir}
 
@@ -11,12 +10,12 @@ use Rattle.iom_queue.specs.declared.command.Command.TheVariants.{Vma, Gvma, Fenc
 -- "IODIR": opcode 3, func3 0 for INVAL_DDT; DV 33, DID 63:40
 abbrev pub first_word : Command → ℕ
 first_word (Vma av page pscv pscid gv gscid) =
-    1 + 2 ^ 7 * 0 + 2 ^ 10 * bit av + 2 ^ 12 * pscid + 2 ^ 32 * bit pscv + 2 ^ 33 * bit gv + 2 ^ 44 * gscid
+    1 + 2 ^ 7 * 0 + 2 ^ 10 * flag av + 2 ^ 12 * pscid + 2 ^ 32 * flag pscv + 2 ^ 33 * flag gv + 2 ^ 44 * gscid
 first_word (Gvma av page pscid gv gscid) =
-    1 + 2 ^ 7 * 1 + 2 ^ 10 * bit av + 2 ^ 12 * pscid + 2 ^ 33 * bit gv + 2 ^ 44 * gscid
+    1 + 2 ^ 7 * 1 + 2 ^ 10 * flag av + 2 ^ 12 * pscid + 2 ^ 33 * flag gv + 2 ^ 44 * gscid
 first_word (Fence av wsi pr pw value addr) =
-    2 + 2 ^ 7 * 0 + 2 ^ 10 * bit av + 2 ^ 11 * bit wsi + 2 ^ 12 * bit pr + 2 ^ 13 * bit pw + 2 ^ 32 * value
-first_word (Iodir dv did) = 3 + 2 ^ 7 * 0 + 2 ^ 33 * bit dv + 2 ^ 40 * did
+    2 + 2 ^ 7 * 0 + 2 ^ 10 * flag av + 2 ^ 11 * flag wsi + 2 ^ 12 * flag pr + 2 ^ 13 * flag pw + 2 ^ 32 * value
+first_word (Iodir dv did) = 3 + 2 ^ 7 * 0 + 2 ^ 33 * flag dv + 2 ^ 40 * did
 
 -- IOTINVAL: ADDR[63:12], the number of a page, in bits 61:10. IOFENCE.C: ADDR[63:2] in bits 61:0. IODIR: 0
 abbrev pub second_word : Command → ℕ

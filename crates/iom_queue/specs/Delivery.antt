@@ -4,7 +4,7 @@ use Rattle.std.specs.List.{flat_map}
 use Rattle.iom_bits.specs.Bits.{has_bit, field_of}
 use Rattle.iom_bits.specs.Bytes.{bytes_of_number}
 use Rattle.iom_mem.specs.Memory.{Memory, bytes_at, put}
-use Rattle.iom_regs.specs.Table.{Registers, is_on, entries_of}
+use Rattle.iom_regs.specs.Table.{Registers, is_on, entries_of, with_pending}
 use Rattle.iom_regs.specs.Queues.{record_passed, with_fqof, with_fqmf}
 use Rattle.iom_queue.specs.Records.{record_words}
 use Rattle.iom_queue.specs.declared.record.Record.{Record}
@@ -34,10 +34,10 @@ pub record Delivery : Type 0 where
   pub registers : Registers
   pub memory : Memory
 
--- the first row that applies: dropped; full; outside memory; stored
+-- the first row that applies: stopped; full; outside memory; stored. The rule of pending interrupts follows each
 unfoldable pub delivered : Registers → Memory → Record → Delivery
 delivered registers memory fault =
-    if is_stopped registers then record { registers = registers; memory = memory }
+    if is_stopped registers then record { registers = with_pending registers; memory = memory }
     else if is_full registers then record { registers = with_fqof registers; memory = memory }
     else if not (is_in_memory registers memory) then record { registers = with_fqmf registers; memory = memory }
     else record { registers = record_passed registers; memory = put memory (record_addr registers) (record_bytes fault) }

@@ -13,6 +13,17 @@ abbrev pub transaction_type : Kind → ℕ
 transaction_type Read = 2
 transaction_type Write = 3
 
+-- iotval2: the guest-physical address of a guest page fault, and 0 for every other cause
+abbrev pub iotval2_for : Cause → ℕ → ℕ
+iotval2_for (Access kind) addr = 0
+iotval2_for (Page kind) addr = 0
+iotval2_for (Guest kind) addr = addr
+iotval2_for Off addr = 0
+iotval2_for DirAccess addr = 0
+iotval2_for DirInvalid addr = 0
+iotval2_for DirBad addr = 0
+iotval2_for TooWide addr = 0
+
 -- the record of a denied access: no process id, the whole IOVA as iotval
 unfoldable pub denial_record : Cause → Kind → ℕ → ℕ → ℕ → Record
 denial_record cause kind did iova iotval2 = record {
@@ -23,7 +34,7 @@ denial_record cause kind did iova iotval2 = record {
   ttyp = transaction_type kind;
   did = did;
   iotval = iova;
-  iotval2 = iotval2;
+  iotval2 = iotval2_for cause iotval2;
 }
 
 -- the causes that a device context with DTF = 1 keeps from being recorded: those of the two stages of translation

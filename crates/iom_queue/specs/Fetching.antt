@@ -1,7 +1,7 @@
 -- Which command comes next: RISC-V IOMMU Architecture 1.0, "Command-Queue (CQ)" and "Command-queue control and status".
-use Rattle.std.specs.Prelude.{ℕ, ◌≡◌, ◌≢◌, ◌+◌, ◌*◌, ◌==◌, ◌||◌, Bool, true, false, not, List, [], ◌∷◌, Option, Some, None, IsSome, if◌then◌else◌}
+use Rattle.std.specs.Prelude.{ℕ, ◌≡◌, ◌≢◌, ◌+◌, ◌*◌, ◌==◌, ◌||◌, Bool, true, false, not, List, Option, Some, None, IsSome, if◌then◌else◌}
 use Rattle.iom_bits.specs.Bits.{has_bit, field_of}
-use Rattle.iom_mem.specs.Memory.{Memory, word}
+use Rattle.iom_mem.specs.Memory.{Memory, words_at}
 use Rattle.iom_regs.specs.Table.{Registers, is_on}
 use Rattle.iom_queue.specs.Commands.{CommandFits, command_words, command_of}
 use Rattle.iom_queue.specs.declared.command.Command.{Command}
@@ -17,15 +17,9 @@ is_idle registers =
 abbrev pub command_addr : Registers → ℕ
 command_addr registers = field_of registers.cqb 10 44 * 4096 + registers.cqh * 16
 
--- two words, where both are there
-abbrev pub both : Option ℕ → Option ℕ → Option (List ℕ)
-both (Some first) (Some second) = Some (first ∷ second ∷ [])
-both (Some first) None = None
-both None second = None
-
--- the two words from a physical address on; None: a byte of them is outside memory
-abbrev pub pair_at : Memory → ℕ → Option (List ℕ)
-pair_at memory addr = both (word memory addr) (word memory (addr + 8))
+-- the two words there; None: a byte of them is outside memory
+abbrev pub words_at_head : Registers → Memory → Option (List ℕ)
+words_at_head registers memory = words_at memory (command_addr registers) 2
 
 -- words that stand for no command are illegal
 abbrev pub fetched_command : Option Command → Fetch
@@ -39,7 +33,7 @@ fetched None = Fault
 
 -- what the command unit finds
 unfoldable pub fetch_of : Registers → Memory → Fetch
-fetch_of registers memory = if is_idle registers then Idle else fetched (pair_at memory (command_addr registers))
+fetch_of registers memory = if is_idle registers then Idle else fetched (words_at_head registers memory)
 
 -- the words are those of no command
 abbrev pub IsIllegal : Option (List ℕ) → Type 0
@@ -49,10 +43,10 @@ IsIllegal words = (command : Command) → CommandFits command → words ≢ Some
 abbrev pub IsFetch : Registers → Memory → Fetch → Type 0
 IsFetch registers memory Idle = is_idle registers ≡ true
 IsFetch registers memory Fault =
-    (is_idle registers ≡ false) × (pair_at memory (command_addr registers) ≡ None)
+    (is_idle registers ≡ false) × (words_at_head registers memory ≡ None)
 IsFetch registers memory Illegal =
-    (is_idle registers ≡ false) × IsSome (pair_at memory (command_addr registers))
-    × IsIllegal (pair_at memory (command_addr registers))
+    (is_idle registers ≡ false) × IsSome (words_at_head registers memory)
+    × IsIllegal (words_at_head registers memory)
 IsFetch registers memory (Ready command) =
     (is_idle registers ≡ false) × CommandFits command
-    × (pair_at memory (command_addr registers) ≡ Some (command_words command))
+    × (words_at_head registers memory ≡ Some (command_words command))

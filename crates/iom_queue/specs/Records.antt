@@ -1,14 +1,13 @@
 -- Fault records and the four words that stand for each in the fault queue: RISC-V IOMMU Architecture 1.0, "Fault/Event-Queue
 -- (FQ)", "Fault record". A word is the sum of its fields at their places; all other bits are 0.
 use Rattle.std.specs.Prelude.{ℕ, ◌≡◌, ◌+◌, ◌*◌, ◌^◌, ◌<◌, ◌==◌, List, [], ◌∷◌, Option, Some, None, if◌then◌else◌}
-use Rattle.iom_bits.specs.Bits.{has_bit, field_of}
-use Rattle.iom_queue.specs.Words.{bit}
+use Rattle.iom_bits.specs.Bits.{has_bit, flag, field_of}
 use Rattle.iom_queue.specs.declared.record.Record.{Record}
 
 -- CAUSE 11:0, PID 31:12, PV 32, PRIV 33, TTYP 39:34, DID 63:40
 abbrev pub summary_word : Record → ℕ
 summary_word fault =
-    fault.cause + 2 ^ 12 * fault.pid + 2 ^ 32 * bit fault.pv + 2 ^ 33 * bit fault.privileged + 2 ^ 34 * fault.ttyp
+    fault.cause + 2 ^ 12 * fault.pid + 2 ^ 32 * flag fault.pv + 2 ^ 33 * flag fault.privileged + 2 ^ 34 * fault.ttyp
     + 2 ^ 40 * fault.did
 
 -- the second word, of which the standard reserves one half and leaves the other to custom use, is 0; then iotval and iotval2

@@ -1,14 +1,13 @@
 ghost use Rattle.std.specs.Prelude.{◌≡◌, ◌+◌, ◌*◌, ◌^◌, ◌<◌, [], ◌∷◌, Some, IfSome, IfNone};
-ghost use Rattle.iom_bits.specs.Bits.{field_of};
+ghost use Rattle.iom_bits.specs.Bits.{flag, field_of};
 ghost use Rattle.iom_queue.specs.Commands.{CommandFits, IsCommandEncoding, first_word, second_word, command_words, command_of, operands_of};
-ghost use Rattle.iom_queue.specs.Words.{bit};
 
-use crate::fields::{flag, operand};
+use crate::fields::{flag_at, operand};
 use iom_bits::{field, has_bit};
 
 /// A command of the command queue (RISC-V IOMMU Architecture 1.0, "Command-Queue (CQ)"). An operand
 /// whose valid bit is 0 is kept and means nothing.
-#[derive(Clone, Copy, Debug, PartialEq, Eq, Hash)]
+#[derive(Clone, Copy, Debug, PartialEq)]
 pub enum Command {
     /// IOTINVAL.VMA ("IOTINVAL"): drops first-stage translations.
     Vma {
@@ -96,7 +95,7 @@ fn first_word(command: &Command) -> u64
             gv,
             gscid,
             ..
-        } => invalidation(VMA, av, pscid, gv, gscid) + flag(pscv, 32),
+        } => invalidation(VMA, av, pscid, gv, gscid) + flag_at(pscv, 32),
         Command::Gvma {
             av,
             pscid,
@@ -113,13 +112,13 @@ fn first_word(command: &Command) -> u64
             ..
         } => {
             IOFENCE
-                + flag(av, 10)
-                + flag(wsi, 11)
-                + flag(pr, 12)
-                + flag(pw, 13)
+                + flag_at(av, 10)
+                + flag_at(wsi, 11)
+                + flag_at(pr, 12)
+                + flag_at(pw, 13)
                 + operand(value as u64, 32)
         }
-        Command::Iodir { dv, did } => IODIR + flag(dv, 33) + operand(did as u64, 40),
+        Command::Iodir { dv, did } => IODIR + flag_at(dv, 33) + operand(did as u64, 40),
     }
 }
 
@@ -128,13 +127,13 @@ fn invalidation(func3: u64, av: bool, pscid: u32, gv: bool, gscid: u16) -> u64
     requires func3 { func3 < 2 ^ 3 }
     requires pscid { pscid < 2 ^ 20 }
     ensures { result
-        ≡ 1 + 2 ^ 7 * func3 + 2 ^ 10 * bit av + 2 ^ 12 * pscid + 2 ^ 33 * bit gv + 2 ^ 44 * gscid }
+        ≡ 1 + 2 ^ 7 * func3 + 2 ^ 10 * flag av + 2 ^ 12 * pscid + 2 ^ 33 * flag gv + 2 ^ 44 * gscid }
 {
     IOTINVAL
         + operand(func3, 7)
-        + flag(av, 10)
+        + flag_at(av, 10)
         + operand(pscid as u64, 12)
-        + flag(gv, 33)
+        + flag_at(gv, 33)
         + operand(gscid as u64, 44)
 }
 

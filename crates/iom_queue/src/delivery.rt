@@ -2,6 +2,7 @@ ghost use Rattle.std.specs.Prelude.{◌≡◌};
 ghost use Rattle.std.specs.Bool.{OnTrue, OnFalse};
 ghost use Rattle.iom_bits.specs.Bytes.{bytes_of_number};
 ghost use Rattle.iom_mem.specs.Memory.{ReplacesBytes};
+ghost use Rattle.iom_regs.specs.Table.{with_pending};
 ghost use Rattle.iom_queue.specs.Records.{RecordFits};
 ghost use Rattle.iom_queue.specs.Delivery.{is_stopped, is_full, record_addr, record_bytes, delivered, is_stored, KeepsOtherRegisters};
 
@@ -31,6 +32,7 @@ pub fn deliver(registers: &mut Regs, ram: &mut Ram, fault: &Record)
     ensures memory { ram.new ≡ (delivered registers.old ram.old fault.now).memory }
 
     // What stays the same.
+    ensures stopped { OnTrue (is_stopped registers.old) (registers.new ≡ registers.old) }
     ensures other_registers { KeepsOtherRegisters registers.old registers.new }
     ensures replaces { OnTrue (is_stored registers.old ram.old)
         (ReplacesBytes ram.old (record_addr registers.old) (record_bytes fault.now) ram.new) }
@@ -50,14 +52,14 @@ pub fn deliver(registers: &mut Regs, ram: &mut Ram, fault: &Record)
 
 // Whether the queue takes no records.
 fn is_stopped(registers: &Regs) -> bool
-    ensures { result ≡ is_stopped registers.now }
+    ensures value { result ≡ is_stopped registers.now }
+    ensures settled { with_pending registers.now ≡ registers.now }
 {
     let control = registers.read(FQCSR, 4).unwrap();
     !registers.queue(Which::Faults).on || has_bit(control, FQMF) || has_bit(control, FQOF)
 }
 
 // Whether the entry after the tail is the head.
-#[tactic(auto, using(crate::proofs::Places::tail_small))]
 fn is_full(registers: &Regs) -> bool
     ensures { result ≡ is_full registers.now }
 {
@@ -66,7 +68,6 @@ fn is_full(registers: &Regs) -> bool
 }
 
 // The physical address of the entry at the tail.
-#[tactic(auto, using(crate::proofs::Places::tail_small))]
 fn record_addr(registers: &Regs) -> u64
     ensures { result ≡ record_addr registers.now }
 {

@@ -1,5 +1,7 @@
 ghost use Rattle.std.specs.Prelude.{◌≡◌, ◌+◌, ◌<◌, ◌^◌};
-ghost use Rattle.iom_queue.specs.Fetching.{is_idle, command_addr, pair_at, fetch_of, IsFetch};
+ghost use Rattle.iom_mem.specs.Memory.{words_at};
+ghost use Rattle.iom_regs.specs.Table.{with_pending};
+ghost use Rattle.iom_queue.specs.Fetching.{is_idle, command_addr, fetch_of, IsFetch};
 
 use crate::command::{Command, decode_command};
 use iom_bits::has_bit;
@@ -18,7 +20,7 @@ const CMD_ILL: u32 = 10;
 const COMMAND_SIZE: u64 = 16;
 
 /// What the command unit finds (RISC-V IOMMU Architecture 1.0, "Command-Queue (CQ)").
-#[derive(Clone, Copy, Debug, PartialEq, Eq, Hash)]
+#[derive(Clone, Copy, Debug, PartialEq)]
 pub enum Fetch {
     /// There is nothing to do: the queue is off, stopped by cqmf or cmd_ill, or empty.
     Idle,
@@ -35,11 +37,12 @@ pub enum Fetch {
 pub fn next_command(registers: &Regs, ram: &Ram) -> Fetch
     ensures value { result ≡ fetch_of registers.now ram.now }
     ensures meaning { IsFetch registers.now ram.now result }
+    ensures settled { with_pending registers.now ≡ registers.now }
 {
     if is_idle(registers) {
         return Fetch::Idle;
     }
-    let Some(words) = pair_at(ram, command_addr(registers)) else {
+    let Some(words) = two_words(ram, command_addr(registers)) else {
         return Fetch::Fault;
     };
     match decode_command(words) {
@@ -49,7 +52,8 @@ pub fn next_command(registers: &Regs, ram: &Ram) -> Fetch
 }
 
 fn is_idle(registers: &Regs) -> bool
-    ensures { result ≡ is_idle registers.now }
+    ensures value { result ≡ is_idle registers.now }
+    ensures settled { with_pending registers.now ≡ registers.now }
 {
     let queue = registers.queue(Which::Commands);
     let control = registers.read(CQCSR, 4).unwrap();
@@ -57,7 +61,6 @@ fn is_idle(registers: &Regs) -> bool
 }
 
 // The physical address of the command at the head.
-#[tactic(auto, using(crate::proofs::Places::head_small))]
 fn command_addr(registers: &Regs) -> u64
     ensures value { result ≡ command_addr registers.now }
     ensures small { result < 2 ^ 57 }
@@ -67,9 +70,9 @@ fn command_addr(registers: &Regs) -> u64
 }
 
 // The two words from physical address `addr` on; None where a byte of them is outside memory.
-fn pair_at(ram: &Ram, addr: u64) -> Option<[u64; 2]>
+fn two_words(ram: &Ram, addr: u64) -> Option<[u64; 2]>
     requires { addr + 8 < 2 ^ 64 }
-    ensures { result ≡ pair_at ram.now addr }
+    ensures { result ≡ words_at ram.now addr 2 }
 {
     let first = ram.word(addr)?;
     let second = ram.word(addr + 8)?;

@@ -1,12 +1,14 @@
 ghost use Rattle.std.specs.Prelude.{◌≡◌, ◌*◌, ◌^◌, ◌<◌};
-ghost use Rattle.iom_queue.specs.Words.{bit};
+ghost use Rattle.iom_bits.specs.Bits.{flag};
+
+use iom_bits::flag;
 
 /// A flag at its bit of a word.
-pub fn flag(value: bool, low: u32) -> u64
+pub fn flag_at(set: bool, low: u32) -> u64
     requires { low < 64 }
-    ensures { result ≡ 2 ^ low * bit value }
+    ensures { result ≡ 2 ^ low * flag set }
 {
-    (value as u64) << low
+    flag(set) << low
 }
 
 /// An operand at its place in a word, from bit `low` on.

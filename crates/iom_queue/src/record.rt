@@ -2,11 +2,11 @@ ghost use Rattle.std.specs.Prelude.{◌≡◌, ◌<◌, ◌^◌, Some, IfSome, I
 ghost use Rattle.iom_queue.specs.Records.{RecordFits, IsRecordEncoding, record_words, record_of};
 ghost use Rattle.iom_queue.specs.Denials.{is_reported};
 
-use crate::fields::{flag, operand};
+use crate::fields::{flag_at, operand};
 use iom_bits::{Cause, Kind, field, has_bit};
 
 /// A fault record (RISC-V IOMMU Architecture 1.0, "Fault/Event-Queue (FQ)").
-#[derive(Clone, Copy, Debug, PartialEq, Eq, Hash)]
+#[derive(Clone, Copy, Debug, PartialEq)]
 pub struct Record {
     /// CAUSE, 12 bits.
     pub cause: u16,
@@ -31,7 +31,7 @@ impl Record {
     ghost use Rattle.iom_queue.specs.Denials.{denial_record};
 
     /// The record of a denied access of the device with id `did`, below 2^24, at `iova`. `iotval2` is
-    /// the field of that name.
+    /// the field of that name of a guest page fault; of every other cause that field is 0.
     #[tactic(auto, unfolding(crate::specs::Denials::denial_record))]
     pub fn of_denial(cause: Cause, kind: Kind, did: u32, iova: u64, iotval2: u64) -> Self
         ensures value { result ≡ denial_record cause kind did iova iotval2 }
@@ -48,7 +48,10 @@ impl Record {
             },
             did,
             iotval: iova,
-            iotval2,
+            iotval2: match cause {
+                Cause::Guest(_) => iotval2,
+                _ => 0,
+            },
         }
     }
 }
@@ -72,8 +75,8 @@ pub fn encode_record(fault: &Record) -> [u64; 4]
 {
     let first = operand(fault.cause as u64, 0)
         + operand(fault.pid as u64, 12)
-        + flag(fault.pv, 32)
-        + flag(fault.privileged, 33)
+        + flag_at(fault.pv, 32)
+        + flag_at(fault.privileged, 33)
         + operand(fault.ttyp as u64, 34)
         + operand(fault.did as u64, 40);
     [first, 0, fault.iotval, fault.iotval2]

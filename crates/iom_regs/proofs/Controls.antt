@@ -1,10 +1,8 @@
 -- The control and status registers bit by bit, from the sums that they are.
-use Rattle.std.proofs.Common.{◌≡◌, ◌+◌, ◌*◌, ◌/◌, ◌%◌, ◌^◌, ◌<◌, ℕ, Bool, true, false, arith, ap, sym, ◌∙◌}
-use Rattle.std.specs.Prelude.{if◌then◌else◌}
-use Rattle.std.specs.Int.{bit_at}
+use Rattle.std.proofs.Common.{◌≡◌, ℕ, true, arith}
 use Rattle.std.proofs.lemmas.Grind.{common_steps}
-use Rattle.iom_regs.specs.Table.{Registers, turns_on, flag_after, cqcsr_of, fqcsr_of, is_legal, after_write}
-use Rattle.iom_regs.specs.Controls.{flag_bit, IsCqcsr, IsFqcsr}
+use Rattle.iom_regs.specs.Table.{Registers, cqcsr_of, fqcsr_of, is_legal, after_write}
+use Rattle.iom_regs.specs.Controls.{IsCqcsr, IsFqcsr}
 
 pub cqcsr_bits : (old value : ℕ) → IsCqcsr old value (cqcsr_of old value)
 cqcsr_bits old value = record {

@@ -16,7 +16,7 @@ const CAPABILITIES: u64 = 0x38_1002_0210;
 // fctl: interrupts by wire.
 const FCTL: u64 = 2;
 
-/// The registers, each change of which `settle` is to follow.
+/// The registers before the rule of pending interrupts: `settle` follows each change.
 #[derive(Clone, Copy, Debug)]
 pub struct File {
     ddtp: u64,
@@ -247,7 +247,7 @@ impl File {
         self.faults.raise(9);
     }
 
-    /// The rule of pending interrupts: they are pending where their causes stand.
+    /// The rule of pending interrupts: each is set where its cause stands.
     pub fn settle(&mut self)
         ensures value { self.new ≡ with_pending self.old }
         ensures settled { with_pending self.new ≡ self.new }

@@ -4,9 +4,9 @@ ghost use Rattle.iom_regs.specs.Table.{flag_after, turns_on, cqcsr_of, fqcsr_of,
 
 use iom_bits::field;
 
-// One bit of a word, at its place.
+// A bit of a word, at its place.
 #[tactic(auto, using(crate::proofs::Shifts::bit_placed))]
-fn flag(word: u64, bit: u32) -> u64
+fn bit_in_place(word: u64, bit: u32) -> u64
     requires { bit < 64 }
     ensures { result ≡ 2 ^ bit * bit_at word bit }
 {
@@ -21,7 +21,7 @@ fn flag_after(old: u64, value: u64, bit: u32) -> u64
     if field(value, bit, 1) == 1 {
         0
     } else {
-        flag(old, bit)
+        bit_in_place(old, bit)
     }
 }
 
@@ -72,7 +72,11 @@ pub fn pending_after(ipsr: u64, bit: u32, asked: bool) -> u64
     requires { bit < 2 }
     ensures { result ≡ pending_after ipsr bit asked }
 {
-    if asked { 1 << bit } else { flag(ipsr, bit) }
+    if asked {
+        1 << bit
+    } else {
+        bit_in_place(ipsr, bit)
+    }
 }
 
 /// The low half of a register replaced.

@@ -7,7 +7,7 @@ use crate::views::{Mode, Queue, Which};
 use iom_bits::field;
 use std::marker::Model;
 
-/// The register file.
+/// The register file. In every state interrupts are pending where their causes stand.
 #[derive(Clone, Copy, Debug)]
 pub struct Regs {
     file: File,
@@ -65,7 +65,7 @@ impl Regs {
         ensures written { OnTrue result (self.new ≡ after_write self.old off size value) }
         ensures refused { OnFalse result (self.new ≡ self.old) }
 
-        // Of the whole: eight bytes are one register, and the control words bit by bit.
+        // Eight bytes are one register or nothing; the control and status registers bit by bit.
         ensures one_register { OnTrue result
             (size ≡ 8 → IsOneRegister (slot_at off) (slot_at (off + 4))) }
         ensures cqcsr { OnTrue result (off ≡ 72 → IsCqcsr self.old.cqcsr value self.new.cqcsr) }
