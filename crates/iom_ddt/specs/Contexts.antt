@@ -10,7 +10,7 @@ is_mode mode = mode == 0 || mode == 8
 abbrev pub is_bare : Context → Bool
 is_bare c = c.mode == 0 && c.gmode == 0
 
--- its fields fit, its modes are there, and the second stage's root table is aligned to its 16 KiB
+-- its fields fit, its modes are 0 or 8, and the second stage's root table is aligned to its 16 KiB
 pub record IsWellFormed (c : Context) : Type 0 where
   pub custom : c.custom < 2 ^ 8
   pub second_mode : IsTrue (is_mode c.gmode)

@@ -18,7 +18,7 @@ ddi did zero = field_of did 0 7
 ddi did (suc zero) = field_of did 7 9
 ddi did (suc (suc above)) = field_of did 16 8
 
--- an id whose parts above the levels that there are aren't 0
+-- an id with a part above the directory's levels that isn't 0
 abbrev pub is_too_wide : ℕ → ℕ → Bool
 is_too_wide levels did =
     nat_lt levels 3 && not (ddi did 2 == 0) || nat_lt levels 2 && not (ddi did 1 == 0)
@@ -80,8 +80,8 @@ located memory registers did =
     if is_too_wide (levels_of (mode_of registers)) did then Err TooWide
     else verdict_on (path_from memory did (levels_of (mode_of registers) - 1) (root_of registers))
 
--- The same without a decoder. The words of a context: those of a well-formed one are that context; those of none are invalid where
--- V = 0, else misconfigured.
+-- The same without a decoder. What is found where a context stands: the one that its words encode; or the fault, where they
+-- encode none, or a byte of them is outside memory.
 abbrev pub IsContextOf : Option (List ℕ) → Result Context Cause → Type 0
 IsContextOf None found = found ≡ Err DirAccess
 IsContextOf (Some words) (Ok context) = IsEncoding context words
@@ -89,7 +89,7 @@ IsContextOf (Some words) (Err cause) =
     ((context : Context) → ¬ IsEncoding context words)
     × (cause ≡ (if has_bit (get_or words 0 0) 0 then DirBad else DirInvalid))
 
--- Every entry of the path points on, and the context's words are what was found; or the last entry is the fault that was.
+-- The last of a path tells what is found: the words of the context, or an entry that is a fault. Those before it point on.
 abbrev pub IsEnd : List Met → Result Context Cause → Type 0
 IsEnd [] found = ⊥
 IsEnd (Leaf words ∷ more) found = IsContextOf words found

@@ -3,7 +3,7 @@ ghost use Rattle.std.specs.Prelude.{◌≡◌, ◌↔◌, IsTrue};
 /// What the directory says of one device (base format, "Device-context fields").
 ///
 /// It is well formed where `gmode` and `mode` are 0 or 8, `gppn` is a multiple of 4 unless `gmode` is 0, and
-/// each field fits the bits named at it.
+/// each field fits the bits that are named at it.
 #[derive(Clone, Copy, Debug, PartialEq)]
 pub struct Context {
     /// tc.DTF: page faults and access faults of the device make no record.
@@ -30,7 +30,7 @@ pub struct Context {
 impl Context {
     ghost use Rattle.iom_ddt.specs.Contexts.{is_bare, IsWellFormed};
 
-    /// Whether its modes are there, the second stage's root is aligned and each field fits.
+    /// Whether it is well formed: both modes are 0 or 8, the second stage's root is aligned, and each field fits its bits.
     pub fn is_well_formed(self) -> bool
         ensures { IsTrue result ↔ IsWellFormed self }
     {

@@ -12,9 +12,9 @@ use iom_regs::{Mode, Regs};
 /// The context of a device id of at most 24 bits, under a mode that has a directory ("Process to locate the
 /// Device-context").
 ///
-/// `TooWide` where the id has bits above those of the directory's levels, which is tested first. Then of the entries on the
-/// way and of the context, the first that is outside memory (`DirAccess`), has V = 0 (`DirInvalid`) or is misconfigured
-/// (`DirBad`).
+/// `TooWide` where the id has bits above those of the directory's levels; this is tested first. Then the entries on the way
+/// and the context are judged in turn, and the first fault is the answer: `DirAccess` outside memory, `DirInvalid` where
+/// V = 0, `DirBad` where it is misconfigured.
 #[tactic(auto, unfolding(crate::specs::Directory::located))]
 pub fn locate(ram: &Ram, registers: &Regs, did: u32) -> Result<Context, Cause>
     requires directory { 1 ≤ levels_of (mode_of registers.now) }
@@ -53,7 +53,7 @@ pub fn is_too_wide(registers: &Regs, did: u32) -> bool
     levels < 3 && ddi(did, 2) != 0 || levels < 2 && ddi(did, 1) != 0
 }
 
-// The part of a device id that is the index into the table of a level; at level 0 are the contexts.
+// The part of a device id that is the index into a table of this level. The table of level 0 has the contexts.
 fn ddi(did: u64, level: u8) -> u64
     ensures part { result ≡ ddi did level }
     ensures fits { result < 2 ^ 9 }
@@ -65,7 +65,7 @@ fn ddi(did: u64, level: u8) -> u64
     }
 }
 
-// The PPN of the table that the entry at a physical address points to.
+// The PPN of the table that the entry at this physical address points to.
 fn pointed_by(ram: &Ram, place: u64) -> Result<u64, Cause>
     ensures entry { result ≡ pointed_by (word ram.now place) }
     ensures fits { IfOk result (λ table. table < 2 ^ 44) }
@@ -80,7 +80,7 @@ fn pointed_by(ram: &Ram, place: u64) -> Result<u64, Cause>
     }
 }
 
-// The context at a physical address.
+// The context at this physical address.
 fn context_at(ram: &Ram, place: u64) -> Result<Context, Cause>
     requires { place < 2 ^ 57 }
     ensures verdict { decided_by (Leaf (words_at ram.now place 4)) ≡ Some result }

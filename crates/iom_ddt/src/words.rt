@@ -9,8 +9,8 @@ use iom_bits::{Cause, field, flag, has_bit};
 /// The context that the four words tc, iohgatp, ta and fsc encode ("Device-context fields").
 ///
 /// `DirInvalid` where V is 0, whatever else the words hold; `DirBad` where V is 1 and they encode no well-formed
-/// context ("Device-context configuration checks"): a reserved bit, a mode that there is not, or a root of the second
-/// stage that isn't aligned.
+/// context ("Device-context configuration checks"): a reserved bit is set, a mode is neither 0 nor 8, or the root of
+/// the second stage isn't aligned.
 #[tactic(auto, unfolding(crate::specs::Words::context_in, iom_bits::specs::Bits::has_bit))]
 pub fn context_of(words: [u64; 4]) -> Result<Context, Cause>
     ensures value { result ≡ context_in words }
@@ -42,7 +42,7 @@ pub fn encode_context(context: &Context) -> [u64; 4]
     ]
 }
 
-// The context whose fields stand in the words, whatever their other bits are.
+// The context whose fields are in the words, whatever their other bits are.
 #[tactic(auto, unfolding(iom_bits::specs::Bits::has_bit))]
 fn fields_in(words: [u64; 4]) -> Context
     ensures value { result ≡ fields_in words }

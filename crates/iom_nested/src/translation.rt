@@ -57,8 +57,8 @@ pub fn translate(ram: &Ram, context: &Context, iova: u64, kind: Kind) -> Result<
     second_stage(ram, context, reached, kind)
 }
 
-/// A law of translations: over one memory, under one context, all addresses of a page have one hit, or none has a hit. The function itself
-/// does nothing.
+/// A law of translations: over one memory and under one context, what one address of a page hits, each of them hits. The
+/// function does nothing.
 #[tactic(auto, using(crate::proofs::Pages::one_hit))]
 pub fn one_hit_a_page()
     ensures { OneHitAPage }

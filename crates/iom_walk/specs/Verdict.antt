@@ -12,7 +12,7 @@ use Rattle.iom_walk.specs.declared.source.Got.TheVariants as got
 pub data Verdict : Type 0 where
   -- it lies outside memory
   Outside : Verdict
-  -- it stands in a guest's memory where it couldn't be read
+  -- it is in a guest's memory, where it couldn't be read
   Guest : Verdict
   -- it ends the walk in a page fault
   Fault : Verdict

@@ -30,7 +30,7 @@ const DIRTY: u32 = 7;
 pub enum Verdict {
     /// It lies outside memory.
     Outside,
-    /// It stands in a guest's memory where it couldn't be read.
+    /// It is in a guest's memory, where it couldn't be read.
     Guest,
     /// It ends the walk in a page fault.
     Fault,

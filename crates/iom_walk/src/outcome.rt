@@ -16,7 +16,7 @@ pub struct Leaf {
     /// The level that the leaf was met at, below the number of levels. It maps 2^(9 * level) pages of 4096
     /// bytes.
     pub level: u8,
-    /// Whether the leaf or an entry before it has G set: the mapping is one of every address space.
+    /// Whether the leaf or an entry before it has G set: the mapping belongs to every address space.
     pub global: bool,
 }
 

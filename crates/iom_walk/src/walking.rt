@@ -12,8 +12,8 @@ use crate::source::Words;
 use iom_bits::{Kind, has_bit};
 
 /// Walks page tables of this shape for an access of kind `kind` to `addr`, an IOVA or a guest-physical
-/// address. `root` is the PPN of the root: its address divided by 4096. That address and the entries' are ones
-/// of `words`, each below 2^56 + 2^14.
+/// address. `root` is the PPN of the root: its address divided by 4096. That address and the entries' are addresses
+/// in `words`, each below 2^56 + 2^14.
 #[tactic(auto, using(crate::proofs::Paths::is_outcome), unfolding(crate::specs::Outcome::outcome_of))]
 pub fn walk<W: Words>(words: &W, shape: Shape, root: u64, addr: u64, kind: Kind) -> Outcome
     requires { root < 2 ^ 44 }
@@ -28,7 +28,7 @@ pub fn walk<W: Words>(words: &W, shape: Shape, root: u64, addr: u64, kind: Kind)
     }
 }
 
-/// A law of walks: over one source of words all addresses of a page have one end. The function itself does nothing.
+/// A law of walks: over one source of words all addresses of a page have one end. The function does nothing.
 #[tactic(auto, using(crate::proofs::Pages::one_end))]
 pub fn one_end_a_page()
     ensures { OneEndAPage }
