@@ -1,5 +1,5 @@
--- What a device asks a bus for, and what a bus replies. Addresses are IOVAs. VIRTIO 1.2, "Device Requirements: Device accesses
--- to memory", leaves the way to memory to the platform; that an access has at most 64 bytes of one page is this model's.
+-- What a device asks a bus for, and what a bus replies. Addresses are IOVAs: VIRTIO 1.2, "Reserved Feature Bits",
+-- VIRTIO_F_ACCESS_PLATFORM. That an access has at most 64 bytes of one page is this model's.
 use Rattle.std.specs.Prelude.{ℕ, ◌+◌, ◌%◌, ◌≤◌, Bool, true, false, List, [], length}
 use Rattle.iom_virtq.specs.declared.access.Access.{Access}
 use Rattle.iom_virtq.specs.declared.access.Access.TheVariants as access

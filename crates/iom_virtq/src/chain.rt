@@ -27,6 +27,7 @@ const NO_PART: Part = Part {
 };
 
 /// A chain of descriptors: the parts that were added, in their order.
+#[derive(Drop)]
 pub struct Chain {
     limit: u16,
     parts: [Part; MOST_PARTS],

@@ -1,0 +1,19 @@
+-- A queue that is made ready.
+use Rattle.std.proofs.Common.{ℕ, Bool, true, List, refl}
+use Rattle.iom_virtq.specs.Chains.{Linked}
+use Rattle.iom_blk.specs.declared.phase.Phase.{Phase}
+use Rattle.iom_blk.specs.declared.phase.Phase.TheVariants.{Index, Ring, Descriptor, Header, Data, Status, UsedId, UsedLen, UsedIdx}
+use Rattle.iom_blk.specs.Sound.{HoldsIn}
+
+-- what holds of a request holds too where the queue is ready
+pub still : (ready : Bool) (size : ℕ) (chain : Linked) (header : List ℕ) (sectors : ℕ) (phase : Phase) →
+    HoldsIn ready size chain header sectors phase → HoldsIn true size chain header sectors phase
+still ready size chain header sectors Index held = held
+still ready size chain header sectors Ring held = refl
+still ready size chain header sectors (Descriptor i) held = (refl, held.1, held.2, held.3)
+still ready size chain header sectors Header held = (refl, held.1, held.2, held.3)
+still ready size chain header sectors (Data position) held = (refl, held.1, held.2, held.3, held.4, held.5)
+still ready size chain header sectors Status held = (refl, held.1)
+still ready size chain header sectors UsedId held = refl
+still ready size chain header sectors UsedLen held = refl
+still ready size chain header sectors UsedIdx held = refl

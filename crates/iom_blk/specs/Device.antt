@@ -1,0 +1,70 @@
+-- A block device with one split queue: VIRTIO 1.2, "Split Virtqueues", "Virtio Over MMIO" and "Block Device".
+use Rattle.std.specs.Prelude.{ℕ, ◌/◌, Bool, false, List, [], length}
+use Rattle.iom_bits.specs.Bits.{with_field_of}
+use Rattle.iom_virtq.specs.Chains.{Linked}
+use Rattle.iom_blk.specs.declared.phase.Phase.{Phase}
+use Rattle.iom_blk.specs.declared.phase.Phase.TheVariants.{Index}
+
+-- A device between two steps. Addresses are IOVAs. Of a request that is not under way `head` to `length` are what was left.
+pub record Device : Type 0 where
+  pub disk : List ℕ
+  -- what the driver wrote: DeviceFeaturesSel, DriverFeaturesSel, the features that it accepts, QueueSel
+  pub features_sel : ℕ
+  pub driver_sel : ℕ
+  pub features : ℕ
+  pub queue_sel : ℕ
+  -- queue 0: its size, the addresses of its descriptors, of its available ring and of its used ring, and whether it is ready
+  pub size : ℕ
+  pub desc : ℕ
+  pub avail : ℕ
+  pub ring : ℕ
+  pub ready : Bool
+  -- InterruptStatus and Status
+  pub interrupts : ℕ
+  pub status : ℕ
+  -- whether the driver notified; how many requests were taken up and how many given back, modulo 2^16
+  pub pending : Bool
+  pub seen : ℕ
+  pub used : ℕ
+  -- the request: what its next access is for, its first descriptor, its parts, its header so far, its status byte, and the
+  -- length that the used ring will tell
+  pub phase : Phase
+  pub head : ℕ
+  pub chain : Linked
+  pub header : List ℕ
+  pub answer : ℕ
+  pub length : ℕ
+
+-- how many sectors a disk has
+abbrev pub sectors : List ℕ → ℕ
+sectors disk = length disk / 512
+
+-- a device that was not touched yet
+unfoldable pub at_reset : List ℕ → Device
+at_reset disk = record {
+  disk = disk;
+  features_sel = 0;
+  driver_sel = 0;
+  features = 0;
+  queue_sel = 0;
+  size = 0;
+  desc = 0;
+  avail = 0;
+  ring = 0;
+  ready = false;
+  interrupts = 0;
+  status = 0;
+  pending = false;
+  seen = 0;
+  used = 0;
+  phase = Index;
+  head = 0;
+  chain = record { limit = 1; parts = [] };
+  header = [];
+  answer = 0;
+  length = 0;
+}
+
+-- a word with one bit set
+abbrev pub with_bit : ℕ → ℕ → ℕ
+with_bit word bit = with_field_of word bit 1 1

@@ -1,0 +1,6 @@
+pub mod Device
+pub mod Phases
+pub mod Registers
+pub mod Requests
+pub mod Sound
+pub mod Wants

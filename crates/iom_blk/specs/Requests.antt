@@ -1,0 +1,95 @@
+-- What a request means: VIRTIO 1.2, "Block Device", "Device Operation". Its header is struct virtio_blk_req's first 16 bytes; its
+-- last writable byte is the status.
+use Rattle.std.specs.Prelude.{ℕ, ◌+◌, ◌-◌, ◌*◌, ◌/◌, ◌%◌, ◌==◌, ◌&&◌, ◌||◌, Bool, List, length, take, drop, min, nat_le, nat_lt, if◌then◌else◌}
+use Rattle.iom_bits.specs.Bits.{has_bit}
+use Rattle.iom_bits.specs.Bytes.{number_of_bytes}
+use Rattle.iom_virtq.specs.declared.parts.Side.TheVariants.{Readable, Writable}
+use Rattle.iom_virtq.specs.Chains.{Linked, Item, bytes_on, address_of, run_length}
+
+-- the number of `count` bytes from a place on, the lowest byte first
+unfoldable pub number_at : List ℕ → ℕ → ℕ → ℕ
+number_at bytes at count = number_of_bytes (take count (drop at bytes))
+
+-- le32 type, le32 reserved, le64 sector
+abbrev pub kind_of : List ℕ → ℕ
+kind_of header = number_at header 0 4
+
+abbrev pub sector_of : List ℕ → ℕ
+sector_of header = number_at header 8 8
+
+-- VIRTIO_BLK_T_IN: the device writes its data; VIRTIO_BLK_T_OUT: it reads them; VIRTIO_BLK_T_FLUSH
+abbrev pub is_in : List ℕ → Bool
+is_in header = kind_of header == 0
+
+abbrev pub is_out : List ℕ → Bool
+is_out header = kind_of header == 1
+
+abbrev pub is_flush : List ℕ → Bool
+is_flush header = kind_of header == 4
+
+-- how many bytes the device reads, and how many it writes
+unfoldable pub readable : Linked → ℕ
+readable chain = length (bytes_on chain Readable)
+
+unfoldable pub writable : Linked → ℕ
+writable chain = length (bytes_on chain Writable)
+
+-- how many data bytes there are: of an IN all that are written but the status byte, of an OUT all that are read behind the header
+unfoldable pub data_length : List ℕ → Linked → ℕ
+data_length header chain =
+    if is_in header then writable chain - 1 else if is_out header then readable chain - 16 else 0
+
+abbrev pub moves : List ℕ → Bool
+moves header = is_in header || is_out header
+
+-- whether data may be moved: whole sectors, all of them on the disk
+unfoldable pub is_served : List ℕ → Linked → ℕ → Bool
+is_served header chain sectors =
+    data_length header chain % 512 == 0 && nat_le (sector_of header + data_length header chain / 512) sectors
+
+-- whether there are data to move
+unfoldable pub moves_data : List ℕ → Linked → ℕ → Bool
+moves_data header chain sectors =
+    moves header && is_served header chain sectors && nat_lt 0 (data_length header chain)
+
+-- the status byte: VIRTIO_BLK_S_OK 0, VIRTIO_BLK_S_IOERR 1, VIRTIO_BLK_S_UNSUPP 2. A FLUSH is served where VIRTIO_BLK_F_FLUSH,
+-- bit 9, was accepted
+unfoldable pub status_of : List ℕ → Linked → ℕ → ℕ → ℕ
+status_of header chain sectors features =
+    if moves header then (if is_served header chain sectors then 0 else 1)
+    else if is_flush header && has_bit features 9 then 0
+    else 2
+
+-- "The Virtqueue Used Ring", len: how many bytes were written from the first writable one on without a gap. They are all where the
+-- data of an IN were moved, or where the status byte stands alone
+unfoldable pub used_length : List ℕ → Linked → ℕ → ℕ
+used_length header chain answer = if (is_in header && answer == 0) || writable chain == 1 then writable chain else 0
+
+-- the header bytes that are still to be read, and how many of them the next piece has
+abbrev pub header_left : List ℕ → Linked → List Item
+header_left header chain = drop (length header) (bytes_on chain Readable)
+
+unfoldable pub header_address : List ℕ → Linked → ℕ
+header_address header chain = address_of (header_left header chain)
+
+unfoldable pub header_count : List ℕ → Linked → ℕ
+header_count header chain = min (run_length (header_left header chain)) (16 - length header)
+
+-- the same of the data, of which `position` bytes were moved
+abbrev pub data_left : List ℕ → Linked → ℕ → List Item
+data_left header chain position =
+    if is_in header then drop position (bytes_on chain Writable) else drop (16 + position) (bytes_on chain Readable)
+
+unfoldable pub data_address : List ℕ → Linked → ℕ → ℕ
+data_address header chain position = address_of (data_left header chain position)
+
+unfoldable pub data_count : List ℕ → Linked → ℕ → ℕ
+data_count header chain position = min (run_length (data_left header chain position)) (data_length header chain - position)
+
+-- where the status byte is to be written
+unfoldable pub status_address : Linked → ℕ
+status_address chain = address_of (drop (writable chain - 1) (bytes_on chain Writable))
+
+-- where on the disk the data behind `position` bytes stand
+abbrev pub place : List ℕ → ℕ → ℕ
+place header position = sector_of header * 512 + position

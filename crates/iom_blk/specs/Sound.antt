@@ -1,0 +1,45 @@
+-- What every access and every step keeps.
+use Rattle.std.specs.Prelude.{ℕ, ◌≡◌, ◌+◌, ◌*◌, ◌%◌, ◌^◌, ◌<◌, ◌≤◌, Bool, true, List, length}
+use Rattle.iom_virtq.specs.Chains.{Linked}
+use Rattle.iom_blk.specs.declared.phase.Phase.{Phase}
+use Rattle.iom_blk.specs.declared.phase.Phase.TheVariants.{Index, Ring, Descriptor, Header, Data, Status, UsedId, UsedLen, UsedIdx}
+use Rattle.iom_blk.specs.Device.{Device, sectors}
+use Rattle.iom_blk.specs.Requests.{readable, writable, data_length, moves_data}
+
+-- a queue that may be ready: 1 to 64 descriptors, and no area of it ends above 2^64
+pub record IsGoodQueue (size desc avail ring : ℕ) : Type 0 where
+  pub some : 1 ≤ size
+  pub most : size ≤ 64
+  pub desc_aligned : desc % 16 ≡ 0
+  pub avail_aligned : avail % 2 ≡ 0
+  pub ring_aligned : ring % 4 ≡ 0
+  pub desc_fits : desc + 16 * size ≤ 2 ^ 64
+  pub avail_fits : avail + (4 + 2 * size) ≤ 2 ^ 64
+  pub ring_fits : ring + (4 + 8 * size) ≤ 2 ^ 64
+
+-- what is so where a request stands in a phase
+abbrev pub HoldsIn : Bool → ℕ → Linked → List ℕ → ℕ → Phase → Type 0
+HoldsIn ready size chain header sectors Index = Unit {0}
+HoldsIn ready size chain header sectors Ring = ready ≡ true
+HoldsIn ready size chain header sectors (Descriptor i) =
+    (ready ≡ true) × (i < size) × (chain.limit ≡ size) × (length header ≡ 0)
+HoldsIn ready size chain header sectors Header =
+    (ready ≡ true) × (length header < 16) × (16 ≤ readable chain) × (1 ≤ writable chain)
+HoldsIn ready size chain header sectors (Data position) =
+    (ready ≡ true) × (length header ≡ 16) × (16 ≤ readable chain) × (1 ≤ writable chain)
+    × (moves_data header chain sectors ≡ true) × (position < data_length header chain)
+HoldsIn ready size chain header sectors Status = (ready ≡ true) × (1 ≤ writable chain)
+HoldsIn ready size chain header sectors UsedId = ready ≡ true
+HoldsIn ready size chain header sectors UsedLen = ready ≡ true
+HoldsIn ready size chain header sectors UsedIdx = ready ≡ true
+
+-- a disk: 1 to 65,536 whole sectors
+pub record IsDisk (disk : List ℕ) : Type 0 where
+  pub some : 512 ≤ length disk
+  pub most : length disk ≤ 33554432
+  pub whole : length disk % 512 ≡ 0
+
+pub record IsSound (d : Device) : Type 0 where
+  pub disk : IsDisk d.disk
+  pub queue : d.ready ≡ true → IsGoodQueue d.size d.desc d.avail d.ring
+  pub phase : HoldsIn d.ready d.size d.chain d.header (sectors d.disk) d.phase

@@ -1,0 +1,280 @@
+//! The device.
+
+ghost use Rattle.std.specs.Prelude.{◌≡◌, ◌+◌, ◌%◌, ◌≤◌, ◌^◌, true, Some, IfNone, IfSome, IfOk};
+ghost use Rattle.std.specs.Bool.{OnTrue};
+
+use crate::bytes::{bytes_of_u16, bytes_of_u32};
+use crate::phase::Phase;
+use crate::request::{Request, SECTOR};
+use crate::want::{Moved, Want};
+use iom_bits::has_bit;
+use iom_virtq::{Access, Bus};
+use std::alloc::{AllocError, Global};
+use std::marker::Model;
+
+/// A virtio block device with one queue. Its every address is an IOVA.
+#[derive(Drop)]
+pub struct Blk {
+    pub(crate) disk: Vec<u8>,
+    pub(crate) features_sel: u64,
+    pub(crate) driver_sel: u64,
+    pub(crate) features: u64,
+    pub(crate) queue_sel: u64,
+    pub(crate) size: u64,
+    pub(crate) desc: u64,
+    pub(crate) avail: u64,
+    pub(crate) ring: u64,
+    pub(crate) ready: bool,
+    pub(crate) interrupts: u64,
+    pub(crate) status: u64,
+    pub(crate) pending: bool,
+    pub(crate) seen: u16,
+    pub(crate) used: u16,
+    pub(crate) phase: Phase,
+    pub(crate) request: Request,
+}
+
+impl Model for Blk {
+    ghost use Rattle.iom_blk.specs.Device.{Device};
+    ghost use Rattle.iom_blk.specs.Sound.{IsSound};
+
+    ghost Value = { Device };
+
+    ghost view = { λ b. record {
+      disk = b.disk.items;
+      features_sel = b.features_sel;
+      driver_sel = b.driver_sel;
+      features = b.features;
+      queue_sel = b.queue_sel;
+      size = b.size;
+      desc = b.desc;
+      avail = b.avail;
+      ring = b.ring;
+      ready = b.ready;
+      interrupts = b.interrupts;
+      status = b.status;
+      pending = b.pending;
+      seen = b.seen;
+      used = b.used;
+      phase = b.phase;
+      head = b.request.head;
+      chain = b.request.chain;
+      header = b.request.header.items;
+      answer = b.request.answer;
+      length = b.request.length;
+    } };
+
+    ghost invariant = { λ b. IsSound (record {
+      disk = b.disk.items;
+      features_sel = b.features_sel;
+      driver_sel = b.driver_sel;
+      features = b.features;
+      queue_sel = b.queue_sel;
+      size = b.size;
+      desc = b.desc;
+      avail = b.avail;
+      ring = b.ring;
+      ready = b.ready;
+      interrupts = b.interrupts;
+      status = b.status;
+      pending = b.pending;
+      seen = b.seen;
+      used = b.used;
+      phase = b.phase;
+      head = b.request.head;
+      chain = b.request.chain;
+      header = b.request.header.items;
+      answer = b.request.answer;
+      length = b.request.length;
+    }) };
+}
+
+impl Blk {
+    ghost use Rattle.iom_virtq.specs.Bus.{Reply, IsShortAsk};
+    ghost use Rattle.iom_blk.specs.Device.{at_reset, sectors};
+    ghost use Rattle.iom_blk.specs.Phases.{is_active, ask_of, asks, used_entry, took, moved_of};
+    ghost use Rattle.iom_blk.specs.Sound.{IsDisk};
+    ghost use Rattle.iom_blk.specs.Wants.{wanted};
+    ghost use Rattle.iom_blk.specs.declared.want.Moved.TheVariants as moved;
+
+    /// A device that was not touched yet, with this disk of 1 to 65,536 whole sectors of 512 bytes.
+    #[tactic(auto, unfolding(crate::specs::Device::at_reset))]
+    pub fn new(disk: Vec<u8>) -> Blk
+        requires { IsDisk disk.items }
+        ensures { result ≡ at_reset disk.items }
+    {
+        Blk {
+            disk,
+            features_sel: 0,
+            driver_sel: 0,
+            features: 0,
+            queue_sel: 0,
+            size: 0,
+            desc: 0,
+            avail: 0,
+            ring: 0,
+            ready: false,
+            interrupts: 0,
+            status: 0,
+            pending: false,
+            seen: 0,
+            used: 0,
+            phase: Phase::Index,
+            request: Request::new(0, 1),
+        }
+    }
+
+    /// The bytes of its disk.
+    pub fn disk(&self) -> &[u8]
+        ensures bytes { result.now ≡ self.now.disk }
+        ensures legal { IsDisk self.now.disk }
+    {
+        &self.disk
+    }
+
+    /// What the next step asks the bus for.
+    #[tactic(auto, unfolding(crate::specs::Phases::asks))]
+    pub fn want(&self) -> Want
+        ensures asks { wanted result ≡ asks self.now }
+        ensures short { IfSome (asks self.now) IsShortAsk }
+    {
+        if self.is_active() {
+            self.access()
+        } else {
+            Want::Nothing
+        }
+    }
+
+    /// One step: at most one access of `bus`. It asks what `want` says, and goes on as `take` with the answer.
+    pub fn step<B: Bus>(&mut self, bus: &mut B) -> Moved
+        ensures idle { IfNone (asks self.old)
+            ((result ≡ moved.Idle) × (self.new ≡ self.old) × (bus.new ≡ bus.old)) }
+        ensures moved { IfSome (asks self.old)
+            (λ ask. (reply : Reply) × B.answers bus.old ask reply bus.new
+            × (self.new ≡ took self.old reply) × (result ≡ moved_of reply.access)) }
+    {
+        match self.want() {
+            Want::Nothing => Moved::Idle,
+            Want::Read { iova, len } => {
+                let mut buffer = [0; 64];
+                let out = &mut buffer[..len as usize];
+                let answer = bus.read(iova, out);
+                self.take(answer, out)
+            }
+            Want::Write { iova, bytes } => {
+                let answer = bus.write(iova, &bytes);
+                self.take(answer, &[])
+            }
+        }
+    }
+
+    /// The same device once more, with a disk of its own. After a refused allocation this one stands unchanged.
+    pub fn try_clone(&self, alloc: Global) -> Result<Blk, AllocError>
+        ensures { IfOk result (λ copy. copy ≡ self.now) }
+    {
+        Ok(Blk {
+            disk: Vec::from_slice(alloc, &self.disk)?,
+            features_sel: self.features_sel,
+            driver_sel: self.driver_sel,
+            features: self.features,
+            queue_sel: self.queue_sel,
+            size: self.size,
+            desc: self.desc,
+            avail: self.avail,
+            ring: self.ring,
+            ready: self.ready,
+            interrupts: self.interrupts,
+            status: self.status,
+            pending: self.pending,
+            seen: self.seen,
+            used: self.used,
+            phase: self.phase,
+            request: self.request.copy(),
+        })
+    }
+
+    // Whether the next step has something to do.
+    #[tactic(auto, unfolding(crate::specs::Phases::is_active))]
+    fn is_active(&self) -> bool
+        ensures active { result ≡ is_active self.now }
+        ensures ready { OnTrue result (self.now.ready ≡ true) }
+    {
+        has_bit(self.status, 2)
+            && has_bit(self.status, 3)
+            && !has_bit(self.status, 6)
+            && self.ready
+            && self.pending
+    }
+
+    // What its phase asks the bus for.
+    #[tactic(auto, unfolding(crate::specs::Phases::ask_of), using(crate::proofs::Served::place_within))]
+    fn access(&self) -> Want
+        requires { self.now.ready ≡ true }
+        ensures asks { wanted result ≡ Some (ask_of self.now self.now.phase) }
+        ensures short { IsShortAsk (ask_of self.now self.now.phase) }
+    {
+        match self.phase {
+            Phase::Index => Want::Read {
+                iova: self.avail + 2,
+                len: 2,
+            },
+            Phase::Ring => Want::Read {
+                iova: self.avail + 4 + 2 * (self.seen as u64 % self.size),
+                len: 2,
+            },
+            Phase::Descriptor(i) => Want::Read {
+                iova: self.desc + 16 * i as u64,
+                len: 16,
+            },
+            Phase::Header => {
+                let (iova, len) = self.request.header_piece();
+                Want::Read { iova, len }
+            }
+            Phase::Data(position) => self.data_access(position),
+            Phase::Status => Want::write(self.request.status_address(), &[self.request.answer]),
+            Phase::UsedId => Want::write(
+                self.used_entry(),
+                &bytes_of_u32(self.request.head as u32),
+            ),
+            Phase::UsedLen => Want::write(
+                self.used_entry() + 4,
+                &bytes_of_u32(self.request.length),
+            ),
+            Phase::UsedIdx => Want::write(self.ring + 2, &bytes_of_u16(self.used.wrapping_add(1))),
+        }
+    }
+
+    // Its phase Data: the data are written of an IN, and read of an OUT.
+    #[tactic(auto, unfolding(crate::specs::Phases::ask_of), using(crate::proofs::Served::place_within))]
+    fn data_access(&self, position: u64) -> Want
+        requires { self.now.phase ≡ Phase.Data position }
+        ensures asks { wanted result ≡ Some (ask_of self.now (Phase.Data position)) }
+        ensures short { IsShortAsk (ask_of self.now (Phase.Data position)) }
+    {
+        let (iova, len) = self.request.data_piece(position);
+        if self.request.is_in() {
+            let at = self.request.place(position, self.sectors()) as usize;
+            Want::write(iova, &self.disk[at..at + len as usize])
+        } else {
+            Want::Read { iova, len }
+        }
+    }
+
+    // How many sectors the disk has.
+    pub(crate) fn sectors(&self) -> u64
+        ensures value { result ≡ sectors self.now.disk }
+        ensures most { result ≤ 65536 }
+    {
+        self.disk.len() as u64 / SECTOR
+    }
+
+    // The entry of the used ring that is written next.
+    fn used_entry(&self) -> u64
+        requires { self.now.ready ≡ true }
+        ensures entry { result ≡ used_entry self.now }
+        ensures aligned { result % 4 ≡ 0 }
+        ensures fits { result + 8 ≤ 2 ^ 64 }
+    {
+        self.ring + 4 + 8 * (self.used as u64 % self.size)
+    }
+}

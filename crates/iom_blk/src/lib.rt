@@ -1,0 +1,13 @@
+//! A virtio block device over any bus (VIRTIO 1.2, "Block Device", "Virtio Over MMIO").
+#![tactic(auto)]
+
+pub use device::Blk;
+pub use want::{Moved, Want};
+
+mod bytes;
+mod device;
+mod phase;
+mod registers;
+mod request;
+mod taking;
+mod want;

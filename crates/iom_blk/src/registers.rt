@@ -1,0 +1,296 @@
+//! The registers of a device (VIRTIO 1.2, "MMIO Device Register Layout").
+
+ghost use Rattle.std.specs.Prelude.{◌≡◌, ◌+◌, ◌*◌, ◌<◌, ◌≤◌, ◌^◌, ◌%◌, true, false, nat_le};
+ghost use Rattle.std.specs.Bool.{OnTrue, OnFalse};
+ghost use Rattle.iom_blk.specs.Registers.{is_legal, is_power, is_accepted, offered, status_after, acknowledged};
+
+use crate::device::Blk;
+use crate::phase::Phase;
+use crate::request::Request;
+use iom_bits::{field, has_bit, with_field};
+
+/// Where the configuration begins.
+const CONFIG: u64 = 0x100;
+
+// Status: FEATURES_OK and DEVICE_NEEDS_RESET, by their bits.
+const FEATURES_OK: u32 = 3;
+
+const NEEDS_RESET: u32 = 6;
+
+/// QueueNumMax.
+const LARGEST_QUEUE: u64 = 64;
+
+impl Blk {
+    ghost use Rattle.iom_blk.specs.Registers.{read, shown, configured, written, with_queue, is_queue, with_ready, accepting, with_status};
+    ghost use Rattle.iom_blk.specs.Sound.{IsGoodQueue};
+
+    /// The number of the `size` bytes at offset `off`; None where the registers don't take the access. They take 4 bytes at a
+    /// multiple of 4 below 0x1000, and from 0x100 on 1 or 2 bytes at a multiple of as many.
+    #[tactic(auto, unfolding(crate::specs::Registers::read))]
+    pub fn reg_read(&self, off: u64, size: u64) -> Option<u64>
+        ensures { result ≡ read self.now off size }
+    {
+        if !is_legal(off, size) {
+            return None;
+        }
+        Some(if off < CONFIG {
+            self.shown(off)
+        } else {
+            self.configured(off, size)
+        })
+    }
+
+    /// Writes the `size` bytes of `value` at offset `off`, and answers true; false where the registers don't take the access, and
+    /// then nothing is changed.
+    #[tactic(auto, unfolding(crate::specs::Registers::written))]
+    pub fn reg_write(&mut self, off: u64, size: u64, value: u64) -> bool
+        requires { size ≡ 4 → value < 2 ^ 32 }
+        ensures legal { result ≡ is_legal off size }
+        ensures written { OnTrue result (self.new ≡ written self.old off value) }
+        ensures refused { OnFalse result (self.new ≡ self.old) }
+    {
+        let legal = is_legal(off, size);
+        if legal && off < CONFIG {
+            self.set(off, value);
+        }
+        legal
+    }
+
+    // What a register below 0x100 shows.
+    #[tactic(auto, unfolding(crate::specs::Registers::shown))]
+    fn shown(&self, off: u64) -> u64
+        ensures { result ≡ shown self.now off }
+    {
+        match off {
+            0x00 => 0x7472_6976,
+            0x04 | 0x08 => 2,
+            0x10 => offered(self.features_sel),
+            0x34 if self.queue_sel == 0 => LARGEST_QUEUE,
+            0x44 if self.queue_sel == 0 && self.ready => 1,
+            0x60 => self.interrupts,
+            0x70 => self.status,
+            0xb0 | 0xb4 | 0xb8 | 0xbc => 0xffff_ffff,
+            _ => 0,
+        }
+    }
+
+    // The configuration from `off` on.
+    #[tactic(auto, unfolding(crate::specs::Registers::configured))]
+    fn configured(&self, off: u64, size: u64) -> u64
+        requires from { CONFIG ≤ off }
+        requires some { 1 ≤ size }
+        requires most { size ≤ 4 }
+        requires within { off % size ≡ 0 }
+        ensures { result ≡ configured self.now off size }
+    {
+        if off < CONFIG + 8 {
+            field(
+                self.sectors(),
+                (8 * (off - CONFIG)) as u32,
+                (8 * size) as u32,
+            )
+        } else {
+            0
+        }
+    }
+
+    // Writes a register below 0x100.
+    #[tactic(auto, unfolding(crate::specs::Registers::written))]
+    fn set(&mut self, off: u64, value: u64)
+        requires register { off < CONFIG }
+        requires fits { value < 2 ^ 32 }
+        ensures { self.new ≡ written self.old off value }
+    {
+        match off {
+            0x14 => self.features_sel = value,
+            0x20 => self.accept(value),
+            0x24 => self.driver_sel = value,
+            0x30 => self.queue_sel = value,
+            0x44 => {
+                if self.queue_sel == 0 {
+                    self.set_ready(has_bit(value, 0));
+                }
+            }
+            0x50 => {
+                if value == 0 {
+                    self.pending = true;
+                }
+            }
+            0x64 => self.interrupts = acknowledged(self.interrupts, value),
+            0x70 => self.set_status(value),
+            _ if self.queue_sel == 0 && !self.ready => self.set_queue(off, value),
+            _ => {}
+        }
+    }
+
+    // DriverFeatures.
+    #[tactic(auto, unfolding(crate::specs::Registers::accepting))]
+    fn accept(&mut self, value: u64)
+        requires { value < 2 ^ 32 }
+        ensures { self.new ≡ accepting self.old value }
+    {
+        if has_bit(self.status, FEATURES_OK) {
+            return;
+        }
+        match self.driver_sel {
+            0 => self.features = with_field(self.features, 0, 32, value),
+            1 => self.features = with_field(self.features, 32, 32, value),
+            _ => {}
+        }
+    }
+
+    // QueueNum and the addresses of the queue, which isn't ready.
+    #[tactic(auto, unfolding(crate::specs::Registers::with_queue))]
+    fn set_queue(&mut self, off: u64, value: u64)
+        requires free { self.old.ready ≡ false }
+        requires fits { value < 2 ^ 32 }
+        ensures { self.new ≡ with_queue self.old off value }
+    {
+        match off {
+            0x38 => self.size = value,
+            0x80 => self.desc = with_field(self.desc, 0, 32, value),
+            0x84 => self.desc = with_field(self.desc, 32, 32, value),
+            0x90 => self.avail = with_field(self.avail, 0, 32, value),
+            0x94 => self.avail = with_field(self.avail, 32, 32, value),
+            0xa0 => self.ring = with_field(self.ring, 0, 32, value),
+            0xa4 => self.ring = with_field(self.ring, 32, 32, value),
+            _ => {}
+        }
+    }
+
+    // QueueReady.
+    #[tactic(auto, unfolding(crate::specs::Registers::with_ready))]
+    fn set_ready(&mut self, ready: bool)
+        ensures { self.new ≡ with_ready self.old ready }
+    {
+        if !ready {
+            self.phase = Phase::Index;
+            self.ready = false;
+            self.seen = 0;
+            self.used = 0;
+        } else if self.is_queue() {
+            self.ready = true;
+        }
+    }
+
+    // Whether the queue may be ready.
+    #[tactic(auto, unfolding(crate::specs::Registers::is_queue))]
+    fn is_queue(&self) -> bool
+        ensures queue { result ≡ is_queue self.now }
+        ensures good { OnTrue result (IsGoodQueue self.now.size self.now.desc self.now.avail self.now.ring) }
+    {
+        if !is_power(self.size) {
+            return false;
+        }
+        self.desc % 16 == 0
+            && self.avail % 2 == 0
+            && self.ring % 4 == 0
+            && fits(self.desc, 16 * self.size)
+            && fits(self.avail, 4 + 2 * self.size)
+            && fits(self.ring, 4 + 8 * self.size)
+    }
+
+    // Status.
+    #[tactic(auto, unfolding(crate::specs::Registers::with_status, crate::specs::Device::at_reset))]
+    fn set_status(&mut self, value: u64)
+        ensures { self.new ≡ with_status self.old value }
+    {
+        if value != 0 {
+            self.status = status_after(self.status, self.features, value);
+            return;
+        }
+        self.phase = Phase::Index;
+        self.ready = false;
+        self.features_sel = 0;
+        self.driver_sel = 0;
+        self.features = 0;
+        self.queue_sel = 0;
+        self.size = 0;
+        self.desc = 0;
+        self.avail = 0;
+        self.ring = 0;
+        self.interrupts = 0;
+        self.status = 0;
+        self.pending = false;
+        self.seen = 0;
+        self.used = 0;
+        self.request = Request::new(0, 1);
+    }
+}
+
+// Whether the registers take an access of `size` bytes at offset `off`.
+#[tactic(auto, unfolding(crate::specs::Registers::is_legal))]
+fn is_legal(off: u64, size: u64) -> bool
+    ensures legal { result ≡ is_legal off size }
+    ensures register { OnTrue result (off < CONFIG → size ≡ 4) }
+    ensures part { OnTrue result ((1 ≤ size) × (size ≤ 4) × (off % size ≡ 0)) }
+{
+    (size == 4 || ((size == 1 || size == 2) && off >= CONFIG)) && off % size == 0 && off < 0x1000
+}
+
+// The half of the features that is offered under a selector.
+fn offered(sel: u64) -> u64
+    ensures { result ≡ offered sel }
+{
+    match sel {
+        0 => 0x200,
+        1 => 3,
+        _ => 0,
+    }
+}
+
+// Whether features that a driver accepts are enough, and were offered.
+#[tactic(auto, unfolding(crate::specs::Registers::is_accepted))]
+fn is_accepted(features: u64) -> bool
+    ensures { result ≡ is_accepted features }
+{
+    field(features, 0, 9) == 0 && field(features, 10, 22) == 0 && field(features, 32, 32) == 3
+}
+
+// What a written number, not 0, makes of Status.
+#[tactic(auto, unfolding(crate::specs::Registers::status_after))]
+fn status_after(status: u64, features: u64, value: u64) -> u64
+    ensures { result ≡ status_after status features value }
+{
+    let accepted = if has_bit(value, FEATURES_OK) && is_accepted(features) {
+        8
+    } else {
+        0
+    };
+    field(value, 0, 3) + accepted + 64 * field(status, NEEDS_RESET, 1) + 128 * field(value, 7, 1)
+}
+
+// InterruptStatus without the bits that a written number clears.
+#[tactic(auto, unfolding(crate::specs::Registers::acknowledged))]
+fn acknowledged(interrupts: u64, value: u64) -> u64
+    ensures { result ≡ acknowledged interrupts value }
+{
+    let used = if has_bit(value, 0) {
+        0
+    } else {
+        field(interrupts, 0, 1)
+    };
+    let changed = if has_bit(value, 1) {
+        0
+    } else {
+        field(interrupts, 1, 1)
+    };
+    used + 2 * changed
+}
+
+// Whether a queue of this size may be ready: a power of two up to 64.
+#[tactic(auto, unfolding(crate::specs::Registers::is_power))]
+fn is_power(size: u64) -> bool
+    ensures power { result ≡ is_power size }
+    ensures some { OnTrue result (1 ≤ size) }
+    ensures most { OnTrue result (size ≤ 64) }
+{
+    matches!(size, 1 | 2 | 4 | 8 | 16 | 32 | 64)
+}
+
+// Whether `size` bytes from an address on end at 2^64 or below.
+fn fits(addr: u64, size: u64) -> bool
+    ensures { result ≡ nat_le (addr + size) (2 ^ 64) }
+{
+    addr as u128 + size as u128 <= 1 << 64
+}

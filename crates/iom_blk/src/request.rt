@@ -1,0 +1,308 @@
+//! A request, and what it means.
+
+ghost use Rattle.std.specs.Prelude.{◌≡◌, ◌+◌, ◌*◌, ◌<◌, ◌≤◌, ◌^◌, [], length, true, if◌then◌else◌};
+ghost use Rattle.iom_virtq.specs.Bus.{IsShort};
+ghost use Rattle.iom_blk.specs.Requests.{kind_of, sector_of, is_in, is_out, readable, writable, data_length, moves, is_served, moves_data, status_of, used_length, header_address, header_count, data_address, data_count, status_address, place};
+
+use crate::bytes::{u32_at, u64_at};
+use crate::phase::Phase;
+use arrayvec::ArrayVec;
+use iom_bits::has_bit;
+use iom_virtq::{Chain, Side};
+
+/// How many bytes the header of a request has.
+pub const HEADER: u64 = 16;
+
+/// How many bytes a sector has.
+pub const SECTOR: u64 = 512;
+
+// The types of requests: VIRTIO_BLK_T_IN, VIRTIO_BLK_T_OUT, VIRTIO_BLK_T_FLUSH.
+const IN: u32 = 0;
+
+const OUT: u32 = 1;
+
+const FLUSH: u32 = 4;
+
+/// The feature VIRTIO_BLK_F_FLUSH, by its bit.
+const FLUSH_FEATURE: u32 = 9;
+
+// The status of a request: VIRTIO_BLK_S_OK, VIRTIO_BLK_S_IOERR, VIRTIO_BLK_S_UNSUPP.
+const OK: u8 = 0;
+
+const FAILED: u8 = 1;
+
+const UNSUPPORTED: u8 = 2;
+
+/// A request: what was read of it, and what came of it.
+#[derive(Drop)]
+pub struct Request {
+    /// Its first descriptor.
+    pub head: u16,
+    pub chain: Chain,
+    /// What was read of its first 16 bytes.
+    pub header: ArrayVec<u8, 16>,
+    /// The status byte, once the header is whole.
+    pub answer: u8,
+    /// The length that the used ring will tell.
+    pub length: u32,
+}
+
+impl Request {
+    /// A request that begins at a descriptor, in a queue of `limit` descriptors.
+    pub fn new(head: u16, limit: u16) -> Request
+        requires some { 1 ≤ limit }
+        requires most { limit ≤ 64 }
+        ensures head { result.head ≡ head }
+        ensures chain { result.chain ≡ record { limit = limit; parts = [] } }
+        ensures header { result.header.items ≡ [] }
+        ensures answer { result.answer ≡ 0 }
+        ensures length { result.length ≡ 0 }
+    {
+        Request {
+            head,
+            chain: Chain::new(limit),
+            header: ArrayVec::new(),
+            answer: 0,
+            length: 0,
+        }
+    }
+
+    /// The same request once more.
+    pub fn copy(&self) -> Request
+        ensures head { result.head ≡ self.now.head }
+        ensures chain { result.chain ≡ self.now.chain }
+        ensures header { result.header.items ≡ self.now.header.items }
+        ensures answer { result.answer ≡ self.now.answer }
+        ensures length { result.length ≡ self.now.length }
+    {
+        let mut header = ArrayVec::new();
+        let _fits = header.try_extend_from_slice(&self.header);
+        Request {
+            head: self.head,
+            chain: self.chain.copy(),
+            header,
+            answer: self.answer,
+            length: self.length,
+        }
+    }
+
+    // Its type.
+    fn kind(&self) -> u32
+        requires { length self.now.header.items ≡ 16 }
+        ensures { result ≡ kind_of self.now.header.items }
+    {
+        u32_at(&self.header, 0)
+    }
+
+    // Its first sector.
+    fn sector(&self) -> u64
+        requires { length self.now.header.items ≡ 16 }
+        ensures { result ≡ sector_of self.now.header.items }
+    {
+        u64_at(&self.header, 8)
+    }
+
+    /// Whether its data are written by the device.
+    pub fn is_in(&self) -> bool
+        requires { length self.now.header.items ≡ 16 }
+        ensures { result ≡ is_in self.now.header.items }
+    {
+        self.kind() == IN
+    }
+
+    // Whether its data are read by the device.
+    fn is_out(&self) -> bool
+        requires { length self.now.header.items ≡ 16 }
+        ensures { result ≡ is_out self.now.header.items }
+    {
+        self.kind() == OUT
+    }
+
+    // Whether it is of a type that has data.
+    fn moves(&self) -> bool
+        requires { length self.now.header.items ≡ 16 }
+        ensures { result ≡ moves self.now.header.items }
+    {
+        self.is_in() || self.is_out()
+    }
+
+    /// How many bytes the device reads.
+    #[tactic(auto, unfolding(crate::specs::Requests::readable))]
+    pub fn readable(&self) -> u64
+        ensures total { result ≡ readable self.now.chain }
+        ensures few { result ≤ 64 * 4294967295 }
+    {
+        self.chain.total(Side::Readable)
+    }
+
+    /// How many bytes the device writes.
+    #[tactic(auto, unfolding(crate::specs::Requests::writable))]
+    pub fn writable(&self) -> u64
+        ensures total { result ≡ writable self.now.chain }
+        ensures few { result ≤ 64 * 4294967295 }
+    {
+        self.chain.total(Side::Writable)
+    }
+
+    /// How many data bytes there are.
+    #[tactic(auto, unfolding(crate::specs::Requests::data_length))]
+    pub fn data_length(&self) -> u64
+        requires whole { length self.now.header.items ≡ 16 }
+        requires header { HEADER ≤ readable self.now.chain }
+        requires status { 1 ≤ writable self.now.chain }
+        ensures value { result ≡ data_length self.now.header.items self.now.chain }
+        ensures few { result ≤ 64 * 4294967295 }
+    {
+        if self.is_in() {
+            self.writable() - 1
+        } else if self.is_out() {
+            self.readable() - HEADER
+        } else {
+            0
+        }
+    }
+
+    // Whether its data may be moved, on a disk of so many sectors.
+    #[tactic(auto, unfolding(crate::specs::Requests::is_served))]
+    fn is_served(&self, sectors: u64) -> bool
+        requires whole { length self.now.header.items ≡ 16 }
+        requires header { HEADER ≤ readable self.now.chain }
+        requires status { 1 ≤ writable self.now.chain }
+        ensures { result ≡ is_served self.now.header.items self.now.chain sectors }
+    {
+        let data = self.data_length();
+        data % SECTOR == 0 && self.sector() as u128 + (data / SECTOR) as u128 <= sectors as u128
+    }
+
+    /// Whether there are data to move, on a disk of so many sectors.
+    #[tactic(auto, unfolding(crate::specs::Requests::moves_data))]
+    fn moves_data(&self, sectors: u64) -> bool
+        requires whole { length self.now.header.items ≡ 16 }
+        requires header { HEADER ≤ readable self.now.chain }
+        requires status { 1 ≤ writable self.now.chain }
+        ensures { result ≡ moves_data self.now.header.items self.now.chain sectors }
+    {
+        self.moves() && self.is_served(sectors) && self.data_length() > 0
+    }
+
+    /// The status that it is answered, on a disk of so many sectors and with these features accepted.
+    #[tactic(auto, unfolding(crate::specs::Requests::status_of))]
+    fn status(&self, sectors: u64, features: u64) -> u8
+        requires whole { length self.now.header.items ≡ 16 }
+        requires header { HEADER ≤ readable self.now.chain }
+        requires status { 1 ≤ writable self.now.chain }
+        ensures { result ≡ status_of self.now.header.items self.now.chain sectors features }
+    {
+        if self.moves() {
+            return if self.is_served(sectors) { OK } else { FAILED };
+        }
+        if self.kind() == FLUSH && has_bit(features, FLUSH_FEATURE) {
+            OK
+        } else {
+            UNSUPPORTED
+        }
+    }
+
+    /// Judges the request, whose header is whole, on a disk of so many sectors and with these features accepted: its status
+    /// byte, the length for the used ring, and the phase that comes next.
+    pub fn judge(&mut self, sectors: u64, features: u64) -> Phase
+        requires whole { length self.old.header.items ≡ 16 }
+        requires header { HEADER ≤ readable self.old.chain }
+        requires status { 1 ≤ writable self.old.chain }
+        requires disk { sectors ≤ 65536 }
+        ensures answer { self.new.answer
+            ≡ status_of self.old.header.items self.old.chain sectors features }
+        ensures length { self.new.length
+            ≡ used_length self.old.header.items self.old.chain self.new.answer }
+        ensures head { self.new.head ≡ self.old.head }
+        ensures chain { self.new.chain ≡ self.old.chain }
+        ensures same_header { self.new.header.items ≡ self.old.header.items }
+        ensures phase { result
+            ≡ (if moves_data self.old.header.items self.old.chain sectors then Phase.Data 0 else Phase.Status) }
+    {
+        self.answer = self.status(sectors, features);
+        self.length = self.used_length(self.answer, sectors, features);
+        if self.moves_data(sectors) {
+            Phase::Data(0)
+        } else {
+            Phase::Status
+        }
+    }
+
+    /// The length that the used ring tells of a request that was answered `answer`, on a disk of so many sectors and with
+    /// these features accepted.
+    #[tactic(auto, unfolding(crate::specs::Requests::used_length), using(crate::proofs::Served::written_fits))]
+    fn used_length(&self, answer: u8, sectors: u64, features: u64) -> u32
+        requires whole { length self.now.header.items ≡ 16 }
+        requires status { 1 ≤ writable self.now.chain }
+        requires disk { sectors ≤ 65536 }
+        requires judged { answer ≡ status_of self.now.header.items self.now.chain sectors features }
+        ensures { result ≡ used_length self.now.header.items self.now.chain answer }
+    {
+        let all = self.writable();
+        if (self.is_in() && answer == OK) || all == 1 {
+            all as u32
+        } else {
+            0
+        }
+    }
+
+    /// The piece of the header that is to be read next.
+    #[tactic(auto, unfolding(crate::specs::Requests::readable, crate::specs::Requests::header_address, crate::specs::Requests::header_count))]
+    pub fn header_piece(&self) -> (u64, u64)
+        requires part { length self.now.header.items < 16 }
+        requires header { HEADER ≤ readable self.now.chain }
+        ensures address { result.0 ≡ header_address self.now.header.items self.now.chain }
+        ensures count { result.1 ≡ header_count self.now.header.items self.now.chain }
+        ensures short { IsShort result.0 result.1 }
+    {
+        let at = self.header.len() as u64;
+        let (iova, count) = self.chain.piece(Side::Readable, at);
+        (iova, count.min(HEADER - at))
+    }
+
+    /// The piece of the data that is to be moved next, after `position` bytes.
+    #[tactic(auto, unfolding(crate::specs::Requests::readable, crate::specs::Requests::writable, crate::specs::Requests::data_length, crate::specs::Requests::data_address, crate::specs::Requests::data_count))]
+    pub fn data_piece(&self, position: u64) -> (u64, u64)
+        requires whole { length self.now.header.items ≡ 16 }
+        requires header { HEADER ≤ readable self.now.chain }
+        requires status { 1 ≤ writable self.now.chain }
+        requires within { position < data_length self.now.header.items self.now.chain }
+        ensures address { result.0 ≡ data_address self.now.header.items self.now.chain position }
+        ensures count { result.1 ≡ data_count self.now.header.items self.now.chain position }
+        ensures short { IsShort result.0 result.1 }
+    {
+        let left = self.data_length() - position;
+        if self.is_in() {
+            let (iova, count) = self.chain.piece(Side::Writable, position);
+            (iova, count.min(left))
+        } else {
+            let (iova, count) = self.chain.piece(Side::Readable, HEADER + position);
+            (iova, count.min(left))
+        }
+    }
+
+    /// Where the status byte is to be written.
+    #[tactic(auto, unfolding(crate::specs::Requests::writable, crate::specs::Requests::status_address))]
+    pub fn status_address(&self) -> u64
+        requires { 1 ≤ writable self.now.chain }
+        ensures { result ≡ status_address self.now.chain }
+    {
+        let last = self.writable() - 1;
+        let (iova, _) = self.chain.piece(Side::Writable, last);
+        iova
+    }
+
+    /// Where on a disk of so many sectors the data behind `position` bytes stand.
+    #[tactic(auto, using(crate::proofs::Served::moved_within, crate::proofs::Served::place_within))]
+    pub fn place(&self, position: u64, sectors: u64) -> u64
+        requires whole { length self.now.header.items ≡ 16 }
+        requires disk { sectors ≤ 65536 }
+        requires within { position < data_length self.now.header.items self.now.chain }
+        requires moved { moves_data self.now.header.items self.now.chain sectors ≡ true }
+        ensures place { result ≡ place self.now.header.items position }
+        ensures within { result + data_count self.now.header.items self.now.chain position ≤ sectors * 512 }
+    {
+        self.sector() * SECTOR + position
+    }
+}

@@ -1,0 +1,204 @@
+//! What a device makes of an answer, phase by phase.
+
+ghost use Rattle.std.specs.Prelude.{◌≡◌, ◌+◌, ◌<◌, ◌≤◌, true, false, length, IsSome, IfSome};
+ghost use Rattle.std.specs.Bool.{OnTrue};
+
+use crate::bytes::{u16_at, u32_at, u64_at};
+use crate::device::Blk;
+use crate::phase::Phase;
+use crate::request::{HEADER, Request};
+use crate::want::Moved;
+use iom_bits::with_field;
+use iom_virtq::{Access, More};
+
+/// DEVICE_NEEDS_RESET in Status, by its bit.
+const NEEDS_RESET: u32 = 6;
+
+// In InterruptStatus: a buffer was used, and a configuration change.
+const USED_BUFFER: u32 = 0;
+
+const CHANGED: u32 = 1;
+
+impl Blk {
+    ghost use Rattle.iom_virtq.specs.Bus.{is_granted, reply_of};
+    ghost use Rattle.iom_blk.specs.Phases.{ask_of, asks, broken, data_phase, after_index, after_ring, completed, after_descriptor, after_header, after_data, after_used, after, took, moved_of};
+    ghost use Rattle.iom_blk.specs.Requests.{readable, writable, is_in, data_length, data_count, header_count};
+    ghost use Rattle.iom_blk.specs.Wants.{Answers};
+
+    /// Goes on with the bus's answer to what `want` said, which isn't Nothing. `bytes` are those of a read that was granted, as
+    /// many as were asked for; else they aren't looked at.
+    #[tactic(auto, unfolding(crate::specs::Phases::asks, crate::specs::Phases::took), using(crate::proofs::Asking::asked_is_ready))]
+    pub fn take(&mut self, answer: Access, bytes: &[u8]) -> Moved
+        requires asked { IsSome (asks self.old) }
+        requires answered { OnTrue (is_granted answer) (IfSome (asks self.old) (Answers bytes.now)) }
+        ensures device { self.new ≡ took self.old (reply_of answer bytes.now) }
+        ensures moved { result ≡ moved_of answer }
+    {
+        match answer {
+            Access::Ok => {
+                self.go_on(bytes);
+                Moved::Did
+            }
+            Access::Denied(cause) => {
+                self.break_down();
+                Moved::Denied(cause)
+            }
+            Access::Outside => {
+                self.break_down();
+                Moved::Outside
+            }
+        }
+    }
+
+    // Its access was refused, or what it read can't be.
+    #[tactic(auto, unfolding(crate::specs::Phases::broken))]
+    fn break_down(&mut self)
+        ensures { self.new ≡ broken self.old }
+    {
+        self.status = with_field(self.status, NEEDS_RESET, 1, 1);
+        self.interrupts = with_field(self.interrupts, CHANGED, 1, 1);
+        self.phase = Phase::Index;
+    }
+
+    // Its access was granted.
+    #[tactic(auto, unfolding(crate::specs::Phases::ask_of, crate::specs::Phases::after))]
+    fn go_on(&mut self, bytes: &[u8])
+        requires ready { self.old.ready ≡ true }
+        requires answered { Answers bytes.now (ask_of self.old self.old.phase) }
+        ensures { self.new ≡ after self.old self.old.phase bytes.now }
+    {
+        match self.phase {
+            Phase::Index => self.take_index(u16_at(bytes, 0)),
+            Phase::Ring => self.take_ring(u16_at(bytes, 0)),
+            Phase::Descriptor(_) => self.take_descriptor(
+                u64_at(bytes, 0),
+                u32_at(bytes, 8),
+                u16_at(bytes, 12),
+                u16_at(bytes, 14),
+            ),
+            Phase::Header => self.take_header(bytes),
+            Phase::Data(position) => self.take_data(position, bytes),
+            Phase::Status => self.phase = Phase::UsedId,
+            Phase::UsedId => self.phase = Phase::UsedLen,
+            Phase::UsedLen => self.phase = Phase::UsedIdx,
+            Phase::UsedIdx => self.take_used(),
+        }
+    }
+
+    // The index of the available ring.
+    #[tactic(auto, unfolding(crate::specs::Phases::after_index))]
+    fn take_index(&mut self, idx: u16)
+        requires { self.old.ready ≡ true }
+        ensures { self.new ≡ after_index self.old idx }
+    {
+        if idx == self.seen {
+            self.pending = false;
+        } else if idx.wrapping_sub(self.seen) as u64 > self.size {
+            self.break_down();
+        } else {
+            self.phase = Phase::Ring;
+        }
+    }
+
+    // The head of a request.
+    #[tactic(auto, unfolding(crate::specs::Phases::after_ring))]
+    fn take_ring(&mut self, head: u16)
+        requires { self.old.ready ≡ true }
+        ensures { self.new ≡ after_ring self.old head }
+    {
+        if head as u64 >= self.size {
+            self.break_down();
+        } else {
+            self.request = Request::new(head, self.size as u16);
+            self.phase = Phase::Descriptor(head);
+        }
+    }
+
+    // A descriptor.
+    #[tactic(auto, unfolding(crate::specs::Phases::after_descriptor, crate::specs::Phases::completed, crate::specs::Phases::broken))]
+    fn take_descriptor(&mut self, addr: u64, len: u32, flags: u16, next: u16)
+        requires ready { self.old.ready ≡ true }
+        requires limit { self.old.chain.limit ≡ self.old.size }
+        requires begun { length self.old.header ≡ 0 }
+        ensures { self.new ≡ after_descriptor self.old addr len flags next }
+    {
+        self.phase = Phase::Index;
+        match self.request.chain.add(addr, len, flags, next) {
+            Err(_) => self.break_down(),
+            Ok(More::Next(next)) => self.phase = Phase::Descriptor(next),
+            Ok(More::Complete) => self.complete(),
+        }
+    }
+
+    // The last descriptor was read.
+    #[tactic(auto, unfolding(crate::specs::Phases::completed))]
+    fn complete(&mut self)
+        requires ready { self.old.ready ≡ true }
+        requires begun { length self.old.header ≡ 0 }
+        ensures { self.new ≡ completed self.old }
+    {
+        if self.request.readable() >= HEADER && self.request.writable() >= 1 {
+            self.phase = Phase::Header;
+        } else {
+            self.break_down();
+        }
+    }
+
+    // A piece of the header.
+    #[tactic(auto, unfolding(crate::specs::Phases::after_header, crate::specs::Phases::judged), using(crate::proofs::Served::header_count_within))]
+    fn take_header(&mut self, bytes: &[u8])
+        requires phase { self.old.phase ≡ Phase.Header }
+        requires answered { length bytes.now ≡ header_count self.old.header self.old.chain }
+        ensures { self.new ≡ after_header self.old bytes.now }
+    {
+        let sectors = self.sectors();
+        let _fits = self.request.header.try_extend_from_slice(bytes);
+        if (self.request.header.len() as u64) < HEADER {
+            return;
+        }
+        self.phase = self.request.judge(sectors, self.features);
+    }
+
+    // A piece of the data.
+    #[tactic(auto, unfolding(crate::specs::Phases::after_data), using(crate::proofs::Served::data_count_within))]
+    fn take_data(&mut self, position: u64, bytes: &[u8])
+        requires phase { self.old.phase ≡ Phase.Data position }
+        requires answered { is_in self.old.header ≡ false →
+            length bytes.now ≡ data_count self.old.header self.old.chain position }
+        ensures { self.new ≡ after_data self.old position bytes.now }
+    {
+        let (_, count) = self.request.data_piece(position);
+        if self.request.is_in() {
+            return self.pass_data(position, count);
+        }
+        let at = self.request.place(position, self.sectors()) as usize;
+        self.disk[at..at + bytes.len()].copy_from_slice(bytes);
+        self.pass_data(position, count);
+    }
+
+    // So many bytes behind `position` were moved.
+    fn pass_data(&mut self, position: u64, count: u64)
+        requires phase { self.old.phase ≡ Phase.Data position }
+        requires within { position + count ≤ data_length self.old.header self.old.chain }
+        ensures { self.new ≡ record self.old { phase = data_phase self.old (position + count) } }
+    {
+        let whole = self.request.data_length();
+        let moved = position + count;
+        if moved == whole {
+            self.phase = Phase::Status;
+        } else {
+            self.phase = Phase::Data(moved);
+        }
+    }
+
+    // The request was given back.
+    #[tactic(auto, unfolding(crate::specs::Phases::after_used))]
+    fn take_used(&mut self)
+        ensures { self.new ≡ after_used self.old }
+    {
+        self.used = self.used.wrapping_add(1);
+        self.seen = self.seen.wrapping_add(1);
+        self.interrupts = with_field(self.interrupts, USED_BUFFER, 1, 1);
+        self.phase = Phase::Index;
+    }
+}

@@ -1,0 +1,44 @@
+//! What a device asks for, and how its step is told.
+
+ghost use Rattle.std.specs.Prelude.{◌≡◌, ◌≤◌, length, Some};
+ghost use Rattle.iom_virtq.specs.Bus.{Write};
+ghost use Rattle.iom_blk.specs.Wants.{wanted};
+
+use arrayvec::ArrayVec;
+use iom_bits::Cause;
+
+/// What a device asks the bus for, within one page of 4096 bytes. Addresses are IOVAs.
+#[derive(Drop)]
+pub enum Want {
+    /// Nothing: its step is idle.
+    Nothing,
+    /// So many bytes, 1 to 64, from this address on.
+    Read { iova: u64, len: u64 },
+    /// That these 1 to 64 bytes be written from this address on.
+    Write { iova: u64, bytes: ArrayVec<u8, 64> },
+}
+
+impl Want {
+    /// That these bytes be written.
+    pub(crate) fn write(iova: u64, bytes: &[u8]) -> Want
+        requires { length bytes.now ≤ 64 }
+        ensures { wanted result ≡ Some (Write iova bytes.now) }
+    {
+        let mut all = ArrayVec::new();
+        let _fits = all.try_extend_from_slice(bytes);
+        Want::Write { iova, bytes: all }
+    }
+}
+
+/// What a step of a device was.
+#[derive(Clone, Copy, Debug, PartialEq)]
+pub enum Moved {
+    /// There was nothing to do.
+    Idle,
+    /// Its access was granted; also where the device then broke.
+    Did,
+    /// Its access was denied.
+    Denied(Cause),
+    /// A byte of its access lies outside memory.
+    Outside,
+}
