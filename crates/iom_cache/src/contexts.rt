@@ -33,7 +33,7 @@ impl Model for ContextCache {
 impl ContextCache {
     ghost use Rattle.std.specs.Prelude.{◌≡◌, ◌≤◌, [], Some, None, length, slice_get, IfOk, IfSome};
     ghost use Rattle.iom_ddt.specs.Contexts.{IsWellFormed};
-    ghost use Rattle.iom_cache.specs.Places.{find, filled_by, emptied_by, place_in, EachLive, IfLive};
+    ghost use Rattle.iom_cache.specs.Places.{find, IsHeld, filled_by, emptied_by, place_in, EachLive, IfLive};
     ghost use Rattle.iom_cache.specs.Entries.{HoldsContext};
     ghost use Rattle.iom_cache.specs.Keys.{same_did};
     ghost use Rattle.iom_cache.specs.Drops.{drops_context};
@@ -50,6 +50,7 @@ impl ContextCache {
     /// The context in the live place of this device id; None where there is none.
     pub fn find(&self, did: u32) -> Option<Context>
         ensures found { result ≡ find (same_did did) self.now }
+        ensures held { IsHeld did result self.now }
         ensures sound { EachLive HoldsContext self.now → IfSome result IsWellFormed }
         ensures within { length self.now ≤ 16 }
     {

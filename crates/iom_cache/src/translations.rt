@@ -35,7 +35,7 @@ impl Model for TransCache {
 impl TransCache {
     ghost use Rattle.std.specs.Prelude.{◌≡◌, ◌≤◌, [], Some, None, length, slice_get, IfOk, IfSome};
     ghost use Rattle.iom_nested.specs.Nested.{HitFits};
-    ghost use Rattle.iom_cache.specs.Places.{find, filled_by, emptied_by, place_in, EachLive, IfLive};
+    ghost use Rattle.iom_cache.specs.Places.{find, IsHeld, filled_by, emptied_by, place_in, EachLive, IfLive};
     ghost use Rattle.iom_cache.specs.Entries.{HoldsHit};
     ghost use Rattle.iom_cache.specs.Keys.{same_key};
     ghost use Rattle.iom_cache.specs.Drops.{drops_page};
@@ -52,6 +52,7 @@ impl TransCache {
     /// What the live place with this key says; None where there is none.
     pub fn find(&self, key: &Key) -> Option<Hit>
         ensures found { result ≡ find (same_key key.now) self.now }
+        ensures held { IsHeld key.now result self.now }
         ensures sound { EachLive HoldsHit self.now → IfSome result HitFits }
         ensures within { length self.now ≤ 64 }
     {
