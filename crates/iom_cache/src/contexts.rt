@@ -47,6 +47,17 @@ impl ContextCache {
         })
     }
 
+    /// A copy, which takes the memory of all places; where it is refused the original stands as it was.
+    pub fn try_clone(&self, alloc: Global) -> Result<ContextCache, AllocError>
+        ensures { IfOk result (λ copy. copy ≡ self.now) }
+    {
+        let mut places = HeapCircularBuffer::with_capacity(alloc, PLACES)?;
+        for place in self.places.iter() {
+            let _none = places.push_back(*place);
+        }
+        Ok(ContextCache { places })
+    }
+
     /// The context in the live place of this device id; None where there is none.
     pub fn find(&self, did: u32) -> Option<Context>
         ensures found { result ≡ find (same_did did) self.now }

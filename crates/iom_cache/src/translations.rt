@@ -49,6 +49,17 @@ impl TransCache {
         })
     }
 
+    /// A copy, which takes the memory of all places; where it is refused the original stands as it was.
+    pub fn try_clone(&self, alloc: Global) -> Result<TransCache, AllocError>
+        ensures { IfOk result (λ copy. copy ≡ self.now) }
+    {
+        let mut places = HeapCircularBuffer::with_capacity(alloc, PLACES)?;
+        for place in self.places.iter() {
+            let _none = places.push_back(*place);
+        }
+        Ok(TransCache { places })
+    }
+
     /// What the live place with this key says; None where there is none.
     pub fn find(&self, key: &Key) -> Option<Hit>
         ensures found { result ≡ find (same_key key.now) self.now }
