@@ -1,6 +1,7 @@
 pub mod Live
 pub mod Kept
 pub mod Same
+pub mod Held
 mod Shifts
 pub mod Stamped
 pub mod Since

@@ -1,7 +1,6 @@
 -- What each live place holds, after a fill and after a drop, and what is found there.
-use Rattle.std.proofs.Common.{◌≡◌, ◌-◌, ◌≤◌, ◌==◌, ℕ, zero, suc, length, arith, ◌++◌, List, [], ◌∷◌, Bool, true, false, Option, Some, None, drop, map, slice_get, if◌then◌else◌, refl, subst}
+use Rattle.std.proofs.Common.{◌≡◌, ◌==◌, ℕ, zero, suc, length, ◌++◌, List, [], ◌∷◌, Bool, true, false, Option, Some, None, drop, map, slice_get, if◌then◌else◌, refl, subst}
 use Rattle.std.specs.Prelude.{IfSome}
-use Rattle.std.proofs.lemmas.List.{length-drop}
 use Rattle.iom_cache.specs.Places.{find, made_room, filled_by, dropped_by, emptied_by, place_in, EachLive, IfLive}
 
 live_appended : {K V : Type 0} → (P : K × V → Type 0) (places : List (Option (K × V))) (entry : K × V) →
@@ -65,8 +64,3 @@ live_at P zero (None ∷ places) each = tt
 live_at P zero (Some entry ∷ places) each = each.0
 live_at P (suc i) (None ∷ places) each = live_at P i places each
 live_at P (suc i) (Some entry ∷ places) each = live_at P i places each.1
-
--- no more places than there is room for
-pub within_pushed : {X : Type 0} → (room capacity : ℕ) (all : List X) → capacity ≡ room →
-    length (drop (length all - capacity) all) ≤ room
-within_pushed room capacity all same = omega (arith, same, length-drop (length all - capacity) all)

@@ -1,10 +1,10 @@
 -- Since which step each live place holds its entry, from step to step. The steps are told by what each fills and carries out.
-use Rattle.std.proofs.Common.{◌≡◌, ◌+◌, ◌<◌, ◌≤◌, ℕ, List, Bool, false, Option, Some, None, refl, sym, subst, inl, inr, arith}
+use Rattle.std.proofs.Common.{◌≡◌, zero, suc, add-one, ◌+◌, ◌<◌, ◌≤◌, ℕ, List, Bool, false, Option, Some, None, refl, sym, subst, inl, inr, arith}
 use Rattle.std.specs.Prelude.{IfSome}
 use Rattle.std.proofs.lemmas.Bool.{cases_lt}
-use Rattle.iom_cache.specs.Places.{find, made_room, filled_by, emptied_by}
-use Rattle.iom_cache.specs.Origins.{fills, drops_at, stamped_by}
-use Rattle.iom_cache.proofs.Stamped.{Stamped, Stamped-weaker, Stamped-absent, Stamped-push, Stamped-room, Stamped-dropped}
+use Rattle.iom_cache.specs.Places.{find, made_room, filled_by, emptied_by, NoneLive}
+use Rattle.iom_cache.specs.Origins.{fills, drops_at, first_stamps, stamped_by, stamps_at}
+use Rattle.iom_cache.proofs.Stamped.{Stamped, Stamped-start, Stamped-weaker, Stamped-absent, Stamped-push, Stamped-room, Stamped-dropped}
 
 at_or_below : (P : ℕ → Type 0) (k : ℕ) → ((j : ℕ) → j < k → P j) → P k → (j : ℕ) → j < k + 1 → P j
 at_or_below P k below last j low = elim (cases_lt j k) [
@@ -64,3 +64,16 @@ module _ {C K V : Type 0} (same : K → K → Bool) (drops : C → K → V → B
       Stamped (Since k) ps ss → Stamped (Since (k + 1)) (emptied_by drops (executed k) (filled_by room (filled k) ps)) (stamped_by room k (filled k) ss)
   Since-step k room ps ss new h = after_drop k (executed k) refl (filled_by room (filled k) ps) (stamped_by room k (filled k) ss)
       (after_fill k room (filled k) refl ps ss new h)
+
+  -- so it holds before every step, from a cache with no live place on
+  pub Since-always : (room : ℕ) (places : ℕ → List (Option (K × V))) → NoneLive (places 0) →
+      ((k : ℕ) → places (suc k) ≡ emptied_by drops (executed k) (filled_by room (filled k) (places k))) →
+      ((k : ℕ) → IfSome (filled k) (λ p. find (same p.0) (places k) ≡ None)) →
+      (k : ℕ) → Stamped (Since k) (places k) (stamps_at room filled (first_stamps (places 0)) k)
+  Since-always room places none step new zero = Stamped-start (Since 0) (places 0) none
+  Since-always room places none step new (suc k) =
+      let stamps = stamps_at room filled (first_stamps (places 0)) in
+      let next : Stamped (Since (k + 1)) (emptied_by drops (executed k) (filled_by room (filled k) (places k))) (stamps (suc k))
+      = Since-step k room (places k) (stamps k) (new k) (Since-always room places none step new k) in
+      subst (λ (n : ℕ). Stamped (Since n) (places (suc k)) (stamps (suc k))) (add-one k)
+        (subst (λ (ps : List (Option (K × V))). Stamped (Since (k + 1)) ps (stamps (suc k))) (sym (step k)) next)

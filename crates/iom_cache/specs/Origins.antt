@@ -1,5 +1,5 @@
 -- Which step filled what a cache holds. A step may fill an entry and then carry out a command; the steps of a run are numbered from 0.
-use Rattle.std.specs.Prelude.{◌≡◌, ℕ, ◌++◌, ◌<◌, ◌≤◌, Bool, true, false, List, [], ◌∷◌, length, replicate, Option, Some, None, if◌then◌else◌}
+use Rattle.std.specs.Prelude.{◌≡◌, ℕ, zero, suc, ◌++◌, ◌<◌, ◌≤◌, Bool, true, false, List, [], ◌∷◌, length, replicate, Option, Some, None, if◌then◌else◌}
 use Rattle.iom_cache.specs.Places.{made_room}
 
 -- does a step that fills this fill the key
@@ -26,6 +26,11 @@ first_stamps places = replicate (length places) 0
 abbrev pub stamped_by : {X : Type 0} → ℕ → ℕ → Option X → List ℕ → List ℕ
 stamped_by room k None stamps = stamps
 stamped_by room k (Some entry) stamps = made_room room stamps ++ k ∷ []
+
+-- the stamps before step k, by those at the start and what each step fills
+abbrev pub stamps_at : {X : Type 0} → ℕ → (ℕ → Option X) → List ℕ → ℕ → List ℕ
+stamps_at room filled first zero = first
+stamps_at room filled first (suc k) = stamped_by room k (filled k) (stamps_at room filled first k)
 
 -- the stamp of what is found; where nothing is, the number of the step that looks, which is to fill it
 abbrev pub found_stamp : {K V : Type 0} → (K → Bool) → List (Option (K × V)) → List ℕ → ℕ → ℕ

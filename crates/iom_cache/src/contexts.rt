@@ -33,7 +33,7 @@ impl Model for ContextCache {
 impl ContextCache {
     ghost use Rattle.std.specs.Prelude.{◌≡◌, ◌≤◌, [], Some, None, length, slice_get, IfOk, IfSome};
     ghost use Rattle.iom_ddt.specs.Contexts.{IsWellFormed};
-    ghost use Rattle.iom_cache.specs.Places.{find, filled_by, emptied_by, place_in, EachLive, IfLive};
+    ghost use Rattle.iom_cache.specs.Places.{find, IsHeld, filled_by, emptied_by, place_in, EachLive, IfLive};
     ghost use Rattle.iom_cache.specs.Entries.{HoldsContext};
     ghost use Rattle.iom_cache.specs.Keys.{same_did};
     ghost use Rattle.iom_cache.specs.Drops.{drops_context};
@@ -47,9 +47,21 @@ impl ContextCache {
         })
     }
 
+    /// A copy, which takes the memory of all places; where it is refused the original stands as it was.
+    pub fn try_clone(&self, alloc: Global) -> Result<ContextCache, AllocError>
+        ensures { IfOk result (λ copy. copy ≡ self.now) }
+    {
+        let mut places = HeapCircularBuffer::with_capacity(alloc, PLACES)?;
+        for place in self.places.iter() {
+            let _none = places.push_back(*place);
+        }
+        Ok(ContextCache { places })
+    }
+
     /// The context in the live place of this device id; None where there is none.
     pub fn find(&self, did: u32) -> Option<Context>
         ensures found { result ≡ find (same_did did) self.now }
+        ensures held { IsHeld did result self.now }
         ensures sound { EachLive HoldsContext self.now → IfSome result IsWellFormed }
         ensures within { length self.now ≤ 16 }
     {

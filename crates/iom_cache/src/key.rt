@@ -5,7 +5,7 @@ use iom_bits::Kind;
 use iom_ddt::Context;
 
 /// What a translation is found by ("Caching in-memory data structures").
-#[derive(Clone, Copy, Debug, PartialEq, Eq, Hash)]
+#[derive(Clone, Copy, Debug, PartialEq)]
 pub struct Key {
     /// The device id, 24 bits.
     pub did: u32,

@@ -1,5 +1,5 @@
 /// What stands at a place of a cache.
-#[derive(Clone, Copy, Debug, PartialEq, Eq, Hash)]
+#[derive(Clone, Copy, Debug, PartialEq)]
 pub enum Place<K, V> {
     /// It is beyond the last place.
     Beyond,

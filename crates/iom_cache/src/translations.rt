@@ -35,7 +35,7 @@ impl Model for TransCache {
 impl TransCache {
     ghost use Rattle.std.specs.Prelude.{◌≡◌, ◌≤◌, [], Some, None, length, slice_get, IfOk, IfSome};
     ghost use Rattle.iom_nested.specs.Nested.{HitFits};
-    ghost use Rattle.iom_cache.specs.Places.{find, filled_by, emptied_by, place_in, EachLive, IfLive};
+    ghost use Rattle.iom_cache.specs.Places.{find, IsHeld, filled_by, emptied_by, place_in, EachLive, IfLive};
     ghost use Rattle.iom_cache.specs.Entries.{HoldsHit};
     ghost use Rattle.iom_cache.specs.Keys.{same_key};
     ghost use Rattle.iom_cache.specs.Drops.{drops_page};
@@ -49,9 +49,21 @@ impl TransCache {
         })
     }
 
+    /// A copy, which takes the memory of all places; where it is refused the original stands as it was.
+    pub fn try_clone(&self, alloc: Global) -> Result<TransCache, AllocError>
+        ensures { IfOk result (λ copy. copy ≡ self.now) }
+    {
+        let mut places = HeapCircularBuffer::with_capacity(alloc, PLACES)?;
+        for place in self.places.iter() {
+            let _none = places.push_back(*place);
+        }
+        Ok(TransCache { places })
+    }
+
     /// What the live place with this key says; None where there is none.
     pub fn find(&self, key: &Key) -> Option<Hit>
         ensures found { result ≡ find (same_key key.now) self.now }
+        ensures held { IsHeld key.now result self.now }
         ensures sound { EachLive HoldsHit self.now → IfSome result HitFits }
         ensures within { length self.now ≤ 64 }
     {
