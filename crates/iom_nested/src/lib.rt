@@ -7,6 +7,4 @@ pub use translation::{Fault, Hit, one_hit_a_page, translate};
 
 mod physical;
 mod second;
-#[cfg(test)]
-mod tests;
 mod translation;

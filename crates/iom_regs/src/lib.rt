@@ -8,6 +8,4 @@ mod file;
 mod flags;
 mod regs;
 mod ring;
-#[cfg(test)]
-mod tests;
 mod views;

@@ -41,4 +41,4 @@ place_text Empty = codes "empty"
 place_text (Live key hit) = page_text key hit
 
 abbrev pub answer_in : State → Question → List ℕ
-answer_in state (question.Page i) = place_text (place_in (slice_get state.pages i))
+answer_in state (question.Page i) = place_text (place_in (slice_get state.machine.pages i))

@@ -9,12 +9,8 @@ pub use text::Reply;
 mod debugger;
 mod fault;
 mod feeder;
-#[cfg(test)]
-mod rows;
 mod running;
 mod script;
 mod session;
-#[cfg(test)]
-mod tests;
 mod text;
 mod words;
