@@ -1,5 +1,6 @@
 -- Every step is explained, and what explains it lies behind each full invalidation that is complete.
-use Rattle.std.proofs.Common.{◌≡◌, ◌≤◌, ◌<◌, ◌&&◌, ℕ, List, Bool, true, false, not, Option, Some, None, refl, sym, ap, subst, inl, inr, arith}
+use Rattle.std.proofs.Common.{◌≡◌, ◌≤◌, ◌<◌, ◌&&◌, ◌+◌, ◌∙◌, ℕ, suc, List, Bool, true, false, not, Option, Some, None, refl, sym, ap, subst, inl, inr, arith}
+use Rattle.std.specs.Prelude.{slice_get}
 use Rattle.std.proofs.lemmas.Bool.{cases_lt}
 use Rattle.iom_ddt.specs.declared.context.Context.{Context}
 use Rattle.iom_nested.specs.declared.translation.Hit.{Hit}
@@ -15,6 +16,10 @@ use Rattle.iom_core.specs.Warrants.{Explains, HasNone, IsAfter, IsDenied, IsExpl
 use Rattle.iom_core.specs.declared.step.Step.{Step}
 use Rattle.iom_core.specs.declared.warrant.Warrant.{Warrant}
 use Rattle.iom_core.specs.declared.warrant.Warrant.TheVariants as warrant
+use Rattle.iom_core.specs.Reach.{Reaches}
+use Rattle.iom_core.specs.Table.{next}
+use Rattle.iom_core.proofs.Moments.{moment-suc, next_by}
+use Rattle.iom_core.proofs.Reaches.{reaches}
 use Rattle.iom_core.proofs.Fresh.{context_of, fresh_context, walk_of, walked}
 use Rattle.iom_core.proofs.Ways.{WasOff, WasByRegister, WasNowhere, WasByContext, WasWalked, WasFault, how_led}
 
@@ -128,3 +133,16 @@ module _ (start : State) (steps : List Step) (i v g n : ℕ) (full : IsFullInval
       young,
       context_after start steps request.did n c' i h.now full.contexts below h.now_context,
       subst (λ (way : Way). IsWalkAfter v g w (guest_on way)) (sym h.used) after)
+
+pub up_to_date_with : (start : State) (steps : List Step) (n : ℕ) (request : Request) (found : Warrant) → IsWarrant start steps n request found →
+    IsUpToDate start steps n request found
+up_to_date_with start steps n request found has i v g full = up_to_date start steps i v g n full request found has
+
+pub run_reaches : (start : State) (steps : List Step) (n : ℕ) (taken : Step) → slice_get steps n ≡ Some taken →
+    Reaches (moment start steps n) taken (next (moment start steps n) taken).answer (moment start steps (n + 1))
+run_reaches start steps n taken is =
+    let state = moment start steps n in
+    let one : suc n ≡ n + 1 = omega arith in
+    let after : (next state taken).state ≡ moment start steps (n + 1) =
+    sym (ap (next_by state) is) ∙ sym (moment-suc start steps n) ∙ ap (moment start steps) one in
+    subst (λ (new : State). Reaches state taken (next state taken).answer new) after (reaches state taken)

@@ -6,3 +6,5 @@ pub mod Ways
 pub mod Moments
 pub mod Fresh
 pub mod Law
+pub mod Puts
+pub mod Reaches

@@ -5,3 +5,4 @@ pub mod Table
 pub mod Run
 pub mod Warrants
 pub mod Code
+pub mod Reach

@@ -1,14 +1,111 @@
--- What a step may change, and what an access takes.
-use Rattle.std.specs.Prelude.{ℕ, ◌≡◌, ◌+◌, ◌<◌, ◌≤◌, ◌⊎◌, List, length, Option, Some, None, Result, Ok, Err, if◌then◌else◌}
+-- What a step may change, what an access takes, and what a refusal leaves.
+use Rattle.std.specs.Prelude.{ℕ, ◌≡◌, ◌+◌, ◌<◌, ◌≤◌, true, false, List, length, Option, Some, None, Result, Ok, Err}
 use Rattle.iom_mem.specs.Memory.{Memory, byte, bytes_at, size_of}
 use Rattle.iom_queue.specs.Delivery.{KeepsOtherRegisters, record_addr}
 use Rattle.iom_queue.specs.declared.command.Command.{Command}
 use Rattle.iom_queue.specs.declared.command.Command.TheVariants.{Vma, Gvma, Fence, Iodir}
 use Rattle.iom_virtq.specs.Bus.{Ask, Read, Write}
 use Rattle.iom_core.specs.State.{State, Machine}
-use Rattle.iom_core.specs.Access.{Denial, Way, address_on, led, request_of}
-use Rattle.iom_core.specs.Table.{Asking, asked, executed, next}
+use Rattle.iom_core.specs.Access.{Denial, address_on, led}
+use Rattle.iom_core.specs.Table.{Asking, asked, executed, request_in}
 use Rattle.iom_core.specs.declared.step.Step.{Step}
 use Rattle.iom_core.specs.declared.step.Step.TheVariants as step
 use Rattle.iom_core.specs.declared.step.Answer.{Answer}
 use Rattle.iom_core.specs.declared.step.Answer.TheVariants as answer
+
+-- the bytes from a physical address on
+pub record Span : Type 0 where
+  pub addr : ℕ
+  pub count : ℕ
+
+-- no byte
+abbrev pub nothing : Span
+nothing = record { addr = 0; count = 0 }
+
+-- no byte but those of the span differs
+pub record ChangesOnly (span : Span) (old new : Memory) : Type 0 where
+  pub base : new.base ≡ old.base
+  pub size : size_of new ≡ size_of old
+  pub below : (a : ℕ) → a < span.addr → byte new a ≡ byte old a
+  pub above : (a : ℕ) → span.addr + span.count ≤ a → byte new a ≡ byte old a
+
+-- the physical address that an access is led to, or why it is denied
+abbrev pub address_in : State → Asking → Result ℕ Denial
+address_in state asking = address_on (led state.machine (request_in asking)).way (request_in asking).iova
+
+-- an access changes the bytes that it may write; where it is denied, those of the fault queue's next record
+abbrev pub span_to : Machine → Ask → Result ℕ Denial → Span
+span_to m (Read iova count) (Ok addr) = nothing
+span_to m (Write iova bytes) (Ok addr) = record { addr = addr; count = length bytes }
+span_to m (Read iova count) (Err denial) = record { addr = record_addr m.registers; count = 32 }
+span_to m (Write iova bytes) (Err denial) = record { addr = record_addr m.registers; count = 32 }
+
+abbrev pub span_of_access : State → Option Asking → Span
+span_of_access state None = nothing
+span_of_access state (Some asking) = span_to state.machine asking.ask (address_in state asking)
+
+-- a fence changes the four bytes of its DATA
+abbrev pub span_of_command : Option Command → Span
+span_of_command None = nothing
+span_of_command (Some (Vma av page pscv pscid gv gscid)) = nothing
+span_of_command (Some (Gvma av page pscid gv gscid)) = nothing
+span_of_command (Some (Fence true wsi pr pw value addr)) = record { addr = addr; count = 4 }
+span_of_command (Some (Fence false wsi pr pw value addr)) = nothing
+span_of_command (Some (Iodir dv did)) = nothing
+
+-- what a step may change of memory
+abbrev pub span_of : State → Step → Span
+span_of state (step.Load addr size) = nothing
+span_of state (step.Store addr size value) = record { addr = addr; count = size }
+span_of state (step.RegRead off size) = nothing
+span_of state (step.RegWrite off size value) = nothing
+span_of state step.Command = span_of_command (executed state step.Command)
+span_of state (step.DmaRead did iova len) = span_of_access state (asked state (step.DmaRead did iova len))
+span_of state (step.DmaWrite did iova bytes) = span_of_access state (asked state (step.DmaWrite did iova bytes))
+span_of state (step.DevRead dev off size) = nothing
+span_of state (step.DevWrite dev off size value) = nothing
+span_of state (step.Device dev) = nothing
+
+-- a read is answered the bytes at the address that it is led to
+abbrev pub TakesAt : Memory → Ask → List ℕ → Result ℕ Denial → Type 0
+TakesAt memory (Read iova count) bytes (Ok addr) = bytes_at memory addr count ≡ Some bytes
+TakesAt memory (Read iova count) bytes (Err denial) = ⊥
+TakesAt memory (Write iova given) bytes led_to = ⊥
+
+abbrev pub TakesBy : Memory → Ask → Result ℕ Denial → Answer → Type 0
+TakesBy memory ask led_to (answer.Value value) = Unit {0}
+TakesBy memory ask led_to answer.Done = Unit {0}
+TakesBy memory ask led_to (answer.Bytes bytes) = TakesAt memory ask bytes.items led_to
+TakesBy memory ask led_to answer.Idle = Unit {0}
+TakesBy memory ask led_to (answer.Denied cause) = Unit {0}
+TakesBy memory ask led_to answer.BusError = Unit {0}
+TakesBy memory ask led_to answer.BadAccess = Unit {0}
+TakesBy memory ask led_to answer.NoDevice = Unit {0}
+TakesBy memory ask led_to answer.Misuse = Unit {0}
+
+abbrev pub Takes : State → Option Asking → Answer → Type 0
+Takes state None given = Unit {0}
+Takes state (Some asking) given = TakesBy state.machine.memory asking.ask (address_in state asking) given
+
+-- what a step reaches: the memory that it may change, and the bytes that its access takes
+pub record Reaches (state : State) (taken : Step) (given : Answer) (new : State) : Type 0 where
+  pub changes : ChangesOnly (span_of state taken) state.machine.memory new.machine.memory
+  pub takes : Takes state (asked state taken) given
+
+-- what stands after the refusals
+abbrev pub Refuses : Answer → State → State → Type 0
+Refuses (answer.Value value) old new = Unit {0}
+Refuses answer.Done old new = Unit {0}
+Refuses (answer.Bytes bytes) old new = Unit {0}
+Refuses answer.Idle old new = Unit {0}
+-- all but the fault queue's registers, ipsr, the bytes of one record and the caches
+Refuses (answer.Denied cause) old new =
+    KeepsOtherRegisters old.machine.registers new.machine.registers
+    × ChangesOnly (record { addr = record_addr old.machine.registers; count = 32 }) old.machine.memory new.machine.memory
+-- all but the caches
+Refuses answer.BusError old new =
+    (new.machine.memory ≡ old.machine.memory) × (new.machine.registers ≡ old.machine.registers)
+-- all
+Refuses answer.BadAccess old new = new ≡ old
+Refuses answer.NoDevice old new = new ≡ old
+Refuses answer.Misuse old new = new ≡ old

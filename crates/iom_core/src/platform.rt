@@ -1,4 +1,4 @@
-ghost use Rattle.std.specs.Prelude.{◌≡◌, length, Some, IfOk, slice_get};
+ghost use Rattle.std.specs.Prelude.{ℕ, ◌≡◌, ◌+◌, length, Some, IfOk, slice_get};
 ghost use Rattle.iom_core.specs.Table.{is_device_access};
 
 use crate::machine::Machine;
@@ -29,7 +29,12 @@ impl Model for Platform {
 impl Platform {
     ghost use Rattle.iom_core.specs.State.{opening};
     ghost use Rattle.iom_core.specs.Table.{next, probed, asking_where};
+    ghost use Rattle.iom_core.specs.Access.{Request};
+    ghost use Rattle.iom_core.specs.Reach.{Reaches, Refuses};
     ghost use Rattle.iom_core.specs.Run.{answers, states, end_of};
+    ghost use Rattle.iom_core.specs.Warrants.{IsExplained, IsUncached, IsUpToDate, IsWarrant, moment};
+    ghost use Rattle.iom_core.specs.declared.step.Step.{Step};
+    ghost use Rattle.iom_core.specs.declared.warrant.Warrant.{Warrant};
     ghost use Rattle.iom_virtq.specs.Bus.{Read, Write};
 
     /// A platform with this memory, its registers at reset and both caches empty. The fault is want of memory for the caches.
@@ -68,8 +73,50 @@ impl Platform {
     }
 
     /// Carries out one step, and answers what the step table says. It takes no memory.
-    #[tactic(auto, unfolding(crate::specs::Table::next, crate::specs::Table::asked))]
     pub fn step(&mut self, step: &Step) -> Answer
+        ensures answer { result ≡ (next self.old step.now).answer }
+        ensures state { self.new ≡ (next self.old step.now).state }
+
+        // What it may change of memory, what a device's read takes, and what stands after a refusal.
+        ensures reach { Reaches self.old step.now result self.new }
+        ensures refused { Refuses result self.old self.new }
+    {
+        self.take(step)
+    }
+
+    /// Carries out steps in their order, and puts the answer to each at its place in `out`.
+    pub fn run(&mut self, steps: &[Step], out: &mut [Answer])
+        requires { length steps.now ≡ length out.old }
+        ensures answers { out.new ≡ answers self.old steps.now }
+        ensures last_state { slice_get (states self.old steps.now) (length steps.now)
+            ≡ Some self.new }
+        ensures end { self.new ≡ end_of self.old steps.now }
+
+        // Where nothing is cached at the start, what each access used has a warrant; a warrant is no older than each full
+        // invalidation that is complete; and each step reaches no other memory than its own.
+        ensures fresh { IsUncached self.old → (n : ℕ) → IsExplained self.old steps.now n }
+        ensures invalidated { (n : ℕ) (request : Request) (warrant : Warrant) →
+            IsWarrant self.old steps.now n request warrant → IsUpToDate self.old steps.now n request warrant }
+        ensures reach { (n : ℕ) (taken : Step) → slice_get steps.now n ≡ Some taken →
+            Reaches (moment self.old steps.now n) taken (next (moment self.old steps.now n) taken).answer
+            (moment self.old steps.now (n + 1)) }
+    {
+        self.take_all(steps, out);
+    }
+
+    fn take_all(&mut self, steps: &[Step], out: &mut [Answer])
+        requires { length steps.now ≡ length out.old }
+        ensures answers { out.new ≡ answers self.old steps.now }
+        ensures end { self.new ≡ end_of self.old steps.now }
+    {
+        for (i, step) in steps.iter().enumerate() {
+            out[i] = self.take(step);
+        }
+    }
+
+    // A step by its row of the step table.
+    #[tactic(auto, unfolding(crate::specs::Table::next, crate::specs::Table::asked))]
+    fn take(&mut self, step: &Step) -> Answer
         ensures answer { result ≡ (next self.old step.now).answer }
         ensures state { self.new ≡ (next self.old step.now).state }
     {
@@ -83,19 +130,6 @@ impl Platform {
             Step::DmaRead { did, iova, len } => self.dma_read(*did, *iova, *len),
             Step::DmaWrite { did, iova, bytes } => self.dma_write(*did, *iova, bytes.as_slice()),
             Step::DevRead { .. } | Step::DevWrite { .. } | Step::Device { .. } => Answer::NoDevice,
-        }
-    }
-
-    /// Carries out steps in their order, and puts the answer to each at its place in `out`.
-    pub fn run(&mut self, steps: &[Step], out: &mut [Answer])
-        requires { length steps.now ≡ length out.old }
-        ensures answers { out.new ≡ answers self.old steps.now }
-        ensures last_state { slice_get (states self.old steps.now) (length steps.now)
-            ≡ Some self.new }
-        ensures end { self.new ≡ end_of self.old steps.now }
-    {
-        for (i, step) in steps.iter().enumerate() {
-            out[i] = self.step(step);
         }
     }
 

@@ -1,11 +1,17 @@
-use Rattle.std.proofs.Common.{Some, ◌∙◌, ap, sym, arith}
-use Rattle.std.proofs.lemmas.Grind.{common_steps}
+use Rattle.std.proofs.Common.{◌≡◌, ◌∙◌, Some, ap, sym}
+use Rattle.iom_core.proofs.Law.{explained, run_reaches, up_to_date_with}
 use Rattle.iom_core.proofs.Runs.{last_of_states}
 use Rattle.iom_core.proofs.platform.Platform.run.Goals as goal
 
-pub returns-clause-end : goal.returns-clause-end
-returns-clause-end c = grind (arith, common_steps)
-
 pub returns-clause-last_state : goal.returns-clause-last_state
 returns-clause-last_state c =
-    last_of_states c.args.self.now c.args.steps.now ∙ ap Some (sym (returns-clause-end c))
+    last_of_states c.args.self.now c.args.steps.now ∙ ap Some (sym c.take_all.ensures.end)
+
+pub returns-clause-fresh : goal.returns-clause-fresh
+returns-clause-fresh c = λ none n. explained c.args.self.now c.args.steps.now none n
+
+pub returns-clause-invalidated : goal.returns-clause-invalidated
+returns-clause-invalidated c = λ n request warrant has. up_to_date_with c.args.self.now c.args.steps.now n request warrant has
+
+pub returns-clause-reach : goal.returns-clause-reach
+returns-clause-reach c = λ n taken is. run_reaches c.args.self.now c.args.steps.now n taken is

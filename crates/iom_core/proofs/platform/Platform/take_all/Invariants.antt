@@ -1,6 +1,6 @@
 use Rattle.std.proofs.Common.{◌≡◌, ◌++◌, length, take, drop}
 use Rattle.iom_core.specs.Run.{answers, end_of}
-use Rattle.iom_core.proofs.platform.Platform.run.Given as goal
+use Rattle.iom_core.proofs.platform.Platform.take_all.Given as goal
 
 -- the answers so far and those to what is left are those to all
 abbrev pub invariant-loop-i : goal.invariant-loop-i

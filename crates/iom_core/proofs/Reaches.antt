@@ -1,0 +1,315 @@
+-- What a step changes, takes and refuses, row by row of the step table.
+use Rattle.std.proofs.Common.{◌≡◌, ◌&&◌, ◌||◌, ◌==◌, ◌/◌, ℕ, zero, suc, List, [], length, Bool, true, false, not, Option, Some, None, Result, Ok, Err, if◌then◌else◌, refl, sym, ap, subst, arith}
+use Rattle.std.specs.Prelude.{is_some}
+use Rattle.std.proofs.lemmas.Grind.{common_steps}
+use Rattle.iom_bits.specs.Bytes.{bytes_of_number}
+use Rattle.iom_mem.specs.Memory.{Memory, bytes_at, put}
+use Rattle.iom_regs.specs.Table.{Registers, after_write, is_legal, read, with_pending}
+use Rattle.iom_regs.specs.Queues.{record_passed, with_fqmf, with_fqof}
+use Rattle.iom_queue.specs.Denials.{denial_record}
+use Rattle.iom_queue.specs.Delivery.{Delivery, KeepsOtherRegisters, delivered, is_full, is_in_memory, is_stopped, record_addr, record_bytes}
+use Rattle.iom_queue.specs.declared.record.Record.{Record}
+use Rattle.iom_queue.specs.declared.command.Command.{Command}
+use Rattle.iom_queue.specs.declared.command.Command.TheVariants.{Vma, Gvma, Fence, Iodir}
+use Rattle.iom_queue.specs.declared.fetch.Fetch.{Fetch}
+use Rattle.iom_queue.specs.declared.fetch.Fetch.TheVariants as fetch
+use Rattle.iom_virtq.specs.Bus.{Ask, Read, Write, reply_of}
+use Rattle.iom_virtq.specs.declared.access.Access.TheVariants as access
+use Rattle.iom_core.specs.State.{State, Machine, with_machine}
+use Rattle.iom_core.specs.Access.{Denial, Effect, Request, address_on, effect, effect_at, granted, led, outside, read_there, record_left, request_of, served}
+use Rattle.iom_core.specs.Commands.{after_command, can_execute, executed_by, executed_of, fetched, is_taken, memory_left}
+use Rattle.iom_core.specs.Table.{Asking, Outcome, Stored, Written, answer_by_reply, asked, executed, fits, idle_or_done, is_aligned, is_size, load, next, probed, put_inside, reg_read, reg_write, request_in, stays, store, value_of, value_or_bad, with_memory, with_registers}
+use Rattle.iom_core.specs.Reach.{ChangesOnly, Reaches, Refuses, Span, Takes, TakesBy, address_in, nothing, span_of, span_of_access, span_of_command, span_to}
+use Rattle.iom_core.specs.declared.step.Step.{Step}
+use Rattle.iom_core.specs.declared.step.Step.TheVariants as step
+use Rattle.iom_core.specs.declared.step.Answer.{Answer}
+use Rattle.iom_core.specs.declared.step.Answer.TheVariants.{Value, Done, Bytes, Idle, Denied, BusError, BadAccess, NoDevice, Misuse}
+use Rattle.iom_core.proofs.Puts.{put_changes_only, same_memory}
+
+-- A delivery.
+pub record Delivers (registers : Registers) (memory : Memory) (left : Delivery) : Type 0 where
+  pub others : KeepsOtherRegisters registers left.registers
+  pub bytes : ChangesOnly (record { addr = record_addr registers; count = 32 }) memory left.memory
+
+record_length : (fault : Record) → length (record_bytes fault) ≡ 32
+unfolding record_bytes
+record_length fault = refl
+
+delivers : (registers : Registers) (memory : Memory) (fault : Record) → Delivers registers memory (delivered registers memory fault)
+unfolding delivered
+delivers registers memory fault =
+    let same : ChangesOnly (record { addr = record_addr registers; count = 32 }) memory memory = same_memory memory _ in
+    let Goal : Bool → Type 0 = λ there. is_in_memory registers memory ≡ there →
+    Delivers registers memory (if not there then record { registers = with_fqmf registers; memory = memory }
+    else record { registers = record_passed registers; memory = put memory (record_addr registers) (record_bytes fault) }) in
+    let by_place : (there : Bool) → Goal there = λ there. elim there as Goal [
+      | true ↦ λ is. record {
+          others = record { ddtp = refl; cqb = refl; cqh = refl; cqt = refl; fqb = refl; fqh = refl; cqcsr = refl };
+          bytes = subst (λ (n : ℕ). ChangesOnly (record { addr = record_addr registers; count = n }) memory (put memory (record_addr registers) (record_bytes fault)))
+              (record_length fault)
+              (put_changes_only memory (record_addr registers) (record_bytes fault)
+              (subst (λ (n : ℕ). is_some (bytes_at memory (record_addr registers) n) ≡ true) (sym (record_length fault)) is));
+        }
+      | false ↦ λ is. record { others = record { ddtp = refl; cqb = refl; cqh = refl; cqt = refl; fqb = refl; fqh = refl; cqcsr = refl }; bytes = same }
+    ] in
+    elim (is_stopped registers) as (λ b. Delivers registers memory (if b then record { registers = with_pending registers; memory = memory }
+    else if is_full registers then record { registers = with_fqof registers; memory = memory }
+    else if not (is_in_memory registers memory) then record { registers = with_fqmf registers; memory = memory }
+    else record { registers = record_passed registers; memory = put memory (record_addr registers) (record_bytes fault) })) [
+      | true ↦ record { others = record { ddtp = refl; cqb = refl; cqh = refl; cqt = refl; fqb = refl; fqh = refl; cqcsr = refl }; bytes = same }
+      | false ↦ elim (is_full registers) as (λ b. Delivers registers memory (if b then record { registers = with_fqof registers; memory = memory }
+      else if not (is_in_memory registers memory) then record { registers = with_fqmf registers; memory = memory }
+      else record { registers = record_passed registers; memory = put memory (record_addr registers) (record_bytes fault) })) [
+        | true ↦ record { others = record { ddtp = refl; cqb = refl; cqh = refl; cqt = refl; fqb = refl; fqh = refl; cqcsr = refl }; bytes = same }
+        | false ↦ by_place (is_in_memory registers memory) refl
+      ]
+    ]
+
+left_by_denial : (registers : Registers) (memory : Memory) (request : Request) (denial : Denial) → Delivers registers memory (record_left registers memory request denial)
+unfolding record_left
+left_by_denial registers memory request denial =
+    elim denial.reported as (λ b. Delivers registers memory (if b then delivered registers memory (denial_record denial.cause request.kind request.did request.iova denial.iotval2) else record { registers = registers; memory = memory })) [
+      | true ↦ delivers registers memory (denial_record denial.cause request.kind request.did request.iova denial.iotval2)
+      | false ↦ record {
+          others = record { ddtp = refl; cqb = refl; cqh = refl; cqt = refl; fqb = refl; fqh = refl; cqcsr = refl };
+          bytes = same_memory memory (record { addr = record_addr registers; count = 32 });
+        }
+    ]
+
+-- An access, at the address that it is led to.
+abbrev granted_effect : Machine → ℕ → List ℕ → Effect
+granted_effect m addr bytes = record { reply = reply_of access.Ok []; memory = put m.memory addr bytes; registers = m.registers }
+
+written_memory : (m : Machine) (iova : ℕ) (bytes : List ℕ) (addr : ℕ) →
+    (if is_some (bytes_at m.memory addr (length bytes)) then put m.memory addr bytes else m.memory) ≡ (granted m (Write iova bytes) addr).memory
+written_memory m iova bytes addr =
+    elim (is_some (bytes_at m.memory addr (length bytes))) as (λ b. (if b then put m.memory addr bytes else m.memory) ≡ (if b then granted_effect m addr bytes else outside m).memory) [
+      | true ↦ refl
+      | false ↦ refl
+    ]
+
+denied_refuses : (state : State) (request : Request) (denial : Denial) (left : Machine) →
+    left.memory ≡ (record_left state.machine.registers state.machine.memory request denial).memory →
+    left.registers ≡ (record_left state.machine.registers state.machine.memory request denial).registers →
+    KeepsOtherRegisters state.machine.registers left.registers
+    × ChangesOnly (record { addr = record_addr state.machine.registers; count = 32 }) state.machine.memory left.memory
+denied_refuses state request denial left memory registers =
+    let d = left_by_denial state.machine.registers state.machine.memory request denial in
+    (subst (λ (r : Registers). KeepsOtherRegisters state.machine.registers r) (sym registers) d.others,
+    subst (λ (m : Memory). ChangesOnly (record { addr = record_addr state.machine.registers; count = 32 }) state.machine.memory m) (sym memory) d.bytes)
+
+effect_changes : (m : Machine) (request : Request) (ask : Ask) (led_to : Result ℕ Denial) →
+    ChangesOnly (span_to m ask led_to) m.memory (effect_at m request ask led_to).memory
+effect_changes m request (Read iova count) (Ok addr) =
+    elim (bytes_at m.memory addr count) as (λ o. ChangesOnly nothing m.memory (read_there m o).memory) [
+      | Some bytes ↦ same_memory m.memory nothing
+      | None ↦ same_memory m.memory nothing
+    ]
+effect_changes m request (Write iova bytes) (Ok addr) =
+    let span : Span = record { addr = addr; count = length bytes } in
+    let Goal : Bool → Type 0 = λ b. is_some (bytes_at m.memory addr (length bytes)) ≡ b →
+    ChangesOnly span m.memory (if b then put m.memory addr bytes else m.memory) in
+    let by_place : (b : Bool) → Goal b = λ b. elim b as Goal [
+      | true ↦ λ is. put_changes_only m.memory addr bytes is
+      | false ↦ λ is. same_memory m.memory span
+    ] in
+    subst (λ (new : Memory). ChangesOnly span m.memory new) (written_memory m iova bytes addr) (by_place (is_some (bytes_at m.memory addr (length bytes))) refl)
+effect_changes m request (Read iova count) (Err denial) = (left_by_denial m.registers m.memory request denial).bytes
+effect_changes m request (Write iova bytes) (Err denial) = (left_by_denial m.registers m.memory request denial).bytes
+
+effect_takes : (m : Machine) (request : Request) (ask : Ask) (led_to : Result ℕ Denial) →
+    TakesBy m.memory ask led_to (answer_by_reply ask (effect_at m request ask led_to).reply)
+effect_takes m request (Read iova count) (Ok addr) =
+    let Goal : Option (List ℕ) → Type 0 = λ o. bytes_at m.memory addr count ≡ o →
+    TakesBy m.memory (Read iova count) (Ok addr) (answer_by_reply (Read iova count) (read_there m o).reply) in
+    let by_place : (o : Option (List ℕ)) → Goal o = λ o. elim o as Goal [
+      | Some bytes ↦ λ is. is
+      | None ↦ λ is. tt
+    ] in by_place (bytes_at m.memory addr count) refl
+effect_takes m request (Write iova bytes) (Ok addr) =
+    elim (is_some (bytes_at m.memory addr (length bytes))) as
+    (λ b. TakesBy m.memory (Write iova bytes) (Ok addr) (answer_by_reply (Write iova bytes) (if b then granted_effect m addr bytes else outside m).reply)) [
+      | true ↦ tt
+      | false ↦ tt
+    ]
+effect_takes m request (Read iova count) (Err denial) = tt
+effect_takes m request (Write iova bytes) (Err denial) = tt
+
+effect_refuses : (state : State) (request : Request) (ask : Ask) (led_to : Result ℕ Denial) (left : Machine) →
+    left.memory ≡ (effect_at state.machine request ask led_to).memory → left.registers ≡ (effect_at state.machine request ask led_to).registers →
+    Refuses (answer_by_reply ask (effect_at state.machine request ask led_to).reply) state (with_machine state left)
+effect_refuses state request (Read iova count) (Ok addr) left =
+    let m = state.machine in
+    elim (bytes_at m.memory addr count) as (λ o. left.memory ≡ (read_there m o).memory → left.registers ≡ (read_there m o).registers →
+    Refuses (answer_by_reply (Read iova count) (read_there m o).reply) state (with_machine state left)) [
+      | Some bytes ↦ λ memory registers. tt
+      | None ↦ λ memory registers. (memory, registers)
+    ]
+effect_refuses state request (Write iova bytes) (Ok addr) left =
+    let m = state.machine in
+    elim (is_some (bytes_at m.memory addr (length bytes))) as (λ b. left.memory ≡ (if b then granted_effect m addr bytes else outside m).memory →
+    left.registers ≡ (if b then granted_effect m addr bytes else outside m).registers →
+    Refuses (answer_by_reply (Write iova bytes) (if b then granted_effect m addr bytes else outside m).reply) state (with_machine state left)) [
+      | true ↦ λ memory registers. tt
+      | false ↦ λ memory registers. (memory, registers)
+    ]
+effect_refuses state request (Read iova count) (Err denial) left = λ memory registers. denied_refuses state request denial left memory registers
+effect_refuses state request (Write iova bytes) (Err denial) left = λ memory registers. denied_refuses state request denial left memory registers
+
+-- Each row of the step table.
+probed_changes : (state : State) (asking : Option Asking) →
+    ChangesOnly (span_of_access state asking) state.machine.memory (probed state asking).state.machine.memory
+unfolding effect
+probed_changes state None = same_memory state.machine.memory nothing
+probed_changes state (Some asking) = effect_changes state.machine (request_in asking) asking.ask (address_in state asking)
+
+length_of_number : (count value : ℕ) → length (bytes_of_number count value) ≡ count
+length_of_number zero value = refl
+length_of_number (suc count) value = ap suc (length_of_number count (value / 256))
+
+store_changes : (memory : Memory) (addr size value : ℕ) → ChangesOnly (record { addr = addr; count = size }) memory (store memory addr size value).memory
+unfolding store
+store_changes memory addr size value =
+    let span : Span = record { addr = addr; count = size } in
+    let bytes = bytes_of_number size value in
+    let count : length bytes ≡ size = length_of_number size value in
+    let inside : Bool → Stored = λ b. if b then record { answer = Done; memory = put memory addr bytes } else record { answer = BusError; memory = memory } in
+    let given : Bool → Stored = λ b. if b then put_inside memory addr bytes else record { answer = Misuse; memory = memory } in
+    let Goal : Bool → Type 0 = λ b. is_some (bytes_at memory addr (length bytes)) ≡ b → ChangesOnly span memory (inside b).memory in
+    let by_place : (b : Bool) → Goal b = λ b. elim b as Goal [
+      | true ↦ λ is. subst (λ (n : ℕ). ChangesOnly (record { addr = addr; count = n }) memory (put memory addr bytes)) count (put_changes_only memory addr bytes is)
+      | false ↦ λ is. same_memory memory span
+    ] in
+    elim (is_aligned addr size && fits value size) as (λ b. ChangesOnly span memory (given b).memory) [
+      | true ↦ by_place (is_some (bytes_at memory addr (length bytes))) refl
+      | false ↦ same_memory memory span
+    ]
+
+executed_changes : (m : Machine) (found : Fetch) →
+    ChangesOnly (span_of_command (executed_of m.memory found)) m.memory (memory_left m.memory (executed_of m.memory found))
+executed_changes m fetch.Idle = same_memory m.memory nothing
+executed_changes m fetch.Fault = same_memory m.memory nothing
+executed_changes m fetch.Illegal = same_memory m.memory nothing
+executed_changes m (fetch.Ready (Vma av page pscv pscid gv gscid)) = same_memory m.memory nothing
+executed_changes m (fetch.Ready (Gvma av page pscid gv gscid)) = same_memory m.memory nothing
+executed_changes m (fetch.Ready (Fence true wsi pr pw value addr)) =
+    let command = Fence true wsi pr pw value addr in
+    let Goal : Bool → Type 0 = λ b. is_some (bytes_at m.memory addr 4) ≡ b →
+    ChangesOnly (span_of_command (if b then Some command else None)) m.memory (memory_left m.memory (if b then Some command else None)) in
+    let by_place : (b : Bool) → Goal b = λ b. elim b as Goal [
+      | true ↦ λ is. put_changes_only m.memory addr (bytes_of_number 4 value) is
+      | false ↦ λ is. same_memory m.memory nothing
+    ] in by_place (is_some (bytes_at m.memory addr 4)) refl
+executed_changes m (fetch.Ready (Fence false wsi pr pw value addr)) = same_memory m.memory nothing
+executed_changes m (fetch.Ready (Iodir dv did)) = same_memory m.memory nothing
+
+command_changes : (m : Machine) → ChangesOnly (span_of_command (executed_by m)) m.memory (after_command m).memory
+unfolding after_command executed_by
+command_changes m = executed_changes m (fetched m)
+
+pub changes : (state : State) (taken : Step) → ChangesOnly (span_of state taken) state.machine.memory (next state taken).state.machine.memory
+unfolding next executed
+changes state (step.Load addr size) = same_memory state.machine.memory nothing
+changes state (step.Store addr size value) = store_changes state.machine.memory addr size value
+changes state (step.RegRead off size) = same_memory state.machine.memory nothing
+changes state (step.RegWrite off size value) = same_memory state.machine.memory nothing
+changes state step.Command = command_changes state.machine
+changes state (step.DmaRead did iova len) = probed_changes state (asked state (step.DmaRead did iova len))
+changes state (step.DmaWrite did iova bytes) = probed_changes state (asked state (step.DmaWrite did iova bytes))
+changes state (step.DevRead dev off size) = same_memory state.machine.memory nothing
+changes state (step.DevWrite dev off size value) = same_memory state.machine.memory nothing
+changes state (step.Device dev) = same_memory state.machine.memory nothing
+
+probed_takes : (state : State) (asking : Option Asking) → Takes state asking (probed state asking).answer
+unfolding effect
+probed_takes state None = tt
+probed_takes state (Some asking) = effect_takes state.machine (request_in asking) asking.ask (address_in state asking)
+
+pub takes : (state : State) (taken : Step) → Takes state (asked state taken) (next state taken).answer
+unfolding next asked
+takes state (step.Load addr size) = tt
+takes state (step.Store addr size value) = tt
+takes state (step.RegRead off size) = tt
+takes state (step.RegWrite off size value) = tt
+takes state step.Command = tt
+takes state (step.DmaRead did iova len) = probed_takes state (asked state (step.DmaRead did iova len))
+takes state (step.DmaWrite did iova bytes) = probed_takes state (asked state (step.DmaWrite did iova bytes))
+takes state (step.DevRead dev off size) = tt
+takes state (step.DevWrite dev off size value) = tt
+takes state (step.Device dev) = tt
+
+probed_refuses : (state : State) (asking : Option Asking) → Refuses (probed state asking).answer state (probed state asking).state
+unfolding effect
+probed_refuses state None = refl
+probed_refuses state (Some asking) =
+    effect_refuses state (request_in asking) asking.ask (address_in state asking) (served state.machine asking.did asking.ask).machine refl refl
+
+load_refuses : (state : State) (addr size : ℕ) → Refuses (load state.machine.memory addr size) state state
+unfolding load
+load_refuses state addr size =
+    let memory = state.machine.memory in
+    elim (is_aligned addr size) as (λ b. Refuses (if b then value_of (bytes_at memory addr size) else Misuse) state state) [
+      | true ↦ elim (bytes_at memory addr size) as (λ o. Refuses (value_of o) state state) [
+        | Some bytes ↦ tt
+        | None ↦ (refl, refl)
+      ]
+      | false ↦ refl
+    ]
+
+store_refuses : (state : State) (addr size value : ℕ) →
+    Refuses (store state.machine.memory addr size value).answer state (with_memory state (store state.machine.memory addr size value).memory)
+unfolding store
+store_refuses state addr size value =
+    let memory = state.machine.memory in
+    let bytes = bytes_of_number size value in
+    let inside : Bool → Stored = λ b. if b then record { answer = Done; memory = put memory addr bytes } else record { answer = BusError; memory = memory } in
+    let given : Bool → Stored = λ b. if b then put_inside memory addr bytes else record { answer = Misuse; memory = memory } in
+    elim (is_aligned addr size && fits value size) as (λ b. Refuses (given b).answer state (with_memory state (given b).memory)) [
+      | true ↦ elim (is_some (bytes_at memory addr (length bytes))) as (λ b. Refuses (inside b).answer state (with_memory state (inside b).memory)) [
+        | true ↦ tt
+        | false ↦ (refl, refl)
+      ]
+      | false ↦ refl
+    ]
+
+reg_read_refuses : (state : State) (off size : ℕ) → Refuses (reg_read state.machine.registers off size) state state
+unfolding reg_read
+reg_read_refuses state off size =
+    elim (read state.machine.registers off size) as (λ o. Refuses (value_or_bad o) state state) [
+      | Some value ↦ tt
+      | None ↦ refl
+    ]
+
+reg_write_refuses : (state : State) (off size value : ℕ) →
+    Refuses (reg_write state.machine.registers off size value).answer state (with_registers state (reg_write state.machine.registers off size value).registers)
+unfolding reg_write
+reg_write_refuses state off size value =
+    let registers = state.machine.registers in
+    let legal : Bool → Written = λ b. if b then record { answer = Done; registers = after_write registers off size value } else record { answer = BadAccess; registers = registers } in
+    let given : Bool → Written = λ b. if b then record { answer = Misuse; registers = registers } else legal (is_legal off size) in
+    elim (is_size size && not (fits value size)) as (λ b. Refuses (given b).answer state (with_registers state (given b).registers)) [
+      | true ↦ refl
+      | false ↦ elim (is_legal off size) as (λ b. Refuses (legal b).answer state (with_registers state (legal b).registers)) [
+        | true ↦ tt
+        | false ↦ refl
+      ]
+    ]
+
+pub refuses : (state : State) (taken : Step) → Refuses (next state taken).answer state (next state taken).state
+unfolding next
+refuses state (step.Load addr size) = load_refuses state addr size
+refuses state (step.Store addr size value) = store_refuses state addr size value
+refuses state (step.RegRead off size) = reg_read_refuses state off size
+refuses state (step.RegWrite off size value) = reg_write_refuses state off size value
+refuses state step.Command = elim (is_taken (fetched state.machine)) as (λ b. Refuses (idle_or_done b) state (with_machine state (after_command state.machine))) [
+  | true ↦ tt
+  | false ↦ tt
+]
+refuses state (step.DmaRead did iova len) = probed_refuses state (asked state (step.DmaRead did iova len))
+refuses state (step.DmaWrite did iova bytes) = probed_refuses state (asked state (step.DmaWrite did iova bytes))
+refuses state (step.DevRead dev off size) = refl
+refuses state (step.DevWrite dev off size value) = refl
+refuses state (step.Device dev) = refl
+
+pub reaches : (state : State) (taken : Step) → Reaches state taken (next state taken).answer (next state taken).state
+reaches state taken = record { changes = changes state taken; takes = takes state taken }
