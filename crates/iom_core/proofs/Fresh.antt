@@ -1,5 +1,5 @@
 -- What an access used at a moment was filled by a step that the directory and the page tables of its own moment allowed.
-use Rattle.std.proofs.Common.{◌≡◌, ◌∙◌, ◌/◌, ◌≤◌, ◌<◌, ℕ, List, false, Option, Some, None, Result, Ok, refl, sym, ap, subst}
+use Rattle.std.proofs.Common.{◌≡◌, ◌∙◌, ◌/◌, ◌≤◌, ◌<◌, ℕ, List, false, Option, Some, None, Ok, refl, sym, ap, subst}
 use Rattle.iom_bits.specs.declared.causes.Cause.{Cause}
 use Rattle.iom_bits.specs.declared.causes.Kind.{Kind}
 use Rattle.iom_ddt.specs.Directory.{located}
@@ -10,16 +10,16 @@ use Rattle.iom_nested.proofs.Pages.{one_hit}
 use Rattle.iom_cache.specs.Drops.{drops_page, drops_context}
 use Rattle.iom_cache.specs.Keys.{key_of, same_key, same_did}
 use Rattle.iom_cache.specs.Origins.{IsLast, fills, drops_at, found_stamp}
-use Rattle.iom_cache.specs.Places.{find, Look, look}
+use Rattle.iom_cache.specs.Places.{Look}
 use Rattle.iom_cache.specs.declared.key.Key.{Key}
 use Rattle.iom_cache.proofs.Origins.{Origin, origin_of}
 use Rattle.iom_cache.proofs.Same.{same_did_exact, same_did_itself, same_key_exact, same_key_itself}
 use Rattle.iom_core.specs.State.{State}
 use Rattle.iom_core.specs.Access.{Request, context_look, page_look, led, request_key}
-use Rattle.iom_core.specs.Warrants.{IsFreshContext, IsFreshPage, IsUncached, IsWalked, context_filled, context_filled_at, executed_at, moment, page_filled, page_filled_at, request_at, way_at}
+use Rattle.iom_core.specs.Warrants.{IsFreshContext, IsUncached, IsWalked, context_filled, context_filled_at, executed_at, moment, page_filled, page_filled_at, request_at, way_at}
 use Rattle.iom_core.specs.Access.{Led, Walked}
 use Rattle.iom_core.specs.declared.step.Step.{Step}
-use Rattle.iom_core.proofs.Moments.{ContextSince, PageSince, context_stamps, page_stamps, contexts_stamped, pages_stamped}
+use Rattle.iom_core.proofs.Moments.{context_stamps, page_stamps, contexts_stamped, pages_stamped}
 use Rattle.iom_core.proofs.Ways.{FilledPage, context_used-cached, filled_context, filled_page, look_of_context}
 
 -- requests with one key ask the same of one page

@@ -5,6 +5,8 @@ pub mod Untouched
 pub mod Ways
 pub mod Moments
 pub mod Fresh
-pub mod Law
+pub mod Explained
 pub mod Puts
 pub mod Reaches
+pub mod Search
+pub mod Found

@@ -1,5 +1,5 @@
 -- How a step changes both caches, and what stands in them at each moment of a run.
-use Rattle.std.proofs.Common.{◌≡◌, ◌+◌, ◌∙◌, ℕ, zero, suc, List, [], ◌∷◌, take, Option, Some, None, refl, sym, ap, subst, arith}
+use Rattle.std.proofs.Common.{◌≡◌, ◌+◌, ◌∙◌, ℕ, zero, suc, List, [], ◌∷◌, Option, Some, None, refl, sym, ap, subst, arith}
 use Rattle.std.specs.Prelude.{IfSome, slice_get}
 use Rattle.std.specs.Option.{option_and_then, option_map}
 use Rattle.iom_ddt.specs.declared.context.Context.{Context}
@@ -15,7 +15,6 @@ use Rattle.iom_core.specs.State.{State, context_room, page_room}
 use Rattle.iom_core.specs.Access.{Request}
 use Rattle.iom_core.specs.Commands.{after_command}
 use Rattle.iom_core.specs.Table.{Asking, asked, executed, next, probed, request_in, request_of_step}
-use Rattle.iom_core.specs.Run.{end_of}
 use Rattle.iom_core.specs.Warrants.{context_filled, context_filled_at, executed_at, moment, page_filled, page_filled_at, request_at}
 use Rattle.iom_core.specs.declared.step.Step.{Step}
 use Rattle.iom_core.specs.declared.step.Step.TheVariants as step

@@ -1,9 +1,9 @@
 -- What a write changes of memory.
-use Rattle.std.proofs.Common.{◌≡◌, ◌+◌, ◌-◌, ◌<◌, ◌≤◌, ◌∙◌, ℕ, zero, suc, List, [], ◌∷◌, ◌++◌, length, take, drop, Bool, true, false, Option, Some, None, refl, sym, ap, subst, inl, inr, arith}
+use Rattle.std.proofs.Common.{◌≡◌, ◌+◌, ◌-◌, ◌<◌, ◌≤◌, ◌∙◌, ℕ, zero, suc, List, [], ◌∷◌, ◌++◌, length, take, drop, Bool, true, false, None, refl, sym, ap, subst, inl, inr, arith}
 use Rattle.std.specs.Prelude.{slice_get, nat_le, if◌then◌else◌, is_some}
 use Rattle.std.proofs.lemmas.Bool.{cases_lt}
 use Rattle.std.proofs.lemmas.Grind.{common_steps}
-use Rattle.iom_mem.specs.Memory.{Memory, byte, bytes_at, put, size_of}
+use Rattle.iom_mem.specs.Memory.{Memory, byte, bytes_at, put}
 use Rattle.iom_mem.proofs.Bytes.{bytes_at_below, bytes_at_past}
 use Rattle.iom_core.specs.Reach.{ChangesOnly, Span}
 

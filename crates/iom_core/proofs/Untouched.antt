@@ -1,5 +1,5 @@
 -- A command that isn't for a cache leaves it.
-use Rattle.std.proofs.Common.{◌≡◌, ℕ, List, Bool, true, false, Option, Some, sym}
+use Rattle.std.proofs.Common.{◌≡◌, ℕ, List, false, Option, Some, sym}
 use Rattle.iom_ddt.specs.declared.context.Context.{Context}
 use Rattle.iom_nested.specs.declared.translation.Hit.{Hit}
 use Rattle.iom_queue.specs.declared.command.Command.{Command}

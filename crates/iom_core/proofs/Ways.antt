@@ -1,5 +1,5 @@
 -- What the way of a request says of the look-ups behind it.
-use Rattle.std.proofs.Common.{◌≡◌, ◌∙◌, ℕ, List, Bool, true, false, Option, Some, None, Result, Ok, Err, if◌then◌else◌, refl, sym, ap, subst}
+use Rattle.std.proofs.Common.{◌≡◌, ◌∙◌, ℕ, Bool, true, false, Option, Some, None, Result, Ok, Err, if◌then◌else◌, refl, sym, ap, subst}
 use Rattle.std.specs.Prelude.{IfSome}
 use Rattle.iom_bits.specs.declared.causes.Cause.{Cause}
 use Rattle.iom_bits.specs.declared.causes.Cause.TheVariants as cause
@@ -17,7 +17,7 @@ use Rattle.iom_cache.specs.Places.{find, Look, look}
 use Rattle.iom_cache.specs.declared.key.Key.{Key}
 use Rattle.iom_cache.proofs.Origins.{look-unused}
 use Rattle.iom_core.specs.State.{Machine}
-use Rattle.iom_core.specs.Access.{Request, Denial, Way, ByRegister, ByContext, Walked, Denied, Led, context_look, led, led_by_context, led_by_mode, led_by_page, page_look, request_key, plain, refused, translating}
+use Rattle.iom_core.specs.Access.{Request, ByRegister, ByContext, Walked, Denied, Led, context_look, led, led_by_context, led_by_mode, led_by_page, page_look, request_key, plain, refused, translating}
 use Rattle.iom_core.proofs.Wide.{too_wide_located}
 
 -- The look-up of a context is one of the cache, for an id that isn't too wide; for one that is it uses and fills nothing.

@@ -1,14 +1,11 @@
 -- What the types of the code that callers don't see stand for, and what each caching of the code keeps.
-use Rattle.std.specs.Prelude.{ℕ, ◌≡◌, Bool, true, false, Option, None, Result, Ok, Err, IfSome}
-use Rattle.iom_ddt.specs.declared.context.Context.{Context}
+use Rattle.std.specs.Prelude.{ℕ, ◌≡◌, Bool, true, false, None, Result, Ok, Err, IfSome}
 use Rattle.iom_nested.specs.Nested.{HitFits}
-use Rattle.iom_nested.specs.declared.translation.Hit.{Hit}
 use Rattle.iom_queue.specs.declared.command.Command.{Command}
 use Rattle.iom_queue.specs.declared.command.Command.TheVariants.{Vma, Gvma, Fence, Iodir}
 use Rattle.iom_cache.specs.Keys.{same_key, same_did}
 use Rattle.iom_cache.specs.Places.{find}
 use Rattle.iom_cache.specs.Entries.{HoldsHit, HoldsContext}
-use Rattle.iom_cache.specs.declared.key.Key.{Key}
 use Rattle.iom_core.specs.State.{Machine}
 use Rattle.iom_core.specs.Access.{Request, Denial, Way, Led, ByRegister, ByContext, Walked, Denied}
 use Rattle.iom_core.specs.declared.access.Request.{Request as CodeRequest}

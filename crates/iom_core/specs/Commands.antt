@@ -1,6 +1,6 @@
 -- A step of the command unit: RISC-V IOMMU Architecture 1.0, "Command-Queue (CQ)". It takes one command and carries it out
 -- whole.
-use Rattle.std.specs.Prelude.{ℕ, Bool, true, false, Option, Some, None, is_some, if◌then◌else◌}
+use Rattle.std.specs.Prelude.{Bool, true, false, Option, Some, None, is_some, if◌then◌else◌}
 use Rattle.iom_bits.specs.Bytes.{bytes_of_number}
 use Rattle.iom_mem.specs.Memory.{Memory, bytes_at, put}
 use Rattle.iom_regs.specs.Table.{Registers}

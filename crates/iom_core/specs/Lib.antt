@@ -6,3 +6,4 @@ pub mod Run
 pub mod Warrants
 pub mod Code
 pub mod Reach
+pub mod Histories

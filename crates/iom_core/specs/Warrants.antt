@@ -1,6 +1,6 @@
 -- Where a translation comes from that a device's access used, and how old it may be: RISC-V IOMMU Architecture 1.0, "Caching
 -- in-memory data structures" and "IOMMU command-queue commands". Steps are counted from 0; moment k is the state before step k.
-use Rattle.std.specs.Prelude.{ℕ, ◌≡◌, ◌<◌, ◌≤◌, ◌&&◌, Bool, true, false, not, List, take, slice_get, Option, Some, None, Result, Ok}
+use Rattle.std.specs.Prelude.{ℕ, ◌≡◌, ◌<◌, ◌≤◌, ◌&&◌, Bool, true, false, not, List, take, slice_get, Option, Some, None, Ok}
 use Rattle.std.specs.Option.{option_and_then}
 use Rattle.iom_regs.specs.Views.{mode_of}
 use Rattle.iom_regs.specs.declared.views.Mode.TheVariants as mode

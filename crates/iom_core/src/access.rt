@@ -79,7 +79,7 @@ impl Led {
 impl Machine {
     // Where a request leads, and what is to be filled on the way. Nothing changes.
     #[tactic(auto, unfolding(crate::specs::Access::led))]
-    fn lead(&self, request: Request) -> Led
+    pub fn lead(&self, request: Request) -> Led
         requires { request.did < 2 ^ 24 }
         ensures led { led_of result ≡ led self.now (request_in request) }
         ensures fills { CanFill self.now (led_of result) }

@@ -1,6 +1,8 @@
 //! The platform: memory, the IOMMU and the steps that its actors take.
 #![tactic(auto)]
 
+pub use history::explain;
+pub use law::freshness;
 pub use platform::Platform;
 pub use port::Port;
 pub use step::{Answer, Step};
@@ -8,7 +10,10 @@ pub use warrant::Warrant;
 
 mod access;
 mod command;
+
 mod hart;
+mod history;
+mod law;
 mod machine;
 mod platform;
 mod port;

@@ -1,6 +1,7 @@
 use iom_cache::{ContextCache, TransCache};
 use iom_mem::Ram;
 use iom_regs::Regs;
+use std::alloc::{AllocError, Global};
 use std::marker::Model;
 
 /// Memory, and the IOMMU in front of it: all that an access of a device goes through.
@@ -27,4 +28,22 @@ impl Model for Machine {
     } };
 
     ghost invariant = { λ m. EachLive HoldsContext m.contexts × EachLive HoldsHit m.pages };
+}
+
+impl Machine {
+    ghost use Rattle.std.specs.Prelude.{◌≡◌, IfOk};
+
+    pub fn try_clone(&self, alloc: Global) -> Result<Machine, AllocError>
+        ensures { IfOk result (λ copy. copy ≡ self.now) }
+    {
+        let ram = self.ram.try_clone(alloc)?;
+        let contexts = self.contexts.try_clone(alloc)?;
+        let pages = self.pages.try_clone(alloc)?;
+        Ok(Machine {
+            ram,
+            registers: self.registers,
+            contexts,
+            pages,
+        })
+    }
 }

@@ -15,7 +15,7 @@ use std::marker::Model;
 /// One memory and one IOMMU.
 #[derive(Drop)]
 pub struct Platform {
-    machine: Machine,
+    pub(crate) machine: Machine,
 }
 
 impl Model for Platform {
@@ -49,6 +49,14 @@ impl Platform {
             contexts,
             pages,
         };
+        Ok(Platform { machine })
+    }
+
+    /// An equal platform, which goes its own way from here. The fault is want of memory, and then this one is as it was.
+    pub fn try_clone(&self, alloc: Global) -> Result<Platform, AllocError>
+        ensures { IfOk result (λ copy. copy ≡ self.now) }
+    {
+        let machine = self.machine.try_clone(alloc)?;
         Ok(Platform { machine })
     }
 
@@ -176,7 +184,7 @@ impl Platform {
     }
 }
 
-fn is_device_access(did: u64, iova: u64, len: u64) -> bool
+pub fn is_device_access(did: u64, iova: u64, len: u64) -> bool
     ensures { result ≡ is_device_access did iova len }
 {
     did < 1 << 24 && len > 0 && len <= 64 && iova % 4096 + len <= 4096

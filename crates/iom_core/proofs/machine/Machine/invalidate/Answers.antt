@@ -1,4 +1,4 @@
-use Rattle.std.proofs.Common.{◌≡◌, Some}
+use Rattle.std.proofs.Common.{Some}
 use Rattle.iom_cache.proofs.Live.{live_emptied}
 use Rattle.iom_cache.specs.Drops.{drops_context, drops_page}
 use Rattle.iom_cache.specs.Entries.{HoldsContext, HoldsHit}

@@ -1,5 +1,5 @@
-use Rattle.std.proofs.Common.{◌≡◌, ◌∙◌, Some, ap, sym}
-use Rattle.iom_core.proofs.Law.{explained, run_reaches, up_to_date_with}
+use Rattle.std.proofs.Common.{◌∙◌, Some, ap, sym}
+use Rattle.iom_core.proofs.Explained.{explained, run_reaches, up_to_date_with}
 use Rattle.iom_core.proofs.Runs.{last_of_states}
 use Rattle.iom_core.proofs.platform.Platform.run.Goals as goal
 

@@ -1,4 +1,3 @@
-use Rattle.std.proofs.Common.{◌≡◌}
 use Rattle.iom_core.proofs.Reaches.{reaches, refuses}
 use Rattle.iom_core.proofs.platform.Platform.step.Goals as goal
 

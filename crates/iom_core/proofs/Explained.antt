@@ -1,5 +1,5 @@
 -- Every step is explained, and what explains it lies behind each full invalidation that is complete.
-use Rattle.std.proofs.Common.{◌≡◌, ◌≤◌, ◌<◌, ◌&&◌, ◌+◌, ◌∙◌, ℕ, suc, List, Bool, true, false, not, Option, Some, None, refl, sym, ap, subst, inl, inr, arith}
+use Rattle.std.proofs.Common.{◌≡◌, ◌≤◌, ◌<◌, ◌+◌, ◌∙◌, ℕ, suc, List, Bool, true, false, Option, Some, None, refl, sym, ap, subst, inl, inr, arith}
 use Rattle.std.specs.Prelude.{slice_get}
 use Rattle.std.proofs.lemmas.Bool.{cases_lt}
 use Rattle.iom_ddt.specs.declared.context.Context.{Context}
@@ -11,7 +11,7 @@ use Rattle.iom_cache.specs.Keys.{gscid_of, key_of}
 use Rattle.iom_cache.specs.Origins.{drops_at}
 use Rattle.iom_cache.specs.declared.key.Key.{Key}
 use Rattle.iom_core.specs.State.{State}
-use Rattle.iom_core.specs.Access.{Request, Way, ByRegister, ByContext, Walked, Denied, Led, request_key}
+use Rattle.iom_core.specs.Access.{Request, Way, Led, request_key}
 use Rattle.iom_core.specs.Warrants.{Explains, HasNone, IsAfter, IsDenied, IsExplained, IsFreshContext, IsFullInvalidation, IsUncached, IsUpToDate, IsWalkAfter, IsWalked, IsWarrant, executed_at, guest_on, is_gvma_of_all, is_iodir_of_all, is_vma_of_all, request_at, way_at, moment}
 use Rattle.iom_core.specs.declared.step.Step.{Step}
 use Rattle.iom_core.specs.declared.warrant.Warrant.{Warrant}
