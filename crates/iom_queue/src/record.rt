@@ -22,8 +22,8 @@ pub struct Record {
     pub did: u32,
     /// The IOVA of the access.
     pub iotval: u64,
-    /// Of a guest page fault bits 63:2 of the guest-physical address, with bit 0 set where an entry of
-    /// a first-stage table was to be read there; else 0.
+    /// Of a guest page fault: bits 63:2 of the guest-physical address, and bit 0 set where an entry of
+    /// a first-stage table was to be read there. Of every other fault: 0.
     pub iotval2: u64,
 }
 
