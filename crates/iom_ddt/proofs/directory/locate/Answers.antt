@@ -1,8 +1,15 @@
-use Rattle.std.proofs.Common.{◌∙◌, ap, sym, arith}
+use Rattle.std.proofs.Common.{◌∙◌, ap, refl, sym, arith, rules}
 use Rattle.std.proofs.lemmas.Result.{err_from_is_err_and}
-use Rattle.iom_ddt.specs.Directory.{levels_of}
+use Rattle.iom_ddt.specs.Directory.{levels_of, located}
 use Rattle.iom_ddt.proofs.Paths.{passes, stops, ends, located_by_path, goes_on, ends_in_fault, ends_in_context, located_by_end}
 use Rattle.iom_ddt.proofs.directory.locate.Goals as goal
+
+pub returns-then-is_too_wide-clause-verdict : goal.returns-then-is_too_wide-clause-verdict
+unfolding located
+returns-then-is_too_wide-clause-verdict c = search rules
+
+pub returns-then-is_too_wide-clause-meaning : goal.returns-then-is_too_wide-clause-meaning
+returns-then-is_too_wide-clause-meaning c = record { too_wide = λ wide. refl; on_path = λ narrow. cc }
 
 pub returns-in_err-table-clause-verdict : goal.returns-in_err-table-clause-verdict
 returns-in_err-table-clause-verdict c =
