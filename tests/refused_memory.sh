@@ -23,7 +23,7 @@ refused() {
 refused 1 mem::keeps_what_is_written OutOfMemory \
     cache::oldest_leaves AllocError \
     cache::keeps_sixteen_contexts AllocError \
-    core::device_reads_what_the_hart_stored OutOfMemory
-refused 2 core::device_reads_what_the_hart_stored AllocError
-refused 3 core::device_reads_what_the_hart_stored AllocError
+    platform::device_reads_what_the_hart_stored OutOfMemory
+refused 2 platform::device_reads_what_the_hart_stored AllocError
+refused 3 platform::device_reads_what_the_hart_stored AllocError
 echo "refused memory: ok"

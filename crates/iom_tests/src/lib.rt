@@ -6,13 +6,13 @@ mod bits;
 #[cfg(test)]
 mod cache;
 #[cfg(test)]
-mod core;
-#[cfg(test)]
 mod ddt;
 #[cfg(test)]
 mod mem;
 #[cfg(test)]
 mod nested;
+#[cfg(test)]
+mod platform;
 #[cfg(test)]
 mod queue;
 #[cfg(test)]

@@ -3,7 +3,7 @@ ghost use Rattle.std.specs.Prelude.{Ok, Err};
 use crate::first_wrong;
 use iom_bits::{Cause, Kind};
 use iom_ddt::Context;
-use iom_mem::Ram;
+use iom_mem::{MemFault, Ram};
 use iom_nested::{Fault, Hit, Second, translate};
 use iom_walk::{Got, Words};
 use std::alloc::Global;
@@ -52,12 +52,16 @@ const SECOND_SMALL: &[(u64, u64)] = &[
 // The guest's page 0x256 is the frame 0x80050.
 const ONE_SMALL: (u64, u64) = (0x8002_62b0, 0x80050 << 10 | 0xd7);
 
-fn memory(alloc: Global, words: &[(u64, u64)], last: (u64, u64)) -> Result<Ram, Fail> {
-    let mut ram = Ram::new(alloc, 0x8000_0000, 0x10_0000)?;
+fn put(ram: &mut Ram, words: &[(u64, u64)]) {
     for (addr, word) in words {
         ram.write(*addr, &word.to_le_bytes());
     }
-    ram.write(last.0, &last.1.to_le_bytes());
+}
+
+fn memory(alloc: Global, words: &[(u64, u64)], last: (u64, u64)) -> Result<Ram, MemFault> {
+    let mut ram = Ram::new(alloc, 0x8000_0000, 0x10_0000)?;
+    put(&mut ram, words);
+    put(&mut ram, &[last]);
     Ok(ram)
 }
 
@@ -136,17 +140,26 @@ fn each_failure(rt: HostRuntime) -> Result<(), Fail> {
     Ok(())
 }
 
+// The same in a memory that has these words.
+fn otherwise_with(
+    alloc: Global,
+    words: &[(u64, u64)],
+    last: (u64, u64),
+    cases: &[Case],
+) -> Result<Option<usize>, MemFault> {
+    let ram = memory(alloc, words, last)?;
+    Ok(otherwise(&ram, cases))
+}
+
 #[test]
 fn hits(rt: HostRuntime) -> Result<(), Fail> {
-    let whole = memory(rt.alloc(), TABLES, SECOND_WHOLE)?;
     let of_whole = [
         (BOTH, 0x4020_1abc, Kind::Write, hit(0x80040, 0, false)),
         // A superpage of the first stage over one of the second.
         (BOTH, 0x4045_6abc, Kind::Read, hit(0x80256, 1, false)),
     ];
-    assert_eq!(rt; otherwise(&whole, &of_whole), None);
+    let in_whole = otherwise_with(rt.alloc(), TABLES, SECOND_WHOLE, &of_whole)?;
     // Under a second stage for reads alone entries are read, and the write is refused.
-    let read_only = memory(rt.alloc(), TABLES, SECOND_READ_ONLY)?;
     let of_read_only = [
         (BOTH, 0x4020_1abc, Kind::Read, hit(0x80040, 0, false)),
         (
@@ -156,9 +169,8 @@ fn hits(rt: HostRuntime) -> Result<(), Fail> {
             fault(Cause::Guest(Kind::Write), 0x40abc),
         ),
     ];
-    assert_eq!(rt; otherwise(&read_only, &of_read_only), None);
+    let in_read_only = otherwise_with(rt.alloc(), TABLES, SECOND_READ_ONLY, &of_read_only)?;
     // A superpage over small pages.
-    let small = memory(rt.alloc(), SECOND_SMALL, ONE_SMALL)?;
     let of_small = [
         (BOTH, 0x4045_6abc, Kind::Read, hit(0x80050, 1, false)),
         (
@@ -168,7 +180,8 @@ fn hits(rt: HostRuntime) -> Result<(), Fail> {
             fault(Cause::Guest(Kind::Read), 0x25_7abc),
         ),
     ];
-    assert_eq!(rt; otherwise(&small, &of_small), None);
+    let in_small = otherwise_with(rt.alloc(), SECOND_SMALL, ONE_SMALL, &of_small)?;
+    assert_eq!(rt; [in_whole, in_read_only, in_small], [None, None, None]);
     Ok(())
 }
 

@@ -59,7 +59,12 @@ const ORDERED_WORDS: [u64; 2] = [0x1802, 0x3fff_ffff_ffff_ffff];
 const IODIR_WORDS: [u64; 2] = [0x502_0000_0003, 0];
 
 fn otherwise(encodings: &[(Command, [u64; 2])]) -> Option<usize> {
-    encodings.iter().position(|(command, words)| decode_command(*words) != Some(*command))
+    for (i, (command, words)) in encodings.iter().enumerate() {
+        if decode_command(*words) != Some(*command) {
+            return Some(i);
+        }
+    }
+    None
 }
 
 // The first words that are a command.

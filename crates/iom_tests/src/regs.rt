@@ -32,9 +32,10 @@ fn otherwise_written(regs: &mut Regs, writes: &[Written]) -> Option<usize> {
 // The first offset and size that are taken.
 fn taken(regs: &mut Regs, accesses: &[(u64, u64)]) -> Option<usize> {
     for (i, (off, size)) in accesses.iter().enumerate() {
-        let read = access(regs, false, *off, *size, 0);
-        let written = access(regs, true, *off, *size, 0);
-        if read.is_some() || written.is_some() {
+        if access(regs, false, *off, *size, 0).is_some() {
+            return Some(i);
+        }
+        if access(regs, true, *off, *size, 0).is_some() {
             return Some(i);
         }
     }
