@@ -5,7 +5,7 @@ use Rattle.iom_virtq.specs.Chains.{Linked}
 use Rattle.iom_blk.specs.declared.phase.Phase.{Phase}
 use Rattle.iom_blk.specs.declared.phase.Phase.TheVariants.{Index}
 
--- A device between two steps. Addresses are IOVAs. Of a request that is not under way `head` to `length` are what was left.
+-- A device between two steps. Addresses are IOVAs. Of a request that is not under way `head` to `used_length` are what was left.
 pub record Device : Type 0 where
   pub disk : List ℕ
   -- what the driver wrote: DeviceFeaturesSel, DriverFeaturesSel, the features that it accepts, QueueSel
@@ -33,7 +33,7 @@ pub record Device : Type 0 where
   pub chain : Linked
   pub header : List ℕ
   pub answer : ℕ
-  pub length : ℕ
+  pub used_length : ℕ
 
 -- how many sectors a disk has
 abbrev pub sectors : List ℕ → ℕ
@@ -62,7 +62,7 @@ at_reset disk = record {
   chain = record { limit = 1; parts = [] };
   header = [];
   answer = 0;
-  length = 0;
+  used_length = 0;
 }
 
 -- a word with one bit set

@@ -39,7 +39,7 @@ ask_of d (phase.Data position) =
     else Read (data_address d.header d.chain position) (data_count d.header d.chain position)
 ask_of d phase.Status = Write (status_address d.chain) (d.answer ∷ [])
 ask_of d phase.UsedId = Write (used_entry d) (bytes_of_number 4 d.head)
-ask_of d phase.UsedLen = Write (used_entry d + 4) (bytes_of_number 4 d.length)
+ask_of d phase.UsedLen = Write (used_entry d + 4) (bytes_of_number 4 d.used_length)
 ask_of d phase.UsedIdx = Write (d.ring + 2) (bytes_of_number 2 ((d.used + 1) % 2 ^ 16))
 
 -- what a step asks the bus for; None: the step is idle
@@ -67,7 +67,7 @@ after_ring d head =
       chain = record { limit = d.size; parts = [] };
       header = [];
       answer = 0;
-      length = 0;
+      used_length = 0;
     }
 
 -- a descriptor, and behind the last one what the chain must have: a header, and a status byte
@@ -92,7 +92,7 @@ judged d =
     let answer = status_of d.header d.chain (sectors d.disk) d.features in
     record d {
       answer = answer;
-      length = used_length d.header d.chain answer;
+      used_length = used_length d.header d.chain answer;
       phase = if moves_data d.header d.chain (sectors d.disk) then phase.Data 0 else phase.Status;
     }
 

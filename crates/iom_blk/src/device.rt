@@ -4,6 +4,7 @@ ghost use Rattle.std.specs.Prelude.{◌≡◌, ◌+◌, ◌%◌, ◌≤◌, ◌^
 ghost use Rattle.std.specs.Bool.{OnTrue};
 
 use crate::bytes::{bytes_of_u16, bytes_of_u32};
+use crate::flags::{DRIVER_OK, FEATURES_OK, NEEDS_RESET};
 use crate::phase::Phase;
 use crate::request::{Request, SECTOR};
 use crate::want::{Moved, Want};
@@ -61,7 +62,7 @@ impl Model for Blk {
       chain = b.request.chain;
       header = b.request.header.items;
       answer = b.request.answer;
-      length = b.request.length;
+      used_length = b.request.used_length;
     } };
 
     ghost invariant = { λ b. IsSound (record {
@@ -85,7 +86,7 @@ impl Model for Blk {
       chain = b.request.chain;
       header = b.request.header.items;
       answer = b.request.answer;
-      length = b.request.length;
+      used_length = b.request.used_length;
     }) };
 }
 
@@ -199,9 +200,9 @@ impl Blk {
         ensures active { result ≡ is_active self.now }
         ensures ready { OnTrue result (self.now.ready ≡ true) }
     {
-        has_bit(self.status, 2)
-            && has_bit(self.status, 3)
-            && !has_bit(self.status, 6)
+        has_bit(self.status, DRIVER_OK)
+            && has_bit(self.status, FEATURES_OK)
+            && !has_bit(self.status, NEEDS_RESET)
             && self.ready
             && self.pending
     }
@@ -238,7 +239,7 @@ impl Blk {
             ),
             Phase::UsedLen => Want::write(
                 self.used_entry() + 4,
-                &bytes_of_u32(self.request.length),
+                &bytes_of_u32(self.request.used_length),
             ),
             Phase::UsedIdx => Want::write(self.ring + 2, &bytes_of_u16(self.used.wrapping_add(1))),
         }

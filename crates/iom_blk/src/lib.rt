@@ -6,6 +6,7 @@ pub use want::{Moved, Want};
 
 mod bytes;
 mod device;
+mod flags;
 mod phase;
 mod registers;
 mod request;

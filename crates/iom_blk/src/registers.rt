@@ -5,17 +5,13 @@ ghost use Rattle.std.specs.Bool.{OnTrue, OnFalse};
 ghost use Rattle.iom_blk.specs.Registers.{is_legal, is_power, is_accepted, offered, status_after, acknowledged};
 
 use crate::device::Blk;
+use crate::flags::{FEATURES_OK, NEEDS_RESET};
 use crate::phase::Phase;
 use crate::request::Request;
 use iom_bits::{field, has_bit, with_field};
 
 /// Where the configuration begins.
 const CONFIG: u64 = 0x100;
-
-// Status: FEATURES_OK and DEVICE_NEEDS_RESET, by their bits.
-const FEATURES_OK: u32 = 3;
-
-const NEEDS_RESET: u32 = 6;
 
 /// QueueNumMax.
 const LARGEST_QUEUE: u64 = 64;

@@ -44,7 +44,7 @@ pub struct Request {
     /// The status byte, once the header is whole.
     pub answer: u8,
     /// The length that the used ring will tell.
-    pub length: u32,
+    pub used_length: u32,
 }
 
 impl Request {
@@ -56,14 +56,14 @@ impl Request {
         ensures chain { result.chain ≡ record { limit = limit; parts = [] } }
         ensures header { result.header.items ≡ [] }
         ensures answer { result.answer ≡ 0 }
-        ensures length { result.length ≡ 0 }
+        ensures used_length { result.used_length ≡ 0 }
     {
         Request {
             head,
             chain: Chain::new(limit),
             header: ArrayVec::new(),
             answer: 0,
-            length: 0,
+            used_length: 0,
         }
     }
 
@@ -73,7 +73,7 @@ impl Request {
         ensures chain { result.chain ≡ self.now.chain }
         ensures header { result.header.items ≡ self.now.header.items }
         ensures answer { result.answer ≡ self.now.answer }
-        ensures length { result.length ≡ self.now.length }
+        ensures used_length { result.used_length ≡ self.now.used_length }
     {
         let mut header = ArrayVec::new();
         let _fits = header.try_extend_from_slice(&self.header);
@@ -82,7 +82,7 @@ impl Request {
             chain: self.chain.copy(),
             header,
             answer: self.answer,
-            length: self.length,
+            used_length: self.used_length,
         }
     }
 
@@ -212,7 +212,7 @@ impl Request {
         requires disk { sectors ≤ 65536 }
         ensures answer { self.new.answer
             ≡ status_of self.old.header.items self.old.chain sectors features }
-        ensures length { self.new.length
+        ensures used_length { self.new.used_length
             ≡ used_length self.old.header.items self.old.chain self.new.answer }
         ensures head { self.new.head ≡ self.old.head }
         ensures chain { self.new.chain ≡ self.old.chain }
@@ -221,7 +221,7 @@ impl Request {
             ≡ (if moves_data self.old.header.items self.old.chain sectors then Phase.Data 0 else Phase.Status) }
     {
         self.answer = self.status(sectors, features);
-        self.length = self.used_length(self.answer, sectors, features);
+        self.used_length = self.told_length(self.answer, sectors, features);
         if self.moves_data(sectors) {
             Phase::Data(0)
         } else {
@@ -232,7 +232,7 @@ impl Request {
     /// The length that the used ring tells of a request that was answered `answer`, on a disk of so many sectors and with
     /// these features accepted.
     #[tactic(auto, unfolding(crate::specs::Requests::used_length), using(crate::proofs::Served::written_fits))]
-    fn used_length(&self, answer: u8, sectors: u64, features: u64) -> u32
+    fn told_length(&self, answer: u8, sectors: u64, features: u64) -> u32
         requires whole { length self.now.header.items ≡ 16 }
         requires status { 1 ≤ writable self.now.chain }
         requires disk { sectors ≤ 65536 }

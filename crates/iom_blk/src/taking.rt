@@ -5,19 +5,12 @@ ghost use Rattle.std.specs.Bool.{OnTrue};
 
 use crate::bytes::{u16_at, u32_at, u64_at};
 use crate::device::Blk;
+use crate::flags::{CHANGED, NEEDS_RESET, USED_BUFFER};
 use crate::phase::Phase;
 use crate::request::{HEADER, Request};
 use crate::want::Moved;
 use iom_bits::with_field;
 use iom_virtq::{Access, More};
-
-/// DEVICE_NEEDS_RESET in Status, by its bit.
-const NEEDS_RESET: u32 = 6;
-
-// In InterruptStatus: a buffer was used, and a configuration change.
-const USED_BUFFER: u32 = 0;
-
-const CHANGED: u32 = 1;
 
 impl Blk {
     ghost use Rattle.iom_virtq.specs.Bus.{is_granted, reply_of};
