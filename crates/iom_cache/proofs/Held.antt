@@ -19,10 +19,10 @@ module _ {K V : Type 0} (same : K → K → Bool) (exact : (a b : K) → same a 
       Contains (Some entry ∷ places) (Some (key, value)) in
       let by_test : (b : Bool) → Goal b = λ b. elim b as Goal [
         | true ↦ λ is here.
-          let own : entry.0 ≡ key = sym (exact key entry.0 is) in
-          let held : entry.1 ≡ value = cc in
-          let both : entry ≡ (key, value) = λ i. (own i, held i) in
-          (0, omega arith, ap Some both)
+            let own : entry.0 ≡ key = sym (exact key entry.0 is) in
+            let held : entry.1 ≡ value = cc in
+            let both : entry ≡ (key, value) = λ i. (own i, held i) in
+            (0, omega arith, ap Some both)
         | false ↦ λ is here. later (Some entry) (Some (key, value)) places (found_contained key value places here)
       ] in by_test (same key entry.0) refl e
 

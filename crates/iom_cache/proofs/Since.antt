@@ -76,4 +76,4 @@ module _ {C K V : Type 0} (same : K → K → Bool) (drops : C → K → V → B
       let next : Stamped (Since (k + 1)) (emptied_by drops (executed k) (filled_by room (filled k) (places k))) (stamps (suc k))
       = Since-step k room (places k) (stamps k) (new k) (Since-always room places none step new k) in
       subst (λ (n : ℕ). Stamped (Since n) (places (suc k)) (stamps (suc k))) (add-one k)
-        (subst (λ (ps : List (Option (K × V))). Stamped (Since (k + 1)) ps (stamps (suc k))) (sym (step k)) next)
+      (subst (λ (ps : List (Option (K × V))). Stamped (Since (k + 1)) ps (stamps (suc k))) (sym (step k)) next)
