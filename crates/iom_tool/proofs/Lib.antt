@@ -4,3 +4,4 @@ pub mod Numbers
 pub mod Splits
 pub mod Outputs
 pub mod Feeding
+pub mod Runs

@@ -2,19 +2,22 @@
 #![tactic(auto)]
 
 pub use fault::RunFault;
+pub use feeder::Feeder;
+pub use rest::Rest;
 pub use running::run;
 pub use session::Session;
 pub use text::Reply;
+pub use trace::{Entry, Trace};
 
+mod answering;
 mod debugger;
 mod fault;
 mod feeder;
-#[cfg(test)]
-mod rows;
+mod rest;
 mod running;
 mod script;
 mod session;
-#[cfg(test)]
-mod tests;
 mod text;
+mod trace;
+mod watched;
 mod words;

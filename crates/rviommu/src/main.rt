@@ -6,7 +6,7 @@ use clap::{Command, Error};
 use fault::Fault;
 use iom_core::Platform;
 use iom_mem::Ram;
-use iom_tool::RunFault;
+use iom_tool::{RunFault, Trace};
 use std::alloc::Global;
 use std::cell::RefCell;
 use std::env;
@@ -36,10 +36,11 @@ fn run(
     input: impl Read + Drop,
     output: &RefCell<impl Write + Drop>,
 ) -> Result<(), Fault> {
+    let mut trace = Trace::new(alloc)?;
     let tied = Tied { input, output };
     let mut reader = BufReader::new(alloc, tied).map_err(|_| Fault::OutOfMemory)?;
     let mut writer = Shared { output };
-    let ended = iom_tool::run(platform, &mut reader, &mut writer);
+    let ended = iom_tool::run(platform, &mut trace, &mut reader, &mut writer);
     // The answers before a fault are written too.
     writer.flush().map_err(|_| RunFault::Write)?;
     Ok(ended?)
