@@ -2,6 +2,8 @@
 #
 #   make run < FILE           run a script on standard input; builds the program first where it is not current
 #   make test                 every proof from nothing, the edits that must be refused, every test
+#   make rows                 plays the scripts of crates/iom_rows/data, and prints each answer that is not the expected one
+#   make cost                 processor seconds of what make test does, crate by crate, on a copy
 #   make bench [OTHER=FILE]   lines per second, beside another program where one is named
 #   make install PREFIX=..    copy the program to PREFIX/bin, /usr/local/bin where PREFIX is not given
 
@@ -15,7 +17,7 @@ has_python = command -v python3 >/dev/null || { echo "python3 is not on the path
 # rt builds the program and then runs it, here on nothing.
 build = cd crates/rviommu && rt run </dev/null >/dev/null
 
-.PHONY: run test bench install
+.PHONY: run test rows cost bench install
 
 $(program): crates.txt $(sources)
 	@$(has_rt)
@@ -32,6 +34,15 @@ test:
 	sh tests/refused_memory.sh
 	@test -x $(program) || { $(build); }
 	tests/program.py $(program)
+
+rows:
+	@$(has_rt)
+	@cd crates/iom_rows && rt run -- data </dev/null 2>/dev/null
+
+cost:
+	@$(has_rt)
+	@$(has_python)
+	tests/gate_cost.py
 
 bench: $(program)
 	@$(has_python)

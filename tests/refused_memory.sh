@@ -1,28 +1,29 @@
 #!/bin/sh
-# With an allocation refused, the call that takes it answers its own fault for want of memory.
+# With an allocation refused, the call that takes it answers its own fault for want of memory, and a test that makes the call
+# ends in this fault.
 top=$(cd "$(dirname "$0")/.." && pwd) || exit 1
 
-# refused CRATE NUMBER TEXT..: the crate's tests, with that allocation of each refused, print each of the texts.
+# refused NUMBER TEST FAULT [TEST FAULT ..]: with that allocation of each test refused, each of these tests ends in its fault.
 refused() {
-    crate=$1 number=$2
-    shift 2
-    seen=$(cd "$top/crates/$crate" && rt try --test --fail-alloc "$number" 2>&1)
-    for text; do
-        case "$seen" in
-        *"$text"*) ;;
-        *)
+    number=$1
+    shift
+    seen=$(cd "$top/crates/iom_tests" && rt try --test --fail-alloc "$number" 2>&1)
+    told=$(printf '%s\n' "$seen" | awk '$1 == "test" { test = $2 } $1 == "error:" { print test, $2 }')
+    while [ $# -gt 0 ]; do
+        if ! printf '%s\n' "$told" | grep -qxF "$1 $2"; then
             printf '%s\n' "$seen"
-            echo "refused memory: FAILED, of $crate at allocation $number"
+            echo "refused memory: FAILED, of $1 at allocation $number"
             exit 1
-            ;;
-        esac
+        fi
+        shift 2
     done
 }
 
-refused iom_mem 1 "error: OutOfMemory" "left: Some(OutOfMemory)"
 # Each cache takes one allocation; a platform takes that of its memory, of its contexts and of its translations.
-refused iom_cache 1 "error: AllocError"
-refused iom_core 1 "error: OutOfMemory"
-refused iom_core 2 "error: AllocError"
-refused iom_core 3 "error: AllocError"
+refused 1 mem::keeps_what_is_written OutOfMemory \
+    cache::oldest_leaves AllocError \
+    cache::keeps_sixteen_contexts AllocError \
+    core::device_reads_what_the_hart_stored OutOfMemory
+refused 2 core::device_reads_what_the_hart_stored AllocError
+refused 3 core::device_reads_what_the_hart_stored AllocError
 echo "refused memory: ok"

@@ -5,6 +5,4 @@ pub use causes::{Cause, Kind};
 pub use words::{field, has_bit, le_u16, le_u32, le_u64, with_field};
 
 mod causes;
-#[cfg(test)]
-mod tests;
 mod words;

@@ -11,6 +11,4 @@ mod contexts;
 mod drops;
 mod key;
 mod place;
-#[cfg(test)]
-mod tests;
 mod translations;

@@ -8,6 +8,4 @@ mod platform;
 mod port;
 mod request;
 mod step;
-#[cfg(test)]
-mod tests;
 mod translate;

@@ -7,6 +7,4 @@ pub use words::{context_of, encode_context};
 
 mod context;
 mod directory;
-#[cfg(test)]
-mod tests;
 mod words;

@@ -10,9 +10,6 @@ use std::alloc::Global;
 use std::marker::Model;
 use thiserror::Error;
 
-#[cfg(test)]
-mod tests;
-
 /// Why there is no memory of the base and size that were asked for.
 #[derive(Clone, Copy, Debug, PartialEq, Eq, Hash, Error)]
 pub enum MemFault {

@@ -7,6 +7,4 @@ pub use translation::{Fault, Hit, translate};
 
 mod physical;
 mod second;
-#[cfg(test)]
-mod tests;
 mod translation;

@@ -12,5 +12,3 @@ mod delivery;
 mod fetch;
 mod fields;
 mod record;
-#[cfg(test)]
-mod tests;

@@ -7,6 +7,4 @@ pub use views::{Mode, Queue, Which};
 mod file;
 mod flags;
 mod ring;
-#[cfg(test)]
-mod tests;
 mod views;

@@ -11,6 +11,4 @@ mod entry;
 mod outcome;
 mod shape;
 mod source;
-#[cfg(test)]
-mod tests;
 mod walking;

@@ -1,9 +1,11 @@
-use crate::{Answer, Platform, Step};
+use iom_core::{Answer, Platform, Step};
 use iom_mem::Ram;
 use std::test::Fail;
 
 const BASE: u64 = 0x8000_0000;
 
+// With an allocation refused it ends in the fault of the call that takes it: the first is that of memory, and the second
+// and the third are the platform's.
 #[test]
 fn device_reads_what_the_hart_stored(rt: HostRuntime) -> Result<(), Fail> {
     let ram = Ram::new(rt.alloc(), BASE, 0x10_0000)?;
@@ -27,15 +29,13 @@ fn device_reads_what_the_hart_stored(rt: HostRuntime) -> Result<(), Fail> {
     ];
     let mut answers = [Answer::Idle, Answer::Idle, Answer::Idle];
     platform.run(&steps, &mut answers);
-    assert_eq!(rt; answers[0], Answer::Done);
-    assert_eq!(rt; answers[1], Answer::Done);
-    match &answers[2] {
-        Answer::Bytes(bytes) => assert_eq!(rt;
-            bytes.as_slice(),
-            [1, 2, 3, 4, 5, 6, 7, 8].as_slice()
-        ),
-        other => panic!(rt; "answered {other:?}"),
-    }
-    assert_eq!(rt; platform.ram().word(BASE), Some(0x0807_0605_0403_0201));
+    let are_as_expected = match &answers {
+        [Answer::Done, Answer::Done, Answer::Bytes(bytes)] => {
+            bytes.as_slice() == [1, 2, 3, 4, 5, 6, 7, 8].as_slice()
+        }
+        _ => false,
+    };
+    assert!(rt; are_as_expected);
+    assert!(rt; platform.ram().word(BASE) == Some(0x0807_0605_0403_0201));
     Ok(())
 }

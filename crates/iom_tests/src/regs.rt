@@ -1,8 +1,5 @@
-use crate::{Mode, Queue, Regs, Which};
-
-const READ: bool = false;
-
-const WRITE: bool = true;
+use crate::first_wrong;
+use iom_regs::{Mode, Queue, Regs, Which};
 
 // A read's number; 0 for a write that is taken; None for what is refused.
 fn access(regs: &mut Regs, is_write: bool, off: u64, size: u64, value: u64) -> Option<u64> {
@@ -19,7 +16,32 @@ fn access(regs: &mut Regs, is_write: bool, off: u64, size: u64, value: u64) -> O
     }
 }
 
-#[derive(Clone, Copy, Debug)]
+// An offset, a size, what is written there, and what is read there then.
+type Written = (u64, u64, u64, u64);
+
+fn otherwise_written(regs: &mut Regs, writes: &[Written]) -> Option<usize> {
+    for (i, (off, size, value, want)) in writes.iter().enumerate() {
+        access(regs, true, *off, *size, *value);
+        if access(regs, false, *off, *size, 0) != Some(*want) {
+            return Some(i);
+        }
+    }
+    None
+}
+
+// The first offset and size that are taken.
+fn taken(regs: &mut Regs, accesses: &[(u64, u64)]) -> Option<usize> {
+    for (i, (off, size)) in accesses.iter().enumerate() {
+        let read = access(regs, false, *off, *size, 0);
+        let written = access(regs, true, *off, *size, 0);
+        if read.is_some() || written.is_some() {
+            return Some(i);
+        }
+    }
+    None
+}
+
+#[derive(Clone, Copy)]
 enum Event {
     // Four bytes at an offset.
     Write(u64, u64),
@@ -32,8 +54,7 @@ enum Event {
     Fqmf,
 }
 
-// What cqcsr, fqcsr, ipsr, cqh and fqt show after an event.
-fn after(regs: &mut Regs, event: Event) -> [Option<u64>; 5] {
+fn happen(regs: &mut Regs, event: Event) {
     match event {
         Event::Write(off, value) => {
             access(regs, true, off, 4, value);
@@ -46,29 +67,27 @@ fn after(regs: &mut Regs, event: Event) -> [Option<u64>; 5] {
         Event::Fqof => regs.set_fqof(),
         Event::Fqmf => regs.set_fqmf(),
     }
-    [
-        access(regs, false, 72, 4, 0),
-        access(regs, false, 76, 4, 0),
-        access(regs, false, 84, 4, 0),
-        access(regs, false, 32, 4, 0),
-        access(regs, false, 52, 4, 0),
-    ]
 }
 
-fn views(regs: &Regs) -> (Mode, u64, Queue, Queue) {
-    (
-        regs.mode(),
-        regs.root(),
-        regs.queue(Which::Commands),
-        regs.queue(Which::Faults),
-    )
+// What cqcsr, fqcsr, ipsr, cqh and fqt show.
+fn shown(regs: &Regs) -> [Option<u64>; 5] {
+    [72, 76, 84, 32, 52].map(|off| regs.read(off, 4))
+}
+
+fn otherwise_shown(regs: &mut Regs, events: &[(Event, [u64; 5])]) -> Option<usize> {
+    for (i, (event, want)) in events.iter().enumerate() {
+        happen(regs, *event);
+        if shown(regs) != want.map(Some) {
+            return Some(i);
+        }
+    }
+    None
 }
 
 // The numbers are worked out by hand from the architecture's register table.
 #[test]
 fn registers_are_as_in_the_table(rt: HostRuntime) {
     let mut regs = Regs::reset();
-    // offset, size, what is written, and what is read there then
     let writes = [
         (0, 8, 0xffff_ffff_ffff_ffff, 0x38_1002_0210),
         (4, 4, 0, 0x38),
@@ -93,23 +112,9 @@ fn registers_are_as_in_the_table(rt: HostRuntime) {
         (76, 4, 0xffff_ffff, 0x1_0003),
         (44, 4, 5, 0),
     ];
-    for (off, size, value, want) in writes {
-        access(&mut regs, true, off, size, value);
-        let got = access(&mut regs, false, off, size, 0);
-        assert_eq!(rt; got, Some(want), "at {off}, {size}");
-    }
-    for (off, size) in [(0, 2), (2, 4), (4, 8), (8, 8), (72, 8), (80, 8), (4096, 4)] {
-        assert_eq!(rt;
-            access(&mut regs, false, off, size, 0),
-            None,
-            "at {off}, {size}"
-        );
-        assert_eq!(rt;
-            access(&mut regs, true, off, size, 0),
-            None,
-            "at {off}, {size}"
-        );
-    }
+    assert_eq!(rt; otherwise_written(&mut regs, &writes), None);
+    let refused = [(0, 2), (2, 4), (4, 8), (8, 8), (72, 8), (80, 8), (4096, 4)];
+    assert_eq!(rt; taken(&mut regs, &refused), None);
     let events = [
         (Event::Record, [0x1_0003, 0x1_0003, 2, 0, 1]),
         (Event::Command, [0x1_0003, 0x1_0003, 2, 1, 1]),
@@ -126,9 +131,7 @@ fn registers_are_as_in_the_table(rt: HostRuntime) {
         (Event::Write(24, 0x2000_0800), [0x502, 0x200, 1, 1, 1]),
         (Event::Write(72, 1), [0x1_0001, 0x200, 1, 0, 1]),
     ];
-    for (event, want) in events {
-        assert_eq!(rt; after(&mut regs, event), want.map(Some), "after {event:?}");
-    }
+    assert_eq!(rt; otherwise_shown(&mut regs, &events), None);
     let commands = Queue {
         on: true,
         base: 0x8_0002,
@@ -143,5 +146,11 @@ fn registers_are_as_in_the_table(rt: HostRuntime) {
         head: 1,
         tail: 1,
     };
-    assert_eq!(rt; views(&regs), (Mode::Levels(3), 0x8_0001, commands, faults));
+    let facts = [
+        regs.mode() == Mode::Levels(3),
+        regs.root() == 0x8_0001,
+        regs.queue(Which::Commands) == commands,
+        regs.queue(Which::Faults) == faults,
+    ];
+    assert_eq!(rt; first_wrong(&facts), None);
 }

@@ -1,0 +1,77 @@
+//! Plays whole scripts: for each file NAME.script of the folder that it is given, what the script writes on the built-in
+//! memory is to be what NAME.expect has. Prints each answer that is otherwise.
+#![tactic(auto)]
+
+use iom_core::Platform;
+use iom_mem::Ram;
+use iom_tool::Trace;
+use std::alloc::Global;
+use std::process::ExitCode;
+use std::{env, fs, io};
+
+// What a script writes, on the memory of the program.
+fn written(alloc: Global, script: &[u8]) -> anyhow::Result<Vec<u8>> {
+    let ram = Ram::new(alloc, 0x8000_0000, 0x10_0000)?;
+    let mut platform = Platform::new(alloc, ram)?;
+    let mut trace = Trace::new(alloc)?;
+    let mut reader = script;
+    let mut writer = Vec::new(alloc);
+    iom_tool::run(&mut platform, &mut trace, &mut reader, &mut writer)?;
+    Ok(writer)
+}
+
+// The scripts of a folder, without their endings, in the order of their names.
+fn scripts(rt: &HostRuntime, folder: &str) -> io::Result<Vec<String>> {
+    let mut scripts = Vec::new(rt.alloc());
+    for entry in fs::read_dir(rt, folder)? {
+        let entry = entry?;
+        if let Some(script) = entry.path().as_os_str().strip_suffix(".script") {
+            scripts.push(String::from_str(rt.alloc(), script)?)?;
+        }
+    }
+    scripts.sort()?;
+    Ok(scripts)
+}
+
+// Prints each answer that is not the expected one.
+fn compare(rt: &HostRuntime, name: &str, written: &[u8], expected: &[u8]) -> io::Result<()> {
+    let answers = written.split(|c| *c == b'\n');
+    let wanted = expected.split(|c| *c == b'\n');
+    for (before, (answer, want)) in answers.zip(wanted).enumerate() {
+        if answer != want {
+            let (answer, want) = (answer.escape_ascii(), want.escape_ascii());
+            println!(rt; "{name}: after {before} answers comes `{answer}`, not `{want}`")?;
+        }
+    }
+    Ok(())
+}
+
+// Whether a script writes what is expected of it.
+fn is_as_expected(rt: &HostRuntime, name: &str) -> anyhow::Result<bool> {
+    let script = fs::read(rt, format!(in rt.alloc(); "{name}.script")?)?;
+    let expected = fs::read(rt, format!(in rt.alloc(); "{name}.expect")?)?;
+    let written = written(rt.alloc(), script.as_slice())?;
+    compare(rt, name, written.as_slice(), expected.as_slice())?;
+    Ok(written == expected)
+}
+
+fn main(rt: HostRuntime) -> anyhow::Result<ExitCode> {
+    let Some(folder) = env::args(&rt)?.nth(1) else {
+        println!(rt; "usage: iom_rows FOLDER")?;
+        return Ok(ExitCode::FAILURE);
+    };
+    let scripts = scripts(&rt, folder.as_str())?;
+    if scripts.is_empty() {
+        println!(rt; "{folder} has no script")?;
+        return Ok(ExitCode::FAILURE);
+    }
+    let mut is_well = true;
+    for script in &scripts {
+        is_well &= is_as_expected(&rt, script.as_str())?;
+    }
+    if !is_well {
+        return Ok(ExitCode::FAILURE);
+    }
+    println!(rt; "all answers are the expected ones")?;
+    Ok(ExitCode::SUCCESS)
+}

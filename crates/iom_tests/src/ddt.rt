@@ -1,0 +1,62 @@
+ghost use Rattle.std.specs.Prelude.{Ok, Err};
+
+use crate::first_wrong;
+use iom_bits::Cause;
+use iom_ddt::{Context, context_of, encode_context};
+
+// Every field set: both stages, a guest and a process.
+const FULL: Context = Context {
+    dtf: true,
+    custom: 0xa5,
+    gmode: 8,
+    gppn: 0x80020,
+    gscid: 7,
+    tav: true,
+    pscid: 3,
+    mode: 8,
+    ppn: 0x30,
+};
+
+const FULL_WORDS: [u64; 4] = [
+    0xa500_0011,
+    0x8000_7000_0008_0020,
+    0x3001,
+    0x8000_0000_0000_0030,
+];
+
+#[test]
+fn encodes_and_decodes(rt: HostRuntime) {
+    let facts = [
+        encode_context(&FULL) == FULL_WORDS,
+        context_of(FULL_WORDS) == Ok(FULL),
+    ];
+    assert_eq!(rt; first_wrong(&facts), None);
+}
+
+// Words, and the cause that they are refused for.
+fn otherwise(cases: &[([u64; 4], Option<Cause>)]) -> Option<usize> {
+    for (i, (words, want)) in cases.iter().enumerate() {
+        if context_of(*words).err() != *want {
+            return Some(i);
+        }
+    }
+    None
+}
+
+#[test]
+fn refuses_words(rt: HostRuntime) {
+    let cases = [
+        // V = 0 comes before any other fault.
+        ([0, u64::MAX, u64::MAX, u64::MAX], Some(Cause::DirInvalid)),
+        // A reserved bit of tc, of ta and of fsc.
+        ([0x21, 0, 0, 0], Some(Cause::DirBad)),
+        ([1, 0, 2, 0], Some(Cause::DirBad)),
+        ([1, 0, 0, 1 << 44], Some(Cause::DirBad)),
+        // A mode that there is not.
+        ([1, 0, 0, 9 << 60], Some(Cause::DirBad)),
+        // A root of the second stage that isn't aligned, with the stage on and off.
+        ([1, 0x8000_0000_0000_0002, 0, 0], Some(Cause::DirBad)),
+        ([1, 2, 0, 0], None),
+    ];
+    assert_eq!(rt; otherwise(&cases), None);
+}

@@ -1,0 +1,31 @@
+//! The tests of all crates below, a file each: tables of cases as data, and the number of the first case that is otherwise.
+#![tactic(auto)]
+
+#[cfg(test)]
+mod bits;
+#[cfg(test)]
+mod cache;
+#[cfg(test)]
+mod core;
+#[cfg(test)]
+mod ddt;
+#[cfg(test)]
+mod mem;
+#[cfg(test)]
+mod nested;
+#[cfg(test)]
+mod queue;
+#[cfg(test)]
+mod regs;
+#[cfg(test)]
+mod script;
+#[cfg(test)]
+mod tool;
+#[cfg(test)]
+mod walk;
+
+// The number of the first fact that isn't so.
+#[cfg(test)]
+fn first_wrong(facts: &[bool]) -> Option<usize> {
+    facts.iter().position(|fact| !*fact)
+}

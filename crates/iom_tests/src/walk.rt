@@ -1,0 +1,211 @@
+use iom_bits::Kind;
+use iom_walk::{Got, Leaf, Outcome, Shape, Words, walk};
+
+// The entry `word` at the address `place`.
+#[derive(Clone, Copy)]
+struct Entry {
+    place: u64,
+    word: u64,
+}
+
+// Three entries, and an address that can't be read; all else is outside memory.
+#[derive(Clone, Copy)]
+struct Tables {
+    first: Entry,
+    second: Entry,
+    third: Entry,
+    refused: u64,
+}
+
+impl Words for Tables {
+    ghost use Rattle.std.specs.Prelude.{◌==◌, if◌then◌else◌};
+    ghost use Rattle.iom_walk.specs.declared.source.Got.TheVariants.{Word, Outside, Guest};
+
+    ghost at = { λ s addr.
+        if addr == s.refused then Guest
+        else if addr == s.first.place then Word s.first.word
+        else if addr == s.second.place then Word s.second.word
+        else if addr == s.third.place then Word s.third.word
+        else Outside };
+
+    fn word(&self, addr: u64) -> Got {
+        if addr == self.refused {
+            Got::Guest
+        } else if addr == self.first.place {
+            Got::Word(self.first.word)
+        } else if addr == self.second.place {
+            Got::Word(self.second.word)
+        } else if addr == self.third.place {
+            Got::Word(self.third.word)
+        } else {
+            Got::Outside
+        }
+    }
+}
+
+fn word_at(place: u64, word: u64) -> Entry {
+    Entry { place, word }
+}
+
+fn holding(first: Entry, second: Entry, third: Entry) -> Tables {
+    Tables {
+        first,
+        second,
+        third,
+        refused: NOWHERE,
+    }
+}
+
+fn refusing(refused: u64) -> Tables {
+    Tables {
+        refused,
+        ..holding(ROOT, MIDDLE, LAST)
+    }
+}
+
+fn leaf(frame: u64, level: u8, global: bool) -> Outcome {
+    Outcome::Leaf(Leaf {
+        frame,
+        level,
+        global,
+    })
+}
+
+// An address that no walk asks for.
+const NOWHERE: u64 = 1;
+
+// Its indexes are 3, 5 and 7.
+const ADDR: u64 = 0xc0a0_7abc;
+
+const NONE: Entry = Entry {
+    place: NOWHERE,
+    word: 0,
+};
+
+// A pointer to the table at 0x80001000, one to the table at 0x80002000, and a leaf of frame 0x80010 with V, R, W, U, A, D.
+const ROOT: Entry = Entry {
+    place: 0x8000_0018,
+    word: 0x2000_0401,
+};
+
+const MIDDLE: Entry = Entry {
+    place: 0x8000_1028,
+    word: 0x2000_0801,
+};
+
+const LAST: Entry = Entry {
+    place: 0x8000_2038,
+    word: 0x2000_40d7,
+};
+
+// How a walk from the table at 0x80000000 ends.
+#[derive(Clone, Copy)]
+struct Case {
+    tables: Tables,
+    shape: Shape,
+    addr: u64,
+    kind: Kind,
+    want: Outcome,
+}
+
+fn otherwise(cases: &[Case]) -> Option<usize> {
+    for (i, case) in cases.iter().enumerate() {
+        if walk(&case.tables, case.shape, 0x80000, case.addr, case.kind) != case.want {
+            return Some(i);
+        }
+    }
+    None
+}
+
+fn read_at(shape: Shape, addr: u64, tables: Tables, want: Outcome) -> Case {
+    Case {
+        tables,
+        shape,
+        addr,
+        kind: Kind::Read,
+        want,
+    }
+}
+
+fn read(tables: Tables, want: Outcome) -> Case {
+    read_at(Shape::Sv39, ADDR, tables, want)
+}
+
+fn write(tables: Tables, want: Outcome) -> Case {
+    Case {
+        kind: Kind::Write,
+        ..read(tables, want)
+    }
+}
+
+#[test]
+fn finds_leaves(rt: HostRuntime) {
+    let global = leaf(0x80010, 0, true);
+    let aligned = word_at(0x8000_1028, 0x2008_00d7);
+    let misaligned = word_at(0x8000_1028, 0x2008_40d7);
+    let root_aligned = word_at(0x8000_0018, 0x3000_00d7);
+    let root_misaligned = word_at(0x8000_0018, 0x2008_00d7);
+    let read_only = holding(ROOT, MIDDLE, word_at(0x8000_2038, 0x2000_4053));
+    let cases = [
+        write(holding(ROOT, MIDDLE, LAST), leaf(0x80010, 0, false)),
+        // G in the leaf, and in entries before it
+        write(
+            holding(ROOT, MIDDLE, word_at(0x8000_2038, 0x2000_40f7)),
+            global,
+        ),
+        write(
+            holding(ROOT, word_at(0x8000_1028, 0x2000_0821), LAST),
+            global,
+        ),
+        write(
+            holding(word_at(0x8000_0018, 0x2000_0421), MIDDLE, LAST),
+            global,
+        ),
+        // leaves of 512 and of 2^18 pages, with the bits of the address below, and misaligned ones
+        write(holding(ROOT, aligned, NONE), leaf(0x80207, 1, false)),
+        write(holding(ROOT, misaligned, NONE), Outcome::Fault),
+        write(holding(root_aligned, NONE, NONE), leaf(0xc0a07, 2, false)),
+        write(holding(root_misaligned, NONE, NONE), Outcome::Fault),
+        // V, R, U and A are enough for a read
+        read(read_only, leaf(0x80010, 0, false)),
+        write(read_only, Outcome::Fault),
+    ];
+    assert_eq!(rt; otherwise(&cases), None);
+}
+
+#[test]
+fn ends_at_entries_that_cannot_be_read(rt: HostRuntime) {
+    let cases = [
+        read(holding(NONE, NONE, NONE), Outcome::Outside),
+        read(holding(ROOT, NONE, NONE), Outcome::Outside),
+        read(holding(ROOT, MIDDLE, NONE), Outcome::Outside),
+        read(refusing(0x8000_0018), Outcome::Guest(0x8000_0018)),
+        read(refusing(0x8000_1028), Outcome::Guest(0x8000_1028)),
+        read(refusing(0x8000_2038), Outcome::Guest(0x8000_2038)),
+    ];
+    assert_eq!(rt; otherwise(&cases), None);
+}
+
+#[test]
+fn divides_addresses_by_shape(rt: HostRuntime) {
+    // the index into the wide root is 0x403
+    let wide = holding(word_at(0x8000_2018, 0x2000_0401), MIDDLE, LAST);
+    // an entry that points to its own table is met three times
+    let circle = holding(word_at(0x8000_0000, 0x2000_0001), NONE, NONE);
+    // with no table at all, an address that is too wide is told by its fault
+    let none = holding(NONE, NONE, NONE);
+    let found = leaf(0x80010, 0, false);
+    let cases = [
+        read_at(Shape::Sv39x4, 0x100_c0a0_7abc, wide, found),
+        read_at(Shape::Sv39, 0, circle, Outcome::Fault),
+        read_at(Shape::Sv39, 0x3f_ffff_ffff, none, Outcome::Outside),
+        read_at(Shape::Sv39, 0x40_0000_0000, none, Outcome::Fault),
+        read_at(Shape::Sv39, 0x80_0000_0000, none, Outcome::Fault),
+        read_at(Shape::Sv39, 0xffff_ffc0_0000_0000, none, Outcome::Outside),
+        read_at(Shape::Sv39, 0x7fff_ffc0_0000_0000, none, Outcome::Fault),
+        read_at(Shape::Sv39x4, 0x40_0000_0000, none, Outcome::Outside),
+        read_at(Shape::Sv39x4, 0x1ff_ffff_ffff, none, Outcome::Outside),
+        read_at(Shape::Sv39x4, 0x200_0000_0000, none, Outcome::Fault),
+    ];
+    assert_eq!(rt; otherwise(&cases), None);
+}

@@ -1,0 +1,159 @@
+#!/usr/bin/env python3
+"""gate_cost.py [CRATE..]    Processor seconds of the gate's parts, run one at a time on a copy of the repository.
+
+The parts of a crate are its proof from nothing (of a program with both of its builds), its tests, proved and run, and
+the edits that must be refused. Prints a table of all crates, or of those that are named, as docs/MAP.md has it; the
+libraries that these stand on are built first. The status is 1 where a part fails.
+
+Other work on the same cores makes each number larger.
+"""
+import os
+import resource
+import shutil
+import subprocess
+import sys
+import tempfile
+import time
+
+TOP = os.path.join(os.path.dirname(os.path.abspath(__file__)), os.pardir)
+PROGRAM = "rviommu"
+
+
+def listed(top):
+    """The crates of crates.txt in its order, each with the libraries that it uses."""
+    crates = {}
+    with open(f"{top}/crates.txt", encoding="utf-8") as file:
+        for line in file:
+            name, colon, uses = line.partition("#")[0].partition(":")
+            if colon:
+                crates[name.split()[0]] = uses.split()
+    return crates
+
+
+def below(name, crates):
+    """The crates of the repository that a crate stands on, and itself, lowest first."""
+    seen = set()
+    todo = [name]
+    while todo:
+        one = todo.pop()
+        if one in crates and one not in seen:
+            seen.add(one)
+            todo += crates[one]
+    return [one for one in crates if one in seen]
+
+
+def spent():
+    used = resource.getrusage(resource.RUSAGE_CHILDREN)
+    return used.ru_utime + used.ru_stime
+
+
+def cost(folder, *words):
+    """Runs a command to its end, and returns its processor seconds; ends this program where it fails."""
+    before = spent()
+    ran = subprocess.run(words, cwd=folder, stdin=subprocess.DEVNULL, stdout=subprocess.PIPE, stderr=subprocess.STDOUT)
+    if ran.returncode:
+        sys.stdout.write(ran.stdout.decode(errors="replace")[-4000:])
+        sys.exit(f"gate cost: {' '.join(words)} failed in {folder}")
+    return spent() - before
+
+
+def edits_of(folder):
+    names = os.listdir(f"{folder}/must-fail") if os.path.isdir(f"{folder}/must-fail") else []
+    return sum(name.endswith(".edit") for name in names)
+
+
+def has_tests(folder):
+    for at, _, names in os.walk(f"{folder}/src"):
+        for name in names:
+            with open(f"{at}/{name}", encoding="utf-8") as file:
+                if "#[test]" in file.read():
+                    return True
+    return False
+
+
+class Row:
+    """The processor seconds of a crate's parts; None where it has no such part."""
+
+    def __init__(self, name):
+        self.name = name
+        self.build = 0.0
+        self.second = None
+        self.tests = None
+        self.edits = None
+        self.edit_count = 0
+
+    def total(self):
+        return self.build + (self.second or 0) + (self.tests or 0) + (self.edits or 0)
+
+
+def measure(top, name, row):
+    """Measures what comes after a crate's proof. A program that LLVM built stays as NAME at the top."""
+    folder = f"{top}/crates/{name}"
+    if os.path.isfile(f"{folder}/src/main.rt"):
+        shutil.copy2(f"{folder}/out/{name}", f"{top}/{name}")
+        row.second = cost(folder, "rt", "run", "--backend", "rattle")
+    if has_tests(folder):
+        shutil.rmtree(f"{folder}/out/incremental", ignore_errors=True)
+        row.tests = cost(folder, "rt", "test")
+    row.edit_count = edits_of(folder)
+    if row.edit_count:
+        row.edits = cost(top, "rt", "must-fail", name)
+
+
+def shown(seconds):
+    return "-" if seconds is None else f"{seconds:.0f}"
+
+
+def print_table(rows, whole):
+    print("| Crate | proof | tests | edits (how many) | an edit |")
+    print("|---|---|---|---|---|")
+    for row in rows:
+        proof = row.build + (row.second or 0)
+        edits = f"{shown(row.edits)} ({row.edit_count})" if row.edits is not None else "-"
+        each = shown(row.edits / row.edit_count) if row.edits is not None else "-"
+        print(f"| `{row.name}` | {shown(proof)} | {shown(row.tests)} | {edits} | {each} |")
+    for name, seconds in whole:
+        print(f"| `{name}` | - | {shown(seconds)} | - | - |")
+    proof = sum(row.build + (row.second or 0) for row in rows)
+    tests = sum(row.tests or 0 for row in rows) + sum(seconds for _, seconds in whole)
+    edits = sum(row.edits or 0 for row in rows)
+    count = sum(row.edit_count for row in rows)
+    each = shown(edits / count) if count else "-"
+    print(f"| all | {shown(proof)} | {shown(tests)} | {shown(edits)} ({count}) | {each} |")
+    print()
+    print(f"{(proof + tests + edits) / 60:.1f} processor minutes in all.")
+
+
+def main():
+    crates = listed(TOP)
+    named = sys.argv[1:] or list(crates)
+    if any(name not in crates for name in named):
+        sys.exit("usage: gate_cost.py [CRATE..], of the crates of crates.txt")
+    needed = [name for name in crates if any(name in below(one, crates) for one in named)]
+    rows = {}
+    whole = []
+    with tempfile.TemporaryDirectory(prefix="gate-cost-") as room:
+        top = f"{room}/repository"
+        shutil.copytree(TOP, top, ignore=shutil.ignore_patterns("out", ".git", "__pycache__"))
+        clock = 0.0
+        for name in needed:
+            folder = f"{top}/crates/{name}"
+            rows[name] = Row(name)
+            start = time.monotonic()
+            rows[name].build = cost(folder, "rt", "run" if os.path.isfile(f"{folder}/src/main.rt") else "lib")
+            if name in below(PROGRAM, crates):
+                clock += time.monotonic() - start
+            if name in named:
+                measure(top, name, rows[name])
+                print(f"{name}: {rows[name].total():.0f}", file=sys.stderr, flush=True)
+        if not sys.argv[1:]:
+            whole.append(("tests/refused_memory.sh", cost(top, "sh", "tests/refused_memory.sh")))
+            whole.append(("tests/program.py", cost(top, "tests/program.py", PROGRAM)))
+    print_table([rows[name] for name in named], whole)
+    if PROGRAM in rows:
+        alone = sum(rows[name].build for name in below(PROGRAM, crates))
+        print(f"The program alone builds from nothing in {alone / 60:.1f} processor minutes ({clock / 60:.1f} by the clock).")
+
+
+if __name__ == "__main__":
+    main()
