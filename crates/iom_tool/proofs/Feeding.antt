@@ -1,18 +1,18 @@
 -- What a feeder keeps true.
 use Rattle.std.proofs.Common.{◌≡◌, ◌==◌, ◌+◌, ◌-◌, ◌^◌, ◌<◌, ◌≤◌, ◌++◌, ℕ, List, [], ◌∷◌, length, take, drop, true, false, Option, Result, Ok, Err, IfErr, OnOk, IsOk, ◌↔◌, min, sym, ◌∙◌, ap, subst, refl, inl, inr, lit<, lit≤, arith, append_assoc, append-nil, length-append, length-drop}
 use Rattle.std.specs.List.{list_any}
-use Rattle.std.specs.Io.KnownBytes.{Appends, Keeps, Consumes, IsAtEnd}
-use Rattle.std.proofs.KnownBytes.{Appends-nil, Appends-trans, Appends-kept, Consumes-trans}
+use Rattle.std.specs.Io.KnownBytes.{Appends, Keeps}
+use Rattle.std.proofs.KnownBytes.{Appends-nil, Appends-trans, Appends-kept}
 use Rattle.std.proofs.lemmas.Bool.{cases_lt, eqb-true}
 use Rattle.std.proofs.lemmas.List.{take_all, take_rest, take-append-drop, take-append-le, length-take, nil_from_length}
 use Rattle.std.proofs.Math.Seq.{take-append-add}
 use Rattle.iom_tool.specs.Script.{line_of}
 use Rattle.iom_tool.specs.Console.{Console, console_after}
 use Rattle.iom_tool.specs.Output.{reply, steps_in, steps_of, printed, after, output_to, output_of, ended_lines, open_line, last_line, lines_of}
-use Rattle.iom_tool.specs.Running.{Progress, progress, IsWithinLimits, Answered, HalfAnswered, WritesFront, Fed, IsAtLimit, EndsInPiece, FailsInPiece, LinesDone, AfterPiece, AfterLines, AfterEnd, Ends}
+use Rattle.iom_tool.specs.Running.{Progress, progress, IsWithinLimits, Answered, HalfAnswered, WritesFront, Fed, IsAtLimit, EndsInPiece, FailsInPiece, LinesDone, AfterPiece, AfterLines, AfterEnd}
 use Rattle.iom_tool.specs.declared.fault.RunFault.{RunFault}
 use Rattle.iom_tool.specs.declared.fault.RunFault.TheVariants as fault
-use Rattle.iom_tool.proofs.Splits.{ended_lines-part, open_line-part, ended_lines-line, open_line-line, EndsAt}
+use Rattle.iom_tool.proofs.Splits.{ended_lines-part, open_line-part, ended_lines-line, open_line-line}
 use Rattle.iom_tool.proofs.Outputs.{after-append, after_one, output_of_one, output_of-append, line_of-take}
 
 -- some front of a text stands written, and `rest` is left of it

@@ -9,7 +9,7 @@ use Rattle.iom_core.specs.Table.{next}
 use Rattle.iom_core.specs.declared.step.Step.{Step}
 use Rattle.iom_tool.specs.Script.{line_of}
 use Rattle.iom_tool.specs.Console.{Console, console, console_after, traced}
-use Rattle.iom_tool.specs.Output.{reply, steps_of, printed, after, output_to, output_of}
+use Rattle.iom_tool.specs.Output.{steps_of, printed, after, output_to, output_of}
 
 console_after-append : (now : Console) (xs ys : List Step) → console_after now (xs ++ ys) ≡ console_after (console_after now xs) ys
 console_after-append now [] ys = refl

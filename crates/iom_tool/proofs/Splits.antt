@@ -1,11 +1,9 @@
 -- The lines of a text that grows.
 use Rattle.std.proofs.Common.{◌≡◌, ◌==◌, ◌||◌, ◌+◌, zero, suc, ◌-◌, ◌<◌, ◌≤◌, ◌++◌, ℕ, List, [], ◌∷◌, Bool, true, false, not, cond, nat_lt, Some, None, length, take, drop, get_or, ◌∙◌, sym, ap, subst, refl, arith, append_assoc, append-nil, length-drop, inl, inr}
 use Rattle.std.specs.List.{slice_split, onto_first, list_any, position, position_or_len, prefix_len}
-use Rattle.std.proofs.lemmas.Grind.{common_steps}
 use Rattle.std.proofs.lemmas.List.{take_more, take-append-drop, length-take}
 use Rattle.std.proofs.Math.Seq.{take-add}
 use Rattle.std.proofs.lemmas.Bool.{eqb-true, cases_lt}
-use Rattle.std.proofs.lemmas.List.Sums.{prefix_len_passes}
 use Rattle.std.proofs.lemmas.List.Quantifiers.{position-Some}
 use Rattle.std.proofs.lemmas.List.Splits.{slice_split-cons_yes, slice_split-cons_no}
 use Rattle.iom_tool.specs.Output.{all_but_last, last_of, ended_in, open_in, ended_lines, open_line}

@@ -175,7 +175,13 @@ impl Rest {
             return answer(platform, trace, part, &mut self.reply, writer);
         }
         self.keep(part);
-        answer(platform, trace, self.line.as_slice(), &mut self.reply, writer)?;
+        answer(
+            platform,
+            trace,
+            self.line.as_slice(),
+            &mut self.reply,
+            writer,
+        )?;
         self.line.clear();
         Ok(())
     }
@@ -259,7 +265,13 @@ impl Rest {
         ensures flushed { OnOk result (writer.new.flushed ≡ true) }
         ensures same_writer { writer.new.inner.ghost_name ≡ writer.old.inner.ghost_name }
     {
-        answer_last(platform, trace, self.line.as_slice(), &mut self.reply, writer)?;
+        answer_last(
+            platform,
+            trace,
+            self.line.as_slice(),
+            &mut self.reply,
+            writer,
+        )?;
         flush(writer)
     }
 }

@@ -29,7 +29,7 @@ impl<'a, R: Read> WatchedReader<'a, R> {
         ensures bytes { MatchOption result
             (Keeps (R.remaining self.old.inner.now) (R.remaining self.new.inner.now))
             (λ count. Consumes (R.remaining self.old.inner.now) (R.remaining self.new.inner.now)
-                (take count piece.new)) }
+            (take count piece.new)) }
         ensures end { IfSome result (λ count. count ≡ 0 → 0 < length piece.new
             → IsAtEnd (R.remaining self.new.inner.now)) }
         ensures bound { IfSome result (λ count. count ≤ length piece.new) }

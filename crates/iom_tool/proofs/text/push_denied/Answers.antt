@@ -1,4 +1,4 @@
-use Rattle.std.proofs.Common.{length, ap, arith, length-append, codes}
+use Rattle.std.proofs.Common.{length, ap, arith, length-append}
 use Rattle.iom_tool.specs.Texts.{numeral}
 use Rattle.iom_tool.proofs.Digits.{five_digits, short_decimal}
 use Rattle.iom_tool.proofs.text.push_denied.Goals as goal

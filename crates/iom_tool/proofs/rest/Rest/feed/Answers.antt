@@ -1,4 +1,4 @@
-use Rattle.std.proofs.Common.{◌≡◌, ◌+◌, ◌<◌, ◌≤◌, ◌^◌, ◌++◌, length, take, drop, sym, ap, arith, length-append, length-drop}
+use Rattle.std.proofs.Common.{◌≡◌, ◌+◌, ◌<◌, ◌≤◌, ◌^◌, length, take, drop, sym, ap, arith, length-append, length-drop}
 use Rattle.std.proofs.lemmas.List.{take_all, take_rest, take-append-drop, length-take}
 use Rattle.std.proofs.lemmas.Result.{err_from_is_err_and}
 use Rattle.iom_tool.proofs.Feeding.{counted, all_kept, fault_of_lines, lines_left, rest_kept, bytes_left}

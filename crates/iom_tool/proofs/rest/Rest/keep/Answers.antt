@@ -1,4 +1,3 @@
-use Rattle.std.proofs.Common.{◌≡◌, ◌+◌, ◌≤◌, length, min, take, arith}
 use Rattle.iom_tool.proofs.Feeding.{kept_part}
 use Rattle.iom_tool.proofs.rest.Rest.keep.Goals as goal
 

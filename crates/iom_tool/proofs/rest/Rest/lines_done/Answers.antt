@@ -1,5 +1,4 @@
-use Rattle.std.proofs.Common.{◌≡◌, ◌+◌, ◌-◌, ◌<◌, ◌≤◌, ◌^◌, ◌++◌, [], ◌∷◌, length, take, drop, refl, sym, ◌∙◌, ap, arith, append-nil, length-append, length-drop}
-use Rattle.std.specs.List.{position}
+use Rattle.std.proofs.Common.{◌+◌, ◌-◌, ◌<◌, ◌^◌, ◌++◌, [], ◌∷◌, length, take, drop, refl, sym, ◌∙◌, ap, arith, append-nil, length-append, length-drop}
 use Rattle.std.proofs.lemmas.List.{take_rest, take-append-drop, length-take}
 use Rattle.std.proofs.lemmas.Result.{err_from_is_err_and}
 use Rattle.iom_tool.proofs.Splits.{cut_at, none_at, Cut}
