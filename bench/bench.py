@@ -1,9 +1,11 @@
 #!/usr/bin/env python3
-"""bench.py PROGRAM [OTHER]    Lines per second of PROGRAM, and of OTHER beside it.
+"""bench.py PROGRAM [OTHER]    Lines per second of PROGRAM, and of OTHER beside it, on six scripts.
 
-Makes one script of 1,000,000 lines, and runs each program on it seven times, in turn, with the script as standard
-input and a file as standard output. The best time of each counts. Where two programs are given, their outputs must be
-the same, byte for byte. The status is 1 where they differ or a run fails.
+Five scripts have 1,000,000 lines: mode Bare, and one stage and both with 24 pages (all found in the translation cache once it
+is warm) and with 176 (most of them not). The sixth has 32 lines, and each program is started on it a thousand times. Each
+program runs on each script seven times (the sixth: three times a thousand), in turn, with the script as standard input and a
+file as standard output; the best time counts. Where two programs are given, the ratio is that of their speeds, the first
+to the second, and their outputs must be the same, byte for byte. The status is 1 where they differ or a run fails.
 """
 import filecmp
 import os
@@ -13,25 +15,59 @@ import tempfile
 import time
 
 LINES = 1_000_000
+SHORT = 32
+STARTS = 1000
 SEED = 1
-TIMES = 7
+# name, stages, pages, lines, starts, times
+SCRIPTS = [
+    ("mode Bare", 0, 256, LINES, 1, 7),
+    ("one stage, 24 pages", 1, 24, LINES, 1, 7),
+    ("one stage, 176 pages", 1, 176, LINES, 1, 7),
+    ("both stages, 24 pages", 2, 24, LINES, 1, 7),
+    ("both stages, 176 pages", 2, 176, LINES, 1, 7),
+    ("32 lines, a thousand starts", 0, 256, SHORT, STARTS, 3),
+]
 
 
-def timed(program, script, output):
-    """Runs the program once, and returns the seconds that it took."""
-    with open(script, "rb") as given, open(output, "wb") as out:
-        start = time.perf_counter()
-        ended = subprocess.run([program], stdin=given, stdout=out, stderr=subprocess.PIPE)
-        seconds = time.perf_counter() - start
-    if ended.returncode or ended.stderr:
-        said = ended.stderr.decode(errors="replace").strip()
-        sys.exit(f"bench: {program} ended with status {ended.returncode}: {said}")
-    return seconds
+def timed(program, script, output, starts):
+    """Runs the program so many times, and returns the seconds that it took."""
+    at_script = (os.POSIX_SPAWN_OPEN, 0, script, os.O_RDONLY, 0)
+    at_output = (os.POSIX_SPAWN_OPEN, 1, output, os.O_WRONLY | os.O_CREAT | os.O_TRUNC, 0o644)
+    start = time.perf_counter()
+    for _ in range(starts):
+        child = os.posix_spawn(program, [program], os.environ, file_actions=[at_script, at_output])
+        status = os.waitstatus_to_exitcode(os.waitpid(child, 0)[1])
+        if status:
+            sys.exit(f"bench: {program} ended with status {status}")
+    return time.perf_counter() - start
 
 
 def line_count(path):
     with open(path, "rb") as file:
         return sum(block.count(b"\n") for block in iter(lambda: file.read(1 << 20), b""))
+
+
+def measured(programs, room, name, stages, pages, lines, starts, times):
+    """Prints the speeds on one script; returns whether the outputs are the same and have an answer for each line."""
+    generate = os.path.join(os.path.dirname(os.path.abspath(__file__)), "generate.py")
+    script = f"{room}/script"
+    with open(script, "wb") as out:
+        words = [str(word) for word in (stages, pages, lines, SEED)]
+        subprocess.run([sys.executable, generate, *words], stdout=out, check=True)
+    outputs = [f"{room}/output{at}" for at in range(len(programs))]
+    taken = [[] for _ in programs]
+    for _ in range(times):
+        for program, output, seconds in zip(programs, outputs, taken):
+            seconds.append(timed(program, script, output, starts))
+    best = [min(it) for it in taken]
+    speeds = ", ".join(f"{lines * starts / it:,.0f} lines per second ({it:.3f} s)" for it in best)
+    ratio = f"; ratio {best[1] / best[0]:.2f}" if len(best) == 2 else ""
+    is_same = all(filecmp.cmp(outputs[0], it, shallow=False) for it in outputs[1:])
+    is_whole = line_count(outputs[0]) == lines
+    print(f"{name}: {speeds}{ratio}{'' if is_same else '; outputs DIFFER'}", flush=True)
+    if not is_whole:
+        print(f"{name}: {line_count(outputs[0]):,} answers for {lines:,} lines")
+    return is_same and is_whole
 
 
 def main():
@@ -41,32 +77,9 @@ def main():
     for program in programs:
         if not os.access(program, os.X_OK) or os.path.isdir(program):
             sys.exit(f"bench: {program} is no program")
-    generate = os.path.join(os.path.dirname(os.path.abspath(__file__)), "generate.py")
     with tempfile.TemporaryDirectory(prefix="rviommu-bench-") as room:
-        script = f"{room}/script"
-        with open(script, "wb") as out:
-            subprocess.run([sys.executable, generate, str(LINES), str(SEED)], stdout=out, check=True)
-        outputs = [f"{room}/output{at}" for at in range(len(programs))]
-        times = [[] for _ in programs]
-        is_same = True
-        for _ in range(TIMES):
-            for program, output, seconds in zip(programs, outputs, times):
-                seconds.append(timed(program, script, output))
-            is_same = is_same and all(filecmp.cmp(outputs[0], it, shallow=False) for it in outputs[1:])
-        counts = [line_count(it) for it in outputs]
-        sizes = [os.path.getsize(it) for it in (script, outputs[0])]
-        print(f"script: {LINES:,} lines, {sizes[0]:,} bytes; output: {sizes[1]:,} bytes")
-    best = [min(it) for it in times]
-    for program, seconds in zip(programs, best):
-        print(f"{program}: {LINES / seconds:,.0f} lines per second ({seconds:.3f} s, best of {TIMES})")
-    if len(programs) == 2:
-        print(f"ratio of the times, first to second: {best[0] / best[1]:.2f}")
-        print(f"outputs: {'the same, byte for byte' if is_same else 'DIFFERENT'}")
-    for program, count in zip(programs, counts):
-        if count != LINES:
-            print(f"{program}: {count:,} answers for {LINES:,} lines")
-            is_same = False
-    sys.exit(0 if is_same else 1)
+        is_well = [measured(programs, room, *script) for script in SCRIPTS]
+    sys.exit(0 if all(is_well) else 1)
 
 
 main()

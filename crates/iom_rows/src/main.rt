@@ -4,6 +4,7 @@
 
 use iom_core::Platform;
 use iom_mem::Ram;
+use iom_tool::Trace;
 use std::alloc::Global;
 use std::process::ExitCode;
 use std::{env, fs, io};
@@ -12,9 +13,10 @@ use std::{env, fs, io};
 fn written(alloc: Global, script: &[u8]) -> anyhow::Result<Vec<u8>> {
     let ram = Ram::new(alloc, 0x8000_0000, 0x10_0000)?;
     let mut platform = Platform::new(alloc, ram)?;
+    let mut trace = Trace::new(alloc)?;
     let mut reader = script;
     let mut writer = Vec::new(alloc);
-    iom_tool::run(&mut platform, &mut reader, &mut writer)?;
+    iom_tool::run(&mut platform, &mut trace, &mut reader, &mut writer)?;
     Ok(writer)
 }
 

@@ -18,6 +18,8 @@ mod queue;
 #[cfg(test)]
 mod regs;
 #[cfg(test)]
+mod script;
+#[cfg(test)]
 mod tool;
 #[cfg(test)]
 mod walk;

@@ -2,36 +2,44 @@ ghost use Rattle.std.specs.Prelude.{Some};
 
 use iom_core::Platform;
 use iom_mem::Ram;
-use iom_tool::{RunFault, Session};
+use iom_tool::{RunFault, Session, Trace};
 use std::alloc::Global;
 use std::io::{self, Error, ErrorKind, Read, Write};
 use std::test::Fail;
 
-// A reader over bytes that fails once so many calls are done.
+// A reader that gives some bytes and then many of one, so many a call, and fails once so many calls are done.
 #[derive(Drop)]
-struct Source<'a> {
-    left: &'a [u8],
-    calls: usize,
+pub struct Source<'a> {
+    pub left: &'a [u8],
+    pub fill: u8,
+    pub filled: usize,
+    pub calls: usize,
+    pub piece: usize,
 }
 
 impl Read for Source<'_> {
-    ghost remaining = { λ s. Some s.left.now };
-
     fn read(&mut self, buf: &mut [u8]) -> io::Result<usize> {
         if self.calls == 0 {
             return Err(Error::from(ErrorKind::Other));
         }
         self.calls -= 1;
-        self.left.read(buf)
+        let most = buf.len().min(self.piece);
+        if !self.left.is_empty() {
+            return self.left.read(&mut buf[..most]);
+        }
+        let count = most.min(self.filled);
+        buf[..count].fill(self.fill);
+        self.filled -= count;
+        Ok(count)
     }
 }
 
 // A writer into memory that fails once so many calls are done, and takes at most so many bytes a call.
 #[derive(Drop)]
-struct Sink {
-    held: Vec<u8>,
-    calls: usize,
-    most: usize,
+pub struct Sink {
+    pub held: Vec<u8>,
+    pub calls: usize,
+    pub most: usize,
 }
 
 impl Write for Sink {
@@ -55,15 +63,18 @@ impl Write for Sink {
 }
 
 // More calls than any script makes.
-const MANY: usize = 1_000_000;
+pub const MANY: usize = 100_000_000;
 
-const SCRIPT: &[u8] =
+// How many bytes a read gives.
+const PIECES: [usize; 6] = [1, 2, 3, 4, 5, 4096];
+
+pub const SCRIPT: &[u8] =
     b"reg write 16 8 1\nstore 0x80000000 8 0x0807060504030201\ndma read 5 0x80000000 8\ndma write 5 0x800ffffc aabbccdd\nload 0x800ffffc 4\ndma read 5 0x80100000 8\ndma read 5 0x80000ffc 8\ndma read 5 0xffffffffffffffff 1\ndma read 0x1000000 0x80000000 1\njump\n";
 
-const ANSWERS: &[u8] =
+pub const ANSWERS: &[u8] =
     b"done\ndone\n0102030405060708\ndone\n0xddccbbaa\nbus error\nmisuse\nbus error\nmisuse\nbad\n";
 
-fn built_in(alloc: Global) -> Result<Platform, Fail> {
+pub fn built_in(alloc: Global) -> Result<Platform, Fail> {
     let ram = Ram::new(alloc, 0x8000_0000, 0x10_0000)?;
     Ok(Platform::new(alloc, ram)?)
 }
@@ -71,40 +82,57 @@ fn built_in(alloc: Global) -> Result<Platform, Fail> {
 // How a run ended, what it wrote, and the words at two addresses afterwards: the one that the script's second line stores,
 // and the one in which its fourth writes.
 #[derive(Drop)]
-struct Outcome {
-    ended: Result<(), RunFault>,
-    written: Vec<u8>,
+pub struct Outcome {
+    pub ended: Result<(), RunFault>,
+    pub written: Vec<u8>,
     stored: Option<u64>,
     moved: Option<u64>,
 }
 
 // The limits of a reader and a writer that don't fail.
-const WELL: Limits = Limits {
+pub const WELL: Limits = Limits {
     reads: MANY,
+    piece: MANY,
     writes: MANY,
     most: MANY,
 };
 
-// How many reads and writes are done before one fails, and how many bytes a write takes.
+// How many reads and writes are done before one fails, how many bytes a read gives, and how many a write takes.
 #[derive(Clone, Copy)]
-struct Limits {
-    reads: usize,
-    writes: usize,
-    most: usize,
+pub struct Limits {
+    pub reads: usize,
+    pub piece: usize,
+    pub writes: usize,
+    pub most: usize,
 }
 
-fn run(alloc: Global, script: &[u8], limits: Limits) -> Result<Outcome, Fail> {
+pub fn run(alloc: Global, script: &[u8], limits: Limits) -> Result<Outcome, Fail> {
+    run_filled(alloc, script, b'\n', 0, limits)
+}
+
+// The same of a script that goes on with so many equal bytes.
+fn run_filled(
+    alloc: Global,
+    script: &[u8],
+    fill: u8,
+    filled: usize,
+    limits: Limits,
+) -> Result<Outcome, Fail> {
     let mut platform = built_in(alloc)?;
+    let mut trace = Trace::new(alloc)?;
     let mut reader = Source {
         left: script,
+        fill,
+        filled,
         calls: limits.reads,
+        piece: limits.piece,
     };
     let mut writer = Sink {
         held: Vec::new(alloc),
         calls: limits.writes,
         most: limits.most,
     };
-    let ended = iom_tool::run(&mut platform, &mut reader, &mut writer);
+    let ended = iom_tool::run(&mut platform, &mut trace, &mut reader, &mut writer);
     Ok(Outcome {
         ended,
         written: writer.held,
@@ -114,7 +142,7 @@ fn run(alloc: Global, script: &[u8], limits: Limits) -> Result<Outcome, Fail> {
 }
 
 // Whether a script is answered so, and to its end.
-fn is_answered(alloc: Global, script: &[u8], answers: &[u8]) -> Result<bool, Fail> {
+pub fn is_answered(alloc: Global, script: &[u8], answers: &[u8]) -> Result<bool, Fail> {
     let all = run(alloc, script, WELL)?;
     Ok(all.ended.is_ok() && all.written.as_slice() == answers)
 }
@@ -151,13 +179,15 @@ fn is_cut(part: &Outcome, fault: RunFault, answered: usize, done: usize) -> bool
 // With each read failing in turn, the lines read whole before are answered and done, and no other.
 #[test]
 fn each_read_fails(rt: HostRuntime) -> Result<(), Fail> {
-    for reads in 0..=SCRIPT.len() {
-        let part = run(rt.alloc(), SCRIPT, Limits { reads, ..WELL })?;
-        let whole = lines(SCRIPT.get(..reads).unwrap_or(SCRIPT));
-        assert!(rt;
-            is_cut(&part, RunFault::Read, whole, whole),
-            "at read {reads}"
-        );
+    for piece in PIECES {
+        for reads in 0..=SCRIPT.len().div_ceil(piece) {
+            let part = run(rt.alloc(), SCRIPT, Limits { reads, piece, ..WELL })?;
+            let whole = lines(SCRIPT.get(..reads * piece).unwrap_or(SCRIPT));
+            assert!(rt;
+                is_cut(&part, RunFault::Read, whole, whole),
+                "at read {reads} of {piece} bytes"
+            );
+        }
     }
     Ok(())
 }
@@ -166,12 +196,37 @@ fn each_read_fails(rt: HostRuntime) -> Result<(), Fail> {
 // itself are done. The last is the flush.
 #[test]
 fn each_write_fails(rt: HostRuntime) -> Result<(), Fail> {
-    for writes in 0..=10 {
-        let part = run(rt.alloc(), SCRIPT, Limits { writes, ..WELL })?;
-        assert!(rt;
-            is_cut(&part, RunFault::Write, writes, writes + 1),
-            "at write {writes}"
-        );
+    for piece in PIECES {
+        for writes in 0..=10 {
+            let part = run(rt.alloc(), SCRIPT, Limits { writes, piece, ..WELL })?;
+            assert!(rt;
+                is_cut(&part, RunFault::Write, writes, writes + 1),
+                "at write {writes}, {piece} bytes a read"
+            );
+        }
+    }
+    Ok(())
+}
+
+// With so many lines, or so many bytes, a script is read; with one more it is too long, and the lines before are answered.
+#[test]
+fn each_limit(rt: HostRuntime) -> Result<(), Fail> {
+    let (line, long) = (b"reg read 8 4\n".as_slice(), b"reg read 8 4#".as_slice());
+    let cases: [(&[u8], u8, usize, &[u8], &[u8]); 2] = [
+        (line, b'\n', (1 << 20) - 1, b"0x2\n", b"0x2\n"),
+        (long, b'x', (1 << 26) - 13, b"bad\n", b""),
+    ];
+    for (start, fill, filled, all, _part) in cases {
+        let fits = run_filled(rt.alloc(), start, fill, filled, WELL)?;
+        assert!(rt; fits.ended.is_ok() && fits.written.as_slice() == all);
+    }
+    for piece in PIECES {
+        let limits = Limits { piece, ..WELL };
+        for (start, fill, filled, _all, part) in cases {
+            let over = run_filled(rt.alloc(), start, fill, filled + 1, limits)?;
+            let is_over = over.ended == Err(RunFault::TooLong) && over.written.as_slice() == part;
+            assert!(rt; is_over, "{piece} bytes a read");
+        }
     }
     Ok(())
 }
@@ -196,7 +251,7 @@ fn each_byte_fails(rt: HostRuntime) -> Result<(), Fail> {
 
 #[test]
 fn answers_before_it_reads_on(rt: HostRuntime) -> Result<(), Fail> {
-    let part = run(rt.alloc(), b"reg read 8 4\n", Limits { reads: 13, ..WELL })?;
+    let part = run(rt.alloc(), b"reg read 8 4\n", Limits { reads: 1, ..WELL })?;
     assert!(rt;
         part.ended == Err(RunFault::Read) && part.written.as_slice() == b"0x2\n".as_slice()
     );
@@ -231,8 +286,12 @@ fn long_lines(rt: HostRuntime) -> Result<(), Fail> {
     Ok(())
 }
 
-fn otherwise(platform: &mut Platform, cases: &[(&[u8], &[u8])]) -> Option<usize> {
-    let mut session = Session::new(platform);
+pub fn otherwise(
+    platform: &mut Platform,
+    trace: &mut Trace,
+    cases: &[(&[u8], &[u8])],
+) -> Option<usize> {
+    let mut session = Session::new(platform, trace);
     for (i, (line, want)) in cases.iter().enumerate() {
         if session.line(line).as_slice() != *want {
             return Some(i);
@@ -244,6 +303,7 @@ fn otherwise(platform: &mut Platform, cases: &[(&[u8], &[u8])]) -> Option<usize>
 #[test]
 fn answers_single_lines(rt: HostRuntime) -> Result<(), Fail> {
     let mut platform = built_in(rt.alloc())?;
+    let mut trace = Trace::new(rt.alloc())?;
     let cases: [(&[u8], &[u8]); 26] = [
         (b"reg read 8 4", b"0x2"),
         (b"", b""),
@@ -266,12 +326,12 @@ fn answers_single_lines(rt: HostRuntime) -> Result<(), Fail> {
         (b"dev step 0", b"no device"),
         (b"dev write 0 0x70 4 1", b"no device"),
         (b"show u64 0x80000000", b"bad"),
-        (b"trace 0", b"bad"),
+        (b"trace", b"bad"),
         (b"place page 0", b"none"),
         (b"place page 0xffffffffffffffff", b"none"),
         (b"place page", b"bad"),
         (b"place context 0", b"bad"),
     ];
-    assert_eq!(rt; otherwise(&mut platform, &cases), None);
+    assert_eq!(rt; otherwise(&mut platform, &mut trace, &cases), None);
     Ok(())
 }

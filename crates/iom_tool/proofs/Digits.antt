@@ -6,12 +6,12 @@ use Rattle.std.proofs.lemmas.List.{map-append, length-map}
 use Rattle.std.proofs.lemmas.Int.Digits.{digits_of_step, length-digits_of_step, length-digits_of-le}
 use Rattle.iom_tool.specs.Texts.{digits_in, numeral}
 
-pub room_before : (radix number used : ℕ) → 2 ≤ radix → 0 < number → used + length (digits_of radix number) ≤ 256 →
-    used + length (digits_of radix (number / radix)) < 256
+pub room_before : (radix number used : ℕ) → 2 ≤ radix → 0 < number → used + length (digits_of radix number) ≤ 320 →
+    used + length (digits_of radix (number / radix)) < 320
 room_before radix number used least some room = omega (arith, length-digits_of_step radix number least some)
 
 pub room_for_last : (radix number : ℕ) (before now : List ℕ) → 2 ≤ radix → 0 < number →
-    length before + length (digits_of radix number) ≤ 256 → now ≡ before ++ digits_in radix (number / radix) → length now < 256
+    length before + length (digits_of radix number) ≤ 320 → now ≡ before ++ digits_in radix (number / radix) → length now < 320
 room_for_last radix number before now least some room is =
     omega (
       arith,
@@ -36,11 +36,17 @@ sixteen_digits number small = length-digits_of-le 16 16 number (omega arith) sma
 pub five_digits : (number : ℕ) → number < 2 ^ 16 → length (digits_of 10 number) ≤ 5
 five_digits number small = length-digits_of-le 10 5 number (omega arith) (omega arith)
 
-short_either : (is_zero : Bool) (digits : List ℕ) → length digits ≤ 16 → length (if is_zero then codes "0" else digits) ≤ 16
-short_either true digits short = omega arith
-short_either false digits short = short
+short_either : (is_zero : Bool) (digits : List ℕ) (most : ℕ) → 1 ≤ most → length digits ≤ most →
+    length (if is_zero then codes "0" else digits) ≤ most
+short_either true digits most some short = omega arith
+short_either false digits most some short = short
 
 pub short_numeral : (number : ℕ) → number < 2 ^ 64 → length (numeral 16 number) ≤ 16
 short_numeral number small =
-    short_either (number == 0) (digits_in 16 number)
+    short_either (number == 0) (digits_in 16 number) 16 (omega arith)
     (omega (arith, length-map (digits_of 16 number) (digit_glyph false), sixteen_digits number small))
+
+pub short_decimal : (number : ℕ) → number < 2 ^ 16 → length (numeral 10 number) ≤ 5
+short_decimal number small =
+    short_either (number == 0) (digits_in 10 number) 5 (omega arith)
+    (omega (arith, length-map (digits_of 10 number) (digit_glyph false), five_digits number small))

@@ -1,6 +1,8 @@
 pub mod Digits
 pub mod Lines
 pub mod Numbers
+pub mod Pairs
 pub mod Splits
 pub mod Outputs
 pub mod Feeding
+pub mod Runs

@@ -1,6 +1,10 @@
--- The lines of a text that grows by a byte.
-use Rattle.std.proofs.Common.{◌≡◌, ◌==◌, ◌++◌, ℕ, List, [], ◌∷◌, Bool, true, false, ◌∙◌, sym, ap, refl}
-use Rattle.std.specs.List.{slice_split, onto_first}
+-- The lines of a text that grows.
+use Rattle.std.proofs.Common.{◌≡◌, ◌==◌, ◌||◌, ◌+◌, zero, suc, ◌-◌, ◌<◌, ◌≤◌, ◌++◌, ℕ, List, [], ◌∷◌, Bool, true, false, not, cond, nat_lt, Some, None, length, take, drop, get_or, ◌∙◌, sym, ap, subst, refl, arith, append_assoc, append-nil, length-drop, inl, inr}
+use Rattle.std.specs.List.{slice_split, onto_first, list_any, position, position_or_len, prefix_len}
+use Rattle.std.proofs.lemmas.List.{take_more, take-append-drop, length-take}
+use Rattle.std.proofs.Math.Seq.{take-add}
+use Rattle.std.proofs.lemmas.Bool.{eqb-true, cases_lt}
+use Rattle.std.proofs.lemmas.List.Quantifiers.{position-Some}
 use Rattle.std.proofs.lemmas.List.Splits.{slice_split-cons_yes, slice_split-cons_no}
 use Rattle.iom_tool.specs.Output.{all_but_last, last_of, ended_in, open_in, ended_lines, open_line}
 
@@ -116,3 +120,101 @@ pub open_line-ended : (byte : ℕ) (text : List ℕ) → (byte == 10) ≡ true �
 open_line-ended byte text end =
     let g : EndsPart text byte = ends_part byte text end in
     ap open_in g.after ∙ last_of-ended g.first g.rest
+
+-- a part without a line end, and the same with one behind it
+neither : (a b : Bool) → a || b ≡ false → (a ≡ false) × (b ≡ false)
+neither true b is = absurd (cc is)
+neither false b is = (refl, is)
+
+pub ended_lines-part : (part text : List ℕ) → list_any (λ c. c == 10) part ≡ false → ended_lines (text ++ part) ≡ ended_lines text
+ended_lines-part [] text none = ap ended_lines (append-nil text)
+ended_lines-part (byte ∷ part) text none =
+    let both : ((byte == 10) ≡ false) × (list_any (λ c. c == 10) part ≡ false) = neither (byte == 10) (list_any (λ c. c == 10) part) none in
+    ap ended_lines (sym (append_assoc text (byte ∷ []) part)) ∙ ended_lines-part part (text ++ byte ∷ []) both.1
+    ∙ ended_lines-grown byte text both.0
+
+pub open_line-part : (part text : List ℕ) → list_any (λ c. c == 10) part ≡ false → open_line (text ++ part) ≡ open_line text ++ part
+open_line-part [] text none = ap open_line (append-nil text) ∙ sym (append-nil (open_line text))
+open_line-part (byte ∷ part) text none =
+    let both : ((byte == 10) ≡ false) × (list_any (λ c. c == 10) part ≡ false) = neither (byte == 10) (list_any (λ c. c == 10) part) none in
+    ap open_line (sym (append_assoc text (byte ∷ []) part)) ∙ open_line-part part (text ++ byte ∷ []) both.1
+    ∙ ap (λ l. l ++ part) (open_line-grown byte text both.0) ∙ append_assoc (open_line text) (byte ∷ []) part
+
+pub ended_lines-line : (part text : List ℕ) → list_any (λ c. c == 10) part ≡ false →
+    ended_lines (text ++ (part ++ 10 ∷ [])) ≡ ended_lines text ++ (open_line text ++ part) ∷ []
+ended_lines-line part text none =
+    ap ended_lines (sym (append_assoc text part (10 ∷ []))) ∙ ended_lines-ended 10 (text ++ part) refl
+    ∙ ap (λ l. l ++ open_line (text ++ part) ∷ []) (ended_lines-part part text none)
+    ∙ ap (λ l. ended_lines text ++ l ∷ []) (open_line-part part text none)
+
+pub open_line-line : (part text : List ℕ) → open_line (text ++ (part ++ 10 ∷ [])) ≡ []
+open_line-line part text = ap open_line (sym (append_assoc text part (10 ∷ []))) ∙ open_line-ended 10 (text ++ part) refl
+
+-- where the first line end stands
+none_before : (text : List ℕ) (at : ℕ) → ((k : ℕ) → k < at → (get_or text k 0 == 10) ≡ false) → at < length text →
+    list_any (λ c. c == 10) (take at text) ≡ false
+none_before text zero before inside = refl
+none_before [] (suc at) before inside = refl
+none_before (byte ∷ text) (suc at) before inside =
+    let first : (byte == 10) ≡ false = before 0 (omega arith) in
+    let rest : list_any (λ c. c == 10) (take at text) ≡ false = none_before text at (λ k below. before (suc k) (omega arith)) (omega arith) in
+    rw (first, rest) refl
+
+never_by : (byte : ℕ) (text : List ℕ) (is : Bool) → (byte == 10) ≡ is →
+    (length text ≤ prefix_len (λ c. not (c == 10)) text → list_any (λ c. c == 10) text ≡ false) →
+    suc (length text) ≤ cond (not is) (1 + prefix_len (λ c. not (c == 10)) text) 0 → is || list_any (λ c. c == 10) text ≡ false
+never_by byte text true e rest all = absurd (omega arith)
+never_by byte text false e rest all = rest (omega arith)
+
+never : (text : List ℕ) → length text ≤ prefix_len (λ c. not (c == 10)) text → list_any (λ c. c == 10) text ≡ false
+never [] all = refl
+never (byte ∷ text) all = never_by byte text (byte == 10) refl (never text) all
+
+pub none_at : (text : List ℕ) → position (λ c. c == 10) text ≡ None → list_any (λ c. c == 10) text ≡ false
+none_at text is =
+    elim (cases_lt (position_or_len (λ c. c == 10) text) (length text)) as (λ _. list_any (λ c. c == 10) text ≡ false) [
+      | inl less ↦
+          let found : nat_lt (position_or_len (λ c. c == 10) text) (length text) ≡ true = grind arith in
+          absurd (cc (ap (λ b. cond b (Some (position_or_len (λ c. c == 10) text)) None) found, is))
+      | inr past ↦ never text past
+    ]
+
+pub record EndsAt (text : List ℕ) (at : ℕ) : Type 0 where
+  pub inside : at < length text
+  pub before : list_any (λ c. c == 10) (take at text) ≡ false
+  pub front : take (at + 1) text ≡ take at text ++ 10 ∷ []
+
+pub ends_at : (text : List ℕ) (at : ℕ) → position (λ c. c == 10) text ≡ Some at → EndsAt text at
+ends_at text at is =
+    let all : (at < length text) × ((get_or text at 0 == 10) ≡ true) × ((k : ℕ) → k < at → (get_or text k 0 == 10) ≡ false) =
+    position-Some (λ c. c == 10) text at 0 is in
+    record {
+      inside = all.0;
+      before = none_before text at all.2 all.0;
+      front = take_more text at 0 all.0 ∙ ap (λ c. take at text ++ c ∷ []) (eqb-true (get_or text at 0) 10 all.1);
+    }
+
+-- the line that ends at `at` behind the first `from` bytes of a piece
+pub record Cut (piece : List ℕ) (from at : ℕ) : Type 0 where
+  pub none : list_any (λ c. c == 10) (take (from + at - from) (drop from piece)) ≡ false
+  pub front : take (from + (at + 1)) piece ≡ take from piece ++ (take (from + at - from) (drop from piece) ++ 10 ∷ [])
+  pub whole : piece ≡ take from piece ++ ((take (from + at - from) (drop from piece) ++ 10 ∷ []) ++ drop (from + (at + 1)) piece)
+  pub inside : from + (at + 1) ≤ length piece
+  pub fits : from + length (take (from + at - from) (drop from piece)) < length piece
+
+pub cut_at : (piece : List ℕ) (from at : ℕ) → from ≤ length piece → position (λ c. c == 10) (drop from piece) ≡ Some at → Cut piece from at
+cut_at piece from at within found =
+    let ends : EndsAt (drop from piece) at = ends_at (drop from piece) at found in
+    let inside : from + (at + 1) ≤ length piece = omega (arith, ends.inside, length-drop from piece) in
+    let exact : from + at - from ≡ at = omega arith in
+    let same : take at (drop from piece) ≡ take (from + at - from) (drop from piece) = ap (λ n. take n (drop from piece)) (sym exact) in
+    let front : take (from + (at + 1)) piece ≡ take from piece ++ (take (from + at - from) (drop from piece) ++ 10 ∷ []) =
+    take-add from (at + 1) piece ∙ ap (λ l. take from piece ++ l) ends.front ∙ ap (λ l. take from piece ++ (l ++ 10 ∷ [])) same in
+    record {
+      none = subst (λ l. list_any (λ c. c == 10) l ≡ false) same ends.before;
+      front = front;
+      whole = sym (take-append-drop (from + (at + 1)) piece) ∙ ap (λ l. l ++ drop (from + (at + 1)) piece) front
+          ∙ append_assoc (take from piece) (take (from + at - from) (drop from piece) ++ 10 ∷ []) (drop (from + (at + 1)) piece);
+      inside = inside;
+      fits = omega (arith, inside, ap length same, length-take at (drop from piece));
+    }

@@ -1,4 +1,4 @@
--- Questions about the state, which are no steps, and the texts of their answers.
+-- Questions, which are no steps, and the texts of their answers.
 use Rattle.std.specs.Prelude.{ℕ, ◌++◌, Bool, List, codes, Option, Some, None, slice_get, if◌then◌else◌}
 use Rattle.iom_bits.specs.declared.causes.Kind.{Kind}
 use Rattle.iom_bits.specs.declared.causes.Kind.TheVariants.{Read, Write}
@@ -7,8 +7,8 @@ use Rattle.iom_cache.specs.Places.{place_in}
 use Rattle.iom_cache.specs.declared.key.Key.{Key}
 use Rattle.iom_cache.specs.declared.place.Place.{Place}
 use Rattle.iom_cache.specs.declared.place.Place.TheVariants.{Beyond, Empty, Live}
-use Rattle.iom_core.specs.State.{State}
-use Rattle.iom_tool.specs.Texts.{hexed}
+use Rattle.iom_tool.specs.Console.{Console}
+use Rattle.iom_tool.specs.Texts.{hexed, entry_text}
 use Rattle.iom_tool.specs.declared.script.Question.{Question}
 use Rattle.iom_tool.specs.declared.script.Question.TheVariants as question
 
@@ -40,5 +40,6 @@ place_text Beyond = codes "none"
 place_text Empty = codes "empty"
 place_text (Live key hit) = page_text key hit
 
-abbrev pub answer_in : State → Question → List ℕ
-answer_in state (question.Page i) = place_text (place_in (slice_get state.machine.pages i))
+abbrev pub answer_in : Console → Question → List ℕ
+answer_in now (question.Page i) = place_text (place_in (slice_get now.state.machine.pages i))
+answer_in now (question.Trace i) = entry_text (slice_get now.trace i)

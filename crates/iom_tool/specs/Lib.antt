@@ -1,6 +1,7 @@
 pub mod Words
 pub mod Script
 pub mod Texts
+pub mod Console
 pub mod Debugger
 pub mod Output
 pub mod Running

@@ -1,22 +1,21 @@
 -- Lines and the output to them.
 use Rattle.std.specs.Prelude.{ℕ, ◌==◌, ◌++◌, List, [], ◌∷◌, codes, Option, Some, None}
 use Rattle.std.specs.List.{slice_split, flat_map}
-use Rattle.iom_core.specs.State.{State}
 use Rattle.iom_core.specs.Table.{next}
-use Rattle.iom_core.specs.Run.{end_of}
 use Rattle.iom_core.specs.declared.step.Step.{Step}
+use Rattle.iom_tool.specs.Console.{Console, console_after}
 use Rattle.iom_tool.specs.declared.script.Line.{Line}
 use Rattle.iom_tool.specs.declared.script.Line.TheVariants as line
 use Rattle.iom_tool.specs.Script.{line_of}
 use Rattle.iom_tool.specs.Debugger.{answer_in}
 use Rattle.iom_tool.specs.Texts.{text_of}
 
--- what is answered to a line in a state; None: nothing
-abbrev pub reply : State → Line → Option (List ℕ)
-reply state line.Blank = None
-reply state line.Bad = Some (codes "bad")
-reply state (line.Does step) = Some (text_of (next state step).answer)
-reply state (line.Asks question) = Some (answer_in state question)
+-- what is answered to a line; None: nothing
+abbrev pub reply : Console → Line → Option (List ℕ)
+reply now line.Blank = None
+reply now line.Bad = Some (codes "bad")
+reply now (line.Does step) = Some (text_of (next now.state step).answer)
+reply now (line.Asks question) = Some (answer_in now question)
 
 -- the steps that a line is, one or none
 abbrev pub steps_in : Line → List Step
@@ -28,9 +27,9 @@ steps_in (line.Asks question) = []
 abbrev pub steps_of : List ℕ → List Step
 steps_of text = steps_in (line_of text)
 
--- the state after the steps of some lines
-abbrev pub after : State → List (List ℕ) → State
-after state lines = end_of state (flat_map steps_of lines)
+-- what the steps of some lines leave
+abbrev pub after : Console → List (List ℕ) → Console
+after now lines = console_after now (flat_map steps_of lines)
 
 -- an answer with its line end
 abbrev pub printed : Option (List ℕ) → List ℕ
@@ -38,13 +37,13 @@ printed None = []
 printed (Some text) = text ++ 10 ∷ []
 
 -- what is written for one line
-abbrev pub output_to : State → List ℕ → List ℕ
-output_to state text = printed (reply state (line_of text))
+abbrev pub output_to : Console → List ℕ → List ℕ
+output_to now text = printed (reply now (line_of text))
 
--- what is written for some lines, each answered in the state after those before
-abbrev pub output_of : State → List (List ℕ) → List ℕ
-output_of state [] = []
-output_of state (text ∷ lines) = output_to state text ++ output_of (end_of state (steps_of text)) lines
+-- what is written for some lines, each answered after the steps of those before
+abbrev pub output_of : Console → List (List ℕ) → List ℕ
+output_of now [] = []
+output_of now (text ∷ lines) = output_to now text ++ output_of (console_after now (steps_of text)) lines
 
 -- all but the last, and the last, of a list that begins with `first`
 abbrev pub all_but_last : List ℕ → List (List ℕ) → List (List ℕ)
@@ -79,5 +78,5 @@ abbrev pub lines_of : List ℕ → List (List ℕ)
 lines_of text = ended_lines text ++ last_line (open_line text)
 
 -- what is written for a whole script
-abbrev pub output : State → List ℕ → List ℕ
-output state text = output_of state (lines_of text)
+abbrev pub output : Console → List ℕ → List ℕ
+output now text = output_of now (lines_of text)

@@ -131,6 +131,13 @@ unfoldable pub place : List (List ℕ) → Option Question
 place [] = None
 place (cache ∷ operands) = if bytes_eq cache (codes "page") then place_page operands else None
 
+-- trace I
+unfoldable pub trace : List (List ℕ) → Option Question
+trace (i ∷ []) = do
+  i ← number i
+  Some (question.Trace i)
+trace _ = None
+
 -- a step by its first word
 unfoldable pub step_of : List ℕ → List (List ℕ) → Option Step
 step_of verb operands =
@@ -144,7 +151,10 @@ step_of verb operands =
 
 -- a question by its first word, which is that of no step
 unfoldable pub question_of : List ℕ → List (List ℕ) → Option Question
-question_of verb operands = if bytes_eq verb (codes "place") then place operands else None
+question_of verb operands =
+    if bytes_eq verb (codes "place") then place operands
+    else if bytes_eq verb (codes "trace") then trace operands
+    else None
 
 abbrev pub line_by : Option Step → Option Question → Line
 line_by (Some step) asked = line.Does step

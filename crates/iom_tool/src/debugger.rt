@@ -1,51 +1,59 @@
 ghost use Rattle.std.specs.Prelude.{◌≡◌, ◌+◌, ◌++◌, ◌<◌, ◌≤◌, length, codes};
 ghost use Rattle.iom_tool.specs.Texts.{hexed};
+ghost use Rattle.iom_tool.specs.Console.{console};
 ghost use Rattle.iom_tool.specs.Debugger.{answer_in, id_text, kind_text, named, page_text, place_text};
 
 use crate::script::Question;
-use crate::text::{Reply, plain, push_hexed, push_text};
+use crate::text::{Reply, push_entry, push_hexed, push_text};
+use crate::trace::Trace;
 use iom_bits::Kind;
 use iom_cache::{Key, Place};
 use iom_core::Platform;
 use iom_nested::Hit;
 
-/// The text of the answer to a question, without a line end.
-pub fn answer_in(platform: &Platform, question: Question) -> Reply
-    ensures { result.items ≡ answer_in platform.now question }
+/// Puts the text of the answer to a question, without a line end.
+pub fn push_answer_in(out: &mut Reply, platform: &Platform, trace: &Trace, question: Question)
+    requires { length out.old.items ≡ 0 }
+    ensures text { out.new.items ≡ out.old.items ++ answer_in (console platform.now trace.now) question }
+    ensures room { length out.new.items < 320 }
 {
     match question {
-        Question::Page(i) => place_text(platform.trans().place(i)),
+        Question::Page(i) => push_place(out, platform.trans().place(i)),
+        Question::Trace(i) => push_entry(out, trace.entry(i)),
     }
 }
 
 #[tactic(auto, unfolding(crate::specs::Debugger::place_text))]
-fn place_text(place: Place<Key, Hit>) -> Reply
-    ensures { result.items ≡ place_text place }
+fn push_place(out: &mut Reply, place: Place<Key, Hit>)
+    requires { length out.old.items ≡ 0 }
+    ensures text { out.new.items ≡ out.old.items ++ place_text place }
+    ensures room { length out.new.items < 320 }
 {
     match place {
-        Place::Beyond => plain(b"none"),
-        Place::Empty => plain(b"empty"),
-        Place::Live(key, hit) => page_text(key, hit),
+        Place::Beyond => push_text(out, b"none"),
+        Place::Empty => push_text(out, b"empty"),
+        Place::Live(key, hit) => push_page(out, key, hit),
     }
 }
 
-fn page_text(key: Key, hit: Hit) -> Reply
-    ensures { result.items ≡ page_text key hit }
+fn push_page(out: &mut Reply, key: Key, hit: Hit)
+    requires { length out.old.items ≡ 0 }
+    ensures text { out.new.items ≡ out.old.items ++ page_text key hit }
+    ensures room { length out.new.items < 320 }
 {
-    let mut out = plain(b"page");
-    push_named(&mut out, b"did", key.did as u64);
-    push_id(&mut out, b"pscid", key.pscid);
-    push_id(&mut out, b"gscid", key.gscid.map(|id| id as u32));
-    push_named(&mut out, b"page", key.page);
-    push_kind(&mut out, key.kind);
-    push_named(&mut out, b"frame", hit.frame);
-    push_named(&mut out, b"level", hit.level as u64);
-    push_named(&mut out, b"global", hit.global as u64);
-    out
+    push_text(out, b"page");
+    push_named(out, b"did", key.did as u64);
+    push_id(out, b"pscid", key.pscid);
+    push_id(out, b"gscid", key.gscid.map(|id| id as u32));
+    push_named(out, b"page", key.page);
+    push_kind(out, key.kind);
+    push_named(out, b"frame", hit.frame);
+    push_named(out, b"level", hit.level as u64);
+    push_named(out, b"global", hit.global as u64);
 }
 
 fn push_named(out: &mut Reply, name: &[u8], number: u64)
-    requires { length out.old.items + length name.now + 20 < 256 }
+    requires { length out.old.items + length name.now + 20 < 320 }
     ensures text { out.new.items ≡ out.old.items ++ named name.now (hexed number) }
     ensures room { length out.new.items ≤ length out.old.items + length name.now + 20 }
 {
@@ -56,7 +64,7 @@ fn push_named(out: &mut Reply, name: &[u8], number: u64)
 }
 
 fn push_id(out: &mut Reply, name: &[u8], id: Option<u32>)
-    requires { length out.old.items + length name.now + 20 < 256 }
+    requires { length out.old.items + length name.now + 20 < 320 }
     ensures text { out.new.items ≡ out.old.items ++ named name.now (id_text id) }
     ensures room { length out.new.items ≤ length out.old.items + length name.now + 20 }
 {
@@ -71,7 +79,7 @@ fn push_id(out: &mut Reply, name: &[u8], id: Option<u32>)
 }
 
 fn push_kind(out: &mut Reply, kind: Kind)
-    requires { length out.old.items + 11 ≤ 256 }
+    requires { length out.old.items + 11 < 320 }
     ensures text { out.new.items ≡ out.old.items ++ named (codes "kind") (kind_text kind) }
     ensures room { length out.new.items ≤ length out.old.items + 11 }
 {

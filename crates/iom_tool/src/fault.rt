@@ -1,7 +1,7 @@
 use thiserror::Error;
 
 /// Why a run of a script ended before its end.
-#[derive(Clone, Copy, Debug, PartialEq, Eq, Hash, Error)]
+#[derive(Clone, Copy, Debug, PartialEq, Error)]
 pub enum RunFault {
     #[error("read failed")]
     Read,

@@ -1,158 +1,95 @@
-ghost use Rattle.std.specs.Prelude.{◌≡◌, ℕ, List, [], ◌∷◌, IfErr, OnOk};
-ghost use Rattle.std.specs.Io.KnownBytes.{Appends, Keeps};
-ghost use Rattle.iom_core.specs.Run.{end_of};
-ghost use Rattle.iom_tool.specs.Output.{steps_of, after, output_to, output_of, last_line};
-ghost use Rattle.iom_tool.specs.Running.{Progress, progress, WritesFront, Fed, AfterPiece, AfterEnd};
+ghost use Rattle.std.specs.Prelude.{◌≡◌, ℕ, List, [], None, Some, IfErr, OnOk};
+ghost use Rattle.iom_tool.specs.Console.{console};
+ghost use Rattle.iom_tool.specs.Running.{Progress, progress, Fed, AfterPiece, AfterEnd, StaysRefused};
 
 use crate::fault::RunFault;
-use crate::session::answer_to;
-use arrayvec::ArrayVec;
+use crate::rest::Rest;
+use crate::trace::Trace;
+use crate::watched::WatchedWriter;
 use iom_core::Platform;
 use std::io::Write;
 
-/// The most lines of a script.
-const MOST_LINES: u64 = 1 << 20;
-
-/// The most bytes of a script.
-pub const MOST_BYTES: u64 = 1 << 26;
-
-// Writes a text with as few calls of the writer as it needs. A call that is interrupted or takes no
-// byte is a fault.
-fn write_out<W: Write>(writer: &mut W, text: &[u8]) -> Result<(), RunFault>
-    ensures ok { OnOk result (Appends (W.contents writer.old) (W.contents writer.new) text.now) }
-    ensures front { WritesFront (W.contents writer.old) (W.contents writer.new) text.now }
-    ensures fault { IfErr result (λ fault. fault ≡ RunFault.Write) }
-{
-    let mut rest = text;
-    while !rest.is_empty() {
-        match writer.write(rest) {
-            Ok(0) | Err(_) => return Err(RunFault::Write),
-            Ok(count) => rest = &rest[count..],
-        }
-    }
-    Ok(())
-}
-
-// Carries out a line and writes its answer, with its line end, by one call where the writer takes it whole.
-fn answer<W: Write>(platform: &mut Platform, line: &[u8], writer: &mut W) -> Result<(), RunFault>
-    ensures state { platform.new ≡ end_of platform.old (steps_of line.now) }
-    ensures ok { OnOk result
-        (Appends (W.contents writer.old) (W.contents writer.new) (output_to platform.old line.now)) }
-    ensures front { WritesFront (W.contents writer.old) (W.contents writer.new)
-        (output_to platform.old line.now) }
-    ensures fault { IfErr result (λ fault. fault ≡ RunFault.Write) }
-{
-    let Some(reply) = answer_to(platform, line) else {
-        return Ok(());
-    };
-    let mut text: ArrayVec<u8, 257> = ArrayVec::new();
-    let _fits = text.try_extend_from_slice(reply.as_slice());
-    text.push(b'\n');
-    write_out(writer, text.as_slice())
-}
-
-// Carries out and answers a last line that lacks its line end; where it has no byte there is none.
-fn answer_last<W: Write>(
-    platform: &mut Platform,
-    line: &[u8],
-    writer: &mut W,
-) -> Result<(), RunFault>
-    ensures state { platform.new ≡ after platform.old (last_line line.now) }
-    ensures ok { OnOk result (Appends (W.contents writer.old) (W.contents writer.new)
-        (output_of platform.old (last_line line.now))) }
-    ensures front { WritesFront (W.contents writer.old) (W.contents writer.new)
-        (output_of platform.old (last_line line.now)) }
-    ensures fault { IfErr result (λ fault. fault ≡ RunFault.Write) }
-{
-    if line.is_empty() {
-        return Ok(());
-    }
-    answer(platform, line, writer)
-}
-
-fn flush<W: Write>(writer: &mut W) -> Result<(), RunFault>
-    ensures kept { Keeps (W.contents writer.old) (W.contents writer.new) }
-    ensures fault { IfErr result (λ fault. fault ≡ RunFault.Write) }
-{
-    writer.flush().map_err(|_| RunFault::Write)
-}
-
-/// What is kept of a script between its pieces.
+/// A script given in pieces, whichever way its text is cut.
 #[derive(Drop)]
-pub struct Feeder {
-    // the first bytes of the line that is open, enough to tell that it is too long
-    line: ArrayVec<u8, 513>,
-    // the lines that have their end
-    lines: u64,
-    bytes: u64,
+pub struct Feeder<'a> {
+    /// The platform that its lines drive.
+    pub platform: &'a mut Platform,
+    /// The trace that keeps its steps.
+    pub trace: &'a mut Trace,
+    /// What is kept of the text between two pieces.
+    pub rest: Rest,
+    /// What was refused once, and is from then on.
+    pub refusal: Option<RunFault>,
 }
 
-impl Feeder {
-    pub fn new() -> Self
-        ensures { result ≡ record { line = record { items = [] }; lines = 0; bytes = 0 } }
+impl<'a> Feeder<'a> {
+    pub fn new(platform: &'a mut Platform, trace: &'a mut Trace) -> Feeder<'a>
+        ensures same_platform { result.platform.ghost_name ≡ platform.entry.ghost_name }
+        ensures same_trace { result.trace.ghost_name ≡ trace.entry.ghost_name }
+        ensures platform { result.platform.now ≡ platform.old }
+        ensures trace { result.trace.now ≡ trace.old }
+        ensures line { result.rest.line.items ≡ [] }
+        ensures lines { result.rest.lines ≡ 0 }
+        ensures bytes { result.rest.bytes ≡ 0 }
+        ensures open { result.refusal ≡ None }
     {
         Feeder {
-            line: ArrayVec::new(),
-            lines: 0,
-            bytes: 0,
+            platform,
+            trace,
+            rest: Rest::new(),
+            refusal: None,
         }
     }
 
-    // Takes the next byte, and answers the line that it ends.
-    fn byte<W: Write>(
-        &mut self,
-        platform: &mut Platform,
-        byte: u8,
-        writer: &mut W,
-    ) -> Result<(), RunFault>
-        ensures fed { (start : Progress) (text : List ℕ)
-            → Fed start (progress (W.contents writer.old) platform.old)
-            self.old.line.items self.old.lines self.old.bytes text
-            → AfterPiece start (progress (W.contents writer.new) platform.new)
-            self.new.line.items self.new.lines self.new.bytes text (byte ∷ []) result }
+    /// Takes a piece of a script, and answers each line that it ends before it goes on. The refusals are those of
+    /// `run` but `Read`; after one each later call answers the same one, writes nothing and changes nothing.
+    pub fn feed<W: Write>(&mut self, piece: &[u8], writer: &mut W) -> Result<(), RunFault>
+        ensures fed { self.old.refusal ≡ None → (start : Progress) (text : List ℕ)
+            → Fed start (progress (W.contents writer.old) (console self.old.platform.now self.old.trace.now))
+            self.old.rest.line.items self.old.rest.lines self.old.rest.bytes text
+            → AfterPiece start (progress (W.contents writer.new) (console self.new.platform.now self.new.trace.now))
+            self.new.rest.line.items self.new.rest.lines self.new.rest.bytes text piece.now result }
+        ensures open { OnOk result (self.new.refusal ≡ None) }
+        ensures refused { IfErr result (λ fault. self.new.refusal ≡ Some fault) }
+        ensures stays { (fault : RunFault) → self.old.refusal ≡ Some fault → StaysRefused fault result
+            (progress (W.contents writer.old) (console self.old.platform.now self.old.trace.now))
+            (progress (W.contents writer.new) (console self.new.platform.now self.new.trace.now)) }
+        ensures same_platform { self.new.platform.ghost_name ≡ self.old.platform.ghost_name }
+        ensures same_trace { self.new.trace.ghost_name ≡ self.old.trace.ghost_name }
     {
-        if self.bytes >= MOST_BYTES || self.lines >= MOST_LINES {
-            return Err(RunFault::TooLong);
+        if let Some(fault) = self.refusal {
+            return Err(fault);
         }
-        self.bytes += 1;
-        if byte == b'\n' {
-            self.lines += 1;
-            answer(platform, self.line.as_slice(), writer)?;
-            self.line.clear();
-        } else if !self.line.is_full() {
-            self.line.push(byte);
+        let mut writer = WatchedWriter::new(writer);
+        let fed = self
+            .rest
+            .feed(self.platform, self.trace, piece, &mut writer);
+        if let Err(fault) = fed {
+            self.refusal = Some(fault);
         }
-        Ok(())
-    }
-
-    /// Takes a piece of a script, and answers each line that it ends before it goes on. Whichever way
-    /// a text is cut into pieces, the same is answered.
-    pub fn feed<W: Write>(
-        &mut self,
-        platform: &mut Platform,
-        piece: &[u8],
-        writer: &mut W,
-    ) -> Result<(), RunFault>
-        ensures fed { (start : Progress) (text : List ℕ)
-            → Fed start (progress (W.contents writer.old) platform.old)
-            self.old.line.items self.old.lines self.old.bytes text
-            → AfterPiece start (progress (W.contents writer.new) platform.new)
-            self.new.line.items self.new.lines self.new.bytes text piece.now result }
-    {
-        for byte in piece {
-            self.byte(platform, *byte, writer)?;
-        }
-        Ok(())
+        fed
     }
 
     /// Answers a last line that lacks its line end, and flushes.
-    pub fn finish<W: Write>(self, platform: &mut Platform, writer: &mut W) -> Result<(), RunFault>
-        ensures fed { (start : Progress) (text : List ℕ)
-            → Fed start (progress (W.contents writer.old) platform.old)
-            self.line.items self.lines self.bytes text
-            → AfterEnd start (progress (W.contents writer.new) platform.new) text result }
+    pub fn finish<W: Write>(self, writer: &mut W) -> Result<(), RunFault>
+        ensures fed { self.entry.refusal ≡ None → (start : Progress) (text : List ℕ)
+            → Fed start (progress (W.contents writer.old) (console self.entry.platform.now self.entry.trace.now))
+            self.entry.rest.line.items self.entry.rest.lines self.entry.rest.bytes text
+            → AfterEnd start (progress (W.contents writer.new) (console self.exit.0.now self.exit.1.0.now)) text result }
+        ensures stays { (fault : RunFault) → self.entry.refusal ≡ Some fault → StaysRefused fault result
+            (progress (W.contents writer.old) (console self.entry.platform.now self.entry.trace.now))
+            (progress (W.contents writer.new) (console self.exit.0.now self.exit.1.0.now)) }
     {
-        answer_last(platform, self.line.as_slice(), writer)?;
-        flush(writer)
+        let Feeder {
+            platform,
+            trace,
+            mut rest,
+            refusal,
+        } = self;
+        if let Some(fault) = refusal {
+            return Err(fault);
+        }
+        let mut writer = WatchedWriter::new(writer);
+        rest.finish(platform, trace, &mut writer)
     }
 }

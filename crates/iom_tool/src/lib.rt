@@ -2,15 +2,22 @@
 #![tactic(auto)]
 
 pub use fault::RunFault;
+pub use feeder::Feeder;
+pub use rest::Rest;
 pub use running::run;
 pub use session::Session;
 pub use text::Reply;
+pub use trace::{Entry, Trace};
 
+mod answering;
 mod debugger;
 mod fault;
 mod feeder;
+mod rest;
 mod running;
 mod script;
 mod session;
 mod text;
+mod trace;
+mod watched;
 mod words;

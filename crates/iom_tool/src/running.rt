@@ -1,36 +1,68 @@
-ghost use Rattle.iom_tool.specs.Running.{progress, Ends};
+ghost use Rattle.std.specs.Prelude.{◌≡◌, false, true, OnOk};
+ghost use Rattle.iom_tool.specs.Console.{console};
+ghost use Rattle.iom_tool.specs.Running.{progress, Ends, is_read, is_write};
 
 use crate::fault::RunFault;
-use crate::feeder::{Feeder, MOST_BYTES};
+use crate::rest::{MOST_BYTES, Rest};
+use crate::trace::Trace;
+use crate::watched::{WatchedReader, WatchedWriter};
 use iom_core::Platform;
 use std::io::{Read, Write};
 
-/// Carries out the script that `reader` gives, and writes the answer to each line to `writer` before
-/// it reads on; at the end it flushes.
+/// The most bytes that are asked of a reader at once.
+const MOST_BYTES_OF_A_PIECE: usize = 4096;
+
+/// Carries out the script that `reader` gives, and writes the answers to `writer`: those to the lines of what was read
+/// before it reads on. At the end it flushes.
 ///
-/// A script has at most 2^20 lines and 2^26 bytes: with the first byte beyond it ends with `TooLong`.
-/// A read that fails or is interrupted is `Read`. A write that fails, is interrupted or takes no
-/// byte, and a flush that fails, are `Write`. Of the lines before, the answers are written and the
-/// steps are done; after `Write` the steps of all lines read whole are done.
+/// It reads pieces of at most 4096 bytes. A script has at most 2^20 lines and 2^26 bytes: with the first byte beyond it
+/// ends with `TooLong`. A read that fails or is interrupted is `Read`. A write that fails, is interrupted or takes no
+/// byte, and a flush that fails, are `Write`. Of the lines before, the answers are written and the steps are done; after
+/// `Write` the steps of the lines up to the one whose answer failed are done. `trace` keeps the steps.
 pub fn run<R: Read, W: Write>(
     platform: &mut Platform,
+    trace: &mut Trace,
     reader: &mut R,
     writer: &mut W,
 ) -> Result<(), RunFault>
     ensures { Ends (R.remaining reader.old) (R.remaining reader.new)
-        (progress (W.contents writer.old) platform.old)
-        (progress (W.contents writer.new) platform.new) result }
+        (progress (W.contents writer.old) (console platform.old trace.old))
+        (progress (W.contents writer.new) (console platform.new trace.new)) result }
 {
-    let mut feeder = Feeder::new();
-    let mut piece = [0; 1];
+    let mut reader = WatchedReader::new(reader);
+    let mut writer = WatchedWriter::new(writer);
+    run_watched(platform, trace, &mut reader, &mut writer)
+}
+
+// The same over a reader and a writer that are watched: each fault is answered only where it happened, and Ok only where
+// all is flushed.
+fn run_watched<R: Read, W: Write>(
+    platform: &mut Platform,
+    trace: &mut Trace,
+    reader: &mut WatchedReader<'_, R>,
+    writer: &mut WatchedWriter<'_, W>,
+) -> Result<(), RunFault>
+    requires can_read { reader.old.failed ≡ false }
+    requires can_write { writer.old.failed ≡ false }
+    ensures ends { Ends (R.remaining reader.old.inner.now) (R.remaining reader.new.inner.now)
+        (progress (W.contents writer.old.inner.now) (console platform.old trace.old))
+        (progress (W.contents writer.new.inner.now) (console platform.new trace.new)) result }
+    ensures read_told { reader.new.failed ≡ is_read result }
+    ensures write_told { writer.new.failed ≡ is_write result }
+    ensures flushed { OnOk result (writer.new.flushed ≡ true) }
+    ensures same_reader { reader.new.inner.ghost_name ≡ reader.old.inner.ghost_name }
+    ensures same_writer { writer.new.inner.ghost_name ≡ writer.old.inner.ghost_name }
+{
+    let mut rest = Rest::new();
+    let mut piece = [0; MOST_BYTES_OF_A_PIECE];
     for _turn in 0..=MOST_BYTES {
-        let Ok(count) = reader.read(&mut piece) else {
+        let Some(count) = reader.read(&mut piece) else {
             return Err(RunFault::Read);
         };
         if count == 0 {
-            return feeder.finish(platform, writer);
+            return rest.finish(platform, trace, writer);
         }
-        feeder.feed(platform, &piece[..count], writer)?;
+        rest.feed(platform, trace, &piece[..count], writer)?;
     }
     unreachable!()
 }

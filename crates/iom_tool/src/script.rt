@@ -1,11 +1,11 @@
 ghost use Rattle.std.specs.Prelude.{◌≡◌, map};
-ghost use Rattle.iom_tool.specs.Script.{load, store, reg_read, reg_write, reg, cmd, dma_read, dma_write, dma, dev_read, dev_write, dev_step, dev, place_page, place, step_of, question_of, meaning, line_of};
+ghost use Rattle.iom_tool.specs.Script.{load, store, reg_read, reg_write, reg, cmd, dma_read, dma_write, dma, dev_read, dev_write, dev_step, dev, place_page, place, trace, step_of, question_of, meaning, line_of};
 
 use crate::words::{bytes_of, number, words};
 use iom_core::Step;
 
 /// What a line of a script says.
-#[derive(Clone, Debug, Drop, PartialEq)]
+#[derive(Drop)]
 pub enum Line {
     /// It has no words.
     Blank,
@@ -15,11 +15,13 @@ pub enum Line {
     Asks(Question),
 }
 
-/// A question about the state. It is no step.
-#[derive(Clone, Copy, Debug, PartialEq, Eq, Hash)]
+/// A question about the platform or the trace. It is no step.
+#[derive(Drop)]
 pub enum Question {
     /// What stands at this place of the translation cache; the oldest is place 0.
     Page(u64),
+    /// Which step stands at this place of the trace, and its answer; the oldest is at place 0.
+    Trace(u64),
 }
 
 /// The longest line, in bytes without its end.
@@ -223,6 +225,16 @@ fn place(operands: &[&[u8]]) -> Option<Question>
     }
 }
 
+#[tactic(auto, unfolding(crate::specs::Script::trace))]
+fn trace(operands: &[&[u8]]) -> Option<Question>
+    ensures { result ≡ trace (map (λ word. word.now) operands.now) }
+{
+    let [i] = operands else {
+        return None;
+    };
+    Some(Question::Trace(number(i)?))
+}
+
 #[tactic(auto, unfolding(crate::specs::Script::step_of))]
 fn step_of(verb: &[u8], operands: &[&[u8]]) -> Option<Step>
     ensures { result ≡ step_of verb.now (map (λ word. word.now) operands.now) }
@@ -244,6 +256,7 @@ fn question_of(verb: &[u8], operands: &[&[u8]]) -> Option<Question>
 {
     match verb {
         b"place" => place(operands),
+        b"trace" => trace(operands),
         _ => None,
     }
 }

@@ -1,18 +1,20 @@
-ghost use Rattle.std.specs.Prelude.{◌≡◌, ◌+◌, ◌++◌, ◌<◌, ◌≤◌, length, codes, false};
+ghost use Rattle.std.specs.Prelude.{◌≡◌, ◌+◌, ◌*◌, ◌++◌, ◌<◌, ◌≤◌, length, [], ◌∷◌, codes, false};
+ghost use Rattle.std.specs.Option.{option_copied};
 ghost use Rattle.std.specs.Fmt.{digit_glyph};
 ghost use Rattle.std.specs.Int.Digits.{digits_of};
 ghost use Rattle.hex.specs.Hex.{encode_lower};
-ghost use Rattle.iom_tool.specs.Texts.{digits_in, numeral, hexed, text_of};
+ghost use Rattle.iom_tool.specs.Texts.{digits_in, numeral, hexed, text_of, operands, step_text, entry_text};
 
+use crate::trace::Entry;
 use arrayvec::ArrayVec;
-use iom_core::Answer;
+use iom_core::{Answer, Step};
 
 /// The text of one answer, without a line end.
-pub type Reply = ArrayVec<u8, 256>;
+pub type Reply = ArrayVec<u8, 320>;
 
 /// Appends bytes.
 pub fn push_text(out: &mut Reply, text: &[u8])
-    requires { length out.old.items + length text.now ≤ 256 }
+    requires { length out.old.items + length text.now ≤ 320 }
     ensures text { out.new.items ≡ out.old.items ++ text.now }
     ensures room { length out.new.items ≡ length out.old.items + length text.now }
 {
@@ -34,7 +36,7 @@ fn glyph(digit: u64) -> u8
 fn push_digits(out: &mut Reply, number: u64, radix: u64)
     requires least { 2 ≤ radix }
     requires most { radix ≤ 16 }
-    requires room { length out.old.items + length (digits_of radix number) ≤ 256 }
+    requires room { length out.old.items + length (digits_of radix number) ≤ 320 }
     ensures { out.new.items ≡ out.old.items ++ digits_in radix number }
 {
     if number > 0 {
@@ -46,7 +48,7 @@ fn push_digits(out: &mut Reply, number: u64, radix: u64)
 fn push_numeral(out: &mut Reply, number: u64, radix: u64)
     requires least { 2 ≤ radix }
     requires most { radix ≤ 16 }
-    requires room { length out.old.items + length (digits_of radix number) < 256 }
+    requires room { length out.old.items + length (digits_of radix number) < 320 }
     ensures { out.new.items ≡ out.old.items ++ numeral radix number }
 {
     if number == 0 {
@@ -56,29 +58,22 @@ fn push_numeral(out: &mut Reply, number: u64, radix: u64)
     }
 }
 
-fn hex_text(bytes: &[u8]) -> Reply
-    requires { length bytes.now ≤ 64 }
-    ensures { result.items ≡ encode_lower bytes.now }
+// Appends bytes as hex digits in lower case.
+fn push_bytes(out: &mut Reply, bytes: &[u8])
+    requires few { length bytes.now ≤ 64 }
+    requires room { length out.old.items + 128 < 320 }
+    ensures text { out.new.items ≡ out.old.items ++ encode_lower bytes.now }
+    ensures room { length out.new.items ≤ length out.old.items + 128 }
 {
-    let mut out = Reply::from([0; 256]);
-    out.truncate(2 * bytes.len());
-    let _fits = hex::encode_to_slice(bytes, out.as_mut_slice());
-    out
-}
-
-/// A text as it is.
-pub fn plain(text: &[u8]) -> Reply
-    requires { length text.now ≤ 256 }
-    ensures { result.items ≡ text.now }
-{
-    let mut out = Reply::new();
-    push_text(&mut out, text);
-    out
+    let mut digits = [0; 128];
+    let digits = &mut digits[..2 * bytes.len()];
+    let _fits = hex::encode_to_slice(bytes, digits);
+    push_text(out, digits);
 }
 
 /// Appends a number as `0x` and hex digits in lower case.
 pub fn push_hexed(out: &mut Reply, number: u64)
-    requires { length out.old.items + 18 < 256 }
+    requires { length out.old.items + 18 < 320 }
     ensures text { out.new.items ≡ out.old.items ++ hexed number }
     ensures room { length out.new.items ≤ length out.old.items + 18 }
 {
@@ -86,43 +81,99 @@ pub fn push_hexed(out: &mut Reply, number: u64)
     push_numeral(out, number, 16);
 }
 
-fn value_text(value: u64) -> Reply
-    ensures { result.items ≡ hexed value }
+fn push_denied(out: &mut Reply, cause: u16)
+    requires { length out.old.items + 12 < 320 }
+    ensures text { out.new.items ≡ out.old.items ++ codes "denied " ++ numeral 10 cause }
+    ensures room { length out.new.items ≤ length out.old.items + 12 }
 {
-    let mut out = Reply::new();
-    push_hexed(&mut out, value);
-    out
+    push_text(out, b"denied ");
+    push_numeral(out, u64::from(cause), 10);
 }
 
-fn denied_text(cause: u16) -> Reply
-    ensures { result.items ≡ codes "denied " ++ numeral 10 cause }
-{
-    let mut out = plain(b"denied ");
-    push_numeral(&mut out, u64::from(cause), 10);
-    out
-}
-
-/// The text of an answer.
+/// Appends the text of an answer.
 #[tactic(auto, unfolding(crate::specs::Texts::text_of))]
-pub fn text_of(answer: &Answer) -> Reply
-    ensures { result.items ≡ text_of answer.now }
+pub fn push_answer(out: &mut Reply, answer: &Answer)
+    requires { length out.old.items + 128 < 320 }
+    ensures text { out.new.items ≡ out.old.items ++ text_of answer.now }
+    ensures room { length out.new.items ≤ length out.old.items + 128 }
 {
     match answer {
-        Answer::Value(value) => value_text(*value),
-        Answer::Done => plain(b"done"),
-        Answer::Bytes(bytes) => hex_text(bytes.as_slice()),
-        Answer::Idle => plain(b"idle"),
-        Answer::Denied(cause) => denied_text(*cause),
-        Answer::BusError => plain(b"bus error"),
-        Answer::BadAccess => plain(b"bad access"),
-        Answer::NoDevice => plain(b"no device"),
-        Answer::Misuse => plain(b"misuse"),
+        Answer::Value(value) => push_hexed(out, *value),
+        Answer::Done => push_text(out, b"done"),
+        Answer::Bytes(bytes) => push_bytes(out, bytes.as_slice()),
+        Answer::Idle => push_text(out, b"idle"),
+        Answer::Denied(cause) => push_denied(out, *cause),
+        Answer::BusError => push_text(out, b"bus error"),
+        Answer::BadAccess => push_text(out, b"bad access"),
+        Answer::NoDevice => push_text(out, b"no device"),
+        Answer::Misuse => push_text(out, b"misuse"),
     }
 }
 
-/// What is answered to a line that is none.
-pub fn bad() -> Reply
-    ensures { result.items ≡ codes "bad" }
+// Appends the first words of a step's line, and its numbers after them.
+fn push_form(out: &mut Reply, words: &[u8], numbers: &[u64])
+    requires room { length out.old.items + length words.now + 19 * length numbers.now < 320 }
+    ensures text { out.new.items ≡ out.old.items ++ words.now ++ operands numbers.now }
+    ensures room { length out.new.items ≤ length out.old.items + length words.now + 19 * length numbers.now }
 {
-    plain(b"bad")
+    push_text(out, words);
+    for number in numbers {
+        push_text(out, b" ");
+        push_hexed(out, *number);
+    }
+}
+
+fn push_device_write(out: &mut Reply, did: u64, iova: u64, bytes: &[u8])
+    requires few { length bytes.now ≤ 64 }
+    requires room { length out.old.items ≡ 0 }
+    ensures text { out.new.items ≡ out.old.items ++ codes "dma write" ++ operands (did ∷ iova ∷ []) ++ codes " " ++ encode_lower bytes.now }
+    ensures room { length out.new.items ≤ 176 }
+{
+    push_form(out, b"dma write", &[did, iova]);
+    push_text(out, b" ");
+    push_bytes(out, bytes);
+}
+
+// Puts a step as its line of a script.
+#[tactic(auto, unfolding(crate::specs::Texts::step_text))]
+fn push_step(out: &mut Reply, step: &Step)
+    requires { length out.old.items ≡ 0 }
+    ensures text { out.new.items ≡ out.old.items ++ step_text step.now }
+    ensures room { length out.new.items ≤ 176 }
+{
+    match step {
+        Step::Load { addr, size } => push_form(out, b"load", &[*addr, *size]),
+        Step::Store { addr, size, value } => push_form(out, b"store", &[*addr, *size, *value]),
+        Step::RegRead { off, size } => push_form(out, b"reg read", &[*off, *size]),
+        Step::RegWrite { off, size, value } => push_form(out, b"reg write", &[*off, *size, *value]),
+        Step::Command => push_text(out, b"cmd"),
+        Step::DmaRead { did, iova, len } => push_form(out, b"dma read", &[*did, *iova, *len]),
+        Step::DmaWrite { did, iova, bytes } => {
+            push_device_write(out, *did, *iova, bytes.as_slice())
+        }
+        Step::DevRead { dev, off, size } => push_form(out, b"dev read", &[*dev, *off, *size]),
+        Step::DevWrite {
+            dev,
+            off,
+            size,
+            value,
+        } => push_form(out, b"dev write", &[*dev, *off, *size, *value]),
+        Step::Device { dev } => push_form(out, b"dev step", &[*dev]),
+    }
+}
+
+/// Puts the text of a step of a trace, and its answer.
+#[tactic(auto, unfolding(crate::specs::Texts::entry_text))]
+pub fn push_entry(out: &mut Reply, entry: Option<&Entry>)
+    requires { length out.old.items ≡ 0 }
+    ensures text { out.new.items ≡ out.old.items ++ entry_text (option_copied entry.entry) }
+    ensures room { length out.new.items < 320 }
+{
+    let Some(entry) = entry else {
+        push_text(out, b"none");
+        return;
+    };
+    push_step(out, &entry.step);
+    push_text(out, b" -> ");
+    push_answer(out, &entry.answer);
 }

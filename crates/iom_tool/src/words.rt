@@ -1,4 +1,6 @@
-ghost use Rattle.std.specs.Prelude.{◌≡◌, ◌==◌, ◌≤◌, take, map};
+ghost use Rattle.std.specs.Prelude.{◌≡◌, ◌==◌, ◌*◌, ◌<◌, ◌≤◌, Some, None, true, length, take, map, if◌then◌else◌};
+ghost use Rattle.std.specs.Result.{result_ok};
+ghost use Rattle.hex.specs.Hex.{is_hex_digit, hex_digit_value, decode_pairs};
 ghost use Rattle.std.specs.List.{position};
 ghost use Rattle.std.specs.Option.{option_map};
 ghost use Rattle.iom_tool.specs.Words.{is_blank, before_comment, words_of, number_in, number, bytes_of};
@@ -48,6 +50,7 @@ pub fn words(text: &[u8]) -> Words<'_>
 }
 
 // The number that digits of a radix write, below 2^64.
+#[inline(always)]
 #[tactic(auto, unfolding(crate::specs::Words::number_in))]
 fn number_in(radix: u32, word: &[u8]) -> Option<u64>
     requires least { 2 ≤ radix }
@@ -78,6 +81,38 @@ pub fn number(word: &[u8]) -> Option<u64>
     }
 }
 
+// Whether this is a hex digit. It is told without a branch, since digits and letters follow each other by chance.
+#[inline(always)]
+fn is_digit(c: u8) -> bool
+    ensures { result ≡ is_hex_digit c }
+{
+    (c >= b'0') & (c <= b'9') | (c >= b'A') & (c <= b'F') | (c >= b'a') & (c <= b'f')
+}
+
+#[inline(always)]
+fn value_of(c: u8) -> u8
+    requires { is_hex_digit c ≡ true }
+    ensures value { hex_digit_value c ≡ Some result }
+    ensures small { result < 16 }
+{
+    c % 16 + 9 * (c / 64)
+}
+
+// Puts the bytes that hex digits write, two digits a byte; false where another byte is among them.
+fn decode(word: &[u8], bytes: &mut [u8]) -> bool
+    requires { length word.now ≡ 2 * length bytes.old }
+    ensures { (if result then Some bytes.new else None) ≡ result_ok (decode_pairs 0 word.now) }
+{
+    for i in 0..bytes.len() {
+        let (high, low) = (word[2 * i], word[2 * i + 1]);
+        if !(is_digit(high) & is_digit(low)) {
+            return false;
+        }
+        bytes[i] = value_of(high) * 16 + value_of(low);
+    }
+    true
+}
+
 /// The bytes that 2 to 128 hex digits write.
 #[tactic(auto, unfolding(crate::specs::Words::bytes_of))]
 pub fn bytes_of(word: &[u8]) -> Option<ArrayVec<u8, 64>>
@@ -88,6 +123,9 @@ pub fn bytes_of(word: &[u8]) -> Option<ArrayVec<u8, 64>>
     }
     let mut bytes = ArrayVec::from([0; 64]);
     bytes.truncate(word.len() / 2);
-    hex::decode_to_slice(word, bytes.as_mut_slice()).ok()?;
-    Some(bytes)
+    if decode(word, bytes.as_mut_slice()) {
+        Some(bytes)
+    } else {
+        None
+    }
 }

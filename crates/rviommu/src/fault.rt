@@ -3,19 +3,27 @@ use iom_tool::RunFault;
 use std::alloc::AllocError;
 use thiserror::Error;
 
-/// Why the program ends with status 1.
-#[derive(Clone, Copy, Debug, PartialEq, Eq, Hash, Error)]
+/// Why the program ends, if not well.
+#[derive(Debug, Drop, Error)]
 pub enum Fault {
-    #[error("read failed")]
-    Read,
-    #[error("write failed")]
-    Write,
-    #[error("script too long")]
-    TooLong,
+    #[error("a word isn't UTF-8")]
+    BadWord,
+    #[error(transparent)]
+    Run(#[from] RunFault),
     #[error("bad memory")]
     BadMemory,
     #[error("out of memory")]
     OutOfMemory,
+}
+
+impl Fault {
+    /// The status to end with: 2 for bad words, else 1.
+    pub fn status(&self) -> u8 {
+        match self {
+            Fault::BadWord => 2,
+            Fault::Run(_) | Fault::BadMemory | Fault::OutOfMemory => 1,
+        }
+    }
 }
 
 impl From<AllocError> for Fault {
@@ -29,16 +37,6 @@ impl From<MemFault> for Fault {
         match fault {
             MemFault::BadBase | MemFault::BadSize => Fault::BadMemory,
             MemFault::OutOfMemory => Fault::OutOfMemory,
-        }
-    }
-}
-
-impl From<RunFault> for Fault {
-    fn from(fault: RunFault) -> Self {
-        match fault {
-            RunFault::Read => Fault::Read,
-            RunFault::Write => Fault::Write,
-            RunFault::TooLong => Fault::TooLong,
         }
     }
 }

@@ -1,0 +1,111 @@
+-- What a run keeps true between two reads.
+use Rattle.std.proofs.Common.{◌≡◌, ◌+◌, ◌<◌, ◌≤◌, ◌++◌, ℕ, List, [], ◌∷◌, length, false, Option, Result, Ok, Err, sym, ◌∙◌, ap, subst, refl, inl, inr, arith, append_assoc, append-nil, length-append}
+use Rattle.std.specs.Io.KnownBytes.{Consumes, IsAtEnd, Keeps}
+use Rattle.std.proofs.KnownBytes.{Consumes-trans, Consumes-kept}
+use Rattle.std.proofs.lemmas.List.{nil_from_length}
+use Rattle.iom_tool.specs.Output.{ended_lines, lines_of}
+use Rattle.iom_tool.specs.Running.{Progress, Fed, AfterPiece, AfterEnd, StopsReading, Ends, is_read}
+use Rattle.iom_tool.specs.declared.fault.RunFault.{RunFault}
+use Rattle.iom_tool.specs.declared.fault.RunFault.TheVariants as fault
+
+-- after `turns` reads, each of some bytes
+pub record IsRunning (unread left : Option (List ℕ)) (start now : Progress) (kept : List ℕ) (lines bytes turns : ℕ) : Type 0 where
+  pub text : List ℕ
+  pub took : Consumes unread left text
+  pub fed : Fed start now kept lines bytes text
+  pub turns_are : turns ≤ bytes
+
+read_more : (unread left less : Option (List ℕ)) (text piece : List ℕ) → Consumes unread left text → Consumes left less piece →
+    Consumes unread less (text ++ piece)
+read_more unread left less text piece = Consumes-trans unread left less text piece
+
+read_none : (unread left less : Option (List ℕ)) (text piece : List ℕ) → Consumes unread left text → Consumes left less piece →
+    length piece ≡ 0 → Consumes unread less text
+read_none unread left less text piece took more none =
+    let empty : piece ≡ [] = nil_from_length piece none in
+    subst (Consumes unread less) (ap (λ l. text ++ l) empty ∙ append-nil text) (read_more unread left less text piece took more)
+
+pub run_stops : (unread left less : Option (List ℕ)) (start now : Progress) (kept : List ℕ) (lines bytes turns : ℕ) →
+    IsRunning unread left start now kept lines bytes turns → Keeps left less → StopsReading unread less start now
+run_stops unread left less start now kept lines bytes turns h same = record {
+  text = h.text;
+  took = Consumes-kept unread left less h.text h.took same;
+  within = h.fed.within;
+  answered = h.fed.answered;
+}
+
+pub run_ends : (unread left less : Option (List ℕ)) (start now new : Progress) (kept piece : List ℕ) (lines bytes turns : ℕ)
+    (result : Result (Unit {0}) RunFault) → (h : IsRunning unread left start now kept lines bytes turns) →
+    Consumes left less piece → length piece ≡ 0 → IsAtEnd less → AfterEnd start new h.text result → Ends unread less start new result
+run_ends unread left less start now new kept piece lines bytes turns (Ok done) h more none all ends = record {
+  text = h.text;
+  took = read_none unread left less h.text piece h.took more none;
+  all = all;
+  within = h.fed.within;
+  console = ends.console;
+  written = ends.written;
+}
+run_ends unread left less start now new kept piece lines bytes turns (Err fault.Read) h more none all ends = absurd ends
+run_ends unread left less start now new kept piece lines bytes turns (Err fault.Write) h more none all ends = record {
+  text = h.text;
+  lost = [];
+  took = subst (Consumes unread less) (sym (append-nil h.text)) (read_none unread left less h.text piece h.took more none);
+  within = h.fed.within;
+  lines = lines_of h.text;
+  read = inr (all, refl, refl);
+  answered = ends;
+}
+run_ends unread left less start now new kept piece lines bytes turns (Err fault.TooLong) h more none all ends = absurd ends
+
+pub piece_ends : (unread left less : Option (List ℕ)) (start now new : Progress) (kept kept' piece : List ℕ) (lines bytes lines' bytes' turns : ℕ)
+    (f : RunFault) → (h : IsRunning unread left start now kept lines bytes turns) → Consumes left less piece →
+    AfterPiece start new kept' lines' bytes' h.text piece (Err f) → Ends unread less start new (Err f)
+piece_ends unread left less start now new kept kept' piece lines bytes lines' bytes' turns fault.Read h more ends = absurd ends
+piece_ends unread left less start now new kept kept' piece lines bytes lines' bytes' turns fault.Write h more ends =
+    let split : h.text ++ piece ≡ (h.text ++ ends.taken) ++ ends.left =
+    ap (λ l. h.text ++ l) ends.split ∙ sym (append_assoc h.text ends.taken ends.left) in
+    record {
+      text = h.text ++ ends.taken;
+      lost = ends.left;
+      took = subst (Consumes unread less) split (read_more unread left less h.text piece h.took more);
+      within = ends.within;
+      lines = ended_lines (h.text ++ ends.taken);
+      read = inl refl;
+      answered = ends.answered;
+    }
+piece_ends unread left less start now new kept kept' piece lines bytes lines' bytes' turns fault.TooLong h more ends =
+    let split : h.text ++ piece ≡ (h.text ++ ends.taken) ++ ends.byte ∷ ends.left =
+    ap (λ l. h.text ++ l) ends.split ∙ sym (append_assoc h.text ends.taken (ends.byte ∷ ends.left)) in
+    record {
+      text = h.text ++ ends.taken;
+      byte = ends.byte;
+      lost = ends.left;
+      took = subst (Consumes unread less) split (read_more unread left less h.text piece h.took more);
+      within = ends.within;
+      limit = ends.limit;
+      answered = ends.answered;
+    }
+
+pub runs_on : (unread left less : Option (List ℕ)) (start now new : Progress) (kept kept' piece : List ℕ) (lines bytes lines' bytes' turns : ℕ) →
+    (h : IsRunning unread left start now kept lines bytes turns) → Consumes left less piece → 0 < length piece →
+    Fed start new kept' lines' bytes' (h.text ++ piece) → IsRunning unread less start new kept' lines' bytes' (turns + 1)
+runs_on unread left less start now new kept kept' piece lines bytes lines' bytes' turns h more some fed = record {
+  text = h.text ++ piece;
+  took = read_more unread left less h.text piece h.took more;
+  fed = fed;
+  turns_are = omega (arith, h.turns_are, h.fed.counts_bytes, fed.counts_bytes, length-append h.text piece, some);
+}
+
+-- neither a piece nor the end is a failed read
+pub end_is_no_read : (start now : Progress) (text : List ℕ) (result : Result (Unit {0}) RunFault) → AfterEnd start now text result →
+    false ≡ is_read result
+end_is_no_read start now text (Ok done) ends = refl
+end_is_no_read start now text (Err fault.Read) ends = absurd ends
+end_is_no_read start now text (Err fault.Write) ends = refl
+end_is_no_read start now text (Err fault.TooLong) ends = refl
+
+pub piece_is_no_read : (start now : Progress) (kept : List ℕ) (lines bytes : ℕ) (text piece : List ℕ) (f : RunFault) →
+    AfterPiece start now kept lines bytes text piece (Err f) → false ≡ is_read {A = Unit {0}} (Err f)
+piece_is_no_read start now kept lines bytes text piece fault.Read ends = absurd ends
+piece_is_no_read start now kept lines bytes text piece fault.Write ends = refl
+piece_is_no_read start now kept lines bytes text piece fault.TooLong ends = refl

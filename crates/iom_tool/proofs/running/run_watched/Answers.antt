@@ -1,0 +1,52 @@
+use Rattle.std.proofs.Common.{◌<◌, length, take, ◌∙◌, arith}
+use Rattle.std.proofs.lemmas.List.{length-take-le}
+use Rattle.std.proofs.lemmas.Result.{err_from_is_err_and}
+use Rattle.iom_tool.specs.Console.{console}
+use Rattle.iom_tool.specs.Running.{progress}
+use Rattle.iom_tool.proofs.Runs.{run_ends, piece_ends, runs_on, end_is_no_read, piece_is_no_read}
+use Rattle.iom_tool.proofs.running.run_watched.Goals as goal
+
+pub returns-then-count-eq0-clause-ends : goal.returns-then-count-eq0-clause-ends
+returns-then-count-eq0-clause-ends g c =
+    let h = c.loop-turn.invariant.runs in
+    let room : 0 < length c.read.new.piece = omega arith in
+    run_ends _ _ _ _ _ _ _ _ _ _ _ c.finish.result h c.in-Some.ensures.bytes
+    (length-take-le c.in-Some.count c.read.new.piece c.in-Some.ensures.bound ∙ c.if-count-eq0.true)
+    (c.in-Some.ensures.end c.if-count-eq0.true room) (c.finish.ensures.fed _ h.text h.fed)
+
+pub returns-then-count-eq0-clause-read_told : goal.returns-then-count-eq0-clause-read_told
+returns-then-count-eq0-clause-read_told g c =
+    let h = c.loop-turn.invariant.runs in
+    c.in-Some.ensures.failed ∙ end_is_no_read _ _ h.text c.finish.result (c.finish.ensures.fed _ h.text h.fed)
+
+pub returns-in_err-feed-clause-ends : goal.returns-in_err-feed-clause-ends
+returns-in_err-feed-clause-ends g c =
+    let h = c.loop-turn.invariant.runs in
+    let p = err_from_is_err_and c.from_residual.result c.from_residual.ensures.1 in
+    rw (p.1, p.2) (
+    piece_ends _ _ _ _ _ _ _ c.feed.new.self.line.items _ _ _ c.feed.new.self.lines c.feed.new.self.bytes _ c.in_err-feed.field-0.0
+    h c.in-Some.ensures.bytes (c.in_err-feed.ensures.fed _ h.text h.fed))
+
+pub returns-in_err-feed-clause-read_told : goal.returns-in_err-feed-clause-read_told
+returns-in_err-feed-clause-read_told g c =
+    let h = c.loop-turn.invariant.runs in
+    let p = err_from_is_err_and c.from_residual.result c.from_residual.ensures.1 in
+    rw (p.1, p.2) (
+    c.in-Some.ensures.failed
+    ∙ piece_is_no_read (progress (g.W.Write.contents c.args.writer.now.inner.now) (console c.args.platform.now c.args.trace.now))
+    (progress (g.W.Write.contents c.feed.new.writer.inner.now) (console c.feed.new.platform c.feed.new.trace))
+    c.feed.new.self.line.items c.feed.new.self.lines c.feed.new.self.bytes h.text (take c.in-Some.count c.read.new.piece) c.in_err-feed.field-0.0
+    (c.in_err-feed.ensures.fed _ h.text h.fed))
+
+pub loop-turn-preserved : goal.loop-turn-preserved
+loop-turn-preserved g c =
+    let h = c.loop-turn.invariant.runs in
+    let some : 0 < length (take c.in-Some.count c.read.new.piece) =
+    omega (arith, length-take-le c.in-Some.count c.read.new.piece c.in-Some.ensures.bound, c.if-count-eq0.false) in
+    record {
+      runs = runs_on _ _ _ _ _ _ _ _ _ _ _ _ _ _ h c.in-Some.ensures.bytes some (c.in_ok-feed.ensures.fed _ h.text h.fed);
+      can_read = c.in-Some.ensures.failed;
+      can_write = c.in_ok-feed.ensures.told;
+      same_reader = c.in-Some.ensures.same_reader ∙ c.loop-turn.invariant.same_reader;
+      same_writer = c.in_ok-feed.ensures.same_writer ∙ c.loop-turn.invariant.same_writer;
+    }

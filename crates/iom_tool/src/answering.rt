@@ -1,0 +1,44 @@
+ghost use Rattle.std.specs.Prelude.{◌≡◌, [], ◌++◌, ◌<◌, length, is_some};
+ghost use Rattle.std.specs.Option.{unwrap_or};
+ghost use Rattle.iom_core.specs.Run.{end_of};
+ghost use Rattle.iom_tool.specs.Script.{line_of};
+ghost use Rattle.iom_tool.specs.Console.{console, trace_after};
+ghost use Rattle.iom_tool.specs.Output.{reply, steps_in, steps_of};
+
+use crate::debugger::push_answer_in;
+use crate::script::{Line, line_of};
+use crate::text::{Reply, push_answer, push_text};
+use crate::trace::Trace;
+use iom_core::{Platform, Step};
+
+// Carries out a step, keeps it in the trace, and puts the text of its answer.
+fn carry_out(platform: &mut Platform, trace: &mut Trace, step: Step, out: &mut Reply)
+    requires { length out.old.items ≡ 0 }
+    ensures reply { out.new.items ≡ unwrap_or (reply (console platform.old trace.old) (Line.Does step)) [] }
+    ensures room { length out.new.items < 320 }
+    ensures state { platform.new ≡ end_of platform.old (steps_in (Line.Does step)) }
+    ensures trace { trace.new ≡ trace_after trace.old platform.old (steps_in (Line.Does step)) }
+{
+    let answer = platform.step(&step);
+    push_answer(out, &answer);
+    trace.keep(step, answer);
+}
+
+/// Carries out the line of this text, and puts its answer in place of what `out` holds. Whether there is one; to a
+/// blank line there is none.
+pub fn answer_to(platform: &mut Platform, trace: &mut Trace, text: &[u8], out: &mut Reply) -> bool
+    ensures reply { out.new.items ≡ unwrap_or (reply (console platform.old trace.old) (line_of text.now)) [] }
+    ensures said { result ≡ is_some (reply (console platform.old trace.old) (line_of text.now)) }
+    ensures room { length out.new.items < 320 }
+    ensures state { platform.new ≡ end_of platform.old (steps_of text.now) }
+    ensures trace { trace.new ≡ trace_after trace.old platform.old (steps_of text.now) }
+{
+    out.clear();
+    match line_of(text) {
+        Line::Blank => return false,
+        Line::Bad => push_text(out, b"bad"),
+        Line::Does(step) => carry_out(platform, trace, step, out),
+        Line::Asks(question) => push_answer_in(out, platform, trace, question),
+    }
+    true
+}
