@@ -238,6 +238,22 @@ def _():
 # Words.
 
 
+FORMS = [
+    b"load ADDR SIZE",
+    b"store ADDR SIZE VALUE",
+    b"reg read OFF SIZE",
+    b"reg write OFF SIZE VALUE",
+    b"dma read DID IOVA LEN",
+    b"dma write DID IOVA DATA",
+    b"cmd",
+    b"dev read N OFF SIZE",
+    b"dev write N OFF SIZE VALUE",
+    b"dev step N",
+    b"place page I",
+    b"trace I",
+]
+
+
 def add_help(word):
     @check(f"{word}: status 0, the usage on standard output")
     def _():
@@ -245,10 +261,25 @@ def add_help(word):
         want("status and standard error", (status, errors), WELL)
         if b"usage" not in out.lower():
             raise Failure(f"standard output has no usage: {short(out)}")
+        for form in FORMS:
+            if form not in out:
+                raise Failure(f"standard output has no line {form!r}")
 
 
 add_help("--help")
 add_help("-h")
+
+
+@check("--help: its example is answered as it says")
+def _():
+    text = run(["--help"])[1].decode()
+    example = text[text.index("  $ printf") :].splitlines()
+    command = " ".join(line.strip().removeprefix("$ ").removesuffix("\\") for line in example[:2])
+    answers = "".join(line.strip() + "\n" for line in example[2:])
+    ended = subprocess.run(
+        ["sh", "-c", command.replace("| rviommu", '| "$0"'), PROGRAM], stdout=subprocess.PIPE, timeout=RUN_SECONDS
+    )
+    want("status and standard output", (ended.returncode, ended.stdout.decode()), (0, answers))
 
 
 @check("--version: status 0, the name and a version")
@@ -272,6 +303,25 @@ def add_refused(*words):
 add_refused("jump")
 add_refused("--jump")
 add_refused("-j")
+
+
+@check("a word that isn't UTF-8 is refused with status 2")
+def _():
+    for words in ([b"\xff"], [b"--\xff"], [b"jump", b"\xc3"]):
+        status, out, errors = run(words, ASK + b"\n")
+        want("status", status, 2)
+        want("standard output", out, b"")
+        if not errors.strip():
+            raise Failure("standard error is empty")
+
+
+@check("words that there are not, with standard error closed: status 2")
+def _():
+    for words in (["jump"], ["--jump"], [b"\xff"]):
+        with tempfile.TemporaryFile() as script:
+            close = lambda: os.close(2)
+            ended = subprocess.run([PROGRAM, *words], stdin=script, stdout=subprocess.PIPE, preexec_fn=close, timeout=RUN_SECONDS)
+        want("status and standard output", (ended.returncode, ended.stdout), (2, b""))
 
 
 # Inputs and outputs that fail.

@@ -26,4 +26,6 @@ refused 1 mem::keeps_what_is_written OutOfMemory \
     platform::device_reads_what_the_hart_stored OutOfMemory
 refused 2 platform::device_reads_what_the_hart_stored AllocError
 refused 3 platform::device_reads_what_the_hart_stored AllocError
+# A trace takes one, here after those of its platform.
+refused 4 script::trace_of_the_last_steps AllocError
 echo "refused memory: ok"

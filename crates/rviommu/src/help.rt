@@ -14,10 +14,11 @@ Numbers are decimal, or hex after 0x; DATA is 2 to 128 hex digits.
   dev write N OFF SIZE VALUE    the hart writes a register of a block device
   dev step N                    a block device goes on by one access
   place page I                  place I of the translation cache, the oldest 0
+  trace I                       step I of the last 32, the oldest 0
 
 Each line that isn't blank is answered by one line: the number or the bytes
 that were read, done, idle, denied CAUSE, bus error, bad access, no device,
-misuse, the place, or bad for what is no line.
+misuse, the place, the step with its answer, or bad for what is no line.
 
 Memory is 1 MiB at 0x80000000. An example:
 
