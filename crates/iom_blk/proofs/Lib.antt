@@ -1,3 +1,4 @@
 pub mod Asking
+pub mod Broken
 pub mod Ready
 pub mod Served

@@ -22,6 +22,10 @@ use Rattle.iom_blk.specs.Requests.{number_at, is_in, readable, writable, data_le
 unfoldable pub is_active : Device → Bool
 is_active d = has_bit d.status 2 && has_bit d.status 3 && not (has_bit d.status 6) && d.ready && d.pending
 
+-- a device that broke: DEVICE_NEEDS_RESET
+abbrev pub is_broken : Device → Bool
+is_broken d = has_bit d.status 6
+
 -- the entry of the used ring that is written next
 abbrev pub used_entry : Device → ℕ
 used_entry d = d.ring + 4 + 8 * (d.used % d.size)

@@ -1,6 +1,6 @@
 //! The device.
 
-ghost use Rattle.std.specs.Prelude.{◌≡◌, ◌+◌, ◌%◌, ◌≤◌, ◌^◌, true, Some, IfNone, IfSome, IfOk};
+ghost use Rattle.std.specs.Prelude.{◌≡◌, ◌+◌, ◌%◌, ◌≤◌, ◌^◌, true, Some, None, IfNone, IfSome, IfOk};
 ghost use Rattle.std.specs.Bool.{OnTrue};
 
 use crate::bytes::{bytes_of_u16, bytes_of_u32};
@@ -93,7 +93,7 @@ impl Model for Blk {
 impl Blk {
     ghost use Rattle.iom_virtq.specs.Bus.{Reply, IsShortAsk};
     ghost use Rattle.iom_blk.specs.Device.{at_reset, sectors};
-    ghost use Rattle.iom_blk.specs.Phases.{is_active, ask_of, asks, used_entry, took, moved_of};
+    ghost use Rattle.iom_blk.specs.Phases.{is_active, is_broken, ask_of, asks, used_entry, took, moved_of};
     ghost use Rattle.iom_blk.specs.Sound.{IsDisk};
     ghost use Rattle.iom_blk.specs.Wants.{wanted};
     ghost use Rattle.iom_blk.specs.declared.want.Moved.TheVariants as moved;
@@ -134,10 +134,11 @@ impl Blk {
     }
 
     /// What the next step asks the bus for.
-    #[tactic(auto, unfolding(crate::specs::Phases::asks))]
+    #[tactic(auto, unfolding(crate::specs::Phases::asks), using(crate::proofs::Broken::broken_asks_nothing))]
     pub fn want(&self) -> Want
         ensures asks { wanted result ≡ asks self.now }
         ensures short { IfSome (asks self.now) IsShortAsk }
+        ensures broken { OnTrue (is_broken self.now) (asks self.now ≡ None) }
     {
         if self.is_active() {
             self.access()

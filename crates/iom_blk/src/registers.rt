@@ -18,6 +18,7 @@ const LARGEST_QUEUE: u64 = 64;
 
 impl Blk {
     ghost use Rattle.iom_blk.specs.Registers.{read, shown, configured, written, with_queue, is_queue, with_ready, accepting, with_status};
+    ghost use Rattle.iom_blk.specs.Phases.{is_broken};
     ghost use Rattle.iom_blk.specs.Sound.{IsGoodQueue};
 
     /// The number of the `size` bytes at offset `off`; None where the registers don't take the access. They take 4 bytes at a
@@ -38,12 +39,13 @@ impl Blk {
 
     /// Writes the `size` bytes of `value` at offset `off`, and answers true; false where the registers don't take the access, and
     /// then nothing is changed.
-    #[tactic(auto, unfolding(crate::specs::Registers::written))]
+    #[tactic(auto, unfolding(crate::specs::Registers::written), using(crate::proofs::Broken::written_stays))]
     pub fn reg_write(&mut self, off: u64, size: u64, value: u64) -> bool
         requires { size ≡ 4 → value < 2 ^ 32 }
         ensures legal { result ≡ is_legal off size }
         ensures written { OnTrue result (self.new ≡ written self.old off value) }
         ensures refused { OnFalse result (self.new ≡ self.old) }
+        ensures broken { (off ≡ 0x70 → 0 < value) → is_broken self.old ≡ true → is_broken self.new ≡ true }
     {
         let legal = is_legal(off, size);
         if legal && off < CONFIG {

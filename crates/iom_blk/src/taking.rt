@@ -1,7 +1,7 @@
 //! What a device makes of an answer, phase by phase.
 
 ghost use Rattle.std.specs.Prelude.{◌≡◌, ◌+◌, ◌<◌, ◌≤◌, true, false, length, IsSome, IfSome};
-ghost use Rattle.std.specs.Bool.{OnTrue};
+ghost use Rattle.std.specs.Bool.{OnTrue, OnFalse};
 
 use crate::bytes::{u16_at, u32_at, u64_at};
 use crate::device::Blk;
@@ -14,18 +14,19 @@ use iom_virtq::{Access, More};
 
 impl Blk {
     ghost use Rattle.iom_virtq.specs.Bus.{is_granted, reply_of};
-    ghost use Rattle.iom_blk.specs.Phases.{ask_of, asks, broken, data_phase, after_index, after_ring, completed, after_descriptor, after_header, after_data, after_used, after, took, moved_of};
+    ghost use Rattle.iom_blk.specs.Phases.{ask_of, asks, broken, is_broken, data_phase, after_index, after_ring, completed, after_descriptor, after_header, after_data, after_used, after, took, moved_of};
     ghost use Rattle.iom_blk.specs.Requests.{readable, writable, is_in, data_length, data_count, header_count};
     ghost use Rattle.iom_blk.specs.Wants.{Answers};
 
     /// Goes on with the bus's answer to what `want` said, which isn't Nothing. `bytes` are those of a read that was granted, as
     /// many as were asked for; else they aren't looked at.
-    #[tactic(auto, unfolding(crate::specs::Phases::asks, crate::specs::Phases::took), using(crate::proofs::Asking::asked_is_ready))]
+    #[tactic(auto, unfolding(crate::specs::Phases::asks, crate::specs::Phases::took), using(crate::proofs::Asking::asked_is_ready, crate::proofs::Broken::broken_is_broken))]
     pub fn take(&mut self, answer: Access, bytes: &[u8]) -> Moved
         requires asked { IsSome (asks self.old) }
         requires answered { OnTrue (is_granted answer) (IfSome (asks self.old) (Answers bytes.now)) }
         ensures device { self.new ≡ took self.old (reply_of answer bytes.now) }
         ensures moved { result ≡ moved_of answer }
+        ensures refused { OnFalse (is_granted answer) (is_broken self.new ≡ true) }
     {
         match answer {
             Access::Ok => {

@@ -6,9 +6,9 @@ ghost use Rattle.iom_virtq.specs.Chains.{same_side, len_on};
 /// What a device does with a part.
 #[derive(Clone, Copy)]
 pub enum Side {
-    /// It reads it.
+    /// The device reads it.
     Readable,
-    /// It writes it.
+    /// The device writes it.
     Writable,
 }
 
