@@ -49,7 +49,10 @@ fn is_fed(alloc: Global, pieces: &[&[u8]], answers: &[u8]) -> Result<bool, Fail>
 fn cut_in_two_at_every_byte(rt: HostRuntime) -> Result<(), Fail> {
     for at in 0..=SCRIPT.len() {
         let (first, second) = SCRIPT.split_at(at);
-        assert!(rt; is_fed(rt.alloc(), &[first, second], ANSWERS)?, "cut at {at}");
+        assert!(rt;
+            is_fed(rt.alloc(), &[first, second], ANSWERS)?,
+            "cut at {at}"
+        );
     }
     Ok(())
 }

@@ -181,7 +181,15 @@ fn is_cut(part: &Outcome, fault: RunFault, answered: usize, done: usize) -> bool
 fn each_read_fails(rt: HostRuntime) -> Result<(), Fail> {
     for piece in PIECES {
         for reads in 0..=SCRIPT.len().div_ceil(piece) {
-            let part = run(rt.alloc(), SCRIPT, Limits { reads, piece, ..WELL })?;
+            let part = run(
+                rt.alloc(),
+                SCRIPT,
+                Limits {
+                    reads,
+                    piece,
+                    ..WELL
+                },
+            )?;
             let whole = lines(SCRIPT.get(..reads * piece).unwrap_or(SCRIPT));
             assert!(rt;
                 is_cut(&part, RunFault::Read, whole, whole),
@@ -198,7 +206,15 @@ fn each_read_fails(rt: HostRuntime) -> Result<(), Fail> {
 fn each_write_fails(rt: HostRuntime) -> Result<(), Fail> {
     for piece in PIECES {
         for writes in 0..=10 {
-            let part = run(rt.alloc(), SCRIPT, Limits { writes, piece, ..WELL })?;
+            let part = run(
+                rt.alloc(),
+                SCRIPT,
+                Limits {
+                    writes,
+                    piece,
+                    ..WELL
+                },
+            )?;
             assert!(rt;
                 is_cut(&part, RunFault::Write, writes, writes + 1),
                 "at write {writes}, {piece} bytes a read"
