@@ -76,9 +76,51 @@ fn walked(context: usize, walk: usize, current: usize) -> Option<Warrant> {
     })
 }
 
+// Takes so many allocations, so that those of what follows have later numbers: tests/refused_memory.sh refuses the same three of
+// each test.
+fn spend(alloc: Global, count: usize) -> Result<(), Fail> {
+    for _ in 0..count {
+        let _spare = Vec::from_slice(alloc, &[0_u8])?;
+    }
+    Ok(())
+}
+
+// Whether the first read of a device is told to be walked, after so many allocations.
+fn is_walked_after(alloc: Global, spent: usize) -> Result<bool, Fail> {
+    spend(alloc, spent)?;
+    let steps = [written(16, 8, 0x2000_0402), read(0x4020_1abc)];
+    let cases = [(1, walked(1, 1, 1))];
+    Ok(otherwise(alloc, &MAPPED, &steps, &cases)?.is_none())
+}
+
+// A walk's warrant takes four copies of the platform: for the access, for the walk, for the context of the access and for the walk's.
+#[test]
+fn copy_for_the_access(rt: HostRuntime) -> Result<(), Fail> {
+    assert!(rt; is_walked_after(rt.alloc(), 9)?);
+    Ok(())
+}
+
+#[test]
+fn copy_for_the_walk(rt: HostRuntime) -> Result<(), Fail> {
+    assert!(rt; is_walked_after(rt.alloc(), 6)?);
+    Ok(())
+}
+
+#[test]
+fn copy_for_the_current_context(rt: HostRuntime) -> Result<(), Fail> {
+    assert!(rt; is_walked_after(rt.alloc(), 3)?);
+    Ok(())
+}
+
+#[test]
+fn copy_for_the_context_of_the_walk(rt: HostRuntime) -> Result<(), Fail> {
+    assert!(rt; is_walked_after(rt.alloc(), 0)?);
+    Ok(())
+}
+
 // The context changes at step 6. Both IOTINVAL come before the IODIR: the read at 13 walks under the old context, which is still
 // cached, and the read at 15 uses that walk under the new one. The same commands in the right order leave nothing, and the
-// read at 23 is denied. With an allocation refused, from the fourth on, it ends in the fault of `explain`.
+// read at 23 is denied.
 #[test]
 fn stale_translation(rt: HostRuntime) -> Result<(), Fail> {
     let steps = [
@@ -157,6 +199,7 @@ fn by_a_context(rt: HostRuntime) -> Result<(), Fail> {
 fn read_once(alloc: Global) -> Result<Platform, Fail> {
     let ram = memory(alloc, &MAPPED)?;
     let mut platform = Platform::new(alloc, ram)?;
+    spend(alloc, 9)?;
     let steps = [
         written(16, 8, 0x2000_0402),
         read(0x4020_1abc),
@@ -180,8 +223,7 @@ fn byte_read(platform: &mut Platform) -> Option<u8> {
     }
 }
 
-// Both read by what was cached when the copy was made; then each goes its own way. With an allocation refused, from the fourth on, it
-// ends in the fault of the copy.
+// Both read by what was cached when the copy was made; then each goes its own way.
 #[test]
 fn copies_go_their_own_ways(rt: HostRuntime) -> Result<(), Fail> {
     let mut original = read_once(rt.alloc())?;
@@ -201,7 +243,6 @@ fn copies_go_their_own_ways(rt: HostRuntime) -> Result<(), Fail> {
     Ok(())
 }
 
-// The fourth allocation is that of the memory's copy, the next two are those of the caches' copies.
 #[test]
 fn parts_are_copied(rt: HostRuntime) -> Result<(), Fail> {
     let platform = read_once(rt.alloc())?;
