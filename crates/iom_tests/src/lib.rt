@@ -23,6 +23,8 @@ mod script;
 mod tool;
 #[cfg(test)]
 mod walk;
+#[cfg(test)]
+mod warrants;
 
 // The number of the first fact that isn't so.
 #[cfg(test)]
