@@ -1,0 +1,6 @@
+pub mod Items
+pub mod Lines
+pub mod Image
+pub mod Reading
+pub mod Operands
+pub mod Forms

@@ -1,0 +1,17 @@
+//! Images, the assembler's text, and the lines of items in memory.
+#![tactic(auto)]
+
+pub use fault::LoadFault;
+pub use forms::words_for;
+pub use item::Item;
+pub use judging::judge;
+pub use lines::{Line, context_line, item_line};
+
+mod fault;
+mod fields;
+mod forms;
+mod item;
+mod judging;
+mod lines;
+mod operands;
+mod words;
