@@ -1,8 +1,8 @@
 -- Chunks and disks one after the other, as a loop reads them: what is left, read from here, is what all gives.
-use Rattle.std.proofs.Common.{◌≡◌, ◌≢◌, ℕ, suc, ◌-◌, ◌+◌, ◌≤◌, ◌<◌, List, [], ◌∷◌, ◌++◌, Result, Ok, Err, refl, sym, ap, ◌∙◌, arith}
+use Rattle.std.proofs.Common.{◌≡◌, ℕ, suc, ◌-◌, ◌+◌, ◌≤◌, ◌<◌, List, [], ◌∷◌, ◌++◌, Result, Ok, Err, refl, sym, ◌∙◌, arith}
 use Rattle.iom_asm.specs.declared.fault.LoadFault.{LoadFault}
 use Rattle.iom_asm.specs.Image.{Chunk, Disk, end_of}
-use Rattle.iom_asm.specs.Reading.{◌>>=◌, Read, Reads, rest_of, chunk_at, chunks_at, disk_at, disks_at}
+use Rattle.iom_asm.specs.Reading.{◌>>=◌, Read, rest_of, chunk_at, chunks_at, disk_at, disks_at}
 
 first_left : {A : Type 0} (first : A) (read : Read (List A)) → rest_of (read >>= λ x. Ok (first ∷ x.0, x.1)) ≡ rest_of read
 first_left first (Ok x) = refl

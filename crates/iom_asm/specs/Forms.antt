@@ -1,5 +1,5 @@
 -- Statements that stand for words: numbers, and the items with their operands. None: no such statement.
-use Rattle.std.specs.Prelude.{ℕ, ◌+◌, ◌*◌, ◌^◌, ◌%◌, ◌==◌, ◌&&◌, Bool, List, [], ◌∷◌, length, codes, bytes_eq, nat_le, Option, Some, None, if◌then◌else◌}
+use Rattle.std.specs.Prelude.{ℕ, ◌^◌, ◌%◌, ◌==◌, ◌&&◌, Bool, List, [], ◌∷◌, length, codes, bytes_eq, nat_le, Option, Some, None, if◌then◌else◌}
 use Rattle.std.specs.Option.{option_map}
 use Rattle.iom_text.specs.Words.{number}
 use Rattle.iom_ddt.specs.declared.context.Context.{Context}
@@ -10,7 +10,7 @@ use Rattle.iom_queue.specs.declared.record.Record.{Record}
 use Rattle.iom_queue.specs.Commands.{command_words}
 use Rattle.iom_queue.specs.Records.{record_words}
 use Rattle.iom_asm.specs.Items.{Entry, dir_word, pte_word}
-use Rattle.iom_asm.specs.Operands.{◌>>=◌, are_operands, limited, flag_for, below}
+use Rattle.iom_asm.specs.Operands.{◌>>=◌, are_operands, limited, flag_for}
 
 -- what follows a test
 abbrev pub where_so : {A : Type 0} → Bool → Option A → Option A

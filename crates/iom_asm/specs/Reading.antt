@@ -1,11 +1,12 @@
 -- Reading an image from its first byte on: each field is judged once it is whole, and the first check that fails names the
 -- refusal.
-use Rattle.std.specs.Prelude.{ℕ, zero, suc, ◌≡◌, ◌≢◌, ◌+◌, ◌*◌, ◌==◌, ◌&&◌, ◌++◌, Bool, List, [], ◌∷◌, length, take, drop, codes, bytes_eq, nat_lt, nat_le, Result, Ok, Err, IsOk, if◌then◌else◌}
+use Rattle.std.specs.Prelude.{ℕ, zero, suc, ◌≡◌, ◌≢◌, ◌+◌, ◌*◌, ◌==◌, ◌&&◌, ◌++◌, Bool, List, [], ◌∷◌, length, take, drop, codes, bytes_eq, map, replicate, ◌-◌, nat_lt, nat_le, Result, Ok, Err, IsOk, if◌then◌else◌}
 use Rattle.iom_bits.specs.Bytes.{number_of_bytes}
-use Rattle.iom_mem.specs.Sizes.{is_paged, is_good_size}
+use Rattle.iom_mem.specs.Memory.{Memory}
+use Rattle.iom_mem.specs.Sizes.{is_paged, is_good_size, zeroed}
 use Rattle.iom_asm.specs.declared.fault.LoadFault.{LoadFault}
 use Rattle.iom_asm.specs.declared.fault.LoadFault.TheVariants.{BadMagic, Truncated, Trailing, BadRam, BadChunk, BadDevice, OutOfMemory}
-use Rattle.iom_asm.specs.Image.{Chunk, Disk, Image, end_of, is_new_id, is_disk_size}
+use Rattle.iom_asm.specs.Image.{Chunk, Disk, Image, end_of, is_new_id, is_disk_size, with_chunks}
 
 -- a value, and the bytes after it
 abbrev pub Read : Type 0 → Type 0
@@ -109,3 +110,25 @@ rest_of read = read >>= λ x. Ok x.1
 abbrev pub Judges : {X Y : Type 0} → Result X LoadFault → Result Y LoadFault → Type 0
 Judges (Ok x) read = IsOk read
 Judges (Err fault) read = (read ≡ Err fault) × (fault ≢ OutOfMemory)
+
+-- What an image starts: memory with the chunks, and the device id and the disk of each block device.
+pub record Start : Type 0 where
+  pub memory : Memory
+  pub disks : List (ℕ × List ℕ)
+
+abbrev pub started : Disk → ℕ × List ℕ
+started disk = (disk.id, disk.bytes ++ replicate (disk.sectors * 512 - length disk.bytes) 0)
+
+unfoldable pub opening_of : Image → Start
+opening_of image = record { memory = with_chunks (zeroed image.base image.size) image.chunks; disks = map started image.disks }
+
+-- what is made of what was read
+abbrev pub mapped : {A B : Type 0} → (A → B) → Result A LoadFault → Result B LoadFault
+mapped f read = read >>= λ x. Ok (f x)
+
+-- a memory with the chunks that were read, and disks before those that were read
+abbrev pub filled : Memory → Read (List Chunk) → Result (Memory × List ℕ) LoadFault
+filled memory read = read >>= λ x. Ok (with_chunks memory x.0, x.1)
+
+abbrev pub joined : List (ℕ × List ℕ) → Read (List Disk) → Result (List (ℕ × List ℕ)) LoadFault
+joined before read = read >>= λ x. Ok (before ++ map started x.0)

@@ -61,7 +61,8 @@ fn u64_of(bytes: &[u8]) -> Result<(u64, &[u8]), LoadFault>
     Ok((word_of(number), rest))
 }
 
-fn is_ram(base: u64, size: u64) -> bool
+/// Whether there may be a memory of this base and size.
+pub fn is_ram(base: u64, size: u64) -> bool
     ensures { result ≡ (is_paged base && is_good_size base size) }
 {
     base % 4096 == 0 && size != 0 && size % 4096 == 0 && size <= 1 << 26 && base <= (1 << 56) - size

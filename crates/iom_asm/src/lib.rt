@@ -1,4 +1,4 @@
-//! Images, the assembler's text, and the lines of items in memory.
+//! Images, the statements of the assembler that stand for words, and the lines of items in memory.
 #![tactic(auto)]
 
 pub use fault::LoadFault;
@@ -6,6 +6,8 @@ pub use forms::words_for;
 pub use item::Item;
 pub use judging::judge;
 pub use lines::{Line, context_line, item_line};
+pub use opening::open;
+pub use start::Opening;
 
 mod fault;
 mod fields;
@@ -13,5 +15,7 @@ mod forms;
 mod item;
 mod judging;
 mod lines;
+mod opening;
 mod operands;
+mod start;
 mod words;

@@ -1,4 +1,4 @@
-use Rattle.std.proofs.Common.{length, arith}
+use Rattle.std.proofs.Common.{arith}
 use Rattle.std.proofs.lemmas.Result.{err_from_is_err_and}
 use Rattle.iom_asm.proofs.Loops.{disks_go_on, disks_fail, disks_done}
 use Rattle.iom_asm.proofs.judging.disks.Goals as goal
