@@ -1,0 +1,139 @@
+-- Chunks put into memory and disks made, one after the other, as a loop does.
+use Rattle.std.proofs.Common.{◌≡◌, ℕ, suc, ◌-◌, ◌+◌, ◌≤◌, ◌<◌, Bool, true, false, List, [], ◌∷◌, ◌++◌, length, take, drop, map, Result, Ok, Err, ◌==◌, refl, sym, ap, ◌∙◌, append_assoc, arith}
+use Rattle.std.specs.Prelude.{IsOk}
+use Rattle.std.specs.Option.{is_some}
+use Rattle.std.proofs.lemmas.List.{append-nil, length-append, length-take, length-drop}
+use Rattle.iom_mem.specs.Memory.{Memory, size_of, bytes_at, put}
+use Rattle.iom_mem.specs.Sizes.{zeroed}
+use Rattle.iom_mem.proofs.Bytes.{bytes_at_inside}
+use Rattle.iom_asm.specs.declared.fault.LoadFault.{LoadFault}
+use Rattle.iom_asm.specs.declared.fault.LoadFault.TheVariants.{Trailing}
+use Rattle.iom_asm.specs.Image.{Chunk, Disk, Image, end_of, with_chunks}
+use Rattle.iom_asm.specs.Reading.{◌>>=◌, Read, Head, Start, checked, mapped, filled, joined, started, opening_of, head_at, chunk_at, chunks_at, disk_at, disks_at, image_of}
+
+pub inside : (memory : Memory) (addr count : ℕ) → memory.base ≤ addr → addr + count ≤ memory.base + size_of memory →
+    is_some (bytes_at memory addr count) ≡ true
+inside memory addr count above below =
+    ap is_some (bytes_at_inside memory addr (addr - memory.base) count (omega arith) (omega (arith, above, below)))
+
+pub size_put : (memory : Memory) (addr : ℕ) (bytes : List ℕ) → memory.base ≤ addr → addr + length bytes ≤ memory.base + size_of memory →
+    size_of (put memory addr bytes) ≡ size_of memory
+size_put memory addr bytes above below =
+    omega (
+      arith,
+      above,
+      below,
+      length-append (take (addr - memory.base) memory.bytes) (bytes ++ drop (addr - memory.base + length bytes) memory.bytes),
+      length-append bytes (drop (addr - memory.base + length bytes) memory.bytes),
+      length-take (addr - memory.base) memory.bytes,
+      length-drop (addr - memory.base + length bytes) memory.bytes,
+    )
+
+first_filled : (memory : Memory) (c : Chunk) (read : Read (List Chunk)) →
+    filled memory (read >>= λ x. Ok (c ∷ x.0, x.1)) ≡ filled (put memory c.addr c.bytes) read
+first_filled memory c (Ok x) = refl
+first_filled memory c (Err fault) = refl
+
+pub fill_goes_on : (memory : Memory) (base size end count i : ℕ) (bytes after : List ℕ) (c : Chunk) (total : Result (Memory × List ℕ) LoadFault) →
+    i < count → chunk_at base size end bytes ≡ Ok (c, after) → filled memory (chunks_at base size end (count - i) bytes) ≡ total →
+    filled (put memory c.addr c.bytes) (chunks_at base size (end_of c) (count - (i + 1)) after) ≡ total
+unfolding chunks_at
+fill_goes_on memory base size end count i bytes after c total lt h so_far =
+    let k : count - i ≡ suc (count - (i + 1)) = omega arith in
+    let one : filled memory (chunks_at base size end (count - i) bytes) ≡ filled (put memory c.addr c.bytes) (chunks_at base size (end_of c) (count - (i + 1)) after) =
+    rw (k, h) (first_filled memory c (chunks_at base size (end_of c) (count - (i + 1)) after)) in
+    sym one ∙ so_far
+
+pub fill_fails : (memory : Memory) (base size end count i : ℕ) (bytes : List ℕ) (fault : LoadFault) (total : Result (Memory × List ℕ) LoadFault) →
+    i < count → chunk_at base size end bytes ≡ Err fault → filled memory (chunks_at base size end (count - i) bytes) ≡ total →
+    total ≡ Err fault
+unfolding chunks_at
+fill_fails memory base size end count i bytes fault total lt h so_far =
+    let k : count - i ≡ suc (count - (i + 1)) = omega arith in
+    let one : filled memory (chunks_at base size end (count - i) bytes) ≡ Err fault = rw (k, h) refl in
+    sym so_far ∙ one
+
+pub fill_done : (memory : Memory) (base size end count i : ℕ) (bytes : List ℕ) (total : Result (Memory × List ℕ) LoadFault) → count ≤ i →
+    filled memory (chunks_at base size end (count - i) bytes) ≡ total → total ≡ Ok (memory, bytes)
+unfolding chunks_at
+fill_done memory base size end count i bytes total le so_far =
+    let k : count - i ≡ 0 = omega arith in
+    let one : filled memory (chunks_at base size end (count - i) bytes) ≡ Ok (memory, bytes) = rw k refl in
+    sym so_far ∙ one
+
+first_joined : (before : List (ℕ × List ℕ)) (d : Disk) (read : Read (List Disk)) →
+    joined before (read >>= λ x. Ok (d ∷ x.0, x.1)) ≡ joined (before ++ started d ∷ []) read
+first_joined before d (Ok x) = ap Ok (sym (append_assoc before (started d ∷ []) (map started x.0)))
+first_joined before d (Err fault) = refl
+
+pub join_goes_on : (before : List (ℕ × List ℕ)) (ids : List ℕ) (count i : ℕ) (bytes after : List ℕ) (d : Disk) (total : Result (List (ℕ × List ℕ)) LoadFault) →
+    i < count → disk_at ids bytes ≡ Ok (d, after) → joined before (disks_at ids (count - i) bytes) ≡ total →
+    joined (before ++ started d ∷ []) (disks_at (ids ++ d.id ∷ []) (count - (i + 1)) after) ≡ total
+unfolding disks_at
+join_goes_on before ids count i bytes after d total lt h so_far =
+    let k : count - i ≡ suc (count - (i + 1)) = omega arith in
+    let one : joined before (disks_at ids (count - i) bytes) ≡ joined (before ++ started d ∷ []) (disks_at (ids ++ d.id ∷ []) (count - (i + 1)) after) =
+    rw (k, h) (first_joined before d (disks_at (ids ++ d.id ∷ []) (count - (i + 1)) after)) in
+    sym one ∙ so_far
+
+pub join_fails : (before : List (ℕ × List ℕ)) (ids : List ℕ) (count i : ℕ) (bytes : List ℕ) (fault : LoadFault) (total : Result (List (ℕ × List ℕ)) LoadFault) →
+    i < count → disk_at ids bytes ≡ Err fault → joined before (disks_at ids (count - i) bytes) ≡ total → total ≡ Err fault
+unfolding disks_at
+join_fails before ids count i bytes fault total lt h so_far =
+    let k : count - i ≡ suc (count - (i + 1)) = omega arith in
+    let one : joined before (disks_at ids (count - i) bytes) ≡ Err fault = rw (k, h) refl in
+    sym so_far ∙ one
+
+pub join_done : (before : List (ℕ × List ℕ)) (ids : List ℕ) (count i : ℕ) (bytes : List ℕ) (total : Result (List (ℕ × List ℕ)) LoadFault) → count ≤ i →
+    joined before (disks_at ids (count - i) bytes) ≡ total → total ≡ Ok before
+unfolding disks_at
+join_done before ids count i bytes total le so_far =
+    let k : count - i ≡ 0 = omega arith in
+    let one : joined before (disks_at ids (count - i) bytes) ≡ Ok before = rw k (ap Ok (append-nil before)) in
+    sym so_far ∙ one
+
+-- The image that was judged before is built.
+abbrev ends : Head → List Chunk → Read (List Disk) → Result Image LoadFault
+ends head chunks read =
+    read >>= λ disks. checked (length disks.1 == 0) Trailing
+    (Ok (record { base = head.base; size = head.size; chunks = chunks; disks = disks.0 }))
+
+ended : {A : Type 0} (b : Bool) (x y : A) (f : A → Start) (s : Start) → IsOk (checked b Trailing (Ok x)) → f x ≡ s →
+    mapped f (checked b Trailing (Ok x)) ≡ Ok s
+ended true x y f s ok e = ap Ok e
+ended false x y f s ok e = absurd cc
+
+abbrev good : {A : Type 0} → A → Result A LoadFault
+good x = Ok x
+
+ok_is : {A : Type 0} (x y : A) → good x ≡ good y → x ≡ y
+ok_is x y e = cc
+
+disks_built : (head : Head) (chunks : List Chunk) (read : Read (List Disk)) (disks : List (ℕ × List ℕ)) →
+    joined [] read ≡ Ok disks → IsOk (ends head chunks read) →
+    mapped opening_of (ends head chunks read) ≡ Ok (record { memory = with_chunks (zeroed head.base head.size) chunks; disks = disks })
+unfolding opening_of
+disks_built head chunks (Ok x) disks made ok =
+    let is : map started x.0 ≡ disks = ok_is (map started x.0) disks made in
+    ended (length x.1 == 0) _ (record { base = head.base; size = head.size; chunks = chunks; disks = x.0 }) opening_of _ ok (rw is refl)
+disks_built head chunks (Err fault) disks made ok = absurd cc
+
+chunks_built : (head : Head) (read : Read (List Chunk)) (memory : Memory) (rest : List ℕ) (disks : List (ℕ × List ℕ)) →
+    filled (zeroed head.base head.size) read ≡ Ok (memory, rest) → joined [] (disks_at [] head.disks rest) ≡ Ok disks →
+    IsOk (read >>= λ chunks. ends head chunks.0 (disks_at [] head.disks chunks.1)) →
+    mapped opening_of (read >>= λ chunks. ends head chunks.0 (disks_at [] head.disks chunks.1)) ≡ Ok (record { memory = memory; disks = disks })
+chunks_built head (Ok x) memory rest disks full made ok =
+    let both = ok_is (with_chunks (zeroed head.base head.size) x.0, x.1) (memory, rest) full in
+    let put_there : with_chunks (zeroed head.base head.size) x.0 ≡ memory = ap (λ (p : Memory × List ℕ). p.0) both in
+    let left : x.1 ≡ rest = ap (λ (p : Memory × List ℕ). p.1) both in
+    rw (← put_there) (disks_built head x.0 (disks_at [] head.disks x.1) disks (rw left made) ok)
+chunks_built head (Err fault) memory rest disks full made ok = absurd cc
+
+pub image_built : (bytes : List ℕ) (head : Head) (after : List ℕ) (memory : Memory) (rest : List ℕ) (disks : List (ℕ × List ℕ)) →
+    head_at bytes ≡ Ok (head, after) →
+    filled (zeroed head.base head.size) (chunks_at head.base head.size 0 head.chunks after) ≡ Ok (memory, rest) →
+    joined [] (disks_at [] head.disks rest) ≡ Ok disks → IsOk (image_of bytes) →
+    mapped opening_of (image_of bytes) ≡ Ok (record { memory = memory; disks = disks })
+unfolding image_of
+image_built bytes head after memory rest disks first full made ok =
+    rw first (chunks_built head (chunks_at head.base head.size 0 head.chunks after) memory rest disks full made (rw first at ok))

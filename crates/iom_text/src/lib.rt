@@ -1,0 +1,8 @@
+//! The words of a line, what a word says, and the texts of numbers: of scripts, of assembler texts and of answers.
+#![tactic(auto)]
+
+pub use reading::{MOST_WORDS, Words, number, words};
+pub use writing::{Numeral, decimal, hexed};
+
+mod reading;
+mod writing;
