@@ -1,8 +1,6 @@
 //! A script in pieces, the trace, and the longest answers.
 
-use crate::tool::{
-    ANSWERS, Limits, MANY, SCRIPT, Sink, WELL, built_in, is_answered, otherwise, run,
-};
+use crate::tool::{ANSWERS, Limits, MANY, SCRIPT, Sink, WELL, is_answered, otherwise, run, small};
 use iom_tool::{Feeder, RunFault, Trace};
 use std::alloc::Global;
 use std::test::Fail;
@@ -22,7 +20,7 @@ fn feed_all(feeder: &mut Feeder, pieces: &[&[u8]], writer: &mut Sink) -> Result<
 }
 
 fn feed_pieces(alloc: Global, pieces: &[&[u8]]) -> Result<Fed, Fail> {
-    let mut platform = built_in(alloc)?;
+    let mut platform = small(alloc)?;
     let mut trace = Trace::new(alloc)?;
     let mut writer = Sink {
         held: Vec::new(alloc),
@@ -92,7 +90,7 @@ fn two_reads(rt: HostRuntime) -> Result<(), Fail> {
 
 #[test]
 fn refused_from_then_on(rt: HostRuntime) -> Result<(), Fail> {
-    let mut platform = built_in(rt.alloc())?;
+    let mut platform = small(rt.alloc())?;
     let mut trace = Trace::new(rt.alloc())?;
     let mut writer = Sink {
         held: Vec::new(rt.alloc()),
@@ -112,7 +110,7 @@ fn refused_from_then_on(rt: HostRuntime) -> Result<(), Fail> {
 
 #[test]
 fn trace_of_the_last_steps(rt: HostRuntime) -> Result<(), Fail> {
-    let mut platform = built_in(rt.alloc())?;
+    let mut platform = small(rt.alloc())?;
     let mut trace = Trace::new(rt.alloc())?;
     let first: [(&[u8], &[u8]); 8] = [
         (b"load 0x80000000 8", b"0x0"),
@@ -140,7 +138,7 @@ fn trace_of_the_last_steps(rt: HostRuntime) -> Result<(), Fail> {
 
 #[test]
 fn steps_as_lines(rt: HostRuntime) -> Result<(), Fail> {
-    let mut platform = built_in(rt.alloc())?;
+    let mut platform = small(rt.alloc())?;
     let mut trace = Trace::new(rt.alloc())?;
     let cases: [(&[u8], &[u8]); 18] = [
         (b"reg write 16 8 1", b"done"),

@@ -69,13 +69,14 @@ pub const MANY: usize = 100_000_000;
 const PIECES: [usize; 6] = [1, 2, 3, 4, 5, 4096];
 
 pub const SCRIPT: &[u8] =
-    b"reg write 16 8 1\nstore 0x80000000 8 0x0807060504030201\ndma read 5 0x80000000 8\ndma write 5 0x800ffffc aabbccdd\nload 0x800ffffc 4\ndma read 5 0x80100000 8\ndma read 5 0x80000ffc 8\ndma read 5 0xffffffffffffffff 1\ndma read 0x1000000 0x80000000 1\njump\n";
+    b"reg write 16 8 1\nstore 0x80000000 8 0x0807060504030201\ndma read 5 0x80000000 8\ndma write 5 0x80001ffc aabbccdd\nload 0x80001ffc 4\ndma read 5 0x80002000 8\ndma read 5 0x80000ffc 8\ndma read 5 0xffffffffffffffff 1\ndma read 0x1000000 0x80000000 1\njump\n";
 
 pub const ANSWERS: &[u8] =
     b"done\ndone\n0102030405060708\ndone\n0xddccbbaa\nbus error\nmisuse\nbus error\nmisuse\nbad\n";
 
-pub fn built_in(alloc: Global) -> Result<Platform, Fail> {
-    let ram = Ram::new(alloc, 0x8000_0000, 0x10_0000)?;
+// A small memory, since many runs make one.
+pub fn small(alloc: Global) -> Result<Platform, Fail> {
+    let ram = Ram::new(alloc, 0x8000_0000, 0x2000)?;
     Ok(Platform::new(alloc, ram)?)
 }
 
@@ -118,7 +119,7 @@ fn run_filled(
     filled: usize,
     limits: Limits,
 ) -> Result<Outcome, Fail> {
-    let mut platform = built_in(alloc)?;
+    let mut platform = small(alloc)?;
     let mut trace = Trace::new(alloc)?;
     let mut reader = Source {
         left: script,
@@ -137,7 +138,7 @@ fn run_filled(
         ended,
         written: writer.held,
         stored: platform.ram().word(0x8000_0000),
-        moved: platform.ram().word(0x800f_fff8),
+        moved: platform.ram().word(0x8000_1ff8),
     })
 }
 
@@ -247,19 +248,22 @@ fn each_limit(rt: HostRuntime) -> Result<(), Fail> {
     Ok(())
 }
 
-// A writer that takes a byte a call holds the same in the end, and some front of it where it fails.
+// Whether a writer that takes a byte a call, and fails after so many, holds that front of the answers.
+fn is_front(alloc: Global, writes: usize) -> Result<bool, Fail> {
+    let bytes = Limits { most: 1, ..WELL };
+    let part = run(alloc, SCRIPT, Limits { writes, ..bytes })?;
+    let has_front = Some(part.written.as_slice()) == ANSWERS.get(..writes);
+    Ok(part.ended == Err(RunFault::Write) && has_front)
+}
+
+// The last call is the flush.
 #[test]
 fn each_byte_fails(rt: HostRuntime) -> Result<(), Fail> {
-    let bytes = Limits { most: 1, ..WELL };
     for writes in 0..=ANSWERS.len() {
-        let part = run(rt.alloc(), SCRIPT, Limits { writes, ..bytes })?;
-        let has_front = Some(part.written.as_slice()) == ANSWERS.get(..writes);
-        assert!(rt;
-            part.ended == Err(RunFault::Write) && has_front,
-            "at byte {writes}"
-        );
+        assert!(rt; is_front(rt.alloc(), writes)?, "at byte {writes}");
     }
     let writes = ANSWERS.len() + 1;
+    let bytes = Limits { most: 1, ..WELL };
     let all = run(rt.alloc(), SCRIPT, Limits { writes, ..bytes })?;
     assert!(rt; all.ended.is_ok() && all.written.as_slice() == ANSWERS);
     Ok(())
@@ -275,12 +279,17 @@ fn answers_before_it_reads_on(rt: HostRuntime) -> Result<(), Fail> {
     Ok(())
 }
 
-// A line of so many bytes that begins with some, filled up with one byte; with a line end or without.
-fn filled(alloc: Global, start: &[u8], fill: u8, len: usize, end: &[u8]) -> Result<Vec<u8>, Fail> {
+// Whether a line of so many bytes is answered so: it begins with some and is filled up with one, and has a line end or not.
+fn is_long_answered(
+    alloc: Global,
+    (start, fill, end): (&[u8], u8, &[u8]),
+    len: usize,
+    want: &[u8],
+) -> Result<bool, Fail> {
     let mut line = Vec::from_slice(alloc, start)?;
     line.resize(len, fill)?;
     line.extend_from_slice(end)?;
-    Ok(line)
+    is_answered(alloc, line.as_slice(), want)
 }
 
 #[test]
@@ -293,13 +302,16 @@ fn long_lines(rt: HostRuntime) -> Result<(), Fail> {
     ];
     for (start, fill, want) in cases {
         for end in [b"\n".as_slice(), b"".as_slice()] {
-            let fits = filled(rt.alloc(), start, fill, 512, end)?;
-            assert!(rt; is_answered(rt.alloc(), fits.as_slice(), want)?);
-            let long = filled(rt.alloc(), start, fill, 513, end)?;
-            assert!(rt; is_answered(rt.alloc(), long.as_slice(), b"bad\n")?);
+            let line = (start, fill, end);
+            assert!(rt; is_long_answered(rt.alloc(), line, 512, want)?);
+            assert!(rt; is_long_answered(rt.alloc(), line, 513, b"bad\n")?);
         }
     }
     Ok(())
+}
+
+fn is_replied(session: &mut Session, line: &[u8], want: &[u8]) -> bool {
+    session.line(line).as_slice() == want
 }
 
 pub fn otherwise(
@@ -309,7 +321,7 @@ pub fn otherwise(
 ) -> Option<usize> {
     let mut session = Session::new(platform, trace);
     for (i, (line, want)) in cases.iter().enumerate() {
-        if session.line(line).as_slice() != *want {
+        if !is_replied(&mut session, line, want) {
             return Some(i);
         }
     }
@@ -318,7 +330,7 @@ pub fn otherwise(
 
 #[test]
 fn answers_single_lines(rt: HostRuntime) -> Result<(), Fail> {
-    let mut platform = built_in(rt.alloc())?;
+    let mut platform = small(rt.alloc())?;
     let mut trace = Trace::new(rt.alloc())?;
     let cases: [(&[u8], &[u8]); 26] = [
         (b"reg read 8 4", b"0x2"),
