@@ -1,6 +1,6 @@
 #!/bin/sh
-# steps.sh    Times the steps of a block device on a disk of one sector and on one of 32 MiB. The program is proved and built
-# (steps.program) in a place of its own, beside copies of the crates that it stands on, so that it is no part of the gate.
+# steps.sh    Times the steps of a block device on a disk of one sector and on one of 32 MiB. The program, steps.program, is
+# proved and built in a place of its own, beside copies of the crates that it stands on, so that it is no part of the gate.
 top=$(cd "$(dirname "$0")/.." && pwd) || exit 1
 command -v rt >/dev/null || { echo "rt, the command of the Rattle kit, is not on the path" >&2; exit 1; }
 place=$(mktemp -d) || exit 1

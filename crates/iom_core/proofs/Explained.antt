@@ -40,16 +40,25 @@ explained start steps none n =
         | WasOff e ↦ (None, denied start steps n request _ is (ap way e) tt)
         | WasByRegister bare e ↦ (Some warrant.Register, (request, is, record { used = ap way e; mode = bare }))
         | WasNowhere why used e ↦ (None, denied start steps n request _ is (ap way e) tt)
-        | WasByContext context used bare e ↦ (Some (warrant.Context (context_of start steps n request.did)), (request, is, record {
-            context = context;
-            used = ap way e;
-            bare = bare;
-            fresh = fresh_context start steps n request context none is used (sym (ap (λ (l : Led). l.context) e));
-          }))
-        | WasWalked now hit used bare page e ↦ (Some (warrant.Walked
-            (context_of start steps (walk_of start steps n (request_key request now)) request.did)
-            (walk_of start steps n (request_key request now)) (context_of start steps n request.did)),
-            (request, is, walked start steps n request now hit none is used page e))
+        | WasByContext context used bare e ↦ (
+          Some (warrant.Context (context_of start steps n request.did)),
+          (
+            request,
+            is,
+            record {
+              context = context;
+              used = ap way e;
+              bare = bare;
+              fresh = fresh_context start steps n request context none is used (sym (ap (λ (l : Led). l.context) e));
+            },
+          ),
+        )
+        | WasWalked now hit used bare page e ↦ (
+          Some (warrant.Walked
+              (context_of start steps (walk_of start steps n (request_key request now)) request.did)
+              (walk_of start steps n (request_key request now)) (context_of start steps n request.did)),
+          (request, is, walked start steps n request now hit none is used page e),
+        )
         | WasFault now fault used bare page e ↦ (None, denied start steps n request _ is (ap way e) tt)
       ]
     ] in by_request (request_at start steps n) refl
@@ -128,11 +137,12 @@ module _ (start : State) (steps : List Step) (i v g n : ℕ) (full : IsFullInval
   up_to_date (warrant.Walked c w c') h =
       let below : i < n = let before = full.host_after in let complete = full.host_complete in omega arith in
       let after = walk_after c w c' h in
-      let young : i < w = walk_young w (gscid_of h.now) after in
-      (context_after start steps request.did w c i h.old full.contexts young h.old_context,
-      young,
-      context_after start steps request.did n c' i h.now full.contexts below h.now_context,
-      subst (λ (way : Way). IsWalkAfter v g w (guest_on way)) (sym h.used) after)
+      let young : i < w = walk_young w (gscid_of h.now) after in (
+        context_after start steps request.did w c i h.old full.contexts young h.old_context,
+        young,
+        context_after start steps request.did n c' i h.now full.contexts below h.now_context,
+        subst (λ (way : Way). IsWalkAfter v g w (guest_on way)) (sym h.used) after,
+      )
 
 pub up_to_date_with : (start : State) (steps : List Step) (n : ℕ) (request : Request) (found : Warrant) → IsWarrant start steps n request found →
     IsUpToDate start steps n request found

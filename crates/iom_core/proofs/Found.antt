@@ -53,14 +53,14 @@ module _ (start : State) (steps : List Step) (n : ℕ) (request : Request) where
         | WasByRegister bare e ↦ let other = sym used ∙ ap way e in absurd (cc)
         | WasNowhere why looked e ↦ let other = sym used ∙ ap way e in absurd (cc)
         | WasByContext own looked bare e ↦ record {
-            k = context_of start steps n request.did;
-            is = record {
-              context = own;
-              used = ap way e;
-              bare = bare;
-              fresh = fresh_context start steps n request own none is looked (sym (ap (λ (l : Led). l.context) e));
-            };
-          }
+          k = context_of start steps n request.did;
+          is = record {
+            context = own;
+            used = ap way e;
+            bare = bare;
+            fresh = fresh_context start steps n request own none is looked (sym (ap (λ (l : Led). l.context) e));
+          };
+        }
         | WasWalked own hit looked bare page e ↦ let other = sym used ∙ ap way e in absurd (cc)
         | WasFault own fault looked bare page e ↦ let other = sym used ∙ ap way e in absurd (cc)
       ]

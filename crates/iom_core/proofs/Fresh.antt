@@ -65,7 +65,7 @@ fresh_by : (start : State) (steps : List Step) (did n : ℕ) (context : Context)
 fresh_by start steps did n context none filled used =
     let m = (moment start steps n).machine in
     let o : Origin same_did drops_context (context_filled_at start steps) (executed_at start steps) n did context
-        (found_stamp (same_did did) m.contexts (context_stamps start steps n) n) =
+    (found_stamp (same_did did) m.contexts (context_stamps start steps n) n) =
     origin_of same_did drops_context (context_filled_at start steps) (executed_at start steps) same_did_exact same_did_itself n did context
     m.contexts (context_stamps start steps n) (located m.memory m.registers did) filled used (contexts_stamped start steps none.contexts n) in
     let k = found_stamp (same_did did) m.contexts (context_stamps start steps n) n in

@@ -41,12 +41,12 @@ delivers registers memory fault =
     else record { registers = record_passed registers; memory = put memory (record_addr registers) (record_bytes fault) }) in
     let by_place : (there : Bool) → Goal there = λ there. elim there as Goal [
       | true ↦ λ is. record {
-          others = record { ddtp = refl; cqb = refl; cqh = refl; cqt = refl; fqb = refl; fqh = refl; cqcsr = refl };
-          bytes = subst (λ (n : ℕ). ChangesOnly (record { addr = record_addr registers; count = n }) memory (put memory (record_addr registers) (record_bytes fault)))
-              (record_length fault)
-              (put_changes_only memory (record_addr registers) (record_bytes fault)
-              (subst (λ (n : ℕ). is_some (bytes_at memory (record_addr registers) n) ≡ true) (sym (record_length fault)) is));
-        }
+        others = record { ddtp = refl; cqb = refl; cqh = refl; cqt = refl; fqb = refl; fqh = refl; cqcsr = refl };
+        bytes = subst (λ (n : ℕ). ChangesOnly (record { addr = record_addr registers; count = n }) memory (put memory (record_addr registers) (record_bytes fault)))
+            (record_length fault)
+            (put_changes_only memory (record_addr registers) (record_bytes fault)
+            (subst (λ (n : ℕ). is_some (bytes_at memory (record_addr registers) n) ≡ true) (sym (record_length fault)) is));
+      }
       | false ↦ λ is. record { others = record { ddtp = refl; cqb = refl; cqh = refl; cqt = refl; fqb = refl; fqh = refl; cqcsr = refl }; bytes = same }
     ] in
     elim (is_stopped registers) as (λ b. Delivers registers memory (if b then record { registers = with_pending registers; memory = memory }
@@ -55,11 +55,11 @@ delivers registers memory fault =
     else record { registers = record_passed registers; memory = put memory (record_addr registers) (record_bytes fault) })) [
       | true ↦ record { others = record { ddtp = refl; cqb = refl; cqh = refl; cqt = refl; fqb = refl; fqh = refl; cqcsr = refl }; bytes = same }
       | false ↦ elim (is_full registers) as (λ b. Delivers registers memory (if b then record { registers = with_fqof registers; memory = memory }
-      else if not (is_in_memory registers memory) then record { registers = with_fqmf registers; memory = memory }
-      else record { registers = record_passed registers; memory = put memory (record_addr registers) (record_bytes fault) })) [
-        | true ↦ record { others = record { ddtp = refl; cqb = refl; cqh = refl; cqt = refl; fqb = refl; fqh = refl; cqcsr = refl }; bytes = same }
-        | false ↦ by_place (is_in_memory registers memory) refl
-      ]
+          else if not (is_in_memory registers memory) then record { registers = with_fqmf registers; memory = memory }
+          else record { registers = record_passed registers; memory = put memory (record_addr registers) (record_bytes fault) })) [
+            | true ↦ record { others = record { ddtp = refl; cqb = refl; cqh = refl; cqt = refl; fqb = refl; fqh = refl; cqcsr = refl }; bytes = same }
+            | false ↦ by_place (is_in_memory registers memory) refl
+          ]
     ]
 
 left_by_denial : (registers : Registers) (memory : Memory) (request : Request) (denial : Denial) → Delivers registers memory (record_left registers memory request denial)
@@ -68,9 +68,9 @@ left_by_denial registers memory request denial =
     elim denial.reported as (λ b. Delivers registers memory (if b then delivered registers memory (denial_record denial.cause request.kind request.did request.iova denial.iotval2) else record { registers = registers; memory = memory })) [
       | true ↦ delivers registers memory (denial_record denial.cause request.kind request.did request.iova denial.iotval2)
       | false ↦ record {
-          others = record { ddtp = refl; cqb = refl; cqh = refl; cqt = refl; fqb = refl; fqh = refl; cqcsr = refl };
-          bytes = same_memory memory (record { addr = record_addr registers; count = 32 });
-        }
+        others = record { ddtp = refl; cqb = refl; cqh = refl; cqt = refl; fqb = refl; fqh = refl; cqcsr = refl };
+        bytes = same_memory memory (record { addr = record_addr registers; count = 32 });
+      }
     ]
 
 -- An access, at the address that it is led to.
@@ -91,9 +91,10 @@ denied_refuses : (state : State) (request : Request) (denial : Denial) (left : M
     KeepsOtherRegisters state.machine.registers left.registers
     × ChangesOnly (record { addr = record_addr state.machine.registers; count = 32 }) state.machine.memory left.memory
 denied_refuses state request denial left memory registers =
-    let d = left_by_denial state.machine.registers state.machine.memory request denial in
-    (subst (λ (r : Registers). KeepsOtherRegisters state.machine.registers r) (sym registers) d.others,
-    subst (λ (m : Memory). ChangesOnly (record { addr = record_addr state.machine.registers; count = 32 }) state.machine.memory m) (sym memory) d.bytes)
+    let d = left_by_denial state.machine.registers state.machine.memory request denial in (
+      subst (λ (r : Registers). KeepsOtherRegisters state.machine.registers r) (sym registers) d.others,
+      subst (λ (m : Memory). ChangesOnly (record { addr = record_addr state.machine.registers; count = 32 }) state.machine.memory m) (sym memory) d.bytes,
+    )
 
 effect_changes : (m : Machine) (request : Request) (ask : Ask) (led_to : Result ℕ Denial) →
     ChangesOnly (span_to m ask led_to) m.memory (effect_at m request ask led_to).memory

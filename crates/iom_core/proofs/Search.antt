@@ -23,10 +23,14 @@ last_more test k None false e h = λ j low. elim (cases_lt j k) [
   | inl lt ↦ h j lt
   | inr ge ↦ let same : k ≡ j = omega arith in subst (λ (j : ℕ). test j ≡ false) same e
 ]
-last_more test k (Some l) false e h = (let before = h.0 in omega arith, h.1, λ j after low. elim (cases_lt j k) [
-  | inl lt ↦ h.2 j after lt
-  | inr ge ↦ let same : k ≡ j = omega arith in subst (λ (j : ℕ). test j ≡ false) same e
-])
+last_more test k (Some l) false e h = (
+  let before = h.0 in omega arith,
+  h.1,
+  λ j after low. elim (cases_lt j k) [
+    | inl lt ↦ h.2 j after lt
+    | inr ge ↦ let same : k ≡ j = omega arith in subst (λ (j : ℕ). test j ≡ false) same e
+  ],
+)
 
 -- the last below n + 1 is the last up to n, where there is one
 pub last_up_to : (test : ℕ → Bool) (n : ℕ) (last : Option ℕ) → LastBelow test (n + 1) last → (k : ℕ) × IsLast test n k → IsLast test n (unwrap_or last n)

@@ -65,8 +65,8 @@ abbrev pub translating : Context → Fault → Denial
 translating context fault =
     record { cause = fault.cause; iotval2 = fault.iotval2; reported = is_reported fault.cause context.dtf }
 
--- the context of a device id, from its live place or else from the directory; a live place is no help to an id that is too
--- wide for the directory
+-- the context of a device id, from its live place or else from the directory; an id that is too wide for the directory has
+-- none, whatever is cached
 abbrev pub live_context : Machine → ℕ → Option Context
 live_context m did =
     if is_too_wide (levels_of (mode_of m.registers)) did then None else find (same_did did) m.contexts

@@ -47,7 +47,14 @@ impl Machine {
         ensures done { OnTrue result (self.new ≡ after_fence self.old command.now) }
         ensures unchanged { OnFalse result (self.new ≡ self.old) }
     {
-        if let Command::Fence { av, wsi, value, addr, .. } = *command {
+        if let Command::Fence {
+            av,
+            wsi,
+            value,
+            addr,
+            ..
+        } = *command
+        {
             if av && !self.ram.write(addr, &data_bytes(value)) {
                 return false;
             }

@@ -11,5 +11,4 @@ pub fn freshness()
     ensures warranted { (start : State) (steps : List Step) → IsUncached start → (n : ℕ) → IsExplained start steps n }
     ensures up_to_date { (start : State) (steps : List Step) (n : ℕ) (request : Request) (warrant : Warrant) →
         IsWarrant start steps n request warrant → IsUpToDate start steps n request warrant }
-{
-}
+{}

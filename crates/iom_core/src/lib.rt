@@ -10,7 +10,6 @@ pub use warrant::Warrant;
 
 mod access;
 mod command;
-
 mod hart;
 mod history;
 mod law;

@@ -4,7 +4,9 @@ pub enum Warrant {
     /// ddtp's mode was Bare: the address was the IOVA.
     Register,
     /// Both stages of the device's context were Bare: the address was the IOVA. The directory gave that context at moment `context`.
-    Context { context: usize },
+    Context {
+        context: usize,
+    },
     /// Page tables led to it: those of moment `walk`, under the context that the directory gave at moment `context`. The context
     /// in force at the access, whose key is the same, is that of moment `current`.
     Walked {

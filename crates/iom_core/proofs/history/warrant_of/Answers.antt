@@ -79,6 +79,9 @@ returns-in_ok-context-in-Walked c =
     let f = by_walk start steps c.args.n request now c.in-Walked.field-1 c.requires.uncached c.requires.access.0 used in
     let walk = c.in_ok-walk-in-Walked.walk in
     let last : IsLast (fills_at start steps (entry.Page (request_key request now))) c.args.n walk =
-    subst (λ (k : Key). IsLast (fills_at start steps (entry.Page k)) c.args.n walk) c.key_of-key.ensures c.in_ok-walk-in-Walked.ensures in
-    (request, c.requires.access.0, walk_with start steps c.args.n request now f c.in_ok-context-in-Walked.context walk
-    c.in_ok-current-in-Walked.current last c.in_ok-current-in-Walked.ensures c.in_ok-context-in-Walked.ensures)
+    subst (λ (k : Key). IsLast (fills_at start steps (entry.Page k)) c.args.n walk) c.key_of-key.ensures c.in_ok-walk-in-Walked.ensures in (
+      request,
+      c.requires.access.0,
+      walk_with start steps c.args.n request now f c.in_ok-context-in-Walked.context walk
+          c.in_ok-current-in-Walked.current last c.in_ok-current-in-Walked.ensures c.in_ok-context-in-Walked.ensures,
+    )
