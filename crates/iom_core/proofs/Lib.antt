@@ -7,6 +7,9 @@ pub mod Moments
 pub mod Fresh
 pub mod Explained
 pub mod Puts
+pub mod Slots
+pub mod Effects
+pub mod Moved
 pub mod Reaches
 pub mod Search
 pub mod Found

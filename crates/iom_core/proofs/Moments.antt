@@ -11,10 +11,13 @@ use Rattle.iom_cache.specs.Places.{find, filled_by, emptied_by, NoneLive}
 use Rattle.iom_cache.specs.declared.key.Key.{Key}
 use Rattle.iom_cache.proofs.Stamped.{Stamped, Stamped-start}
 use Rattle.iom_cache.proofs.Since.{Since, Since-step}
-use Rattle.iom_core.specs.State.{State, context_room, page_room}
+use Rattle.iom_virtq.specs.Bus.{Ask}
+use Rattle.iom_blk.specs.Device.{Device}
+use Rattle.iom_blk.specs.Phases.{asks}
+use Rattle.iom_core.specs.State.{State, Machine, context_room, page_room}
 use Rattle.iom_core.specs.Access.{Request}
 use Rattle.iom_core.specs.Commands.{after_command}
-use Rattle.iom_core.specs.Table.{Asking, asked, executed, next, probed, request_in, request_of_step}
+use Rattle.iom_core.specs.Table.{Asking, asked, asked_by, asking_for, dev_written, device_step, executed, moving, next, probed, request_in, request_of_step}
 use Rattle.iom_core.specs.Warrants.{context_filled, context_filled_at, executed_at, moment, page_filled, page_filled_at, request_at}
 use Rattle.iom_core.specs.declared.step.Step.{Step}
 use Rattle.iom_core.specs.declared.step.Step.TheVariants as step
@@ -43,6 +46,33 @@ probed-pages : (state : State) (asking : Option Asking) →
 probed-pages state None = refl
 probed-pages state (Some asking) = refl
 
+-- so does a block device's step
+moved-contexts : (state : State) (dev : ℕ) (slot : Option (ℕ × Device)) → (device_step state dev slot).state.machine.contexts
+    ≡ filled_by context_room (context_filled state (option_map request_in (asked_by slot))) state.machine.contexts
+unfolding moving
+moved-contexts state dev None = refl
+moved-contexts state dev (Some own) = elim (asks own.1) as (λ (o : Option Ask). (moving state.machine own.0 own.1 o).machine.contexts
+    ≡ filled_by context_room (context_filled state (option_map request_in (option_map (asking_for own.0) o))) state.machine.contexts) [
+      | None ↦ refl
+      | Some ask ↦ refl
+    ]
+
+moved-pages : (state : State) (dev : ℕ) (slot : Option (ℕ × Device)) → (device_step state dev slot).state.machine.pages
+    ≡ filled_by page_room (page_filled state (option_map request_in (asked_by slot))) state.machine.pages
+unfolding moving
+moved-pages state dev None = refl
+moved-pages state dev (Some own) = elim (asks own.1) as (λ (o : Option Ask). (moving state.machine own.0 own.1 o).machine.pages
+    ≡ filled_by page_room (page_filled state (option_map request_in (option_map (asking_for own.0) o))) state.machine.pages) [
+      | None ↦ refl
+      | Some ask ↦ refl
+    ]
+
+-- a write of a device's register does nothing to the machine
+pub written-machine : (state : State) (dev : ℕ) (slot : Option (ℕ × Device)) (off size value : ℕ) →
+    (dev_written state dev slot off size value).state.machine ≡ state.machine
+written-machine state dev None off size value = refl
+written-machine state dev (Some own) off size value = refl
+
 next-contexts : (state : State) (taken : Step) → (next state taken).state.machine.contexts
     ≡ emptied_by drops_context (executed state taken) (filled_by context_room (context_filled state (request_of_step state taken)) state.machine.contexts)
 unfolding next executed after_command asked
@@ -54,8 +84,8 @@ next-contexts state step.Command = refl
 next-contexts state (step.DmaRead did iova len) = probed-contexts state (asked state (step.DmaRead did iova len))
 next-contexts state (step.DmaWrite did iova bytes) = probed-contexts state (asked state (step.DmaWrite did iova bytes))
 next-contexts state (step.DevRead dev off size) = refl
-next-contexts state (step.DevWrite dev off size value) = refl
-next-contexts state (step.Device dev) = refl
+next-contexts state (step.DevWrite dev off size value) = ap (λ (m : Machine). m.contexts) (written-machine state dev (slice_get state.devices dev) off size value)
+next-contexts state (step.Device dev) = moved-contexts state dev (slice_get state.devices dev)
 
 next-pages : (state : State) (taken : Step) → (next state taken).state.machine.pages
     ≡ emptied_by drops_page (executed state taken) (filled_by page_room (page_filled state (request_of_step state taken)) state.machine.pages)
@@ -68,8 +98,8 @@ next-pages state step.Command = refl
 next-pages state (step.DmaRead did iova len) = probed-pages state (asked state (step.DmaRead did iova len))
 next-pages state (step.DmaWrite did iova bytes) = probed-pages state (asked state (step.DmaWrite did iova bytes))
 next-pages state (step.DevRead dev off size) = refl
-next-pages state (step.DevWrite dev off size value) = refl
-next-pages state (step.Device dev) = refl
+next-pages state (step.DevWrite dev off size value) = ap (λ (m : Machine). m.pages) (written-machine state dev (slice_get state.devices dev) off size value)
+next-pages state (step.Device dev) = moved-pages state dev (slice_get state.devices dev)
 
 next_by-contexts : (state : State) (taken : Option Step) → (next_by state taken).machine.contexts
     ≡ emptied_by drops_context (option_and_then (executed state) taken)

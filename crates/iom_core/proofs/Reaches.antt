@@ -1,6 +1,6 @@
 -- What a step changes, takes and refuses, row by row of the step table.
 use Rattle.std.proofs.Common.{◌≡◌, ◌&&◌, ◌/◌, ℕ, zero, suc, List, [], length, Bool, true, false, not, Option, Some, None, Result, Ok, Err, if◌then◌else◌, refl, sym, ap, subst}
-use Rattle.std.specs.Prelude.{is_some}
+use Rattle.std.specs.Prelude.{is_some, slice_get}
 use Rattle.iom_bits.specs.Bytes.{bytes_of_number}
 use Rattle.iom_mem.specs.Memory.{Memory, bytes_at, put}
 use Rattle.iom_regs.specs.Table.{Registers, after_write, is_legal, read, with_pending}
@@ -17,142 +17,14 @@ use Rattle.iom_core.specs.State.{State, Machine, with_machine}
 use Rattle.iom_core.specs.Access.{Denial, Effect, Request, effect, effect_at, granted, outside, read_there, record_left, served}
 use Rattle.iom_core.specs.Commands.{after_command, executed_by, executed_of, fetched, is_taken, memory_left}
 use Rattle.iom_core.specs.Table.{Asking, Stored, Written, answer_by_reply, asked, executed, fits, idle_or_done, is_aligned, is_size, load, next, probed, put_inside, reg_read, reg_write, request_in, store, value_of, value_or_bad, with_memory, with_registers}
-use Rattle.iom_core.specs.Reach.{ChangesOnly, Reaches, Refuses, Span, Takes, TakesBy, address_in, nothing, span_of, span_of_access, span_of_command, span_to}
+use Rattle.iom_core.specs.Reach.{Breaks, ChangesOnly, DeviceGoesOn, KeepsDevices, Reaches, Refuses, Span, Takes, TakesBy, address_in, nothing, span_of, span_of_access, span_of_command, span_to}
 use Rattle.iom_core.specs.declared.step.Step.{Step}
 use Rattle.iom_core.specs.declared.step.Step.TheVariants as step
 use Rattle.iom_core.specs.declared.step.Answer.TheVariants.{Done, BusError, BadAccess, Misuse}
 use Rattle.iom_core.proofs.Puts.{put_changes_only, same_memory}
-
--- A delivery.
-pub record Delivers (registers : Registers) (memory : Memory) (left : Delivery) : Type 0 where
-  pub others : KeepsOtherRegisters registers left.registers
-  pub bytes : ChangesOnly (record { addr = record_addr registers; count = 32 }) memory left.memory
-
-record_length : (fault : Record) → length (record_bytes fault) ≡ 32
-unfolding record_bytes
-record_length fault = refl
-
-delivers : (registers : Registers) (memory : Memory) (fault : Record) → Delivers registers memory (delivered registers memory fault)
-unfolding delivered
-delivers registers memory fault =
-    let same : ChangesOnly (record { addr = record_addr registers; count = 32 }) memory memory = same_memory memory _ in
-    let Goal : Bool → Type 0 = λ there. is_in_memory registers memory ≡ there →
-    Delivers registers memory (if not there then record { registers = with_fqmf registers; memory = memory }
-    else record { registers = record_passed registers; memory = put memory (record_addr registers) (record_bytes fault) }) in
-    let by_place : (there : Bool) → Goal there = λ there. elim there as Goal [
-      | true ↦ λ is. record {
-        others = record { ddtp = refl; cqb = refl; cqh = refl; cqt = refl; fqb = refl; fqh = refl; cqcsr = refl };
-        bytes = subst (λ (n : ℕ). ChangesOnly (record { addr = record_addr registers; count = n }) memory (put memory (record_addr registers) (record_bytes fault)))
-            (record_length fault)
-            (put_changes_only memory (record_addr registers) (record_bytes fault)
-            (subst (λ (n : ℕ). is_some (bytes_at memory (record_addr registers) n) ≡ true) (sym (record_length fault)) is));
-      }
-      | false ↦ λ is. record { others = record { ddtp = refl; cqb = refl; cqh = refl; cqt = refl; fqb = refl; fqh = refl; cqcsr = refl }; bytes = same }
-    ] in
-    elim (is_stopped registers) as (λ b. Delivers registers memory (if b then record { registers = with_pending registers; memory = memory }
-    else if is_full registers then record { registers = with_fqof registers; memory = memory }
-    else if not (is_in_memory registers memory) then record { registers = with_fqmf registers; memory = memory }
-    else record { registers = record_passed registers; memory = put memory (record_addr registers) (record_bytes fault) })) [
-      | true ↦ record { others = record { ddtp = refl; cqb = refl; cqh = refl; cqt = refl; fqb = refl; fqh = refl; cqcsr = refl }; bytes = same }
-      | false ↦ elim (is_full registers) as (λ b. Delivers registers memory (if b then record { registers = with_fqof registers; memory = memory }
-          else if not (is_in_memory registers memory) then record { registers = with_fqmf registers; memory = memory }
-          else record { registers = record_passed registers; memory = put memory (record_addr registers) (record_bytes fault) })) [
-            | true ↦ record { others = record { ddtp = refl; cqb = refl; cqh = refl; cqt = refl; fqb = refl; fqh = refl; cqcsr = refl }; bytes = same }
-            | false ↦ by_place (is_in_memory registers memory) refl
-          ]
-    ]
-
-left_by_denial : (registers : Registers) (memory : Memory) (request : Request) (denial : Denial) → Delivers registers memory (record_left registers memory request denial)
-unfolding record_left
-left_by_denial registers memory request denial =
-    elim denial.reported as (λ b. Delivers registers memory (if b then delivered registers memory (denial_record denial.cause request.kind request.did request.iova denial.iotval2) else record { registers = registers; memory = memory })) [
-      | true ↦ delivers registers memory (denial_record denial.cause request.kind request.did request.iova denial.iotval2)
-      | false ↦ record {
-        others = record { ddtp = refl; cqb = refl; cqh = refl; cqt = refl; fqb = refl; fqh = refl; cqcsr = refl };
-        bytes = same_memory memory (record { addr = record_addr registers; count = 32 });
-      }
-    ]
-
--- An access, at the address that it is led to.
-abbrev granted_effect : Machine → ℕ → List ℕ → Effect
-granted_effect m addr bytes = record { reply = reply_of access.Ok []; memory = put m.memory addr bytes; registers = m.registers }
-
-written_memory : (m : Machine) (iova : ℕ) (bytes : List ℕ) (addr : ℕ) →
-    (if is_some (bytes_at m.memory addr (length bytes)) then put m.memory addr bytes else m.memory) ≡ (granted m (Write iova bytes) addr).memory
-written_memory m iova bytes addr =
-    elim (is_some (bytes_at m.memory addr (length bytes))) as (λ b. (if b then put m.memory addr bytes else m.memory) ≡ (if b then granted_effect m addr bytes else outside m).memory) [
-      | true ↦ refl
-      | false ↦ refl
-    ]
-
-denied_refuses : (state : State) (request : Request) (denial : Denial) (left : Machine) →
-    left.memory ≡ (record_left state.machine.registers state.machine.memory request denial).memory →
-    left.registers ≡ (record_left state.machine.registers state.machine.memory request denial).registers →
-    KeepsOtherRegisters state.machine.registers left.registers
-    × ChangesOnly (record { addr = record_addr state.machine.registers; count = 32 }) state.machine.memory left.memory
-denied_refuses state request denial left memory registers =
-    let d = left_by_denial state.machine.registers state.machine.memory request denial in (
-      subst (λ (r : Registers). KeepsOtherRegisters state.machine.registers r) (sym registers) d.others,
-      subst (λ (m : Memory). ChangesOnly (record { addr = record_addr state.machine.registers; count = 32 }) state.machine.memory m) (sym memory) d.bytes,
-    )
-
-effect_changes : (m : Machine) (request : Request) (ask : Ask) (led_to : Result ℕ Denial) →
-    ChangesOnly (span_to m ask led_to) m.memory (effect_at m request ask led_to).memory
-effect_changes m request (Read iova count) (Ok addr) =
-    elim (bytes_at m.memory addr count) as (λ o. ChangesOnly nothing m.memory (read_there m o).memory) [
-      | Some bytes ↦ same_memory m.memory nothing
-      | None ↦ same_memory m.memory nothing
-    ]
-effect_changes m request (Write iova bytes) (Ok addr) =
-    let span : Span = record { addr = addr; count = length bytes } in
-    let Goal : Bool → Type 0 = λ b. is_some (bytes_at m.memory addr (length bytes)) ≡ b →
-    ChangesOnly span m.memory (if b then put m.memory addr bytes else m.memory) in
-    let by_place : (b : Bool) → Goal b = λ b. elim b as Goal [
-      | true ↦ λ is. put_changes_only m.memory addr bytes is
-      | false ↦ λ is. same_memory m.memory span
-    ] in
-    subst (λ (new : Memory). ChangesOnly span m.memory new) (written_memory m iova bytes addr) (by_place (is_some (bytes_at m.memory addr (length bytes))) refl)
-effect_changes m request (Read iova count) (Err denial) = (left_by_denial m.registers m.memory request denial).bytes
-effect_changes m request (Write iova bytes) (Err denial) = (left_by_denial m.registers m.memory request denial).bytes
-
-effect_takes : (m : Machine) (request : Request) (ask : Ask) (led_to : Result ℕ Denial) →
-    TakesBy m.memory ask led_to (answer_by_reply ask (effect_at m request ask led_to).reply)
-effect_takes m request (Read iova count) (Ok addr) =
-    let Goal : Option (List ℕ) → Type 0 = λ o. bytes_at m.memory addr count ≡ o →
-    TakesBy m.memory (Read iova count) (Ok addr) (answer_by_reply (Read iova count) (read_there m o).reply) in
-    let by_place : (o : Option (List ℕ)) → Goal o = λ o. elim o as Goal [
-      | Some bytes ↦ λ is. is
-      | None ↦ λ is. tt
-    ] in by_place (bytes_at m.memory addr count) refl
-effect_takes m request (Write iova bytes) (Ok addr) =
-    elim (is_some (bytes_at m.memory addr (length bytes))) as
-    (λ b. TakesBy m.memory (Write iova bytes) (Ok addr) (answer_by_reply (Write iova bytes) (if b then granted_effect m addr bytes else outside m).reply)) [
-      | true ↦ tt
-      | false ↦ tt
-    ]
-effect_takes m request (Read iova count) (Err denial) = tt
-effect_takes m request (Write iova bytes) (Err denial) = tt
-
-effect_refuses : (state : State) (request : Request) (ask : Ask) (led_to : Result ℕ Denial) (left : Machine) →
-    left.memory ≡ (effect_at state.machine request ask led_to).memory → left.registers ≡ (effect_at state.machine request ask led_to).registers →
-    Refuses (answer_by_reply ask (effect_at state.machine request ask led_to).reply) state (with_machine state left)
-effect_refuses state request (Read iova count) (Ok addr) left =
-    let m = state.machine in
-    elim (bytes_at m.memory addr count) as (λ o. left.memory ≡ (read_there m o).memory → left.registers ≡ (read_there m o).registers →
-    Refuses (answer_by_reply (Read iova count) (read_there m o).reply) state (with_machine state left)) [
-      | Some bytes ↦ λ memory registers. tt
-      | None ↦ λ memory registers. (memory, registers)
-    ]
-effect_refuses state request (Write iova bytes) (Ok addr) left =
-    let m = state.machine in
-    elim (is_some (bytes_at m.memory addr (length bytes))) as (λ b. left.memory ≡ (if b then granted_effect m addr bytes else outside m).memory →
-    left.registers ≡ (if b then granted_effect m addr bytes else outside m).registers →
-    Refuses (answer_by_reply (Write iova bytes) (if b then granted_effect m addr bytes else outside m).reply) state (with_machine state left)) [
-      | true ↦ λ memory registers. tt
-      | false ↦ λ memory registers. (memory, registers)
-    ]
-effect_refuses state request (Read iova count) (Err denial) left = λ memory registers. denied_refuses state request denial left memory registers
-effect_refuses state request (Write iova bytes) (Err denial) left = λ memory registers. denied_refuses state request denial left memory registers
+use Rattle.iom_core.proofs.Effects.{effect_changes, effect_refuses, effect_takes}
+use Rattle.iom_core.proofs.Moments.{written-machine}
+use Rattle.iom_core.proofs.Moved.{dev_read_refuses, dev_write_refuses, moved_breaks, moved_changes, moved_devices, moved_goes_on, moved_refuses, moved_takes, written_devices}
 
 -- Each row of the step table.
 probed_changes : (state : State) (asking : Option Asking) →
@@ -160,6 +32,10 @@ probed_changes : (state : State) (asking : Option Asking) →
 unfolding effect
 probed_changes state None = same_memory state.machine.memory nothing
 probed_changes state (Some asking) = effect_changes state.machine (request_in asking) asking.ask (address_in state asking)
+
+probed_devices : (state : State) (asking : Option Asking) → (probed state asking).state.devices ≡ state.devices
+probed_devices state None = refl
+probed_devices state (Some asking) = refl
 
 length_of_number : (count value : ℕ) → length (bytes_of_number count value) ≡ count
 length_of_number zero value = refl
@@ -206,7 +82,7 @@ unfolding after_command executed_by
 command_changes m = executed_changes m (fetched m)
 
 pub changes : (state : State) (taken : Step) → ChangesOnly (span_of state taken) state.machine.memory (next state taken).state.machine.memory
-unfolding next executed
+unfolding next executed asked
 changes state (step.Load addr size) = same_memory state.machine.memory nothing
 changes state (step.Store addr size value) = store_changes state.machine.memory addr size value
 changes state (step.RegRead off size) = same_memory state.machine.memory nothing
@@ -215,8 +91,10 @@ changes state step.Command = command_changes state.machine
 changes state (step.DmaRead did iova len) = probed_changes state (asked state (step.DmaRead did iova len))
 changes state (step.DmaWrite did iova bytes) = probed_changes state (asked state (step.DmaWrite did iova bytes))
 changes state (step.DevRead dev off size) = same_memory state.machine.memory nothing
-changes state (step.DevWrite dev off size value) = same_memory state.machine.memory nothing
-changes state (step.Device dev) = same_memory state.machine.memory nothing
+changes state (step.DevWrite dev off size value) =
+    subst (λ (m : Machine). ChangesOnly nothing state.machine.memory m.memory) (sym (written-machine state dev (slice_get state.devices dev) off size value))
+    (same_memory state.machine.memory nothing)
+changes state (step.Device dev) = moved_changes state dev (slice_get state.devices dev)
 
 probed_takes : (state : State) (asking : Option Asking) → Takes state asking (probed state asking).answer
 unfolding effect
@@ -234,7 +112,7 @@ takes state (step.DmaRead did iova len) = probed_takes state (asked state (step.
 takes state (step.DmaWrite did iova bytes) = probed_takes state (asked state (step.DmaWrite did iova bytes))
 takes state (step.DevRead dev off size) = tt
 takes state (step.DevWrite dev off size value) = tt
-takes state (step.Device dev) = tt
+takes state (step.Device dev) = moved_takes state dev (slice_get state.devices dev)
 
 probed_refuses : (state : State) (asking : Option Asking) → Refuses (probed state asking).answer state (probed state asking).state
 unfolding effect
@@ -305,9 +183,54 @@ refuses state step.Command = elim (is_taken (fetched state.machine)) as (λ b. R
 ]
 refuses state (step.DmaRead did iova len) = probed_refuses state (asked state (step.DmaRead did iova len))
 refuses state (step.DmaWrite did iova bytes) = probed_refuses state (asked state (step.DmaWrite did iova bytes))
-refuses state (step.DevRead dev off size) = refl
-refuses state (step.DevWrite dev off size value) = refl
-refuses state (step.Device dev) = refl
+refuses state (step.DevRead dev off size) = dev_read_refuses state (slice_get state.devices dev) off size
+refuses state (step.DevWrite dev off size value) = dev_write_refuses state dev off size value
+refuses state (step.Device dev) = moved_refuses state dev (slice_get state.devices dev)
+
+pub devices : (state : State) (taken : Step) → KeepsDevices taken state.devices (next state taken).state.devices
+unfolding next
+devices state (step.Load addr size) = refl
+devices state (step.Store addr size value) = refl
+devices state (step.RegRead off size) = refl
+devices state (step.RegWrite off size value) = refl
+devices state step.Command = refl
+devices state (step.DmaRead did iova len) = probed_devices state (asked state (step.DmaRead did iova len))
+devices state (step.DmaWrite did iova bytes) = probed_devices state (asked state (step.DmaWrite did iova bytes))
+devices state (step.DevRead dev off size) = refl
+devices state (step.DevWrite dev off size value) = written_devices state dev off size value
+devices state (step.Device dev) = moved_devices state dev
+
+pub breaks : (state : State) (taken : Step) → Breaks taken (next state taken).answer (next state taken).state.devices
+unfolding next
+breaks state (step.Load addr size) = tt
+breaks state (step.Store addr size value) = tt
+breaks state (step.RegRead off size) = tt
+breaks state (step.RegWrite off size value) = tt
+breaks state step.Command = tt
+breaks state (step.DmaRead did iova len) = tt
+breaks state (step.DmaWrite did iova bytes) = tt
+breaks state (step.DevRead dev off size) = tt
+breaks state (step.DevWrite dev off size value) = tt
+breaks state (step.Device dev) = moved_breaks state dev
+
+pub goes_on : (state : State) (taken : Step) → DeviceGoesOn state taken (next state taken).answer (next state taken).state.devices
+unfolding next asked
+goes_on state (step.Load addr size) = tt
+goes_on state (step.Store addr size value) = tt
+goes_on state (step.RegRead off size) = tt
+goes_on state (step.RegWrite off size value) = tt
+goes_on state step.Command = tt
+goes_on state (step.DmaRead did iova len) = tt
+goes_on state (step.DmaWrite did iova bytes) = tt
+goes_on state (step.DevRead dev off size) = tt
+goes_on state (step.DevWrite dev off size value) = tt
+goes_on state (step.Device dev) = moved_goes_on state dev
 
 pub reaches : (state : State) (taken : Step) → Reaches state taken (next state taken).answer (next state taken).state
-reaches state taken = record { changes = changes state taken; takes = takes state taken }
+reaches state taken = record {
+  changes = changes state taken;
+  devices = devices state taken;
+  breaks = breaks state taken;
+  goes_on = goes_on state taken;
+  takes = takes state taken;
+}

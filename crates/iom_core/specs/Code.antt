@@ -1,11 +1,12 @@
 -- What the types of the code that callers don't see stand for, and what each caching of the code keeps.
-use Rattle.std.specs.Prelude.{ℕ, ◌≡◌, Bool, true, false, None, Result, Ok, Err, IfSome}
+use Rattle.std.specs.Prelude.{ℕ, ◌≡◌, Bool, true, false, List, None, Result, Ok, Err, IfSome}
 use Rattle.iom_nested.specs.Nested.{HitFits}
 use Rattle.iom_queue.specs.declared.command.Command.{Command}
 use Rattle.iom_queue.specs.declared.command.Command.TheVariants.{Vma, Gvma, Fence, Iodir}
 use Rattle.iom_cache.specs.Keys.{same_key, same_did}
 use Rattle.iom_cache.specs.Places.{find}
 use Rattle.iom_cache.specs.Entries.{HoldsHit, HoldsContext}
+use Rattle.iom_blk.specs.Device.{Device}
 use Rattle.iom_core.specs.State.{Machine}
 use Rattle.iom_core.specs.Access.{Request, Denial, Way, Led, ByRegister, ByContext, Walked, Denied}
 use Rattle.iom_core.specs.declared.access.Request.{Request as CodeRequest}
@@ -32,6 +33,9 @@ led_of led = record { way = way_of led.way; context = led.context; page = led.pa
 abbrev pub address_of : Result ℕ CodeDenial → Result ℕ Denial
 address_of (Ok addr) = Ok addr
 address_of (Err denial) = Err (denial_of denial)
+
+abbrev pub disk_of : ℕ × Device → List ℕ
+disk_of own = own.1.disk
 
 -- a frame that fits
 abbrev pub WayFits : Way → Type 0

@@ -1,13 +1,16 @@
 -- What a step may change, what an access takes, and what a refusal leaves.
-use Rattle.std.specs.Prelude.{ℕ, ◌≡◌, ◌+◌, ◌<◌, ◌≤◌, true, false, List, length, Option, Some, None, Result, Ok, Err}
+use Rattle.std.specs.Prelude.{ℕ, ◌≡◌, ◌+◌, ◌<◌, ◌≤◌, true, false, List, length, slice_get, Option, Some, None, Result, Ok, Err, IfSome}
+use Rattle.std.specs.Option.{option_map}
 use Rattle.iom_mem.specs.Memory.{Memory, byte, bytes_at, size_of}
 use Rattle.iom_queue.specs.Delivery.{KeepsOtherRegisters, record_addr}
 use Rattle.iom_queue.specs.declared.command.Command.{Command}
 use Rattle.iom_queue.specs.declared.command.Command.TheVariants.{Vma, Gvma, Fence, Iodir}
-use Rattle.iom_virtq.specs.Bus.{Ask, Read, Write}
+use Rattle.iom_virtq.specs.Bus.{Ask, Read, Write, Reply, is_granted}
+use Rattle.iom_blk.specs.Device.{Device}
+use Rattle.iom_blk.specs.Phases.{is_broken, moved_of, took}
 use Rattle.iom_core.specs.State.{State, Machine}
 use Rattle.iom_core.specs.Access.{Denial, address_on, led}
-use Rattle.iom_core.specs.Table.{Asking, asked, executed, request_in}
+use Rattle.iom_core.specs.Table.{Asking, answer_of, asked, executed, request_in}
 use Rattle.iom_core.specs.declared.step.Step.{Step}
 use Rattle.iom_core.specs.declared.step.Step.TheVariants as step
 use Rattle.iom_core.specs.declared.step.Answer.{Answer}
@@ -64,7 +67,7 @@ span_of state (step.DmaRead did iova len) = span_of_access state (asked state (s
 span_of state (step.DmaWrite did iova bytes) = span_of_access state (asked state (step.DmaWrite did iova bytes))
 span_of state (step.DevRead dev off size) = nothing
 span_of state (step.DevWrite dev off size value) = nothing
-span_of state (step.Device dev) = nothing
+span_of state (step.Device dev) = span_of_access state (asked state (step.Device dev))
 
 -- a read is answered the bytes at the address that it is led to
 abbrev pub TakesAt : Memory → Ask → List ℕ → Result ℕ Denial → Type 0
@@ -87,9 +90,91 @@ abbrev pub Takes : State → Option Asking → Answer → Type 0
 Takes state None given = Unit {0}
 Takes state (Some asking) given = TakesBy state.machine.memory asking.ask (address_in state asking) given
 
--- what a step reaches: the memory that it may change, and the bytes that its access takes
+-- no block device is another but the one at `dev`, and that one keeps its id
+pub record ChangesDevice (dev : ℕ) (old new : List (ℕ × Device)) : Type 0 where
+  pub others : (n : ℕ) → (n ≡ dev → ⊥) → slice_get new n ≡ slice_get old n
+  pub id : option_map (λ (own : ℕ × Device). own.0) (slice_get new dev) ≡ option_map (λ (own : ℕ × Device). own.0) (slice_get old dev)
+
+-- what a step may change of the block devices
+abbrev pub KeepsDevices : Step → List (ℕ × Device) → List (ℕ × Device) → Type 0
+KeepsDevices (step.Load addr size) old new = new ≡ old
+KeepsDevices (step.Store addr size value) old new = new ≡ old
+KeepsDevices (step.RegRead off size) old new = new ≡ old
+KeepsDevices (step.RegWrite off size value) old new = new ≡ old
+KeepsDevices step.Command old new = new ≡ old
+KeepsDevices (step.DmaRead did iova len) old new = new ≡ old
+KeepsDevices (step.DmaWrite did iova bytes) old new = new ≡ old
+KeepsDevices (step.DevRead dev off size) old new = new ≡ old
+KeepsDevices (step.DevWrite dev off size value) old new = ChangesDevice dev old new
+KeepsDevices (step.Device dev) old new = ChangesDevice dev old new
+
+-- a reply to what is asked: where it grants a read, it has the bytes at the address that the access is led to
+abbrev pub Carries : Memory → Ask → Result ℕ Denial → Reply → Type 0
+Carries memory (Read iova count) (Ok addr) reply = is_granted reply.access ≡ true → bytes_at memory addr count ≡ Some reply.bytes
+Carries memory (Write iova bytes) (Ok addr) reply = Unit {0}
+Carries memory (Read iova count) (Err denial) reply = is_granted reply.access ≡ false
+Carries memory (Write iova bytes) (Err denial) reply = is_granted reply.access ≡ false
+
+-- a block device goes on by the reply to what it asks
+pub record GoesOn (memory : Memory) (ask : Ask) (led_to : Result ℕ Denial) (given : Answer) (old new : Device) : Type 0 where
+  pub reply : Reply
+  pub carries : Carries memory ask led_to reply
+  pub told : given ≡ answer_of (moved_of reply.access)
+  pub took : new ≡ took old reply
+
+abbrev pub GoesOnIn : State → Option Asking → Answer → Option (ℕ × Device) → Option (ℕ × Device) → Type 0
+GoesOnIn state None given old new = new ≡ old
+GoesOnIn state (Some asking) given (Some old) (Some new) =
+    GoesOn state.machine.memory asking.ask (address_in state asking) given old.1 new.1
+GoesOnIn state (Some asking) given (Some old) None = ⊥
+GoesOnIn state (Some asking) given None new = ⊥
+
+-- a device whose access is denied, or led outside memory, breaks
+abbrev pub IsBroken : Option (ℕ × Device) → Type 0
+IsBroken slot = IfSome slot (λ own. is_broken own.1 ≡ true)
+
+abbrev pub BreaksBy : Answer → Option (ℕ × Device) → Type 0
+BreaksBy (answer.Value value) slot = Unit {0}
+BreaksBy answer.Done slot = Unit {0}
+BreaksBy (answer.Bytes bytes) slot = Unit {0}
+BreaksBy answer.Idle slot = Unit {0}
+BreaksBy (answer.Denied cause) slot = IsBroken slot
+BreaksBy answer.BusError slot = IsBroken slot
+BreaksBy answer.BadAccess slot = Unit {0}
+BreaksBy answer.NoDevice slot = Unit {0}
+BreaksBy answer.Misuse slot = Unit {0}
+
+abbrev pub Breaks : Step → Answer → List (ℕ × Device) → Type 0
+Breaks (step.Load addr size) given new = Unit {0}
+Breaks (step.Store addr size value) given new = Unit {0}
+Breaks (step.RegRead off size) given new = Unit {0}
+Breaks (step.RegWrite off size value) given new = Unit {0}
+Breaks step.Command given new = Unit {0}
+Breaks (step.DmaRead did iova len) given new = Unit {0}
+Breaks (step.DmaWrite did iova bytes) given new = Unit {0}
+Breaks (step.DevRead dev off size) given new = Unit {0}
+Breaks (step.DevWrite dev off size value) given new = Unit {0}
+Breaks (step.Device dev) given new = BreaksBy given (slice_get new dev)
+
+abbrev pub DeviceGoesOn : State → Step → Answer → List (ℕ × Device) → Type 0
+DeviceGoesOn state (step.Load addr size) given new = Unit {0}
+DeviceGoesOn state (step.Store addr size value) given new = Unit {0}
+DeviceGoesOn state (step.RegRead off size) given new = Unit {0}
+DeviceGoesOn state (step.RegWrite off size value) given new = Unit {0}
+DeviceGoesOn state step.Command given new = Unit {0}
+DeviceGoesOn state (step.DmaRead did iova len) given new = Unit {0}
+DeviceGoesOn state (step.DmaWrite did iova bytes) given new = Unit {0}
+DeviceGoesOn state (step.DevRead dev off size) given new = Unit {0}
+DeviceGoesOn state (step.DevWrite dev off size value) given new = Unit {0}
+DeviceGoesOn state (step.Device dev) given new =
+    GoesOnIn state (asked state (step.Device dev)) given (slice_get state.devices dev) (slice_get new dev)
+
+-- what a step reaches: the memory and the devices that it may change, and the bytes that its access takes
 pub record Reaches (state : State) (taken : Step) (given : Answer) (new : State) : Type 0 where
   pub changes : ChangesOnly (span_of state taken) state.machine.memory new.machine.memory
+  pub devices : KeepsDevices taken state.devices new.devices
+  pub breaks : Breaks taken given new.devices
+  pub goes_on : DeviceGoesOn state taken given new.devices
   pub takes : Takes state (asked state taken) given
 
 -- what stands after the refusals
@@ -98,11 +183,11 @@ Refuses (answer.Value value) old new = Unit {0}
 Refuses answer.Done old new = Unit {0}
 Refuses (answer.Bytes bytes) old new = Unit {0}
 Refuses answer.Idle old new = Unit {0}
--- all but the fault queue's registers, ipsr, the bytes of one record and the caches
+-- all but the fault queue's registers, ipsr, the bytes of one record, the caches and a device that breaks
 Refuses (answer.Denied cause) old new =
     KeepsOtherRegisters old.machine.registers new.machine.registers
     × ChangesOnly (record { addr = record_addr old.machine.registers; count = 32 }) old.machine.memory new.machine.memory
--- all but the caches
+-- all but the caches and a device that breaks
 Refuses answer.BusError old new =
     (new.machine.memory ≡ old.machine.memory) × (new.machine.registers ≡ old.machine.registers)
 -- all

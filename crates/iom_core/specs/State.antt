@@ -1,10 +1,11 @@
 -- The platform's state.
-use Rattle.std.specs.Prelude.{ℕ, List, [], Option}
+use Rattle.std.specs.Prelude.{ℕ, ◌^◌, ◌<◌, ◌≤◌, ◌≢◌, List, [], ◌∷◌, length, slice_set, Option}
 use Rattle.iom_mem.specs.Memory.{Memory}
 use Rattle.iom_regs.specs.Table.{Registers, reset}
 use Rattle.iom_ddt.specs.declared.context.Context.{Context}
 use Rattle.iom_nested.specs.declared.translation.Hit.{Hit}
 use Rattle.iom_cache.specs.declared.key.Key.{Key}
+use Rattle.iom_blk.specs.Device.{Device}
 
 -- memory, and the IOMMU in front of it: its registers, and both caches as lists of places, oldest first
 pub record Machine : Type 0 where
@@ -13,12 +14,38 @@ pub record Machine : Type 0 where
   pub contexts : List (Option (ℕ × Context))
   pub pages : List (Option (Key × Hit))
 
+-- the machine, and the block devices with their ids, in the order in which they were handed in
 pub record State : Type 0 where
   pub machine : Machine
+  pub devices : List (ℕ × Device)
 
 -- the state with another machine
 abbrev pub with_machine : State → Machine → State
 with_machine s machine = record s { machine = machine }
+
+-- the state in which device n, whose id stays, is another
+abbrev pub with_device : State → ℕ → ℕ → Device → State
+with_device s n did device = record s { devices = slice_set s.devices n (did, device) }
+
+-- each device's id has 24 bits
+abbrev pub EachFits : List (ℕ × Device) → Type 0
+EachFits [] = Unit {0}
+EachFits (own ∷ more) = (own.0 < 2 ^ 24) × EachFits more
+
+-- no two devices have one id
+abbrev pub EachOther : ℕ → List (ℕ × Device) → Type 0
+EachOther did [] = Unit {0}
+EachOther did (own ∷ more) = (own.0 ≢ did) × EachOther did more
+
+abbrev pub AreDistinct : List (ℕ × Device) → Type 0
+AreDistinct [] = Unit {0}
+AreDistinct (own ∷ more) = EachOther own.0 more × AreDistinct more
+
+-- the block devices that a platform may have
+pub record AreDevices (devices : List (ℕ × Device)) : Type 0 where
+  pub few : length devices ≤ 8
+  pub fit : EachFits devices
+  pub distinct : AreDistinct devices
 
 -- how many places the caches have
 abbrev pub context_room : ℕ
@@ -28,7 +55,8 @@ abbrev pub page_room : ℕ
 page_room = 64
 
 -- a platform that nothing has happened to yet
-abbrev pub opening : Memory → State
-opening memory = record {
+abbrev pub opening : Memory → List (ℕ × Device) → State
+opening memory devices = record {
   machine = record { memory = memory; registers = reset; contexts = []; pages = [] };
+  devices = devices;
 }

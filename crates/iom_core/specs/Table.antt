@@ -1,5 +1,5 @@
 -- What a step asks of the bus and executes; what it answers and what it leaves, one row a step, the tests of a row in their order.
-use Rattle.std.specs.Prelude.{ℕ, ◌+◌, ◌*◌, ◌%◌, ◌^◌, ◌==◌, ◌&&◌, ◌||◌, Bool, true, false, not, Option, Some, None, List, length, is_some, nat_lt, nat_le, if◌then◌else◌}
+use Rattle.std.specs.Prelude.{ℕ, ◌+◌, ◌*◌, ◌%◌, ◌^◌, ◌==◌, ◌&&◌, ◌||◌, Bool, true, false, not, Option, Some, None, List, length, slice_get, is_some, nat_lt, nat_le, if◌then◌else◌}
 use Rattle.std.specs.Option.{option_map}
 use Rattle.iom_bits.specs.Bytes.{number_of_bytes, bytes_of_number}
 use Rattle.iom_bits.specs.Causes.{cause_number}
@@ -9,7 +9,12 @@ use Rattle.iom_queue.specs.declared.command.Command.{Command}
 use Rattle.iom_virtq.specs.Bus.{Ask, Read, Write, Reply}
 use Rattle.iom_virtq.specs.declared.access.Access.{Access}
 use Rattle.iom_virtq.specs.declared.access.Access.TheVariants as access
-use Rattle.iom_core.specs.State.{State, with_machine}
+use Rattle.iom_blk.specs.Device.{Device}
+use Rattle.iom_blk.specs.Phases.{asks, moved_of, took}
+use Rattle.iom_blk.specs.Registers.{is_legal as is_device_register, read as device_read, written as device_written}
+use Rattle.iom_blk.specs.declared.want.Moved.{Moved}
+use Rattle.iom_blk.specs.declared.want.Moved.TheVariants as moved
+use Rattle.iom_core.specs.State.{State, Machine, with_device, with_machine}
 use Rattle.iom_core.specs.Access.{Request, request_of, served}
 use Rattle.iom_core.specs.Commands.{after_command, executed_by, fetched, is_taken}
 use Rattle.iom_core.specs.declared.step.Step.{Step}
@@ -46,6 +51,14 @@ pub record Asking : Type 0 where
 abbrev pub asking_where : Bool → ℕ → Ask → Option Asking
 asking_where legal did ask = if legal then Some (record { did = did; ask = ask }) else None
 
+-- what a block device asks, with its own id
+abbrev pub asking_for : ℕ → Ask → Asking
+asking_for did ask = record { did = did; ask = ask }
+
+abbrev pub asked_by : Option (ℕ × Device) → Option Asking
+asked_by None = None
+asked_by (Some own) = option_map (asking_for own.0) (asks own.1)
+
 -- What a step asks of the bus; None: it makes no access, or is answered with a misuse.
 unfoldable pub asked : State → Step → Option Asking
 asked state (step.Load addr size) = None
@@ -58,7 +71,7 @@ asked state (step.DmaWrite did iova bytes) =
     asking_where (is_device_access did iova (length bytes.items)) did (Write iova bytes.items)
 asked state (step.DevRead dev off size) = None
 asked state (step.DevWrite dev off size value) = None
-asked state (step.Device dev) = None
+asked state (step.Device dev) = asked_by (slice_get state.devices dev)
 
 -- what it asks of the IOMMU
 abbrev pub request_in : Asking → Request
@@ -156,7 +169,62 @@ with_memory state memory = with_machine state (record state.machine { memory = m
 abbrev pub with_registers : State → Registers → State
 with_registers state registers = with_machine state (record state.machine { registers = registers })
 
--- the step table; no block devices are there yet
+-- registers of a block device
+abbrev pub dev_read : Option (ℕ × Device) → ℕ → ℕ → Answer
+dev_read None off size = answer.NoDevice
+dev_read (Some own) off size = value_or_bad (device_read own.1 off size)
+
+-- what a write of a device's register is answered, and the device after it
+pub record Handled : Type 0 where
+  pub answer : Answer
+  pub device : Device
+
+unfoldable pub dev_write : Device → ℕ → ℕ → ℕ → Handled
+dev_write device off size value =
+    if is_size size && not (fits value size) then record { answer = answer.Misuse; device = device }
+    else if is_device_register off size
+    then record { answer = answer.Done; device = device_written device off value }
+    else record { answer = answer.BadAccess; device = device }
+
+abbrev pub dev_written : State → ℕ → Option (ℕ × Device) → ℕ → ℕ → ℕ → Outcome
+dev_written state dev None off size value = stays state answer.NoDevice
+dev_written state dev (Some own) off size value = record {
+  answer = (dev_write own.1 off size value).answer;
+  state = with_device state dev own.0 (dev_write own.1 off size value).device;
+}
+
+-- how a step of a device is told, and the machine and the device after it: it makes the access that it asks for, or is idle
+pub record Moving : Type 0 where
+  pub told : Moved
+  pub machine : Machine
+  pub device : Device
+
+unfoldable pub moving : Machine → ℕ → Device → Option Ask → Moving
+moving m did device None = record { told = moved.Idle; machine = m; device = device }
+moving m did device (Some ask) = record {
+  told = moved_of (served m did ask).reply.access;
+  machine = (served m did ask).machine;
+  device = took device (served m did ask).reply;
+}
+
+abbrev pub answer_of : Moved → Answer
+answer_of moved.Idle = answer.Idle
+answer_of moved.Did = answer.Done
+answer_of (moved.Denied cause) = answer.Denied (cause_number cause)
+answer_of moved.Outside = answer.BusError
+
+abbrev pub moves : State → ℕ → ℕ → Device → Outcome
+moves state dev did device = record {
+  answer = answer_of (moving state.machine did device (asks device)).told;
+  state = with_device (with_machine state (moving state.machine did device (asks device)).machine) dev did
+      (moving state.machine did device (asks device)).device;
+}
+
+abbrev pub device_step : State → ℕ → Option (ℕ × Device) → Outcome
+device_step state dev None = stays state answer.NoDevice
+device_step state dev (Some own) = moves state dev own.0 own.1
+
+-- the step table
 unfoldable pub next : State → Step → Outcome
 next state (step.Load addr size) = stays state (load state.machine.memory addr size)
 next state (step.Store addr size value) = record {
@@ -174,6 +242,6 @@ next state step.Command = record {
 }
 next state (step.DmaRead did iova len) = probed state (asked state (step.DmaRead did iova len))
 next state (step.DmaWrite did iova bytes) = probed state (asked state (step.DmaWrite did iova bytes))
-next state (step.DevRead dev off size) = stays state answer.NoDevice
-next state (step.DevWrite dev off size value) = stays state answer.NoDevice
-next state (step.Device dev) = stays state answer.NoDevice
+next state (step.DevRead dev off size) = stays state (dev_read (slice_get state.devices dev) off size)
+next state (step.DevWrite dev off size value) = dev_written state dev (slice_get state.devices dev) off size value
+next state (step.Device dev) = device_step state dev (slice_get state.devices dev)

@@ -65,7 +65,7 @@ impl Machine {
     }
 }
 
-fn is_size(size: u64) -> bool
+pub(crate) fn is_size(size: u64) -> bool
     ensures { result ≡ is_size size }
 {
     matches!(size, 1 | 2 | 4 | 8)
@@ -78,7 +78,7 @@ fn is_aligned(addr: u64, size: u64) -> bool
 }
 
 // Whether a number fits into that many bytes, 1, 2, 4 or 8.
-fn fits(value: u64, size: u64) -> bool
+pub(crate) fn fits(value: u64, size: u64) -> bool
     requires { IsTrue (is_size size) }
     ensures { result ≡ fits value size }
 {

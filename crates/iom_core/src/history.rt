@@ -6,12 +6,14 @@ ghost use Rattle.iom_core.specs.Code.{request_in};
 ghost use Rattle.iom_core.specs.Histories.{IsAccess, IsAccessOf, fills_at, fills_entry, later};
 ghost use Rattle.iom_core.specs.Run.{end_of};
 ghost use Rattle.iom_core.specs.Table.{request_of_step};
+ghost use Rattle.iom_core.specs.declared.step.Step.TheVariants as step;
 ghost use Rattle.iom_core.specs.Warrants.{Explains, IsUncached};
 
 use crate::access::{Request, Way};
 use crate::platform::is_device_access;
 use crate::{Platform, Step, Warrant};
 use iom_bits::Kind;
+use iom_blk::Want;
 use iom_cache::{Key, key_of};
 use std::alloc::{AllocError, Global};
 
@@ -140,6 +142,7 @@ impl Platform {
         let (did, iova, len, kind) = match step {
             Step::DmaRead { did, iova, len } => (*did, *iova, *len, Kind::Read),
             Step::DmaWrite { did, iova, bytes } => (*did, *iova, bytes.len() as u64, Kind::Write),
+            Step::Device { dev } => return self.request_of_device(*dev),
             _ => return None,
         };
         if !is_device_access(did, iova, len) {
@@ -147,6 +150,29 @@ impl Platform {
         }
         Some(Request {
             did: did as u32,
+            iova,
+            kind,
+        })
+    }
+
+    // What a block device asks of the IOMMU.
+    #[tactic(auto, unfolding(crate::specs::Table::asked))]
+    fn request_of_device(&self, dev: u64) -> Option<Request>
+        ensures request { option_map request_in result ≡ request_of_step self.now (step.Device dev) }
+        ensures fits { IfSome result (λ request. request.did < 2 ^ 24) }
+    {
+        let n = dev as usize;
+        if n >= self.devices.len() {
+            return None;
+        }
+        let (did, device) = &self.devices[n];
+        let (iova, kind) = match device.want() {
+            Want::Nothing => return None,
+            Want::Read { iova, .. } => (iova, Kind::Read),
+            Want::Write { iova, .. } => (iova, Kind::Write),
+        };
+        Some(Request {
+            did: *did,
             iova,
             kind,
         })

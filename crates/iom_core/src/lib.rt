@@ -10,6 +10,7 @@ pub use warrant::Warrant;
 
 mod access;
 mod command;
+mod devices;
 mod hart;
 mod history;
 mod law;

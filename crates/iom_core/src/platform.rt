@@ -1,10 +1,13 @@
 ghost use Rattle.std.specs.Prelude.{ℕ, ◌≡◌, ◌+◌, length, Some, IfOk, slice_get};
+ghost use Rattle.std.specs.Option.{option_map};
 ghost use Rattle.iom_core.specs.Table.{is_device_access};
 
+use crate::devices::copied;
 use crate::machine::Machine;
 use crate::port::Port;
 use crate::step::{Answer, Step};
 use arrayvec::ArrayVec;
+use iom_blk::Blk;
 use iom_cache::{ContextCache, TransCache};
 use iom_mem::Ram;
 use iom_regs::Regs;
@@ -12,22 +15,27 @@ use iom_virtq::{Access, Bus};
 use std::alloc::{AllocError, Global};
 use std::marker::Model;
 
-/// One memory and one IOMMU.
+/// One memory, one IOMMU, and up to eight block devices behind it.
 #[derive(Drop)]
 pub struct Platform {
     pub(crate) machine: Machine,
+    // Each with its id, in the order in which they were handed in.
+    pub(crate) devices: Vec<(u32, Blk)>,
 }
 
 impl Model for Platform {
-    ghost use Rattle.iom_core.specs.State.{State};
+    ghost use Rattle.iom_core.specs.State.{EachFits, State};
 
     ghost Value = { State };
 
-    ghost view = { λ p. record { machine = p.machine } };
+    ghost view = { λ p. record { machine = p.machine; devices = p.devices.items } };
+
+    ghost invariant = { λ p. EachFits p.devices.items };
 }
 
 impl Platform {
-    ghost use Rattle.iom_core.specs.State.{opening};
+    ghost use Rattle.iom_core.specs.State.{AreDevices, opening};
+    ghost use Rattle.iom_core.specs.Code.{disk_of};
     ghost use Rattle.iom_core.specs.Table.{next, probed, asking_where};
     ghost use Rattle.iom_core.specs.Access.{Request};
     ghost use Rattle.iom_core.specs.Reach.{Reaches, Refuses};
@@ -35,11 +43,16 @@ impl Platform {
     ghost use Rattle.iom_core.specs.Warrants.{IsExplained, IsUncached, IsUpToDate, IsWarrant, moment};
     ghost use Rattle.iom_core.specs.declared.step.Step.{Step};
     ghost use Rattle.iom_core.specs.declared.warrant.Warrant.{Warrant};
+    ghost use Rattle.iom_cache.specs.Entries.{HoldsContext, HoldsHit};
+    ghost use Rattle.iom_cache.specs.Places.{EachLive};
     ghost use Rattle.iom_virtq.specs.Bus.{Read, Write};
 
-    /// A platform with this memory, its registers at reset and both caches empty. The fault is want of memory for the caches.
-    pub fn new(alloc: Global, ram: Ram) -> Result<Platform, AllocError>
-        ensures { IfOk result (λ platform. platform ≡ opening ram) }
+    /// A platform with this memory and these block devices, at most 8, each with an id below 2^24 that no other has. Its
+    /// registers are at reset and both caches empty. The fault is want of memory for the caches; all that was handed in is
+    /// dropped then.
+    pub fn new(alloc: Global, ram: Ram, devices: Vec<(u32, Blk)>) -> Result<Platform, AllocError>
+        requires { AreDevices devices.items }
+        ensures { IfOk result (λ platform. platform ≡ opening ram devices.items) }
     {
         let contexts = ContextCache::new(alloc)?;
         let pages = TransCache::new(alloc)?;
@@ -49,7 +62,7 @@ impl Platform {
             contexts,
             pages,
         };
-        Ok(Platform { machine })
+        Ok(Platform { machine, devices })
     }
 
     /// An equal platform, which goes its own way from here. The fault is want of memory, and then this one is as it was.
@@ -57,7 +70,8 @@ impl Platform {
         ensures { IfOk result (λ copy. copy ≡ self.now) }
     {
         let machine = self.machine.try_clone(alloc)?;
-        Ok(Platform { machine })
+        let devices = copied(alloc, &self.devices)?;
+        Ok(Platform { machine, devices })
     }
 
     pub fn ram(&self) -> &Ram
@@ -68,16 +82,26 @@ impl Platform {
 
     /// The translation cache.
     pub fn trans(&self) -> &TransCache
-        ensures { result.now ≡ self.now.machine.pages }
+        ensures cache { result.now ≡ self.now.machine.pages }
+        ensures sound { EachLive HoldsHit result.now }
     {
         &self.machine.pages
     }
 
     /// The context cache.
     pub fn contexts(&self) -> &ContextCache
-        ensures { result.now ≡ self.now.machine.contexts }
+        ensures cache { result.now ≡ self.now.machine.contexts }
+        ensures sound { EachLive HoldsContext result.now }
     {
         &self.machine.contexts
+    }
+
+    /// The bytes of the disk of block device `n`, None where there is no such device.
+    pub fn disk(&self, n: usize) -> Option<&[u8]>
+        ensures { option_map (λ disk. disk.now) result ≡ option_map disk_of (slice_get self.now.devices n) }
+    {
+        let (_, device) = self.devices.get(n)?;
+        Some(device.disk())
     }
 
     /// Carries out one step, and answers what the step table says. It takes no memory.
@@ -137,7 +161,14 @@ impl Platform {
             Step::Command => Answer::Idle,
             Step::DmaRead { did, iova, len } => self.dma_read(*did, *iova, *len),
             Step::DmaWrite { did, iova, bytes } => self.dma_write(*did, *iova, bytes.as_slice()),
-            Step::DevRead { .. } | Step::DevWrite { .. } | Step::Device { .. } => Answer::NoDevice,
+            Step::DevRead { dev, off, size } => self.dev_read(*dev, *off, *size),
+            Step::DevWrite {
+                dev,
+                off,
+                size,
+                value,
+            } => self.dev_write(*dev, *off, *size, *value),
+            Step::Device { dev } => self.device(*dev),
         }
     }
 

@@ -12,7 +12,7 @@ use std::{env, fs, io};
 // What a script writes, on the memory of the program.
 fn written(alloc: Global, script: &[u8]) -> anyhow::Result<Vec<u8>> {
     let ram = Ram::new(alloc, 0x8000_0000, 0x10_0000)?;
-    let mut platform = Platform::new(alloc, ram)?;
+    let mut platform = Platform::new(alloc, ram, Vec::new(alloc))?;
     let mut trace = Trace::new(alloc)?;
     let mut reader = script;
     let mut writer = Vec::new(alloc);

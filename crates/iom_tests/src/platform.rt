@@ -18,7 +18,7 @@ fn are_expected(answers: &[Answer]) -> bool {
 #[test]
 fn device_reads_what_the_hart_stored(rt: HostRuntime) -> Result<(), Fail> {
     let ram = Ram::new(rt.alloc(), BASE, 0x10_0000)?;
-    let mut platform = Platform::new(rt.alloc(), ram)?;
+    let mut platform = Platform::new(rt.alloc(), ram, Vec::new(rt.alloc()))?;
     let steps = [
         Step::Store {
             addr: BASE,

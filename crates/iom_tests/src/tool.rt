@@ -77,7 +77,7 @@ pub const ANSWERS: &[u8] =
 // A small memory, since many runs make one.
 pub fn small(alloc: Global) -> Result<Platform, Fail> {
     let ram = Ram::new(alloc, 0x8000_0000, 0x2000)?;
-    Ok(Platform::new(alloc, ram)?)
+    Ok(Platform::new(alloc, ram, Vec::new(alloc))?)
 }
 
 // How a run ended, what it wrote, and the words at two addresses afterwards: the one that the script's second line stores,

@@ -59,7 +59,7 @@ fn otherwise(
     cases: &[Case],
 ) -> Result<Option<usize>, Fail> {
     let ram = memory(alloc, words)?;
-    let start = Platform::new(alloc, ram)?;
+    let start = Platform::new(alloc, ram, Vec::new(alloc))?;
     for (i, (n, want)) in cases.iter().enumerate() {
         if *n >= steps.len() || explain(alloc, &start, steps, *n)? != *want {
             return Ok(Some(i));
@@ -198,7 +198,7 @@ fn by_a_context(rt: HostRuntime) -> Result<(), Fail> {
 // A platform whose device 5 has read through its tables, and whose tables map nothing any more.
 fn read_once(alloc: Global) -> Result<Platform, Fail> {
     let ram = memory(alloc, &MAPPED)?;
-    let mut platform = Platform::new(alloc, ram)?;
+    let mut platform = Platform::new(alloc, ram, Vec::new(alloc))?;
     spend(alloc, 9)?;
     let steps = [
         written(16, 8, 0x2000_0402),

@@ -26,7 +26,7 @@ const SIZE: u64 = 0x10_0000;
 
 fn built_in(alloc: Global) -> Result<Platform, Fault> {
     let ram = Ram::new(alloc, BASE, SIZE)?;
-    Ok(Platform::new(alloc, ram)?)
+    Ok(Platform::new(alloc, ram, Vec::new(alloc))?)
 }
 
 // Runs a script. Its answers are written by blocks, but before it waits for input.

@@ -1,0 +1,97 @@
+//! The block devices, and what the hart and they themselves do with them.
+
+ghost use Rattle.std.specs.Prelude.{◌≡◌, ◌<◌, ◌^◌, length, slice_get, IfOk};
+ghost use Rattle.iom_blk.specs.Phases.{asks};
+ghost use Rattle.iom_core.specs.Table.{answer_of, dev_read, dev_write, dev_written, device_step, moving};
+
+use crate::Platform;
+use crate::hart::{fits, is_size};
+use crate::machine::Machine;
+use crate::port::Port;
+use crate::step::Answer;
+use iom_blk::{Blk, Moved};
+use std::alloc::{AllocError, Global};
+
+impl Platform {
+    // A read of a device's register.
+    pub(crate) fn dev_read(&self, dev: u64, off: u64, size: u64) -> Answer
+        ensures { result ≡ dev_read (slice_get self.now.devices dev) off size }
+    {
+        let Some((_, device)) = self.devices.get(dev as usize) else {
+            return Answer::NoDevice;
+        };
+        match device.reg_read(off, size) {
+            Some(value) => Answer::Value(value),
+            None => Answer::BadAccess,
+        }
+    }
+
+    // A write of a device's register.
+    pub(crate) fn dev_write(&mut self, dev: u64, off: u64, size: u64, value: u64) -> Answer
+        ensures answer { result ≡ (dev_written self.old dev (slice_get self.old.devices dev) off size value).answer }
+        ensures state { self.new ≡ (dev_written self.old dev (slice_get self.old.devices dev) off size value).state }
+    {
+        let n = dev as usize;
+        if n >= self.devices.len() {
+            return Answer::NoDevice;
+        }
+        let (_, device) = &mut self.devices[n];
+        written(device, off, size, value)
+    }
+
+    // A device goes on by one access.
+    pub(crate) fn device(&mut self, dev: u64) -> Answer
+        ensures answer { result ≡ (device_step self.old dev (slice_get self.old.devices dev)).answer }
+        ensures state { self.new ≡ (device_step self.old dev (slice_get self.old.devices dev)).state }
+    {
+        let n = dev as usize;
+        if n >= self.devices.len() {
+            return Answer::NoDevice;
+        }
+        let (did, device) = &mut self.devices[n];
+        moved(&mut self.machine, *did, device)
+    }
+}
+
+#[tactic(auto, unfolding(crate::specs::Table::dev_write))]
+fn written(device: &mut Blk, off: u64, size: u64, value: u64) -> Answer
+    ensures answer { result ≡ (dev_write device.old off size value).answer }
+    ensures left { device.new ≡ (dev_write device.old off size value).device }
+{
+    if is_size(size) && !fits(value, size) {
+        return Answer::Misuse;
+    }
+    if device.reg_write(off, size, value) {
+        Answer::Done
+    } else {
+        Answer::BadAccess
+    }
+}
+
+// The machine, lent to one device for its step.
+#[tactic(auto, unfolding(crate::specs::Table::moving))]
+fn moved(machine: &mut Machine, did: u32, device: &mut Blk) -> Answer
+    requires { did < 2 ^ 24 }
+    ensures answer { result ≡ answer_of (moving machine.old did device.old (asks device.old)).told }
+    ensures machine { machine.new ≡ (moving machine.old did device.old (asks device.old)).machine }
+    ensures device { device.new ≡ (moving machine.old did device.old (asks device.old)).device }
+{
+    let mut port = Port { machine, did };
+    match device.step(&mut port) {
+        Moved::Idle => Answer::Idle,
+        Moved::Did => Answer::Done,
+        Moved::Denied(cause) => Answer::Denied(cause.number()),
+        Moved::Outside => Answer::BusError,
+    }
+}
+
+// The same devices once more.
+pub(crate) fn copied(alloc: Global, devices: &[(u32, Blk)]) -> Result<Vec<(u32, Blk)>, AllocError>
+    ensures { IfOk result (λ copies. copies.items ≡ devices.now) }
+{
+    let mut copies = Vec::new(alloc);
+    for (did, device) in devices {
+        copies.push((*did, device.try_clone(alloc)?))?;
+    }
+    Ok(copies)
+}
