@@ -8,6 +8,8 @@ mod cache;
 #[cfg(test)]
 mod ddt;
 #[cfg(test)]
+mod devices;
+#[cfg(test)]
 mod mem;
 #[cfg(test)]
 mod nested;

@@ -1,0 +1,464 @@
+//! Block devices behind the IOMMU: whole requests, copies amid them, disks, and what an unmapped page does to them.
+
+ghost use Rattle.std.specs.Prelude.{IfOk};
+ghost use Rattle.iom_core.specs.State.{AreDevices};
+
+use iom_blk::Blk;
+use iom_core::{Answer, Platform, Step, Warrant, explain};
+use iom_mem::Ram;
+use iom_tool::Trace;
+use std::alloc::Global;
+use std::test::Fail;
+
+// A queue at physical addresses: a read of a sector into 0x80051000, its header at 0x80050000, its status at 0x80050010.
+const BARE_READ: [(u64, u64); 10] = [
+    (0x8004_0000, 0x8005_0000),
+    (0x8004_0008, 0x0001_0001_0000_0008),
+    (0x8004_0010, 0x8005_0008),
+    (0x8004_0018, 0x0002_0001_0000_0008),
+    (0x8004_0020, 0x8005_1000),
+    (0x8004_0028, 0x0003_0003_0000_0200),
+    (0x8004_0030, 0x8005_0010),
+    (0x8004_0038, 0x0000_0002_0000_0001),
+    (0x8004_1000, 0x1_0000),
+    (0x8005_0010, 0xff),
+];
+
+// A queue behind a first stage, which maps 0x40201000 to the frame at 0x80010000 and no page after it: a write of a sector
+// from 0x40201f00 on.
+const WALKED_WRITE: [(u64, u64); 15] = [
+    (0x8000_10a0, 1),
+    (0x8000_10b8, 0x8000_0000_0008_0002),
+    (0x8000_2008, 0x2000_0c01),
+    (0x8000_3008, 0x2000_1001),
+    (0x8000_4008, 0x2000_40d7),
+    (0x8001_0ab8, 0x4433_2211_0000_0000),
+    (0x8001_0000, 0x4020_1300),
+    (0x8001_0008, 0x0001_0001_0000_0010),
+    (0x8001_0010, 0x4020_1f00),
+    (0x8001_0018, 0x0002_0001_0000_0200),
+    (0x8001_0020, 0x4020_1310),
+    (0x8001_0028, 0x0000_0002_0000_0001),
+    (0x8001_0100, 0x1_0000),
+    (0x8001_0300, 1),
+    (0x8001_0f00, 0x5a),
+];
+
+// A queue behind both stages. The second maps the guest's first gigabyte to the memory from 0x80000000 on; the first maps
+// 0x40201000 to the queue, at 0x80040000, and the three pages from 0x40202000 on to those from 0x80041000 on.
+const BEHIND_BOTH: [(u64, u64); 18] = [
+    (0x8000_10a0, 1),
+    (0x8000_10a8, 0x8000_7000_0008_0020),
+    (0x8000_10b8, 0x8000_0000_0000_0030),
+    (0x8002_0000, 0x2000_00d7),
+    (0x8003_0008, 0xc401),
+    (0x8003_1008, 0xc801),
+    (0x8003_2008, 0x1_00d7),
+    (0x8003_2010, 0x1_04d7),
+    (0x8003_2018, 0x1_08d7),
+    (0x8003_2020, 0x1_0cd7),
+    (0x8004_0000, 0x4020_1300),
+    (0x8004_0008, 0x0001_0001_0000_0010),
+    (0x8004_0010, 0x4020_2000),
+    (0x8004_0020, 0x4020_1310),
+    (0x8004_0028, 0x0000_0002_0000_0001),
+    (0x8004_0100, 0x1_0000),
+    (0x8004_0310, 0xff),
+    (0x8009_0000, 0x7002_0000_0001),
+];
+
+// What a driver writes to the registers until the queue is ready and notified, but for the queue's addresses.
+const BEFORE_QUEUE: [(u64, u64); 6] = [
+    (0x70, 3),
+    (0x24, 1),
+    (0x20, 3),
+    (0x70, 0xb),
+    (0x30, 0),
+    (0x38, 4),
+];
+
+const AFTER_QUEUE: [(u64, u64); 3] = [(0x44, 1), (0x70, 0xf), (0x50, 0)];
+
+fn memory(alloc: Global, words: &[(u64, u64)]) -> Result<Ram, Fail> {
+    let mut ram = Ram::new(alloc, 0x8000_0000, 0x10_0000)?;
+    for (addr, word) in words {
+        let _is_inside = ram.write(*addr, &word.to_le_bytes());
+    }
+    Ok(ram)
+}
+
+// Device 5, with a disk of so many bytes of which the first are given. It must be 512, 1024 or 12288.
+fn devices(alloc: Global, size: usize, start: &[u8]) -> Result<Vec<(u32, Blk)>, Fail>
+    ensures { IfOk result (λ devices. AreDevices devices.items) }
+{
+    let mut devices = Vec::new(alloc);
+    let mut disk = Vec::from_slice(alloc, start)?;
+    disk.resize(size, 0)?;
+    if matches!(disk.len(), 512 | 1024 | 12288) {
+        devices.push((5, Blk::new(disk)))?;
+    }
+    Ok(devices)
+}
+
+fn wrote(off: u64, value: u64) -> Step {
+    Step::DevWrite {
+        dev: 0,
+        off,
+        size: 4,
+        value,
+    }
+}
+
+// The driver's writes, for a queue in one page or in three.
+fn notified(platform: &mut Platform, desc: u64, avail: u64, used: u64) {
+    for (off, value) in &BEFORE_QUEUE {
+        platform.step(&wrote(*off, *value));
+    }
+    platform.step(&wrote(0x80, desc));
+    platform.step(&wrote(0x90, avail));
+    platform.step(&wrote(0xa0, used));
+    for (off, value) in &AFTER_QUEUE {
+        platform.step(&wrote(*off, *value));
+    }
+}
+
+// How many of so many steps of the device are done before one that is answered otherwise.
+fn moved(platform: &mut Platform, count: usize) -> usize {
+    for n in 0..count {
+        if platform.step(&Step::Device { dev: 0 }) != Answer::Done {
+            return n;
+        }
+    }
+    count
+}
+
+// What a script writes.
+fn answered(alloc: Global, platform: &mut Platform, script: &[u8]) -> Result<Vec<u8>, Fail> {
+    let mut trace = Trace::new(alloc)?;
+    let mut reader = script;
+    let mut writer = Vec::new(alloc);
+    iom_tool::run(platform, &mut trace, &mut reader, &mut writer)?;
+    Ok(writer)
+}
+
+fn is_text(written: &Vec<u8>, want: &[u8]) -> bool {
+    written.as_slice() == want
+}
+
+// The platform of a read at physical addresses, notified.
+fn reading(alloc: Global) -> Result<Platform, Fail> {
+    let ram = memory(alloc, &BARE_READ)?;
+    let mut platform = Platform::new(alloc, ram, devices(alloc, 1024, &[0xc0, 0xff, 0xee])?)?;
+    platform.step(&Step::RegWrite {
+        off: 16,
+        size: 8,
+        value: 1,
+    });
+    notified(&mut platform, 0x8004_0000, 0x8004_1000, 0x8004_2000);
+    Ok(platform)
+}
+
+// The used index is written last, and a device that there is not is no device.
+#[test]
+fn sector_is_read(rt: HostRuntime) -> Result<(), Fail> {
+    let mut platform = reading(rt.alloc())?;
+    let before = answered(
+        rt.alloc(),
+        &mut platform,
+        b"dev step 0\ndev step 0\ndev step 0\ndev step 0\ndev step 0\ndev step 0\ndev step 0\ndev step 0\ndev step 0\ndev step 0\ndev step 0\ndev step 0\ndev step 0\ndev step 0\ndev step 0\ndev step 0\ndev step 0\ndev step 0\ndev step 0\nload 0x80042002 2\n",
+    )?;
+    assert!(rt;
+        is_text(
+            &before,
+            b"done\ndone\ndone\ndone\ndone\ndone\ndone\ndone\ndone\ndone\ndone\ndone\ndone\ndone\ndone\ndone\ndone\ndone\ndone\n0x0\n"
+        )
+    );
+    let after = answered(
+        rt.alloc(),
+        &mut platform,
+        b"dev step 0\nload 0x80051000 4\nload 0x80050010 1\nload 0x80042000 8\nload 0x80042008 4\ndev read 0 0x60 4\ndev step 0\ndev step 0\ndev step 1\ndev read 1 0 4\ndev write 1 0 4 0x100000000\ndev read 0 0 3\ndev write 0 0x38 4 0x100000000\ndev write 0 0x38 2 1\n",
+    )?;
+    assert!(rt;
+        is_text(
+            &after,
+            b"done\n0xeeffc0\n0x0\n0x10000\n0x201\n0x1\ndone\nidle\nno device\nno device\nno device\nbad access\nmisuse\nbad access\n"
+        )
+    );
+    Ok(())
+}
+
+// The hart spoils the request while it stands in memory: what the device reads then is what it goes by.
+#[test]
+fn request_changed_by_the_hart(rt: HostRuntime) -> Result<(), Fail> {
+    let mut platform = reading(rt.alloc())?;
+    let written = answered(
+        rt.alloc(),
+        &mut platform,
+        b"store 0x80050008 8 2\nstore 0x80042008 4 7\ndev step 0\ndev step 0\ndev step 0\ndev step 0\ndev step 0\ndev step 0\ndev step 0\ndev step 0\ndev step 0\ndev step 0\ndev step 0\ndev step 0\nload 0x80050010 1\nload 0x80042008 4\nload 0x80042002 2\n",
+    )?;
+    assert!(rt;
+        is_text(
+            &written,
+            b"done\ndone\ndone\ndone\ndone\ndone\ndone\ndone\ndone\ndone\ndone\ndone\ndone\ndone\n0x1\n0x0\n0x1\n"
+        )
+    );
+    Ok(())
+}
+
+// The page behind the first data isn't mapped: the device is denied and breaks, and the bytes before are on the disk.
+#[test]
+fn device_is_denied(rt: HostRuntime) -> Result<(), Fail> {
+    let ram = memory(rt.alloc(), &WALKED_WRITE)?;
+    let mut platform = Platform::new(rt.alloc(), ram, devices(rt.alloc(), 512, &[])?)?;
+    let _queue = answered(
+        rt.alloc(),
+        &mut platform,
+        b"reg write 16 8 0x20000402\nreg write 40 8 0x20020001\nreg write 76 4 1\n",
+    )?;
+    notified(&mut platform, 0x4020_1000, 0x4020_1100, 0x4020_1200);
+    assert!(rt; moved(&mut platform, 10) == 10);
+    let written = answered(
+        rt.alloc(),
+        &mut platform,
+        b"dev step 0\ndev step 0\ndev read 0 0x70 4\ndev read 0 0x60 4\nload 0x80080010 8\ndev write 0 0x70 4 0\ndev read 0 0x70 4\n",
+    )?;
+    assert!(rt;
+        is_text(
+            &written,
+            b"denied 13\nidle\n0x4f\n0x2\n0x40202000\ndone\n0x0\n"
+        )
+    );
+    assert!(rt; matches!(platform.disk(0), Some([0x5a, 0, ..])) && platform.disk(1).is_none());
+    Ok(())
+}
+
+// Which steps of a list have these warrants, from a platform on which nothing happened yet.
+fn are_warranted(
+    alloc: Global,
+    steps: &[Step],
+    cases: &[(usize, Option<Warrant>)],
+) -> Result<bool, Fail> {
+    let ram = memory(alloc, &WALKED_WRITE)?;
+    let start = Platform::new(alloc, ram, devices(alloc, 512, &[])?)?;
+    for (n, want) in cases {
+        if *n >= steps.len() || explain(alloc, &start, steps, *n)? != *want {
+            return Ok(false);
+        }
+    }
+    Ok(true)
+}
+
+// All ten accesses used the page that the first one walked; the eleventh was denied, and the device is idle then.
+#[test]
+fn device_steps_are_explained(rt: HostRuntime) -> Result<(), Fail> {
+    let mut steps = Vec::new(rt.alloc());
+    steps.push(Step::RegWrite {
+        off: 16,
+        size: 8,
+        value: 0x2000_0402,
+    })?;
+    for (off, value) in &BEFORE_QUEUE {
+        steps.push(wrote(*off, *value))?;
+    }
+    for (off, value) in &[
+        (0x80, 0x4020_1000),
+        (0x90, 0x4020_1100),
+        (0xa0, 0x4020_1200),
+    ] {
+        steps.push(wrote(*off, *value))?;
+    }
+    for (off, value) in &AFTER_QUEUE {
+        steps.push(wrote(*off, *value))?;
+    }
+    for _ in 0..12 {
+        steps.push(Step::Device { dev: 0 })?;
+    }
+    let walked = Some(Warrant::Walked {
+        context: 13,
+        walk: 13,
+        current: 13,
+    });
+    let cases = [
+        (12, None),
+        (13, walked),
+        (14, walked),
+        (22, walked),
+        (23, None),
+        (24, None),
+    ];
+    assert!(rt; are_warranted(rt.alloc(), steps.as_slice(), &cases)?);
+    Ok(())
+}
+
+// Whether two platforms have the same bytes where the request writes, and on the disk.
+fn are_alike(one: &Platform, other: &Platform) -> bool {
+    for addr in [
+        0x8004_2000,
+        0x8004_2008,
+        0x8005_1000,
+        0x8005_11f8,
+        0x8005_0010,
+    ] {
+        if one.ram().word(addr) != other.ram().word(addr) {
+            return false;
+        }
+    }
+    one.disk(0) == other.disk(0)
+}
+
+// A copy made after any step of a request goes on as its original, and neither moves the other.
+#[test]
+fn copy_amid_a_request(rt: HostRuntime) -> Result<(), Fail> {
+    for k in 0..23 {
+        let mut platform = reading(rt.alloc())?;
+        let before = moved(&mut platform, k);
+        let mut copy = platform.try_clone(rt.alloc())?;
+        let rest = moved(&mut platform, 23);
+        assert!(rt;
+            moved(&mut copy, 23) == rest
+                && before.saturating_add(rest) == 21
+                && are_alike(&platform, &copy),
+            "after {k}"
+        );
+    }
+    Ok(())
+}
+
+// A request of one or three pages behind both stages; the hart unmaps the second page of its data after so many steps, and
+// invalidates what is cached of it or not; so many steps are done before one that is answered so.
+#[derive(Clone, Copy)]
+struct Request {
+    pages: u64,
+    is_write: bool,
+    unmapped: usize,
+    invalidated: bool,
+    done: usize,
+    last: u16,
+}
+
+const NEVER: usize = 1000;
+
+fn told(
+    pages: u64,
+    is_write: bool,
+    unmapped: usize,
+    invalidated: bool,
+    done: usize,
+    last: u16,
+) -> Request {
+    Request {
+        pages,
+        is_write,
+        unmapped,
+        invalidated,
+        done,
+        last,
+    }
+}
+
+// The platform before the request's first step: the disk has 12,288 bytes. The 64 bytes of piece i are i + 1, on the disk
+// or in memory.
+fn requested(alloc: Global, request: Request) -> Result<Platform, Fail> {
+    let mut ram = memory(alloc, &BEHIND_BOTH)?;
+    let flags = if request.is_write { 1 } else { 3 };
+    let data = 0x0002_0000_0000_0000 | (flags << 32) | (0x1000 * (request.pages % 4));
+    let _is_inside = ram.write(0x8004_0018, &data.to_le_bytes());
+    let _is_inside = ram.write(0x8004_0300, &[request.is_write as u8]);
+    let mut disk = Vec::new(alloc);
+    for i in 0..192 {
+        if request.is_write {
+            let _is_inside = ram.write(0x8004_1000 + 64 * i, &[i as u8 + 1; 64]);
+        } else {
+            disk.resize(64 * (i as usize + 1), i as u8 + 1)?;
+        }
+    }
+    let mut platform = Platform::new(alloc, ram, devices(alloc, 12288, disk.as_slice())?)?;
+    for (off, size, value) in &[(16, 8, 0x2000_0402), (24, 8, 0x2002_4003), (72, 4, 1)] {
+        platform.step(&Step::RegWrite {
+            off: *off,
+            size: *size,
+            value: *value,
+        });
+    }
+    notified(&mut platform, 0x4020_1000, 0x4020_1100, 0x4020_1200);
+    Ok(platform)
+}
+
+// The hart takes the page at 0x40203000 away, and what is cached of the guest where that is wanted.
+fn unmap(platform: &mut Platform, invalidated: bool) {
+    platform.step(&Step::Store {
+        addr: 0x8003_2018,
+        size: 8,
+        value: 0,
+    });
+    if invalidated {
+        platform.step(&Step::RegWrite {
+            off: 36,
+            size: 4,
+            value: 1,
+        });
+        platform.step(&Step::Command);
+    }
+}
+
+// Whether the first pieces were moved, and no other.
+fn are_moved(platform: &Platform, request: Request, pieces: usize) -> bool {
+    let disk = platform.disk(0).unwrap_or(&[]);
+    for i in 0..192 {
+        let byte = if i < pieces { i as u8 + 1 } else { 0 };
+        let there = if request.is_write {
+            disk.get(64 * i) == Some(&byte) && disk.get(64 * i + 63) == Some(&byte)
+        } else {
+            platform.ram().word(0x8004_1000 + 64 * i as u64)
+                == Some(byte as u64 * 0x0101_0101_0101_0101)
+        };
+        if !there {
+            return false;
+        }
+    }
+    true
+}
+
+// Whether a request goes as it is told. Its first six steps and the five last ones move no data.
+fn goes(alloc: Global, request: Request) -> Result<bool, Fail> {
+    let mut platform = requested(alloc, request)?;
+    let mut done = moved(&mut platform, request.unmapped.min(NEVER));
+    if done == request.unmapped {
+        unmap(&mut platform, request.invalidated);
+        done = done.saturating_add(moved(&mut platform, NEVER));
+    }
+    let is_broken = platform.step(&Step::DevRead {
+        dev: 0,
+        off: 0x60,
+        size: 4,
+    }) == Answer::Value(2);
+    let pieces = done
+        .min(6 + 64 * (request.pages % 4) as usize)
+        .saturating_sub(6);
+    Ok(
+        done == request.done
+            && is_broken == (request.last != 0)
+            && are_moved(&platform, request, pieces),
+    )
+}
+
+#[test]
+fn requests_behind_both_stages(rt: HostRuntime) -> Result<(), Fail> {
+    let requests = [
+        told(1, false, NEVER, false, 75, 0),
+        told(1, true, NEVER, false, 75, 0),
+        told(3, false, NEVER, false, 203, 0),
+        told(3, true, NEVER, false, 203, 0),
+        // The translation that is cached serves on, until it is invalidated.
+        told(3, false, 78, false, 203, 0),
+        told(3, true, 78, false, 203, 0),
+        told(3, false, 78, true, 78, 15),
+        told(3, true, 78, true, 78, 13),
+        // The page was not read yet.
+        told(3, false, 40, false, 70, 15),
+    ];
+    for (i, request) in requests.iter().enumerate() {
+        assert!(rt; goes(rt.alloc(), *request)?, "request {i}");
+    }
+    Ok(())
+}
