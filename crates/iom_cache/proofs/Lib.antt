@@ -6,3 +6,7 @@ mod Shifts
 pub mod Stamped
 pub mod Since
 pub mod Origins
+pub mod Chains
+pub mod Indexed
+pub mod Apart
+pub mod Counted

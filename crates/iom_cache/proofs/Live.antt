@@ -1,5 +1,5 @@
 -- What each live place holds, after a fill and after a drop, and what is found there.
-use Rattle.std.proofs.Common.{◌≡◌, ◌==◌, ℕ, zero, suc, length, ◌++◌, List, [], ◌∷◌, Bool, true, false, Option, Some, None, drop, map, slice_get, if◌then◌else◌, refl, subst}
+use Rattle.std.proofs.Common.{◌≡◌, ◌==◌, ℕ, zero, suc, length, ◌++◌, List, [], ◌∷◌, Bool, true, false, Option, Some, None, drop, map, slice_get, if◌then◌else◌, refl, sym, subst}
 use Rattle.std.specs.Prelude.{IfSome}
 use Rattle.iom_cache.specs.Places.{find, made_room, filled_by, dropped_by, emptied_by, place_in, EachLive, IfLive}
 
@@ -64,3 +64,9 @@ live_at P zero (None ∷ places) each = tt
 live_at P zero (Some entry ∷ places) each = each.0
 live_at P (suc i) (None ∷ places) each = live_at P i places each
 live_at P (suc i) (Some entry ∷ places) each = live_at P i places each.1
+
+-- what is found holds what each live place holds
+pub found_each : {K V : Type 0} → (P : V → Type 0) (is_key : K → Bool) (o : Option V) (places : List (Option (K × V))) → o ≡ find is_key places →
+    EachLive (λ (entry : K × V). P entry.1) places → IfSome o P
+found_each P is_key None places e each = tt
+found_each {K} {V} P is_key (Some value) places e each = (found_live (λ (entry : K × V). P entry.1) is_key value places (sym e) each).2

@@ -3,3 +3,5 @@ pub mod Keys
 pub mod Drops
 pub mod Entries
 pub mod Origins
+pub mod Buckets
+pub mod Index

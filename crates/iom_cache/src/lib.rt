@@ -9,6 +9,7 @@ pub use translations::TransCache;
 
 mod contexts;
 mod drops;
+mod index;
 mod key;
 mod place;
 mod translations;

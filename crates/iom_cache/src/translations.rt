@@ -1,8 +1,10 @@
-ghost use Rattle.std.specs.Prelude.{◌≡◌, map, Some};
-ghost use Rattle.iom_cache.specs.Places.{dropped_by};
+ghost use Rattle.std.specs.Prelude.{◌≡◌, ◌<◌, ◌≤◌, length, map, Some};
+ghost use Rattle.iom_cache.specs.Index.{AreApart, IsIndex};
+ghost use Rattle.iom_cache.specs.Places.{dropped_by, made_room};
 ghost use Rattle.iom_cache.specs.Drops.{drops_page};
 
 use crate::drops::drops_page;
+use crate::index::{Index, bucket_of};
 use crate::key::is_same;
 use crate::{Key, Place};
 use circular_buffer::HeapCircularBuffer;
@@ -15,25 +17,30 @@ use std::marker::Model;
 const PLACES: usize = 64;
 
 /// The translation cache: at most 64 places, oldest first, each empty or with where a key leads.
-#[derive(Debug, Drop)]
+#[derive(Drop)]
 pub struct TransCache {
     places: HeapCircularBuffer<Option<(Key, Hit)>>,
+    index: Index,
 }
 
 impl Model for TransCache {
     ghost use Rattle.std.specs.Prelude.{◌≡◌, ◌≤◌, List, Option, length};
     ghost use Rattle.iom_cache.specs.declared.key.Key.{Key};
     ghost use Rattle.iom_nested.specs.declared.translation.Hit.{Hit};
+    ghost use Rattle.iom_cache.specs.Index.{AreApart, IsIndex};
 
     ghost Value = { List (Option (Key × Hit)) };
 
     ghost view = { λ cache. cache.places.items };
 
-    ghost invariant = { λ cache. (cache.places.capacity ≡ 64) × (length cache.places.items ≤ 64) };
+    ghost invariant = { λ cache. (cache.places.capacity ≡ 64) × (length cache.places.items ≤ 64)
+        × AreApart cache.places.items × IsIndex cache.index cache.places.items };
 }
 
 impl TransCache {
-    ghost use Rattle.std.specs.Prelude.{◌≡◌, ◌≤◌, [], Some, None, length, slice_get, IfOk, IfSome};
+    ghost use Rattle.std.specs.Prelude.{◌≡◌, ◌<◌, ◌≤◌, [], Some, None, get_or, length, slice_get, IfOk, IfSome};
+    ghost use Rattle.iom_cache.specs.Buckets.{compared};
+    ghost use Rattle.iom_cache.specs.Index.{hit_of};
     ghost use Rattle.iom_nested.specs.Nested.{HitFits};
     ghost use Rattle.iom_cache.specs.Places.{find, IsHeld, filled_by, emptied_by, place_in, EachLive, IfLive};
     ghost use Rattle.iom_cache.specs.Entries.{HoldsHit};
@@ -46,6 +53,7 @@ impl TransCache {
     {
         Ok(TransCache {
             places: HeapCircularBuffer::with_capacity(alloc, PLACES)?,
+            index: Index::new(),
         })
     }
 
@@ -57,7 +65,10 @@ impl TransCache {
         for place in self.places.iter() {
             let _none = places.push_back(*place);
         }
-        Ok(TransCache { places })
+        Ok(TransCache {
+            places,
+            index: self.index,
+        })
     }
 
     /// What the live place with this key says; None where there is none.
@@ -67,14 +78,38 @@ impl TransCache {
         ensures sound { EachLive HoldsHit self.now → IfSome result HitFits }
         ensures within { length self.now ≤ 64 }
     {
-        for place in self.places.iter() {
-            if let Some((own, hit)) = place
-                && is_same(key, own)
-            {
-                return Some(*hit);
+        let _ = &self.places;
+        self.find_counted(key).0
+    }
+
+    /// The same, and how many keys were compared for it.
+    pub fn find_counted(&self, key: &Key) -> (Option<Hit>, u32)
+        ensures found { result.0 ≡ find (same_key key.now) self.now }
+        ensures count { result.1 ≡ compared key.now self.now }
+    {
+        let mut slot = self.index.newest(bucket_of(key));
+        let mut limit = self.places.len();
+        let mut count = 0;
+        while self.index.position(slot) < limit {
+            limit = self.index.position(slot);
+            count += 1;
+            if let Some(hit) = self.hit_at(limit, key) {
+                return (Some(hit), count);
             }
+            slot = self.index.older(slot);
         }
-        None
+        (None, count)
+    }
+
+    // The hit at a place that there is, where that has the key.
+    fn hit_at(&self, at: usize, key: &Key) -> Option<Hit>
+        requires { at < length self.now }
+        ensures { result ≡ hit_of key.now (get_or self.now at None) }
+    {
+        match self.places.get(at) {
+            Some(Some((own, hit))) if is_same(key, own) => Some(*hit),
+            _ => None,
+        }
     }
 
     /// Appends a place for a key that no live place has. Where there are 64 places the oldest, live or empty, leaves.
@@ -82,14 +117,19 @@ impl TransCache {
         requires absent { find (same_key key) self.old ≡ None }
         ensures { self.new ≡ filled_by 64 (Some (key, hit)) self.old }
     {
-        let _oldest = self.places.push_back(Some((key, hit)));
+        make_room(&mut self.places, &mut self.index);
+        let place = Some((key, hit));
+        self.index.append(self.places.len(), &place);
+        let _none = self.places.push_back(place);
     }
 
     /// Empties, where they stand, the places that a command drops ("IOTINVAL").
     pub fn drop_matching(&mut self, command: &Command)
         ensures { self.new ≡ emptied_by drops_page (Some command.now) self.old }
     {
-        empty_matching(command, self.places.make_contiguous());
+        let places = self.places.make_contiguous();
+        empty_matching(command, places);
+        self.index = Index::of(places);
     }
 
     /// What stands at place `i`, any number; the oldest is place 0.
@@ -100,6 +140,25 @@ impl TransCache {
         ensures within { length self.now ≤ 64 }
     {
         Place::of(self.places.get(i as usize))
+    }
+}
+
+// Where there are as many places as there may be, the oldest leaves.
+fn make_room(places: &mut HeapCircularBuffer<Option<(Key, Hit)>>, index: &mut Index)
+    requires capacity { places.old.capacity ≡ 64 }
+    requires few { length places.old.items ≤ 64 }
+    requires apart { AreApart places.old.items }
+    requires index { IsIndex index.old places.old.items }
+    ensures capacity { places.new.capacity ≡ 64 }
+    ensures room { length places.new.items < 64 }
+    ensures places { places.new.items ≡ made_room 64 places.old.items }
+    ensures apart { AreApart places.new.items }
+    ensures index { IsIndex index.new places.new.items }
+{
+    if places.len() == PLACES
+        && let Some(oldest) = places.pop_front()
+    {
+        index.leave(&oldest);
     }
 }
 

@@ -1,9 +1,11 @@
-use Rattle.std.proofs.Common.{rules, Some, None}
+use Rattle.iom_nested.specs.Nested.{HitFits}
+use Rattle.iom_cache.specs.Keys.{same_key}
 use Rattle.iom_cache.proofs.Held.{key_held}
+use Rattle.iom_cache.proofs.Live.{found_each}
 use Rattle.iom_cache.proofs.translations.TransCache.find.Goals as goal
 
-pub returns-in-loop-place-clause-held : goal.returns-in-loop-place-clause-held
-returns-in-loop-place-clause-held c = key_held c.args.key.now (Some c.in-Some-place.hit) c.args.self.now (search rules)
-
 pub returns-clause-held : goal.returns-clause-held
-returns-clause-held c = key_held c.args.key.now None c.args.self.now (search rules)
+returns-clause-held c = key_held c.args.key.now c.find_counted.result.0 c.args.self.now c.find_counted.ensures.found
+
+pub returns-clause-sound : goal.returns-clause-sound
+returns-clause-sound c = λ each. found_each HitFits (same_key c.args.key.now) c.find_counted.result.0 c.args.self.now c.find_counted.ensures.found each

@@ -1,0 +1,124 @@
+//! The index of the translation cache: in which places a key may stand.
+
+ghost use Rattle.std.specs.Prelude.{◌≡◌, ◌<◌, ◌≤◌, ◌++◌, [], ◌∷◌, List, Option, length, get_or};
+ghost use Rattle.iom_nested.specs.declared.translation.Hit.{Hit};
+ghost use Rattle.iom_cache.specs.declared.key.Key.{Key};
+ghost use Rattle.iom_cache.specs.Buckets.{bucket_of};
+ghost use Rattle.iom_cache.specs.Index.{IsIndex, cleared, position};
+
+use crate::Key;
+use iom_nested::Hit;
+
+/// How many slots there are: one for each place.
+const SLOTS: usize = 64;
+
+/// The live places by buckets, the newest first. A place keeps its slot from its fill on.
+#[derive(Clone, Copy)]
+pub struct Index {
+    // Of each bucket the slot of its newest place; SLOTS where it has none.
+    heads: [usize; 32],
+    // Behind each slot the next one of its bucket, where that is of an older place.
+    links: [usize; 64],
+    // The slot of the oldest place.
+    first: usize,
+}
+
+impl Index {
+    /// The index of no place.
+    pub fn new() -> Index
+        ensures { IsIndex result [] }
+    {
+        Index {
+            heads: [SLOTS; 32],
+            links: [SLOTS; 64],
+            first: 0,
+        }
+    }
+
+    /// The slot that a bucket starts with.
+    pub fn newest(&self, bucket: usize) -> usize
+        requires { bucket < 32 }
+        ensures { result ≡ get_or self.now.heads bucket 64 }
+    {
+        self.heads[bucket]
+    }
+
+    /// The slot behind a slot.
+    pub fn older(&self, slot: usize) -> usize
+        requires { slot < 64 }
+        ensures { result ≡ get_or self.now.links slot 64 }
+    {
+        self.links[slot]
+    }
+
+    /// The place at a slot; SLOTS where there is none.
+    #[tactic(auto, unfolding(crate::specs::Index::position))]
+    pub fn position(&self, slot: usize) -> usize
+        requires { self.now.first < 64 }
+        ensures { result ≡ position self.now.first slot }
+    {
+        if slot < SLOTS {
+            (slot + SLOTS - self.first) % SLOTS
+        } else {
+            SLOTS
+        }
+    }
+
+    /// A place is filled behind `at` others.
+    pub fn append(&mut self, at: usize, place: &Option<(Key, Hit)>)
+        requires room { at < 64 }
+        requires first { self.old.first < 64 }
+        ensures { (places : List (Option (Key × Hit))) → length places ≡ at → IsIndex self.old places →
+            IsIndex self.new (places ++ place.now ∷ []) }
+    {
+        if let Some((key, _)) = place {
+            let bucket = bucket_of(key);
+            let slot = (self.first + at) % SLOTS;
+            self.links[slot] = self.heads[bucket];
+            self.heads[bucket] = slot;
+        }
+    }
+
+    /// The oldest place leaves.
+    pub fn leave(&mut self, oldest: &Option<(Key, Hit)>)
+        requires { self.old.first < 64 }
+        ensures { (places : List (Option (Key × Hit))) → length places < 64 → IsIndex self.old (oldest.now ∷ places) →
+            IsIndex self.new places }
+    {
+        clear(&mut self.heads, self.first, oldest);
+        self.first = (self.first + 1) % SLOTS;
+    }
+
+    /// The index of these places.
+    pub fn of(places: &[Option<(Key, Hit)>]) -> Index
+        requires { length places.now ≤ 64 }
+        ensures { IsIndex result places.now }
+    {
+        let mut index = Index::new();
+        for (at, place) in places.iter().enumerate() {
+            index.append(at, place);
+        }
+        index
+    }
+}
+
+// Empties the bucket that starts with the oldest place.
+fn clear(heads: &mut [usize; 32], first: usize, oldest: &Option<(Key, Hit)>)
+    ensures { heads.new ≡ cleared heads.old first oldest.now }
+{
+    if let Some((key, _)) = oldest {
+        let bucket = bucket_of(key);
+        if heads[bucket] == first {
+            heads[bucket] = SLOTS;
+        }
+    }
+}
+
+/// The bucket of a key.
+#[tactic(auto, unfolding(crate::specs::Buckets::bucket_of))]
+pub fn bucket_of(key: &Key) -> usize
+    ensures bucket { result ≡ bucket_of key.now }
+    ensures few { result < 32 }
+{
+    (key.page as usize % 32 + key.did as usize % 32) % 32
+}
