@@ -26,6 +26,7 @@ copy_for_the_walk AllocError
 copy_for_the_current_context AllocError
 copy_for_the_context_of_the_walk AllocError
 copies_go_their_own_ways AllocError
+block_device_is_copied AllocError
 parts_are_copied AllocError
 END
 done

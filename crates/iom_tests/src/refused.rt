@@ -2,6 +2,7 @@
 //! answers its own fault, in which the test ends. Each test takes so many allocations before that those of its calls are the
 //! thirteenth to the fifteenth.
 
+use crate::blk_requests::with_disk;
 use crate::first_wrong;
 use crate::warrants::{MAPPED, memory, otherwise, read, stored, walked, written};
 use iom_cache::{ContextCache, Place, TransCache};
@@ -155,6 +156,20 @@ fn copies_go_their_own_ways(rt: HostRuntime) -> Result<(), Fail> {
         byte_read(&mut copy) == Some(0x11),
     ];
     assert_eq!(rt; first_wrong(&facts), None);
+    Ok(())
+}
+
+// A copy of a block device takes one allocation, that of its disk; here it is the copy of a copy of a copy.
+#[test]
+fn block_device_is_copied(rt: HostRuntime) -> Result<(), Fail> {
+    spend(rt.alloc(), 11)?;
+    let mut disk = Vec::new(rt.alloc());
+    disk.resize(1024, 7)?;
+    let blk = with_disk(disk).ok_or("a disk of two sectors")?;
+    let first = blk.try_clone(rt.alloc())?;
+    let second = first.try_clone(rt.alloc())?;
+    let third = second.try_clone(rt.alloc())?;
+    assert!(rt; third.disk() == blk.disk());
     Ok(())
 }
 
