@@ -1,5 +1,6 @@
 #!/usr/bin/env python3
-"""gate_cost.py [CRATE..]    Processor seconds of the gate's parts, run one at a time on a copy of the repository.
+"""gate_cost.py [CRATE..]    Processor seconds of the gate's parts, run one at a time, with one job each, on a copy of the
+repository.
 
 The parts of a crate are its proof from nothing (of a program with both of its builds), its tests, proved and run, and
 the edits that must be refused. Prints a table of all crates, or of those that are named, as docs/MAP.md has it; the
@@ -17,6 +18,8 @@ import time
 
 TOP = os.path.join(os.path.dirname(os.path.abspath(__file__)), os.pardir)
 PROGRAM = "rviommu"
+# Of a check with several jobs each reads the libraries below by itself, which takes more in all.
+ONE_JOB = ("--jobs", "1")
 
 
 def listed(top):
@@ -91,10 +94,10 @@ def measure(top, name, row):
     folder = f"{top}/crates/{name}"
     if os.path.isfile(f"{folder}/src/main.rt"):
         shutil.copy2(f"{folder}/out/{name}", f"{top}/{name}")
-        row.second = cost(folder, "rt", "run", "--backend", "rattle")
+        row.second = cost(folder, "rt", "run", "--backend", "rattle", *ONE_JOB)
     if has_tests(folder):
         shutil.rmtree(f"{folder}/out/incremental", ignore_errors=True)
-        row.tests = cost(folder, "rt", "test")
+        row.tests = cost(folder, "rt", "test", *ONE_JOB)
     row.edit_count = edits_of(folder)
     if row.edit_count:
         row.edits = cost(top, "rt", "must-fail", name)
@@ -140,7 +143,8 @@ def main():
             folder = f"{top}/crates/{name}"
             rows[name] = Row(name)
             start = time.monotonic()
-            rows[name].build = cost(folder, "rt", "run" if os.path.isfile(f"{folder}/src/main.rt") else "lib")
+            word = "run" if os.path.isfile(f"{folder}/src/main.rt") else "lib"
+            rows[name].build = cost(folder, "rt", word, *ONE_JOB)
             if name in below(PROGRAM, crates):
                 clock += time.monotonic() - start
             if name in named:

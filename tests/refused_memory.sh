@@ -1,44 +1,34 @@
 #!/bin/sh
 # With an allocation refused, the call that takes it answers its own fault for want of memory, and a test that makes the call
-# ends in this fault.
+# ends in this fault. Each test of crates/iom_tests/src/refused.rt takes so many allocations before that those of its calls are
+# the thirteenth to the fifteenth.
 top=$(cd "$(dirname "$0")/.." && pwd) || exit 1
 
-# refused NUMBER WORD TEST FAULT [TEST FAULT ..]: with that allocation of each test refused whose name has the word, each of these
-# tests ends in its fault.
-refused() {
-    number=$1
-    word=$2
-    shift 2
-    seen=$(cd "$top/crates/iom_tests" && rt try --test --fail-alloc "$number" -- "$word" 2>&1)
+for number in 13 14 15; do
+    seen=$(cd "$top/crates/iom_tests" && rt try --test --fail-alloc "$number" -- refused:: 2>&1)
     told=$(printf '%s\n' "$seen" | awk '$1 == "test" { test = $2 } $1 == "error:" { print test, $2 }')
-    while [ $# -gt 0 ]; do
-        if ! printf '%s\n' "$told" | grep -qxF "$1 $2"; then
+    # The first allocation of a platform is that of its memory.
+    case $number in
+    13) made=OutOfMemory ;;
+    *) made=AllocError ;;
+    esac
+    while read -r test fault; do
+        if ! printf '%s\n' "$told" | grep -qxF "refused::$test $fault"; then
             printf '%s\n' "$seen"
-            echo "refused memory: FAILED, of $1 at allocation $number"
+            echo "refused memory: FAILED, of $test at allocation $number"
             exit 1
         fi
-        shift 2
-    done
-}
-
-# Each cache takes one allocation; a platform takes that of its memory, of its contexts and of its translations.
-refused 1 :: mem::keeps_what_is_written OutOfMemory \
-    cache::oldest_leaves AllocError \
-    cache::keeps_sixteen_contexts AllocError \
-    platform::device_reads_what_the_hart_stored OutOfMemory
-refused 2 platform:: platform::device_reads_what_the_hart_stored AllocError
-refused 3 platform:: platform::device_reads_what_the_hart_stored AllocError
-# A trace takes one, here after those of its platform.
-refused 4 script::trace script::trace_of_the_last_steps AllocError
-
-# A copy of a platform takes as many as the platform, and `explain` makes four copies for a walk. These tests take so many allocations before
-# that the three of each copy are the thirteenth to the fifteenth.
-for number in 13 14 15; do
-    refused "$number" warrants:: warrants::copies_go_their_own_ways AllocError \
-        warrants::parts_are_copied AllocError \
-        warrants::copy_for_the_access AllocError \
-        warrants::copy_for_the_walk AllocError \
-        warrants::copy_for_the_current_context AllocError \
-        warrants::copy_for_the_context_of_the_walk AllocError
+    done <<END
+device_reads_what_the_hart_stored $made
+caches_and_a_trace_are_made AllocError
+copy_for_the_access AllocError
+copy_for_the_walk AllocError
+copy_for_the_current_context AllocError
+copy_for_the_context_of_the_walk AllocError
+copies_go_their_own_ways AllocError
+block_device_is_copied AllocError
+platform_with_a_device_is_copied AllocError
+parts_are_copied AllocError
+END
 done
 echo "refused memory: ok"

@@ -88,7 +88,7 @@ fn memory(alloc: Global, words: &[(u64, u64)]) -> Result<Ram, Fail> {
 }
 
 // Device 5, with a disk of so many bytes of which the first are given. It must be 512, 1024 or 12288.
-fn devices(alloc: Global, size: usize, start: &[u8]) -> Result<Vec<(u32, Blk)>, Fail>
+pub fn devices(alloc: Global, size: usize, start: &[u8]) -> Result<Vec<(u32, Blk)>, Fail>
     ensures { IfOk result (λ devices. AreDevices devices.items) }
 {
     let mut devices = Vec::new(alloc);

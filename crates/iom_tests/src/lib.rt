@@ -4,7 +4,13 @@
 #[cfg(test)]
 mod bits;
 #[cfg(test)]
+mod blk_registers;
+#[cfg(test)]
+mod blk_requests;
+#[cfg(test)]
 mod cache;
+#[cfg(test)]
+mod chains;
 #[cfg(test)]
 mod ddt;
 #[cfg(test)]
@@ -14,13 +20,15 @@ mod mem;
 #[cfg(test)]
 mod nested;
 #[cfg(test)]
-mod platform;
-#[cfg(test)]
 mod queue;
+#[cfg(test)]
+mod refused;
 #[cfg(test)]
 mod regs;
 #[cfg(test)]
 mod script;
+#[cfg(test)]
+mod tape;
 #[cfg(test)]
 mod tool;
 #[cfg(test)]

@@ -37,7 +37,6 @@ fn refuses_in_order(rt: HostRuntime) {
     assert_eq!(rt; otherwise(rt.alloc(), &cases), None);
 }
 
-// With the first allocation refused it ends in `OutOfMemory`.
 #[test]
 fn keeps_what_is_written(rt: HostRuntime) -> Result<(), Fail> {
     let mut ram = Ram::new(rt.alloc(), BASE, 0x1000)?;

@@ -1,13 +1,14 @@
-//! Which moments warrant what a read used, and copies that go their own ways.
+//! Which moments warrant what a read used.
 
-use crate::first_wrong;
-use iom_core::{Answer, Platform, Step, Warrant, explain};
+use iom_bits::Kind;
+use iom_cache::Key;
+use iom_core::{Platform, Step, Warrant, explain};
 use iom_mem::Ram;
 use std::alloc::Global;
 use std::test::Fail;
 
 // Device 5 has a first stage, whose tables map 0x40201000 to the frame at 0x80010000, and a byte to read there.
-const MAPPED: [(u64, u64); 6] = [
+pub const MAPPED: [(u64, u64); 6] = [
     (0x8000_10a0, 1),
     (0x8000_10b8, 0x8000_0000_0008_0002),
     (0x8000_2008, 0x2000_0c01),
@@ -20,7 +21,7 @@ const MAPPED: [(u64, u64); 6] = [
 const BARE: [(u64, u64); 1] = [(0x8000_10a0, 1)];
 
 // A memory with these words at these addresses.
-fn memory(alloc: Global, words: &[(u64, u64)]) -> Result<Ram, Fail> {
+pub fn memory(alloc: Global, words: &[(u64, u64)]) -> Result<Ram, Fail> {
     let mut ram = Ram::new(alloc, 0x8000_0000, 0x10_0000)?;
     for (addr, word) in words {
         let _is_inside = ram.write(*addr, &word.to_le_bytes());
@@ -28,11 +29,11 @@ fn memory(alloc: Global, words: &[(u64, u64)]) -> Result<Ram, Fail> {
     Ok(ram)
 }
 
-fn written(off: u64, size: u64, value: u64) -> Step {
+pub fn written(off: u64, size: u64, value: u64) -> Step {
     Step::RegWrite { off, size, value }
 }
 
-fn stored(addr: u64, value: u64) -> Step {
+pub fn stored(addr: u64, value: u64) -> Step {
     Step::Store {
         addr,
         size: 8,
@@ -40,7 +41,7 @@ fn stored(addr: u64, value: u64) -> Step {
     }
 }
 
-fn read(iova: u64) -> Step {
+pub fn read(iova: u64) -> Step {
     Step::DmaRead {
         did: 5,
         iova,
@@ -49,10 +50,10 @@ fn read(iova: u64) -> Step {
 }
 
 // A step, and the warrant of its access.
-type Case = (usize, Option<Warrant>);
+pub type Case = (usize, Option<Warrant>);
 
 // The number of the first case that is otherwise, of steps carried out from a memory with these words on.
-fn otherwise(
+pub fn otherwise(
     alloc: Global,
     words: &[(u64, u64)],
     steps: &[Step],
@@ -68,54 +69,12 @@ fn otherwise(
     Ok(None)
 }
 
-fn walked(context: usize, walk: usize, current: usize) -> Option<Warrant> {
+pub fn walked(context: usize, walk: usize, current: usize) -> Option<Warrant> {
     Some(Warrant::Walked {
         context,
         walk,
         current,
     })
-}
-
-// Takes so many allocations, so that those of what follows have later numbers: tests/refused_memory.sh refuses the same three of
-// each test.
-fn spend(alloc: Global, count: usize) -> Result<(), Fail> {
-    for _ in 0..count {
-        let _spare = Vec::from_slice(alloc, &[0_u8])?;
-    }
-    Ok(())
-}
-
-// Whether the first read of a device is told to be walked, after so many allocations.
-fn is_walked_after(alloc: Global, spent: usize) -> Result<bool, Fail> {
-    spend(alloc, spent)?;
-    let steps = [written(16, 8, 0x2000_0402), read(0x4020_1abc)];
-    let cases = [(1, walked(1, 1, 1))];
-    Ok(otherwise(alloc, &MAPPED, &steps, &cases)?.is_none())
-}
-
-// A walk's warrant takes four copies of the platform: for the access, for the walk, for the context of the access and for the walk's.
-#[test]
-fn copy_for_the_access(rt: HostRuntime) -> Result<(), Fail> {
-    assert!(rt; is_walked_after(rt.alloc(), 9)?);
-    Ok(())
-}
-
-#[test]
-fn copy_for_the_walk(rt: HostRuntime) -> Result<(), Fail> {
-    assert!(rt; is_walked_after(rt.alloc(), 6)?);
-    Ok(())
-}
-
-#[test]
-fn copy_for_the_current_context(rt: HostRuntime) -> Result<(), Fail> {
-    assert!(rt; is_walked_after(rt.alloc(), 3)?);
-    Ok(())
-}
-
-#[test]
-fn copy_for_the_context_of_the_walk(rt: HostRuntime) -> Result<(), Fail> {
-    assert!(rt; is_walked_after(rt.alloc(), 0)?);
-    Ok(())
 }
 
 // The context changes at step 6. Both IOTINVAL come before the IODIR: the read at 13 walks under the old context, which is still
@@ -195,69 +154,41 @@ fn by_a_context(rt: HostRuntime) -> Result<(), Fail> {
     Ok(())
 }
 
-// A platform whose device 5 has read through its tables, and whose tables map nothing any more.
-fn read_once(alloc: Global) -> Result<Platform, Fail> {
-    let ram = memory(alloc, &MAPPED)?;
-    let mut platform = Platform::new(alloc, ram, Vec::new(alloc))?;
-    spend(alloc, 9)?;
-    let steps = [
-        written(16, 8, 0x2000_0402),
-        read(0x4020_1abc),
-        stored(0x8000_4008, 0),
-    ];
-    for step in &steps {
-        platform.step(step);
+// The page of a key of device 5, whether a look-up finds it, and how many keys that compares.
+type Compared = (u64, bool, u32);
+
+fn compared_otherwise(platform: &Platform, cases: &[Compared]) -> Option<usize> {
+    for (i, (page, is_there, count)) in cases.iter().enumerate() {
+        let key = Key {
+            did: 5,
+            pscid: Some(0),
+            gscid: None,
+            page: *page,
+            kind: Kind::Read,
+        };
+        let (found, compared) = platform.trans().find_counted(&key);
+        if found.is_some() != *is_there || compared != *count {
+            return Some(i);
+        }
     }
-    Ok(platform)
+    None
 }
 
-fn is_done(platform: &mut Platform, step: Step) -> bool {
-    platform.step(&step) == Answer::Done
-}
-
-// The byte that the device reads; None where it reads none.
-fn byte_read(platform: &mut Platform) -> Option<u8> {
-    match platform.step(&read(0x4020_1abc)) {
-        Answer::Bytes(bytes) => bytes.as_slice().first().copied(),
-        _ => None,
+// Of 65 pages read the first has left the cache. A look-up compares the keys of one bucket, the newest first: those of every 32nd page.
+#[test]
+fn look_ups_compare_one_bucket(rt: HostRuntime) -> Result<(), Fail> {
+    let ram = memory(rt.alloc(), &MAPPED)?;
+    let mut platform = Platform::new(rt.alloc(), ram, Vec::new(rt.alloc()))?;
+    platform.step(&written(16, 8, 0x2000_0402));
+    platform.step(&stored(0x8000_3008, 0x2000_00d7));
+    for page in 0x4_0200..0x4_0241 {
+        platform.step(&read(page * 4096));
     }
-}
-
-// Both read by what was cached when the copy was made; then each goes its own way.
-#[test]
-fn copies_go_their_own_ways(rt: HostRuntime) -> Result<(), Fail> {
-    let mut original = read_once(rt.alloc())?;
-    let mut copy = original.try_clone(rt.alloc())?;
-    let facts = [
-        byte_read(&mut copy) == Some(0x11),
-        byte_read(&mut original) == Some(0x11),
-        is_done(&mut copy, written(16, 8, 0)),
-        byte_read(&mut copy).is_none(),
-        byte_read(&mut original) == Some(0x11),
-        is_done(&mut original, stored(0x8001_0ab8, 0x22_0000_0000)),
-        byte_read(&mut original) == Some(0x22),
-        is_done(&mut copy, written(16, 8, 0x2000_0402)),
-        byte_read(&mut copy) == Some(0x11),
+    let cases = [
+        (0x4_0240, true, 1),
+        (0x4_0220, true, 2),
+        (0x4_0200, false, 2),
     ];
-    assert_eq!(rt; first_wrong(&facts), None);
-    Ok(())
-}
-
-#[test]
-fn parts_are_copied(rt: HostRuntime) -> Result<(), Fail> {
-    let platform = read_once(rt.alloc())?;
-    let ram = platform.ram().try_clone(rt.alloc())?;
-    let trans = platform.trans().try_clone(rt.alloc())?;
-    let contexts = platform.contexts().try_clone(rt.alloc())?;
-    let facts = [
-        ram.base() == 0x8000_0000,
-        ram.size() == 0x10_0000,
-        ram.word(0x8001_0ab8) == Some(0x11_0000_0000),
-        trans.place(0) == platform.trans().place(0),
-        trans.place(1) == platform.trans().place(1),
-        contexts.place(0) == platform.contexts().place(0),
-        contexts.place(1) == platform.contexts().place(1),
-    ];
-    assert_eq!(rt; first_wrong(&facts), None);
+    assert_eq!(rt; compared_otherwise(&platform, &cases), None);
     Ok(())
 }

@@ -11,7 +11,7 @@ pub struct Tape {
 
 impl Bus for Tape {
     ghost use Rattle.std.specs.Prelude.{◌≡◌};
-    ghost use Rattle.iom_blk_tests.specs.Tapes.{taped, tape};
+    ghost use Rattle.iom_tests.specs.Tapes.{taped, tape};
 
     ghost answers = { λ old ask reply new. (reply ≡ (taped (tape old.ram old.left) ask).reply)
         × (tape new.ram new.left ≡ (taped (tape old.ram old.left) ask).tape) };

@@ -81,7 +81,7 @@ fn disk(alloc: Global) -> Result<Vec<u8>, AllocError> {
     Ok(disk)
 }
 
-fn with_disk(disk: Vec<u8>) -> Option<Blk> {
+pub fn with_disk(disk: Vec<u8>) -> Option<Blk> {
     if disk.len() == 1024 {
         Some(Blk::new(disk))
     } else {

@@ -1,4 +1,4 @@
-use crate::requests::device;
+use crate::blk_requests::device;
 use iom_blk::Blk;
 use std::test::Fail;
 

@@ -1,0 +1,212 @@
+//! Each call that takes memory, with ample memory and, by tests/refused_memory.sh, with one allocation refused: that call then
+//! answers its own fault, in which the test ends. Each test takes so many allocations before that those of its calls are the
+//! thirteenth to the fifteenth.
+
+use crate::blk_requests::with_disk;
+use crate::devices::devices;
+use crate::first_wrong;
+use crate::warrants::{MAPPED, memory, otherwise, read, stored, walked, written};
+use iom_cache::{ContextCache, Place, TransCache};
+use iom_core::{Answer, Platform, Step};
+use iom_mem::Ram;
+use iom_tool::Trace;
+use std::alloc::{AllocError, Global};
+use std::test::Fail;
+
+// Takes so many allocations.
+fn spend(alloc: Global, count: usize) -> Result<(), AllocError> {
+    for _ in 0..count {
+        let _spare = Vec::from_slice(alloc, &[0_u8])?;
+    }
+    Ok(())
+}
+
+const BASE: u64 = 0x8000_0000;
+
+fn are_expected(answers: &[Answer]) -> bool {
+    match answers {
+        [Answer::Done, Answer::Done, Answer::Bytes(bytes)] => {
+            bytes.as_slice() == [1, 2, 3, 4, 5, 6, 7, 8].as_slice()
+        }
+        _ => false,
+    }
+}
+
+// A platform takes the allocation of its memory, and then that of each of its caches.
+#[test]
+fn device_reads_what_the_hart_stored(rt: HostRuntime) -> Result<(), Fail> {
+    spend(rt.alloc(), 12)?;
+    let ram = Ram::new(rt.alloc(), BASE, 0x10_0000)?;
+    let mut platform = Platform::new(rt.alloc(), ram, Vec::new(rt.alloc()))?;
+    let steps = [
+        Step::Store {
+            addr: BASE,
+            size: 8,
+            value: 0x0807_0605_0403_0201,
+        },
+        Step::RegWrite {
+            off: 16,
+            size: 8,
+            value: 1,
+        },
+        Step::DmaRead {
+            did: 5,
+            iova: BASE,
+            len: 8,
+        },
+    ];
+    let mut answers = [Answer::Idle, Answer::Idle, Answer::Idle];
+    platform.run(&steps, &mut answers);
+    assert!(rt; are_expected(&answers));
+    assert!(rt; platform.ram().word(BASE) == Some(0x0807_0605_0403_0201));
+    Ok(())
+}
+
+// A cache takes one allocation, and so does a trace.
+#[test]
+fn caches_and_a_trace_are_made(rt: HostRuntime) -> Result<(), Fail> {
+    spend(rt.alloc(), 12)?;
+    let trans = TransCache::new(rt.alloc())?;
+    let contexts = ContextCache::new(rt.alloc())?;
+    let trace = Trace::new(rt.alloc())?;
+    let facts = [
+        matches!(trans.place(0), Place::Beyond),
+        matches!(contexts.place(0), Place::Beyond),
+        trace.entry(0).is_none(),
+    ];
+    assert_eq!(rt; first_wrong(&facts), None);
+    Ok(())
+}
+
+// Whether the first read of a device is told to be walked, after so many allocations.
+fn is_walked_after(alloc: Global, spent: usize) -> Result<bool, Fail> {
+    spend(alloc, spent)?;
+    let steps = [written(16, 8, 0x2000_0402), read(0x4020_1abc)];
+    let cases = [(1, walked(1, 1, 1))];
+    Ok(otherwise(alloc, &MAPPED, &steps, &cases)?.is_none())
+}
+
+// A walk's warrant takes four copies of the platform, of three allocations each: for the access, for the walk, for the context of
+// the access and for the walk's.
+#[test]
+fn copy_for_the_access(rt: HostRuntime) -> Result<(), Fail> {
+    assert!(rt; is_walked_after(rt.alloc(), 9)?);
+    Ok(())
+}
+
+#[test]
+fn copy_for_the_walk(rt: HostRuntime) -> Result<(), Fail> {
+    assert!(rt; is_walked_after(rt.alloc(), 6)?);
+    Ok(())
+}
+
+#[test]
+fn copy_for_the_current_context(rt: HostRuntime) -> Result<(), Fail> {
+    assert!(rt; is_walked_after(rt.alloc(), 3)?);
+    Ok(())
+}
+
+#[test]
+fn copy_for_the_context_of_the_walk(rt: HostRuntime) -> Result<(), Fail> {
+    assert!(rt; is_walked_after(rt.alloc(), 0)?);
+    Ok(())
+}
+
+// A platform whose device 5 has read through its tables, and whose tables map nothing any more.
+fn read_once(alloc: Global) -> Result<Platform, Fail> {
+    let ram = memory(alloc, &MAPPED)?;
+    let mut platform = Platform::new(alloc, ram, Vec::new(alloc))?;
+    spend(alloc, 9)?;
+    let steps = [
+        written(16, 8, 0x2000_0402),
+        read(0x4020_1abc),
+        stored(0x8000_4008, 0),
+    ];
+    for step in &steps {
+        platform.step(step);
+    }
+    Ok(platform)
+}
+
+fn is_done(platform: &mut Platform, step: Step) -> bool {
+    platform.step(&step) == Answer::Done
+}
+
+// The byte that the device reads; None where it reads none.
+fn byte_read(platform: &mut Platform) -> Option<u8> {
+    match platform.step(&read(0x4020_1abc)) {
+        Answer::Bytes(bytes) => bytes.as_slice().first().copied(),
+        _ => None,
+    }
+}
+
+// Both read by what was cached when the copy was made; then each goes its own way.
+#[test]
+fn copies_go_their_own_ways(rt: HostRuntime) -> Result<(), Fail> {
+    let mut original = read_once(rt.alloc())?;
+    let mut copy = original.try_clone(rt.alloc())?;
+    let facts = [
+        byte_read(&mut copy) == Some(0x11),
+        byte_read(&mut original) == Some(0x11),
+        is_done(&mut copy, written(16, 8, 0)),
+        byte_read(&mut copy).is_none(),
+        byte_read(&mut original) == Some(0x11),
+        is_done(&mut original, stored(0x8001_0ab8, 0x22_0000_0000)),
+        byte_read(&mut original) == Some(0x22),
+        is_done(&mut copy, written(16, 8, 0x2000_0402)),
+        byte_read(&mut copy) == Some(0x11),
+    ];
+    assert_eq!(rt; first_wrong(&facts), None);
+    Ok(())
+}
+
+// A copy of a block device takes one allocation, that of its disk; here it is the copy of a copy of a copy.
+#[test]
+fn block_device_is_copied(rt: HostRuntime) -> Result<(), Fail> {
+    spend(rt.alloc(), 11)?;
+    let mut disk = Vec::new(rt.alloc());
+    disk.resize(1024, 7)?;
+    let blk = with_disk(disk).ok_or("a disk of two sectors")?;
+    let first = blk.try_clone(rt.alloc())?;
+    let second = first.try_clone(rt.alloc())?;
+    let third = second.try_clone(rt.alloc())?;
+    assert!(rt; third.disk() == blk.disk());
+    Ok(())
+}
+
+// The copy of a platform with a block device takes two more, of the disk and of the list; here these come after its translations'.
+#[test]
+fn platform_with_a_device_is_copied(rt: HostRuntime) -> Result<(), Fail> {
+    spend(rt.alloc(), 5)?;
+    let ram = Ram::new(rt.alloc(), BASE, 0x1000)?;
+    let devices = devices(rt.alloc(), 512, &[7; 512])?;
+    let platform = Platform::new(rt.alloc(), ram, devices)?;
+    let copy = platform.try_clone(rt.alloc())?;
+    assert!(rt; copy.disk(0) == platform.disk(0) && copy.disk(0).is_some());
+    Ok(())
+}
+
+fn same_translations(one: &TransCache, other: &TransCache) -> bool {
+    (0..2).all(|i| one.place(i) == other.place(i))
+}
+
+fn same_contexts(one: &ContextCache, other: &ContextCache) -> bool {
+    (0..2).all(|i| one.place(i) == other.place(i))
+}
+
+#[test]
+fn parts_are_copied(rt: HostRuntime) -> Result<(), Fail> {
+    let platform = read_once(rt.alloc())?;
+    let ram = platform.ram().try_clone(rt.alloc())?;
+    let trans = platform.trans().try_clone(rt.alloc())?;
+    let contexts = platform.contexts().try_clone(rt.alloc())?;
+    let facts = [
+        ram.base() == BASE,
+        ram.size() == 0x10_0000,
+        ram.word(0x8001_0ab8) == Some(0x11_0000_0000),
+        same_translations(&trans, platform.trans()),
+        same_contexts(&contexts, platform.contexts()),
+    ];
+    assert_eq!(rt; first_wrong(&facts), None);
+    Ok(())
+}
