@@ -15,7 +15,7 @@ use std::marker::Model;
 const PLACES: usize = 64;
 
 /// The translation cache: at most 64 places, oldest first, each empty or with where a key leads.
-#[derive(Debug, Drop)]
+#[derive(Drop)]
 pub struct TransCache {
     places: HeapCircularBuffer<Option<(Key, Hit)>>,
 }
