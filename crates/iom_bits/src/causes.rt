@@ -1,14 +1,14 @@
 ghost use Rattle.std.specs.Prelude.{◌≡◌};
 
 /// What an access does.
-#[derive(Clone, Copy, Debug, PartialEq, Eq, Hash)]
+#[derive(Clone, Copy, Debug, PartialEq)]
 pub enum Kind {
     Read,
     Write,
 }
 
 /// Why a device's access is denied (RISC-V IOMMU Architecture 1.0, "Fault/Event-Queue", CAUSE).
-#[derive(Clone, Copy, Debug, PartialEq, Eq, Hash)]
+#[derive(Clone, Copy, Debug, PartialEq)]
 pub enum Cause {
     /// An entry of a page table lies outside memory.
     Access(Kind),

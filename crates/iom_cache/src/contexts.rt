@@ -14,7 +14,7 @@ use std::marker::Model;
 const PLACES: usize = 16;
 
 /// The context cache: at most 16 places, oldest first, each empty or with the context of a device id.
-#[derive(Debug, Drop)]
+#[derive(Drop)]
 pub struct ContextCache {
     places: HeapCircularBuffer<Option<(u32, Context)>>,
 }

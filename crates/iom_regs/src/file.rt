@@ -17,7 +17,7 @@ const CAPABILITIES: u64 = 0x38_1002_0210;
 const FCTL: u64 = 2;
 
 /// The registers before the rule of pending interrupts: `settle` follows each change.
-#[derive(Clone, Copy, Debug)]
+#[derive(Clone, Copy)]
 pub struct File {
     ddtp: u64,
     commands: Ring,

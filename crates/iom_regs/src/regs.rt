@@ -8,7 +8,7 @@ use iom_bits::field;
 use std::marker::Model;
 
 /// The register file. In every state interrupts are pending where their causes stand.
-#[derive(Clone, Copy, Debug)]
+#[derive(Clone, Copy)]
 pub struct Regs {
     file: File,
 }

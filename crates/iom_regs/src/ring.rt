@@ -6,7 +6,7 @@ use crate::flags::{with_high, with_low};
 use iom_bits::{field, with_field};
 
 /// The registers of one queue.
-#[derive(Clone, Copy, Debug)]
+#[derive(Clone, Copy)]
 pub struct Ring {
     pub base: u64,
     pub head: u64,
