@@ -1,3 +1,10 @@
 pub mod Bytes
 pub mod Loops
 pub mod Filling
+pub mod Places
+pub mod Full
+pub mod Fitting
+pub mod Cuts
+pub mod Pushes
+pub mod Keeping
+pub mod Going

@@ -5,3 +5,5 @@ pub mod Reading
 pub mod Openings
 pub mod Operands
 pub mod Forms
+pub mod Assembly
+pub mod Drafts

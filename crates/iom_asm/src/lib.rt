@@ -1,6 +1,8 @@
-//! Images, the statements of the assembler that stand for words, and the lines of items in memory.
+//! Images, the assembler, and the lines of items in memory.
 #![tactic(auto)]
 
+pub use asm_fault::AsmFault;
+pub use assembling::assemble;
 pub use fault::LoadFault;
 pub use forms::words_for;
 pub use item::Item;
@@ -9,6 +11,9 @@ pub use lines::{Line, context_line, item_line};
 pub use opening::open;
 pub use start::Opening;
 
+mod asm_fault;
+mod assembling;
+mod draft;
 mod fault;
 mod fields;
 mod forms;
@@ -17,5 +22,8 @@ mod judging;
 mod lines;
 mod opening;
 mod operands;
+mod placing;
 mod start;
+mod statements;
 mod words;
+mod writing;
