@@ -8,3 +8,6 @@ pub mod Cuts
 pub mod Pushes
 pub mod Keeping
 pub mod Going
+pub mod Spans
+pub mod Plain
+pub mod Images

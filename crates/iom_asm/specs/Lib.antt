@@ -7,3 +7,4 @@ pub mod Operands
 pub mod Forms
 pub mod Assembly
 pub mod Drafts
+pub mod Listing

@@ -8,6 +8,8 @@ pub use forms::words_for;
 pub use item::Item;
 pub use judging::judge;
 pub use lines::{Line, context_line, item_line};
+pub use list_fault::ListFault;
+pub use listing::list;
 pub use opening::open;
 pub use start::Opening;
 
@@ -20,6 +22,8 @@ mod forms;
 mod item;
 mod judging;
 mod lines;
+mod list_fault;
+mod listing;
 mod opening;
 mod operands;
 mod placing;
