@@ -1,11 +1,11 @@
 -- The bytes of an image are read as that image.
-use Rattle.std.proofs.Common.{◌≡◌, ℕ, zero, suc, ◌+◌, ◌-◌, ◌*◌, ◌/◌, ◌%◌, ◌^◌, ◌≤◌, ◌<◌, ◌==◌, Bool, true, false, ◌&&◌, nat_lt, nat_le, List, [], ◌∷◌, ◌++◌, length, take, drop, codes, bytes_eq, Result, Ok, Err, refl, sym, ap, ◌∙◌, append_assoc, append-nil, length-append, arith}
-use Rattle.std.proofs.lemmas.Bool.{le-leb, lt-ltb, ltb-true, leb-true, and_parts}
+use Rattle.std.proofs.Common.{◌≡◌, ℕ, zero, suc, ◌+◌, ◌*◌, ◌/◌, ◌^◌, ◌≤◌, ◌<◌, true, List, [], ◌∷◌, ◌++◌, length, codes, Ok, refl, sym, ap, ◌∙◌, append_assoc, append-nil, length-append, arith}
+use Rattle.std.proofs.lemmas.Bool.{le-leb, lt-ltb}
 use Rattle.std.proofs.lemmas.List.{take_at, drop_at}
 use Rattle.iom_bits.specs.Bytes.{number_of_bytes, bytes_of_number}
 use Rattle.iom_mem.specs.Sizes.{is_paged, is_good_size}
-use Rattle.iom_asm.specs.Image.{Chunk, Disk, Image, IsChunk, AreChunks, IsDisk, AreDisks, IsImage, end_of, is_new_id, is_disk_size, chunk_bytes, chunks_bytes, disk_bytes, disks_bytes, head_bytes, image_bytes}
-use Rattle.iom_asm.specs.Reading.{◌>>=◌, Head, part_at, number_at, head_at, chunk_at, chunks_at, disk_at, disks_at, image_of}
+use Rattle.iom_asm.specs.Image.{Chunk, Disk, Image, IsChunk, AreChunks, IsDisk, AreDisks, IsImage, end_of, chunk_bytes, chunks_bytes, disk_bytes, disks_bytes, head_bytes, image_bytes}
+use Rattle.iom_asm.specs.Reading.{part_at, number_at, head_at, chunk_at, chunks_at, disk_at, disks_at, image_of}
 use Rattle.iom_asm.specs.Drafts.{Fits, AllFit, FewBytes}
 use Rattle.iom_asm.proofs.Fitting.{few_bytes, few_chunks, all_fit}
 
@@ -121,7 +121,7 @@ read_again image good =
     ∙ disks_again [] image.disks [] good.disks (all_fit image good) in
     rw (
       head_again image.base image.size (length image.chunks) (length image.disks) (chunks_bytes image.chunks ++ disks_bytes image.disks)
-      (omega (arith, far)) (omega (arith, far)) (few_chunks image good) good.few good.base good.size,
+          (omega (arith, far)) (omega (arith, far)) (few_chunks image good) good.few good.base good.size,
       chunks_again image.base image.size 0 image.chunks (disks_bytes image.disks) far good.chunks (few_bytes image good),
       last,
     ) refl

@@ -11,3 +11,7 @@ pub mod Going
 pub mod Spans
 pub mod Plain
 pub mod Images
+pub mod Standing
+pub mod Bounds
+pub mod Lasting
+pub mod Retold

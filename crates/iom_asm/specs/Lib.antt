@@ -8,3 +8,4 @@ pub mod Forms
 pub mod Assembly
 pub mod Drafts
 pub mod Listing
+pub mod Retelling

@@ -11,6 +11,7 @@ pub use lines::{Line, context_line, item_line};
 pub use list_fault::ListFault;
 pub use listing::list;
 pub use opening::open;
+pub use retelling::texts_are_told_again;
 pub use start::Opening;
 
 mod asm_fault;
@@ -27,6 +28,7 @@ mod listing;
 mod opening;
 mod operands;
 mod placing;
+mod retelling;
 mod start;
 mod statements;
 mod words;
