@@ -15,3 +15,4 @@ pub mod Standing
 pub mod Bounds
 pub mod Lasting
 pub mod Retold
+pub mod Found

@@ -98,3 +98,8 @@ image_bytes image =
 pub record IsImageOf (image : Image) (bytes : List ℕ) : Type 0 where
   pub good : IsImage image
   pub are : bytes ≡ image_bytes image
+
+-- numbers of eight bits
+abbrev pub AreBytes : List ℕ → Type 0
+AreBytes [] = Unit {0}
+AreBytes (byte ∷ bytes) = (byte < 256) × AreBytes bytes

@@ -1,9 +1,9 @@
 -- What a text says is told again by what it describes.
-use Rattle.std.specs.Prelude.{ℕ, ◌≡◌, ◌++◌, List, [], ◌∷◌, length, codes, Some, None, Ok}
+use Rattle.std.specs.Prelude.{ℕ, ◌≡◌, ◌↔◌, ◌++◌, List, [], ◌∷◌, length, codes, Some, None, Ok}
 use Rattle.iom_text.specs.Words.{words_of}
 use Rattle.iom_asm.specs.declared.item.Item.{Item}
 use Rattle.iom_asm.specs.declared.item.Item.TheVariants as item
-use Rattle.iom_asm.specs.Image.{Image, image_bytes}
+use Rattle.iom_asm.specs.Image.{Image, IsImageOf, AreBytes, image_bytes}
 use Rattle.iom_asm.specs.Items.{words_in}
 use Rattle.iom_asm.specs.Forms.{words_for}
 use Rattle.iom_asm.specs.Lines.{line_of, item_line}
@@ -57,3 +57,7 @@ ListsItems =
     (text : List ℕ) (image : Image) (draft : Draft) (kind : Item) (lines : List (List ℕ)) (told : List ℕ) → described text ≡ Ok image →
     StandsIn lines text draft → AreTold kind lines told →
     listed (opening_of image).memory kind draft.place (length lines) ≡ Some told
+
+-- Reading bytes gives an image exactly where they are the bytes of that image.
+abbrev pub ReadsImages : Type 0
+ReadsImages = (bytes : List ℕ) (image : Image) → AreBytes bytes → (image_of bytes ≡ Ok image) ↔ IsImageOf image bytes

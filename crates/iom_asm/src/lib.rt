@@ -11,7 +11,7 @@ pub use lines::{Line, context_line, item_line};
 pub use list_fault::ListFault;
 pub use listing::list;
 pub use opening::open;
-pub use retelling::texts_are_told_again;
+pub use retelling::{images_are_what_is_read, texts_are_told_again};
 pub use start::Opening;
 
 mod asm_fault;
