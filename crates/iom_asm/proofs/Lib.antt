@@ -16,3 +16,4 @@ pub mod Bounds
 pub mod Lasting
 pub mod Retold
 pub mod Found
+pub mod Started
