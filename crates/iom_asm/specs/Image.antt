@@ -1,7 +1,9 @@
 -- Images: which bytes are an image, and of what.
-use Rattle.std.specs.Prelude.{ℕ, ◌+◌, ◌^◌, ◌==◌, ◌&&◌, Bool, not, List, [], ◌∷◌, length, nat_lt, nat_le}
+use Rattle.std.specs.Prelude.{ℕ, ◌≡◌, ◌+◌, ◌*◌, ◌^◌, ◌<◌, ◌≤◌, ◌==◌, ◌&&◌, ◌++◌, Bool, true, not, List, [], ◌∷◌, length, codes, nat_lt, nat_le}
 use Rattle.std.specs.List.{list_any}
+use Rattle.iom_bits.specs.Bytes.{bytes_of_number}
 use Rattle.iom_mem.specs.Memory.{Memory, put}
+use Rattle.iom_mem.specs.Sizes.{is_paged, is_good_size}
 
 -- bytes that stand in memory at the start, from a physical address on
 pub record Chunk : Type 0 where
@@ -35,3 +37,69 @@ is_disk_size sectors = nat_le 1 sectors && nat_le sectors 65536
 abbrev pub with_chunks : Memory → List Chunk → Memory
 with_chunks memory [] = memory
 with_chunks memory (chunk ∷ chunks) = with_chunks (put memory chunk.addr chunk.bytes) chunks
+
+-- a chunk of a memory that is not below `end`: at least one byte, all of them in memory
+pub record IsChunk (base size end : ℕ) (chunk : Chunk) : Type 0 where
+  pub after : end ≤ chunk.addr
+  pub some : 0 < length chunk.bytes
+  pub above : base ≤ chunk.addr
+  pub below : end_of chunk ≤ base + size
+
+-- chunks of a memory, each not below the end of the one before, the first not below `end`
+abbrev pub AreChunks : ℕ → ℕ → ℕ → List Chunk → Type 0
+AreChunks base size end [] = Unit {0}
+AreChunks base size end (chunk ∷ chunks) = IsChunk base size end chunk × AreChunks base size (end_of chunk) chunks
+
+-- a disk whose id is not among `ids`, with room for its first bytes
+pub record IsDisk (ids : List ℕ) (disk : Disk) : Type 0 where
+  pub id : is_new_id ids disk.id ≡ true
+  pub sectors : is_disk_size disk.sectors ≡ true
+  pub room : length disk.bytes ≤ disk.sectors * 512
+
+-- disks of which no two have the same id, nor one that is among `ids`
+abbrev pub AreDisks : List ℕ → List Disk → Type 0
+AreDisks ids [] = Unit {0}
+AreDisks ids (disk ∷ disks) = IsDisk ids disk × AreDisks (ids ++ disk.id ∷ []) disks
+
+-- what has an image
+pub record IsImage (image : Image) : Type 0 where
+  pub base : is_paged image.base ≡ true
+  pub size : is_good_size image.base image.size ≡ true
+  pub chunks : AreChunks image.base image.size 0 image.chunks
+  pub few : length image.disks ≤ 8
+  pub disks : AreDisks [] image.disks
+
+-- its bytes
+abbrev pub chunk_bytes : Chunk → List ℕ
+chunk_bytes chunk = bytes_of_number 8 chunk.addr ++ (bytes_of_number 4 (length chunk.bytes) ++ chunk.bytes)
+
+abbrev pub chunks_bytes : List Chunk → List ℕ
+chunks_bytes [] = []
+chunks_bytes (chunk ∷ chunks) = chunk_bytes chunk ++ chunks_bytes chunks
+
+abbrev pub disk_bytes : Disk → List ℕ
+disk_bytes disk =
+    bytes_of_number 4 disk.id ++ (bytes_of_number 4 disk.sectors ++ (bytes_of_number 4 (length disk.bytes) ++ disk.bytes))
+
+abbrev pub disks_bytes : List Disk → List ℕ
+disks_bytes [] = []
+disks_bytes (disk ∷ disks) = disk_bytes disk ++ disks_bytes disks
+
+abbrev pub head_bytes : ℕ → ℕ → ℕ → ℕ → List ℕ
+head_bytes base size chunks disks =
+    codes "RVIOMMU1" ++ (bytes_of_number 8 base ++ (bytes_of_number 8 size ++ (bytes_of_number 4 chunks ++ bytes_of_number 4 disks)))
+
+unfoldable pub image_bytes : Image → List ℕ
+image_bytes image =
+    head_bytes image.base image.size (length image.chunks) (length image.disks)
+    ++ (chunks_bytes image.chunks ++ disks_bytes image.disks)
+
+-- these bytes are an image, of this memory with these chunks and these disks
+pub record IsImageOf (image : Image) (bytes : List ℕ) : Type 0 where
+  pub good : IsImage image
+  pub are : bytes ≡ image_bytes image
+
+-- numbers of eight bits
+abbrev pub AreBytes : List ℕ → Type 0
+AreBytes [] = Unit {0}
+AreBytes (byte ∷ bytes) = (byte < 256) × AreBytes bytes

@@ -5,3 +5,7 @@ pub mod Reading
 pub mod Openings
 pub mod Operands
 pub mod Forms
+pub mod Assembly
+pub mod Drafts
+pub mod Listing
+pub mod Retelling

@@ -1,21 +1,35 @@
-//! Images, the statements of the assembler that stand for words, and the lines of items in memory.
+//! Images, the assembler, and the lines of items in memory.
 #![tactic(auto)]
 
+pub use asm_fault::AsmFault;
+pub use assembling::assemble;
 pub use fault::LoadFault;
 pub use forms::words_for;
 pub use item::Item;
 pub use judging::judge;
 pub use lines::{Line, context_line, item_line};
+pub use list_fault::ListFault;
+pub use listing::list;
 pub use opening::open;
+pub use retelling::{images_are_what_is_read, texts_are_told_again};
 pub use start::Opening;
 
+mod asm_fault;
+mod assembling;
+mod draft;
 mod fault;
 mod fields;
 mod forms;
 mod item;
 mod judging;
 mod lines;
+mod list_fault;
+mod listing;
 mod opening;
 mod operands;
+mod placing;
+mod retelling;
 mod start;
+mod statements;
 mod words;
+mod writing;

@@ -4,7 +4,7 @@ ghost use Rattle.std.specs.Prelude.{◌≡◌, ◌+◌, ◌*◌, ◌++◌, ◌-�
 ghost use Rattle.iom_mem.specs.Memory.{size_of, put};
 ghost use Rattle.iom_mem.specs.Sizes.{zeroed};
 ghost use Rattle.iom_asm.specs.Reading.{Reads, Gives, mapped, filled, joined, chunks_at, disks_at, image_of, opening_of};
-ghost use Rattle.iom_asm.specs.Openings.{opening_seen, disks_started};
+ghost use Rattle.iom_asm.specs.Openings.{opening_seen, disks_started, AreStarted};
 ghost use Rattle.iom_asm.specs.declared.fault.LoadFault.TheVariants as fault;
 
 use crate::fault::LoadFault;
@@ -94,11 +94,12 @@ fn build(alloc: Global, bytes: &[u8]) -> Result<Opening, LoadFault>
     Ok(Opening { ram, disks })
 }
 
-/// What an image starts: memory, and the disks. The whole image is judged first, so `OutOfMemory` is answered only for an
+/// What an image starts: memory, and at most eight disks, no two of one id. The whole image is judged first, so `OutOfMemory` is answered only for an
 /// image that would be accepted.
 pub fn open(alloc: Global, bytes: &[u8]) -> Result<Opening, LoadFault>
     ensures exact { Gives opening_seen result (mapped opening_of (image_of bytes.now)) }
     ensures memory { IfErr result (λ e. e ≡ fault.OutOfMemory → IsOk (image_of bytes.now)) }
+    ensures disks { IfOk result (λ opening. AreStarted (disks_started opening.disks.items)) }
 {
     judge(bytes)?;
     build(alloc, bytes)

@@ -1,0 +1,205 @@
+-- What the statements make stays an image.
+use Rattle.std.proofs.Common.{◌≡◌, ℕ, ◌+◌, ◌*◌, ◌≤◌, ◌<◌, true, false, ◌&&◌, nat_lt, nat_le, List, [], ◌∷◌, ◌++◌, length, map, codes, bytes_eq, Option, Some, None, Result, Ok, Err, refl, sym, subst, append_assoc, append-nil, length-append, arith}
+use Rattle.std.specs.Prelude.{IfSome, IfOk}
+use Rattle.std.specs.List.{list_any}
+use Rattle.std.specs.Option.{option_map}
+use Rattle.std.proofs.lemmas.Bool.{cond_both, and_parts, or_parts, ltb-true, ltb-false, leb-true}
+use Rattle.iom_text.specs.Words.{number, words_of}
+use Rattle.iom_mem.specs.Sizes.{is_paged, is_good_size}
+use Rattle.iom_asm.specs.declared.asm_fault.AsmFault.{AsmFault}
+use Rattle.iom_asm.specs.declared.asm_fault.AsmFault.TheVariants.{BadLine, Outside, Overlap}
+use Rattle.iom_asm.specs.Image.{Chunk, Disk, IsChunk, AreChunks, IsDisk, AreDisks, IsImage, end_of, is_new_id, is_disk_size}
+use Rattle.iom_asm.specs.Forms.{where_so}
+use Rattle.iom_asm.specs.Operands.{◌>>=◌}
+use Rattle.iom_asm.specs.Assembly.{Draft, meets, insert, is_inside, with_bytes, placed, is_next_disk, with_disk, disk_for, joined, moved_to, moved, empty_draft, ram_draft, opened, bytes_for, or_bad, then_so, stated, started, after_words, after_line, after_lines}
+use Rattle.iom_asm.proofs.Full.{some_byte}
+
+-- chunks
+before_it : (addr len : ℕ) (first : Chunk) → 0 < length first.bytes → addr < first.addr → meets addr len first ≡ false → addr + len ≤ first.addr
+before_it addr len first some lt none = grind (arith, some, lt, none)
+
+after_it : (addr len : ℕ) (first : Chunk) → 0 < len → first.addr ≤ addr → meets addr len first ≡ false → end_of first ≤ addr
+after_it addr len first some le none = grind (arith, some, le, none)
+
+pub kept_in_order : (base size end : ℕ) (chunk : Chunk) (chunks : List Chunk) → IsChunk base size end chunk → AreChunks base size end chunks →
+    list_any (meets chunk.addr (length chunk.bytes)) chunks ≡ false → AreChunks base size end (insert chunk chunks)
+kept_in_order base size end chunk [] new good none = (new, tt)
+kept_in_order base size end chunk (first ∷ others) new good none =
+    let apart = or_parts (meets chunk.addr (length chunk.bytes) first) (list_any (meets chunk.addr (length chunk.bytes)) others) none in
+    cond_both (nat_lt chunk.addr first.addr) (chunk ∷ first ∷ others) (first ∷ insert chunk others) (AreChunks base size end)
+    (λ lt. (
+      new,
+      (
+        record {
+          after = before_it chunk.addr (length chunk.bytes) first good.0.some (ltb-true _ _ lt) apart.0;
+          some = good.0.some;
+          above = good.0.above;
+          below = good.0.below;
+        },
+        good.1,
+      ),
+    ))
+    (λ ge. (
+      good.0,
+      kept_in_order base size (end_of first) chunk others
+          (record {
+            after = after_it chunk.addr (length chunk.bytes) first new.some (ltb-false _ _ ge) apart.0;
+            some = new.some;
+            above = new.above;
+            below = new.below;
+          })
+          good.1 apart.1,
+    ))
+
+-- disks
+pub one_more : (ids : List ℕ) (disks : List Disk) (disk : Disk) → AreDisks ids disks → IsDisk (ids ++ map (λ other. other.id) disks) disk →
+    AreDisks ids (disks ++ disk ∷ [])
+one_more ids [] disk good new = (subst (λ (ids : List ℕ). IsDisk ids disk) (append-nil ids) new, tt)
+one_more ids (first ∷ others) disk good new = (
+  good.0,
+  one_more (ids ++ first.id ∷ []) others disk good.1
+      (subst (λ (ids : List ℕ). IsDisk ids disk) (sym (append_assoc ids (first.id ∷ []) (map (λ other. other.id) others))) new),
+)
+
+-- statements
+abbrev pub Good : Draft → Type 0
+Good draft = IsImage draft.image
+
+abbrev pub Fine : Option Draft → Type 0
+Fine draft = IfSome draft Good
+
+abbrev OkGood : Result Draft AsmFault → Type 0
+OkGood made = IfOk made Good
+
+or_bad_good : (line : ℕ) (found : Option Draft) → Fine found → OkGood (or_bad line found)
+or_bad_good line None good = tt
+or_bad_good line (Some draft) good = good
+
+pub placed_good : (line : ℕ) (draft : Draft) (bytes : List ℕ) → Good draft → 0 < length bytes → OkGood (placed line draft bytes)
+unfolding placed
+placed_good line draft bytes good some =
+    let image = draft.image in
+    let chunk : Chunk = record { addr = draft.place; bytes = bytes } in
+    cond_both (is_inside image draft.place (length bytes)) _ (Err (Outside line)) OkGood
+    (λ inside.
+    let parts = and_parts _ _ inside in
+    let new : IsChunk image.base image.size 0 chunk = record {
+      after = omega arith;
+      some = some;
+      above = leb-true _ _ parts.0;
+      below = leb-true _ _ parts.1;
+    } in
+    cond_both (list_any (meets draft.place (length bytes)) image.chunks) (Err (Overlap line)) (Ok (with_bytes draft bytes)) OkGood
+    (λ _. tt)
+    (λ none. record {
+      base = good.base;
+      size = good.size;
+      chunks = kept_in_order image.base image.size 0 chunk image.chunks new good.chunks none;
+      few = good.few;
+      disks = good.disks;
+    }))
+    (λ _. tt)
+
+with_disk_good : (draft : Draft) (disk : Disk) → Good draft → is_next_disk draft.image.disks disk ≡ true → Good (with_disk draft disk)
+with_disk_good draft disk good next =
+    let image = draft.image in
+    let a = and_parts (nat_lt (length image.disks) 8) _ next in
+    let b = and_parts (is_new_id (map (λ other. other.id) image.disks) disk.id) _ a.1 in
+    let c = and_parts (is_disk_size disk.sectors) (nat_le (length disk.bytes) (disk.sectors * 512)) b.1 in
+    record {
+      base = good.base;
+      size = good.size;
+      chunks = good.chunks;
+      few = omega (arith, ltb-true (length image.disks) 8 a.0, length-append image.disks (disk ∷ []));
+      disks = one_more [] image.disks disk good.disks (record { id = b.0; sectors = c.0; room = leb-true _ _ c.1 });
+    }
+
+joined_good : (draft : Draft) (found : Option Disk) → Good draft →
+    Fine (found >>= λ disk. where_so (is_next_disk draft.image.disks disk) (Some (with_disk draft disk)))
+joined_good draft None good = tt
+joined_good draft (Some disk) good =
+    cond_both (is_next_disk draft.image.disks disk) (Some (with_disk draft disk)) None Fine (λ next. with_disk_good draft disk good next) (λ _. tt)
+
+found_good : (draft : Draft) (place : Option ℕ) → Good draft → Fine (option_map (moved_to draft) place)
+found_good draft None good = tt
+found_good draft (Some place) good = good
+
+moved_good : (draft : Draft) (words : List (List ℕ)) → Good draft → Fine (moved draft words)
+unfolding moved
+moved_good draft [] good = tt
+moved_good draft (place ∷ []) good = found_good draft (number place) good
+moved_good draft (place ∷ more ∷ others) good = tt
+
+bytes_good : (line : ℕ) (draft : Draft) (name : List ℕ) (operands : List (List ℕ)) → Good draft → (found : Option (List ℕ)) →
+    bytes_for name operands ≡ found → OkGood (then_so (or_bad line found) (placed line draft))
+bytes_good line draft name operands good None is = tt
+bytes_good line draft name operands good (Some bytes) is = placed_good line draft bytes good (some_byte name operands bytes is)
+
+stated_good : (line : ℕ) (draft : Draft) (name : List ℕ) (operands : List (List ℕ)) → Good draft → OkGood (stated line draft name operands)
+unfolding stated joined
+stated_good line draft name operands good =
+    cond_both (bytes_eq name (codes "at")) _ _ OkGood
+    (λ _. or_bad_good line (moved draft operands) (moved_good draft operands good))
+    (λ _. cond_both (bytes_eq name (codes "disk")) (or_bad line (joined draft operands)) (then_so (or_bad line (bytes_for name operands)) (placed line draft)) OkGood
+    (λ _. or_bad_good line (joined draft operands) (joined_good draft (disk_for operands) good))
+    (λ _. bytes_good line draft name operands good (bytes_for name operands) refl))
+
+head_good : (base size : ℕ) → (is_paged base && is_good_size base size) ≡ true → Good (empty_draft base size)
+head_good base size accepted =
+    let parts = and_parts (is_paged base) (is_good_size base size) accepted in
+    record { base = parts.0; size = parts.1; chunks = tt; few = omega arith; disks = tt }
+
+sized_good : (base : ℕ) (size : Option ℕ) → Fine (size >>= λ size. where_so (is_paged base && is_good_size base size) (Some (empty_draft base size)))
+sized_good base None = tt
+sized_good base (Some size) =
+    cond_both (is_paged base && is_good_size base size) (Some (empty_draft base size)) None Fine (λ accepted. head_good base size accepted) (λ _. tt)
+
+based_good : (base size : Option ℕ) →
+    Fine (base >>= λ base. size >>= λ size. where_so (is_paged base && is_good_size base size) (Some (empty_draft base size)))
+based_good None size = tt
+based_good (Some base) size = sized_good base size
+
+opened_good : (words : List (List ℕ)) → Fine (opened words)
+unfolding opened ram_draft
+opened_good [] = tt
+opened_good (base ∷ []) = tt
+opened_good (base ∷ size ∷ []) = based_good (number base) (number size)
+opened_good (base ∷ size ∷ more ∷ others) = tt
+
+started_good : (line : ℕ) (name : List ℕ) (operands : List (List ℕ)) → OkGood (started line name operands)
+unfolding started
+started_good line name operands =
+    or_bad_good line (where_so (bytes_eq name (codes "ram")) (opened operands))
+    (cond_both (bytes_eq name (codes "ram")) (opened operands) None Fine (λ _. opened_good operands) (λ _. tt))
+
+-- lines
+abbrev pub OkFine : Result (Option Draft) AsmFault → Type 0
+OkFine made = IfOk made Fine
+
+some_good : (made : Result Draft AsmFault) → OkGood made → OkFine (then_so made (λ draft. Ok (Some draft)))
+some_good (Ok draft) good = good
+some_good (Err fault) good = tt
+
+words_good : (line : ℕ) (draft : Option Draft) (words : List (List ℕ)) → Fine draft → OkFine (after_words line draft words)
+unfolding after_words
+words_good line draft [] good = good
+words_good line None (name ∷ operands) good = some_good (started line name operands) (started_good line name operands)
+words_good line (Some draft) (name ∷ operands) good = some_good (stated line draft name operands) (stated_good line draft name operands good)
+
+pub line_good : (line : ℕ) (draft : Option Draft) (words : List (List ℕ)) → Fine draft → OkFine (after_line line draft words)
+unfolding after_line
+line_good line draft words good =
+    cond_both (nat_lt 10 (length words)) (Err (BadLine line)) (after_words line draft words) OkFine (λ _. tt) (λ _. words_good line draft words good)
+
+next_good : (line : ℕ) (made : Result (Option Draft) AsmFault) (texts : List (List ℕ)) → OkFine made →
+    ((draft : Option Draft) → Fine draft → OkFine (after_lines (line + 1) draft texts)) →
+    OkFine (then_so made (λ next. after_lines (line + 1) next texts))
+next_good line (Ok draft) texts good others = others draft good
+next_good line (Err fault) texts good others = tt
+
+pub lines_good : (line : ℕ) (draft : Option Draft) (texts : List (List ℕ)) → Fine draft → OkFine (after_lines line draft texts)
+unfolding after_lines
+lines_good line draft [] good = good
+lines_good line draft (text ∷ texts) good =
+    next_good line (after_line line draft (words_of text)) texts (line_good line draft (words_of text) good)
+    (λ next good. lines_good (line + 1) next texts good)

@@ -1,0 +1,18 @@
+use Rattle.std.proofs.Common.{◌≡◌, length, true, false, map, sym, ◌∙◌, refl}
+use Rattle.std.specs.List.{list_any}
+use Rattle.iom_asm.specs.Assembly.{is_inside, meets}
+use Rattle.iom_asm.specs.Drafts.{chunk_seen, draft_seen}
+use Rattle.iom_asm.proofs.Places.{inserted, placed_there}
+use Rattle.iom_asm.proofs.draft.Draft.put.Goals as goal
+
+pub returns : goal.returns
+returns c =
+    let draft = c.args.self.now in
+    let bytes = c.args.bytes.items in
+    let len : c.len-len.result ≡ length bytes = c.len-len.ensures ∙ c.args.bytes.ok.0 in
+    let inside : is_inside (draft_seen draft).image draft.place (length bytes) ≡ true =
+    rw (← len) (sym c.is_inside.ensures ∙ c.if-not-is_inside.false) in
+    let none : list_any (meets draft.place (length bytes)) (map chunk_seen draft.chunks.entries) ≡ false =
+    rw (← len) (sym c.is_taken.ensures ∙ c.if-is_taken.false) in
+    placed_there c.args.line (draft_seen draft) bytes inside none
+    ∙ rw (len, c.in_ok-insert.ensures.entries, inserted _ _ _ draft.place c.args.bytes draft.chunks.entries c.requires.good.chunks c.requires.some none) refl

@@ -1,0 +1,11 @@
+use Rattle.iom_asm.proofs.Retold.{reads_again, tells_items, lists_items}
+use Rattle.iom_asm.proofs.retelling.texts_are_told_again.Goals as goal
+
+pub returns-clause-reads : goal.returns-clause-reads
+returns-clause-reads c = reads_again
+
+pub returns-clause-tells : goal.returns-clause-tells
+returns-clause-tells c = tells_items
+
+pub returns-clause-lists : goal.returns-clause-lists
+returns-clause-lists c = lists_items

@@ -1,0 +1,176 @@
+-- Texts: what the statements on the lines of a text make, one after the other, and the image of it.
+use Rattle.std.specs.Prelude.{ℕ, ◌≡◌, ◌≢◌, ◌+◌, ◌*◌, ◌==◌, ◌&&◌, ◌++◌, Bool, List, [], ◌∷◌, length, codes, bytes_eq, map, nat_lt, nat_le, Option, Some, None, Result, Ok, Err, if◌then◌else◌}
+use Rattle.std.specs.List.{list_any}
+use Rattle.std.specs.Option.{option_map}
+use Rattle.std.specs.Result.{result_ok}
+use Rattle.hex.specs.Hex.{decode_of}
+use Rattle.iom_text.specs.Words.{words_of, number}
+use Rattle.iom_mem.specs.Sizes.{is_paged, is_good_size}
+use Rattle.iom_asm.specs.declared.asm_fault.AsmFault.{AsmFault}
+use Rattle.iom_asm.specs.declared.asm_fault.AsmFault.TheVariants.{BadLine, Outside, Overlap, OutOfMemory}
+use Rattle.iom_asm.specs.Image.{Chunk, Disk, Image, end_of, is_new_id, is_disk_size, image_bytes}
+use Rattle.iom_asm.specs.Items.{bytes_of_words}
+use Rattle.iom_asm.specs.Forms.{where_so, words_for}
+use Rattle.iom_asm.specs.Operands.{◌>>=◌}
+
+-- the second, where the first is no fault
+abbrev pub then_so : {A B : Type 0} → Result A AsmFault → (A → Result B AsmFault) → Result B AsmFault
+then_so (Ok x) f = f x
+then_so (Err fault) f = Err fault
+
+-- what a statement gives, where there is such a statement
+abbrev pub or_bad : {A : Type 0} → ℕ → Option A → Result A AsmFault
+or_bad line (Some x) = Ok x
+or_bad line None = Err (BadLine line)
+
+-- The lines of a text: each ends with a line feed, which the last may lack.
+abbrev pub onto_line : ℕ → List (List ℕ) → List (List ℕ)
+onto_line byte [] = (byte ∷ []) ∷ []
+onto_line byte (line ∷ lines) = (byte ∷ line) ∷ lines
+
+unfoldable pub lines_of : List ℕ → List (List ℕ)
+lines_of [] = []
+lines_of (byte ∷ bytes) = if byte == 10 then [] ∷ lines_of bytes else onto_line byte (lines_of bytes)
+
+-- What the statements so far make: an image, and the physical address of what is placed next.
+pub record Draft : Type 0 where
+  pub image : Image
+  pub place : ℕ
+
+-- two or more hex digits, an even number of them: a byte for two
+unfoldable pub hex : List ℕ → Option (List ℕ)
+hex word = where_so (nat_le 2 (length word)) (result_ok (decode_of word))
+
+abbrev pub one_hex : List (List ℕ) → Option (List ℕ)
+one_hex [] = None
+one_hex (word ∷ []) = hex word
+one_hex (word ∷ other ∷ more) = None
+
+-- the bytes that a statement places
+unfoldable pub bytes_for : List ℕ → List (List ℕ) → Option (List ℕ)
+bytes_for name operands =
+    if bytes_eq name (codes "bytes") then one_hex operands else option_map bytes_of_words (words_for name operands)
+
+-- `ram BASE SIZE`: the place is the base
+abbrev pub empty_draft : ℕ → ℕ → Draft
+empty_draft base size = record { image = record { base = base; size = size; chunks = []; disks = [] }; place = base }
+
+unfoldable pub ram_draft : List ℕ → List ℕ → Option Draft
+ram_draft base size = do
+  base ← number base
+  size ← number size
+  where_so (is_paged base && is_good_size base size) (Some (empty_draft base size))
+
+unfoldable pub opened : List (List ℕ) → Option Draft
+opened [] = None
+opened (base ∷ []) = None
+opened (base ∷ size ∷ []) = ram_draft base size
+opened (base ∷ size ∷ more ∷ others) = None
+
+-- `at ADDR`
+abbrev pub moved_to : Draft → ℕ → Draft
+moved_to draft place = record draft { place = place }
+
+unfoldable pub moved : Draft → List (List ℕ) → Option Draft
+moved draft [] = None
+moved draft (place ∷ []) = option_map (moved_to draft) (number place)
+moved draft (place ∷ more ∷ others) = None
+
+-- `disk DID SECTORS [HEX]`
+abbrev pub first_bytes : List (List ℕ) → Option (List ℕ)
+first_bytes [] = Some []
+first_bytes (word ∷ words) = one_hex (word ∷ words)
+
+unfoldable pub disk_of : List ℕ → List ℕ → List (List ℕ) → Option Disk
+disk_of id sectors words = do
+  id ← number id
+  sectors ← number sectors
+  bytes ← first_bytes words
+  Some (record { id = id; sectors = sectors; bytes = bytes })
+
+unfoldable pub disk_for : List (List ℕ) → Option Disk
+disk_for [] = None
+disk_for (id ∷ []) = None
+disk_for (id ∷ sectors ∷ words) = disk_of id sectors words
+
+-- whether a disk may follow these
+abbrev pub is_next_disk : List Disk → Disk → Bool
+is_next_disk disks disk =
+    nat_lt (length disks) 8 && (is_new_id (map (λ other. other.id) disks) disk.id && (is_disk_size disk.sectors && nat_le (length disk.bytes) (disk.sectors * 512)))
+
+abbrev pub with_disk : Draft → Disk → Draft
+with_disk draft disk = record draft { image = record draft.image { disks = draft.image.disks ++ disk ∷ [] } }
+
+unfoldable pub joined : Draft → List (List ℕ) → Option Draft
+joined draft words = do
+  disk ← disk_for words
+  where_so (is_next_disk draft.image.disks disk) (Some (with_disk draft disk))
+
+-- Bytes at the place. They are a chunk of their own, and the place moves past them.
+abbrev pub is_inside : Image → ℕ → ℕ → Bool
+is_inside image addr len = nat_le image.base addr && nat_le (addr + len) (image.base + image.size)
+
+-- whether a chunk has one of so many bytes from an address on
+abbrev pub meets : ℕ → ℕ → Chunk → Bool
+meets addr len chunk = nat_lt chunk.addr (addr + len) && nat_lt addr (end_of chunk)
+
+-- a chunk among others, by address
+abbrev pub insert : Chunk → List Chunk → List Chunk
+insert chunk [] = chunk ∷ []
+insert chunk (first ∷ others) =
+    if nat_lt chunk.addr first.addr then chunk ∷ first ∷ others else first ∷ insert chunk others
+
+abbrev pub with_bytes : Draft → List ℕ → Draft
+with_bytes draft bytes = record {
+  image = record draft.image { chunks = insert (record { addr = draft.place; bytes = bytes }) draft.image.chunks };
+  place = draft.place + length bytes;
+}
+
+unfoldable pub placed : ℕ → Draft → List ℕ → Result Draft AsmFault
+placed line draft bytes =
+    if is_inside draft.image draft.place (length bytes)
+    then if list_any (meets draft.place (length bytes)) draft.image.chunks then Err (Overlap line) else Ok (with_bytes draft bytes)
+    else Err (Outside line)
+
+-- The statement of a name on line `line`, after the first one.
+unfoldable pub stated : ℕ → Draft → List ℕ → List (List ℕ) → Result Draft AsmFault
+stated line draft name operands =
+    if bytes_eq name (codes "at") then or_bad line (moved draft operands)
+    else if bytes_eq name (codes "disk") then or_bad line (joined draft operands)
+    else then_so (or_bad line (bytes_for name operands)) (placed line draft)
+
+-- the first statement
+unfoldable pub started : ℕ → List ℕ → List (List ℕ) → Result Draft AsmFault
+started line name operands = or_bad line (where_so (bytes_eq name (codes "ram")) (opened operands))
+
+-- The words of a line, after nothing or after what the statements before make. A line without words is no statement, and no
+-- statement has more than ten.
+unfoldable pub after_words : ℕ → Option Draft → List (List ℕ) → Result (Option Draft) AsmFault
+after_words line draft [] = Ok draft
+after_words line None (name ∷ operands) = then_so (started line name operands) (λ draft. Ok (Some draft))
+after_words line (Some draft) (name ∷ operands) = then_so (stated line draft name operands) (λ draft. Ok (Some draft))
+
+unfoldable pub after_line : ℕ → Option Draft → List (List ℕ) → Result (Option Draft) AsmFault
+after_line line draft words = if nat_lt 10 (length words) then Err (BadLine line) else after_words line draft words
+
+-- the lines of a text, the first of them line `line`, or the first fault
+unfoldable pub after_lines : ℕ → Option Draft → List (List ℕ) → Result (Option Draft) AsmFault
+after_lines line draft [] = Ok draft
+after_lines line draft (text ∷ texts) =
+    then_so (after_line line draft (words_of text)) (λ next. after_lines (line + 1) next texts)
+
+abbrev pub ended : Option Draft → Result Image AsmFault
+ended None = Err (BadLine 0)
+ended (Some draft) = Ok draft.image
+
+-- the image that a text describes, or the first fault
+unfoldable pub described : List ℕ → Result Image AsmFault
+described text = then_so (after_lines 1 None (lines_of text)) ended
+
+unfoldable pub assembled : List ℕ → Result (List ℕ) AsmFault
+assembled text = then_so (described text) (λ image. Ok (image_bytes image))
+
+-- what a function that takes memory returned is this, as `view` sees it, or there was no memory
+abbrev pub Makes : {X Y : Type 0} → (X → Y) → Result X AsmFault → Result Y AsmFault → Type 0
+Makes view (Ok x) made = made ≡ Ok (view x)
+Makes view (Err fault) made = fault ≢ OutOfMemory → made ≡ Err fault

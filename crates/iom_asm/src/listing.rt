@@ -1,0 +1,76 @@
+//! Listings of memory.
+
+ghost use Rattle.std.specs.Prelude.{◌≡◌, ◌++◌, ◌∷◌, ◌+◌, ◌*◌, ◌^◌, ◌≤◌, ◌==◌, ◌&&◌, ◌||◌, [], nat_le, OnOk, IfSome, IfNone, MatchResult, Err};
+ghost use Rattle.std.specs.Option.{is_some};
+ghost use Rattle.std.specs.String.{string_bytes};
+ghost use Rattle.std.specs.Str.{IsAscii};
+ghost use Rattle.iom_mem.specs.Memory.{size_of};
+ghost use Rattle.iom_asm.specs.declared.list_fault.ListFault.TheVariants as listing;
+ghost use Rattle.iom_asm.specs.Items.{words_in};
+ghost use Rattle.iom_asm.specs.Listing.{listed, Lists};
+
+use crate::item::Item;
+use crate::lines::item_line;
+use crate::list_fault::ListFault;
+use iom_mem::Ram;
+use std::alloc::{AllocError, Global};
+
+// Whether so many bytes from an address on are between two others.
+fn covers(base: u64, end: u64, addr: u64, len: u64) -> bool
+    ensures { result ≡ (nat_le base addr && nat_le (addr + len) end) }
+{
+    base <= addr && addr <= end && len <= end - addr
+}
+
+// Whether all bytes of so many items are memory; of none they are at every address.
+fn are_inside(ram: &Ram, item: Item, addr: u64, count: u64) -> bool
+    ensures value { result ≡ is_some (listed ram.now item addr count) }
+    ensures legal { ram.now.base + size_of ram.now ≤ 2 ^ 56 }
+{
+    let end = ram.base() + ram.size();
+    if count == 0 {
+        return true;
+    }
+    match count.checked_mul(item.size()) {
+        Some(len) => covers(ram.base(), end, addr, len),
+        None => false,
+    }
+}
+
+fn push_line(out: &mut String, line: &[u8]) -> Result<(), AllocError>
+    requires { IsAscii line.now }
+    ensures { OnOk result (string_bytes out.new ≡ string_bytes out.old ++ (line.now ++ 10 ∷ [])) }
+{
+    for c in line {
+        out.push(char::from(*c))?;
+    }
+    out.push('\n')?;
+    Ok(())
+}
+
+/// The lines of `count` items one after the other, the first at physical address `addr`, each with its line end. Of no items the
+/// text is empty at every address.
+pub fn list(
+    alloc: Global,
+    ram: &Ram,
+    item: Item,
+    addr: u64,
+    count: u64,
+) -> Result<String, ListFault>
+    ensures outside { IfNone (listed ram.now item addr count) (result ≡ Err listing.Outside) }
+    ensures text { IfSome (listed ram.now item addr count) (Lists result) }
+{
+    if !are_inside(ram, item, addr, count) {
+        return Err(ListFault::Outside);
+    }
+    let mut text = String::new(alloc);
+    let mut at = addr;
+    for _ in 0..count {
+        let Some(line) = item_line(ram, item, at) else {
+            return Err(ListFault::Outside);
+        };
+        push_line(&mut text, line.as_slice())?;
+        at += item.size();
+    }
+    Ok(text)
+}

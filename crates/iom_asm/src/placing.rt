@@ -1,0 +1,106 @@
+//! What a statement does to what the statements before make.
+
+ghost use Rattle.std.specs.Prelude.{◌≡◌, ◌+◌, ◌<◌, ◌≤◌, ◌==◌, ◌&&◌, ◌^◌, map, length, false, Some, None, IfOk, if◌then◌else◌};
+ghost use Rattle.std.specs.List.{list_any};
+ghost use Rattle.std.specs.Option.{option_map};
+ghost use Rattle.iom_mem.specs.Sizes.{is_paged, is_good_size};
+ghost use Rattle.iom_asm.specs.Image.{IsImage, is_new_id};
+ghost use Rattle.iom_asm.specs.Assembly.{empty_draft, moved_to, is_next_disk, with_disk, is_inside, meets, placed, Makes};
+ghost use Rattle.iom_asm.specs.Forms.{where_so};
+ghost use Rattle.iom_asm.specs.Drafts.{disk_seen, draft_seen};
+
+use crate::asm_fault::AsmFault;
+use crate::draft::{Draft, OwnDisk};
+use std::alloc::{AllocError, Global};
+use std::collections::BTreeMap;
+
+impl Draft {
+    /// Memory of this base and size, of which nothing is placed.
+    pub fn new(alloc: Global, base: u64, size: u64) -> Draft
+        ensures { draft_seen result ≡ empty_draft base size }
+    {
+        Draft {
+            base,
+            size,
+            place: base,
+            chunks: BTreeMap::new(alloc),
+            disks: Vec::new(alloc),
+        }
+    }
+
+    // Whether `len` bytes at the place are memory.
+    fn is_inside(&self, len: u64) -> bool
+        requires { self.now.base + self.now.size ≤ 2 ^ 56 }
+        ensures { result ≡ is_inside (draft_seen self.now).image self.now.place len }
+    {
+        let end = self.base + self.size;
+        self.base <= self.place && self.place <= end && len <= end - self.place
+    }
+
+    // Whether one of `len` bytes at the place is placed already: only the last chunk that begins before their end may have one.
+    fn is_taken(&self, len: u64) -> bool
+        requires good { IsImage (draft_seen self.now).image }
+        requires fits { self.now.place + len ≤ 2 ^ 56 }
+        ensures { result ≡ list_any (meets self.now.place len) (draft_seen self.now).image.chunks }
+    {
+        match self.chunks.range(..self.place + len).next_back() {
+            Some((addr, bytes)) => self.place < *addr + bytes.len() as u64,
+            None => false,
+        }
+    }
+
+    /// Places bytes, of line `line`.
+    #[tactic(auto, unfolding(crate::specs::Assembly::placed))]
+    pub fn put(&mut self, line: u64, bytes: Vec<u8>) -> Result<(), AsmFault>
+        requires good { IsImage (draft_seen self.old).image }
+        requires some { 0 < length bytes.items }
+        ensures { Makes (λ _. draft_seen self.new) result (placed line (draft_seen self.old) bytes.items) }
+    {
+        let len = bytes.len() as u64;
+        if !self.is_inside(len) {
+            return Err(AsmFault::Outside(line));
+        }
+        if self.is_taken(len) {
+            return Err(AsmFault::Overlap(line));
+        }
+        self.chunks.insert(self.place, bytes)?;
+        self.place += len;
+        Ok(())
+    }
+
+    // Whether a disk may follow the others.
+    fn takes(&self, disk: &OwnDisk) -> bool
+        ensures { result ≡ is_next_disk (draft_seen self.now).image.disks (disk_seen disk.now) }
+    {
+        self.disks.len() < 8
+            && disk.id < 1 << 24
+            && !has_id(&self.disks, disk.id)
+            && disk.sectors >= 1
+            && disk.sectors <= 65_536
+            && disk.bytes.len() as u64 <= disk.sectors * 512
+    }
+
+    /// Puts a disk behind the others, and answers true; false where it may not stand there.
+    pub fn join(&mut self, disk: OwnDisk) -> Result<bool, AllocError>
+        ensures { IfOk result (λ takes. (if takes then Some (draft_seen self.new) else None)
+            ≡ where_so (is_next_disk (draft_seen self.old).image.disks (disk_seen disk)) (Some (with_disk (draft_seen self.old) (disk_seen disk)))) }
+    {
+        if !self.takes(&disk) {
+            return Ok(false);
+        }
+        match self.disks.push(disk) {
+            Ok(()) => Ok(true),
+            Err(_) => Err(AllocError),
+        }
+    }
+}
+
+// Whether one of the disks has this id.
+fn has_id(disks: &[OwnDisk], id: u64) -> bool
+    ensures { result ≡ list_any (λ other. other == id) (map (λ disk. disk.id) (map disk_seen disks.now)) }
+{
+    match disks {
+        [] => false,
+        [first, rest @ ..] => first.id == id || has_id(rest, id),
+    }
+}
