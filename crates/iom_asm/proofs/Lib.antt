@@ -17,3 +17,4 @@ pub mod Lasting
 pub mod Retold
 pub mod Found
 pub mod Started
+pub mod Loaded

@@ -9,3 +9,4 @@ pub mod Assembly
 pub mod Drafts
 pub mod Listing
 pub mod Retelling
+pub mod Loading
