@@ -71,6 +71,27 @@ number_takes count bytes x are is =
     subst (λ (x : ℕ × List ℕ). Takes bytes (bytes_of_number count x.0) x.1) (ok_is (number_of_bytes step.0.0, step.0.1) x step.2)
     (record { parts = rw (number_there count step.0.0 part.1 part.2) part.0.parts; left = part.0.left })
 
+chunk_ends : (base size end : ℕ) (bytes : List ℕ) (addr len : ℕ × List ℕ) (text : List ℕ × List ℕ) (x : Chunk × List ℕ) →
+    Takes bytes (bytes_of_number 8 addr.0) addr.1 → Takes addr.1 (bytes_of_number 4 len.0) len.1 → Takes len.1 text.0 text.1 →
+    length text.0 ≡ len.0 → nat_le end addr.0 ≡ true →
+    (nat_lt 0 len.0 && (nat_le base addr.0 && nat_le (addr.0 + len.0) (base + size))) ≡ true →
+    good (record { addr = addr.0; bytes = text.0 }, text.1) ≡ Ok x → Takes bytes (chunk_bytes x.0) x.1 × IsChunk base size end x.0
+chunk_ends base size end bytes addr len text x t0 t1 t2 same above inside is =
+    let p = and_parts (nat_lt 0 len.0) (nat_le base addr.0 && nat_le (addr.0 + len.0) (base + size)) inside in
+    let q = and_parts (nat_le base addr.0) (nat_le (addr.0 + len.0) (base + size)) p.1 in
+    let inner = then_takes addr.1 (bytes_of_number 4 len.0) len.1 text.0 text.1 t1 t2 in
+    let all = then_takes bytes (bytes_of_number 8 addr.0) addr.1 (bytes_of_number 4 len.0 ++ text.0) text.1 t0 inner in
+    let made : Chunk × List ℕ = (record { addr = addr.0; bytes = text.0 }, text.1) in
+    subst (λ (y : Chunk × List ℕ). Takes bytes (chunk_bytes y.0) y.1 × IsChunk base size end y.0) {x = made} (ok_is made x is) (
+      subst (λ (n : ℕ). Takes bytes (bytes_of_number 8 addr.0 ++ (bytes_of_number 4 n ++ text.0)) text.1) (sym same) all,
+      record {
+        after = leb-true end addr.0 above;
+        some = omega (arith, same, ltb-true 0 len.0 p.0);
+        above = leb-true base addr.0 q.0;
+        below = omega (arith, same, leb-true (addr.0 + len.0) (base + size) q.1);
+      },
+    )
+
 chunk_takes : (base size end : ℕ) (bytes : List ℕ) (x : Chunk × List ℕ) → AreBytes bytes → chunk_at base size end bytes ≡ Ok x →
     Takes bytes (chunk_bytes x.0) x.1 × IsChunk base size end x.0
 unfolding chunk_at
@@ -89,25 +110,10 @@ chunk_takes base size end bytes x are is =
     let inside = check_ok (nat_lt 0 len.0 && (nat_le base addr.0 && nat_le (addr.0 + len.0) (base + size))) BadChunk
     (part_at len.0 len.1 >>= λ text. Ok (record { addr = addr.0; bytes = text.0 }, text.1)) x b.2 in
     let c = bind_ok (part_at len.0 len.1) (λ text. Ok (record { addr = addr.0; bytes = text.0 }, text.1)) x inside.1 in
-    let text = c.0 in
     let t0 = number_takes 8 bytes addr are a.1 in
     let t1 = number_takes 4 addr.1 len t0.left b.1 in
-    let t2 = part_takes len.0 len.1 text t1.left c.1 in
-    let p = and_parts (nat_lt 0 len.0) (nat_le base addr.0 && nat_le (addr.0 + len.0) (base + size)) inside.0 in
-    let q = and_parts (nat_le base addr.0) (nat_le (addr.0 + len.0) (base + size)) p.1 in
-    let same : length text.0 ≡ len.0 = t2.1 in
-    let inner = then_takes addr.1 (bytes_of_number 4 len.0) len.1 text.0 text.1 t1 t2.0 in
-    let all = then_takes bytes (bytes_of_number 8 addr.0) addr.1 (bytes_of_number 4 len.0 ++ text.0) text.1 t0 inner in
-    let made : Chunk × List ℕ = (record { addr = addr.0; bytes = text.0 }, text.1) in
-    subst (λ (y : Chunk × List ℕ). Takes bytes (chunk_bytes y.0) y.1 × IsChunk base size end y.0) {x = made} (ok_is made x c.2) (
-      subst (λ (n : ℕ). Takes bytes (bytes_of_number 8 addr.0 ++ (bytes_of_number 4 n ++ text.0)) text.1) (sym same) all,
-      record {
-        after = leb-true end addr.0 above.0;
-        some = omega (arith, same, ltb-true 0 len.0 p.0);
-        above = leb-true base addr.0 q.0;
-        below = omega (arith, same, leb-true (addr.0 + len.0) (base + size) q.1);
-      },
-    )
+    let t2 = part_takes len.0 len.1 c.0 t1.left c.1 in
+    chunk_ends base size end bytes addr len c.0 x t0 t1 t2.0 t2.1 above.0 inside.0 c.2
 
 chunks_take : (base size end count : ℕ) (bytes : List ℕ) (x : List Chunk × List ℕ) → AreBytes bytes → chunks_at base size end count bytes ≡ Ok x →
     Takes bytes (chunks_bytes x.0) x.1 × (length x.0 ≡ count) × AreChunks base size end x.0
@@ -124,6 +130,21 @@ chunks_take base size end (suc count) bytes x are is =
     let made : List Chunk × List ℕ = (a.0.0 ∷ b.0.0, b.0.1) in
     subst (λ (x : List Chunk × List ℕ). Takes bytes (chunks_bytes x.0) x.1 × (length x.0 ≡ suc count) × AreChunks base size end x.0) {x = made} (ok_is made x b.2)
     (both, ap suc others.1, (first.1, others.2))
+
+disk_ends : (ids bytes : List ℕ) (id sectors len : ℕ × List ℕ) (text : List ℕ × List ℕ) (x : Disk × List ℕ) →
+    Takes bytes (bytes_of_number 4 id.0) id.1 → Takes id.1 (bytes_of_number 4 sectors.0) sectors.1 → Takes sectors.1 (bytes_of_number 4 len.0) len.1 →
+    Takes len.1 text.0 text.1 → length text.0 ≡ len.0 → is_new_id ids id.0 ≡ true → is_disk_size sectors.0 ≡ true →
+    nat_le len.0 (sectors.0 * 512) ≡ true → good (record { id = id.0; sectors = sectors.0; bytes = text.0 }, text.1) ≡ Ok x →
+    Takes bytes (disk_bytes x.0) x.1 × IsDisk ids x.0
+disk_ends ids bytes id sectors len text x t0 t1 t2 t3 same new sized fits is =
+    let inner = then_takes sectors.1 (bytes_of_number 4 len.0) len.1 text.0 text.1 t2 t3 in
+    let outer = then_takes id.1 (bytes_of_number 4 sectors.0) sectors.1 (bytes_of_number 4 len.0 ++ text.0) text.1 t1 inner in
+    let all = then_takes bytes (bytes_of_number 4 id.0) id.1 (bytes_of_number 4 sectors.0 ++ (bytes_of_number 4 len.0 ++ text.0)) text.1 t0 outer in
+    let made : Disk × List ℕ = (record { id = id.0; sectors = sectors.0; bytes = text.0 }, text.1) in
+    subst (λ (y : Disk × List ℕ). Takes bytes (disk_bytes y.0) y.1 × IsDisk ids y.0) {x = made} (ok_is made x is) (
+      subst (λ (n : ℕ). Takes bytes (bytes_of_number 4 id.0 ++ (bytes_of_number 4 sectors.0 ++ (bytes_of_number 4 n ++ text.0))) text.1) (sym same) all,
+      record { id = new; sectors = sized; room = omega (arith, same, leb-true len.0 (sectors.0 * 512) fits) },
+    )
 
 disk_takes : (ids bytes : List ℕ) (x : Disk × List ℕ) → AreBytes bytes → disk_at ids bytes ≡ Ok x → Takes bytes (disk_bytes x.0) x.1 × IsDisk ids x.0
 unfolding disk_at
@@ -152,20 +173,11 @@ disk_takes ids bytes x are is =
     let fits = check_ok (nat_le len.0 (sectors.0 * 512)) BadDevice (part_at len.0 len.1 >>= λ text.
     Ok (record { id = id.0; sectors = sectors.0; bytes = text.0 }, text.1)) x c.2 in
     let d = bind_ok (part_at len.0 len.1) (λ text. Ok (record { id = id.0; sectors = sectors.0; bytes = text.0 }, text.1)) x fits.1 in
-    let text = d.0 in
     let t0 = number_takes 4 bytes id are a.1 in
     let t1 = number_takes 4 id.1 sectors t0.left b.1 in
     let t2 = number_takes 4 sectors.1 len t1.left c.1 in
-    let t3 = part_takes len.0 len.1 text t2.left d.1 in
-    let same : length text.0 ≡ len.0 = t3.1 in
-    let inner = then_takes sectors.1 (bytes_of_number 4 len.0) len.1 text.0 text.1 t2 t3.0 in
-    let outer = then_takes id.1 (bytes_of_number 4 sectors.0) sectors.1 (bytes_of_number 4 len.0 ++ text.0) text.1 t1 inner in
-    let all = then_takes bytes (bytes_of_number 4 id.0) id.1 (bytes_of_number 4 sectors.0 ++ (bytes_of_number 4 len.0 ++ text.0)) text.1 t0 outer in
-    let made : Disk × List ℕ = (record { id = id.0; sectors = sectors.0; bytes = text.0 }, text.1) in
-    subst (λ (y : Disk × List ℕ). Takes bytes (disk_bytes y.0) y.1 × IsDisk ids y.0) {x = made} (ok_is made x d.2) (
-      subst (λ (n : ℕ). Takes bytes (bytes_of_number 4 id.0 ++ (bytes_of_number 4 sectors.0 ++ (bytes_of_number 4 n ++ text.0))) text.1) (sym same) all,
-      record { id = new.0; sectors = sized.0; room = omega (arith, same, leb-true len.0 (sectors.0 * 512) fits.0) },
-    )
+    let t3 = part_takes len.0 len.1 d.0 t2.left d.1 in
+    disk_ends ids bytes id sectors len d.0 x t0 t1 t2 t3.0 t3.1 new.0 sized.0 fits.0 d.2
 
 disks_take : (ids : List ℕ) (count : ℕ) (bytes : List ℕ) (x : List Disk × List ℕ) → AreBytes bytes → disks_at ids count bytes ≡ Ok x →
     Takes bytes (disks_bytes x.0) x.1 × (length x.0 ≡ count) × AreDisks ids x.0
@@ -291,7 +303,7 @@ read_is bytes image are is =
     let second = chunks_take head.0.base head.0.size 0 head.0.chunks head.1 chunks first.takes.left b.1 in
     let third = disks_take [] head.0.disks chunks.1 disks second.0.left c.1 in
     subst (λ (image : Image). IsImageOf image bytes) {x = made} (ok_is made image last.1)
-    (whole bytes head chunks disks first second.0 second.1 second.2 third.0 third.1 third.2 (nil_from_length disks.1 (eqb-true _ _ last.0)))
+    (whole bytes head chunks disks first second.0 second.1 second.2 third.0 third.1 third.2 (nil_from_length disks.1 (eqb-true (length disks.1) 0 last.0)))
 
 pub reads_images : (bytes : List ℕ) (image : Image) → AreBytes bytes → (image_of bytes ≡ Ok image) ↔ IsImageOf image bytes
 reads_images bytes image are = (read_is bytes image are, λ is. ap image_of is.are ∙ read_again image is.good)

@@ -2,6 +2,8 @@
 #![tactic(auto)]
 
 #[cfg(test)]
+mod asm;
+#[cfg(test)]
 mod bits;
 #[cfg(test)]
 mod blk_registers;
