@@ -9,7 +9,7 @@ use std::test::Fail;
 const MEMORY: &[u8] = b"ram 0x80000000 0x100000";
 
 // A disk, the descriptors of a request that reads its first sector, and two single bytes.
-const REQUEST: &[u8] = b"ram 0x80000000 0x100000
+pub const REQUEST: &[u8] = b"ram 0x80000000 0x100000
 disk 5 2 c0ffee
 at 0x80040000
 u64 0x80050000 0x0001000100000008 0x80050008 0x0002000100000008 0x80051000 0x0003000300000200 0x80050010 0x0000000200000001

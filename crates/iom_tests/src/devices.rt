@@ -3,6 +3,8 @@
 ghost use Rattle.std.specs.Prelude.{IfOk};
 ghost use Rattle.iom_core.specs.State.{AreDevices};
 
+use crate::asm::REQUEST;
+use iom_asm::{assemble, load};
 use iom_blk::Blk;
 use iom_core::{Answer, Platform, Step, Warrant, explain};
 use iom_mem::Ram;
@@ -460,5 +462,23 @@ fn requests_behind_both_stages(rt: HostRuntime) -> Result<(), Fail> {
     for (i, request) in requests.iter().enumerate() {
         assert!(rt; goes(rt.alloc(), *request)?, "request {i}");
     }
+    Ok(())
+}
+
+// The image of the same request, loaded: the sector is read, and the disk has its bytes, then zeros.
+#[test]
+fn loaded_image_reads_its_disk(rt: HostRuntime) -> Result<(), Fail> {
+    let image = assemble(rt.alloc(), REQUEST)?;
+    let mut platform = load(rt.alloc(), image.as_slice())?;
+    platform.step(&Step::RegWrite {
+        off: 16,
+        size: 8,
+        value: 1,
+    });
+    notified(&mut platform, 0x8004_0000, 0x8004_1000, 0x8004_2000);
+    assert!(rt; moved(&mut platform, 23) == 21);
+    assert!(rt; platform.ram().word(0x8005_1000) == Some(0xee_ffc0));
+    let disk = platform.disk(0).unwrap_or(&[]);
+    assert!(rt; disk.len() == 1024 && matches!(disk, [0xc0, 0xff, 0xee, 0, ..]));
     Ok(())
 }

@@ -6,6 +6,7 @@ use crate::blk_requests::with_disk;
 use crate::devices::devices;
 use crate::first_wrong;
 use crate::warrants::{MAPPED, memory, otherwise, read, stored, walked, written};
+use iom_asm::{Item, assemble, list, load};
 use iom_cache::{ContextCache, Place, TransCache};
 use iom_core::{Answer, Platform, Step};
 use iom_mem::Ram;
@@ -183,6 +184,64 @@ fn platform_with_a_device_is_copied(rt: HostRuntime) -> Result<(), Fail> {
     let platform = Platform::new(rt.alloc(), ram, devices)?;
     let copy = platform.try_clone(rt.alloc())?;
     assert!(rt; copy.disk(0) == platform.disk(0) && copy.disk(0).is_some());
+    Ok(())
+}
+
+// An image of 1 MiB with a disk of two sectors.
+const IMAGE: &[u8] =
+    b"RVIOMMU1\x00\x00\x00\x80\x00\x00\x00\x00\x00\x00\x10\x00\x00\x00\x00\x00\x00\x00\x00\x00\x01\x00\x00\x00\x05\x00\x00\x00\x02\x00\x00\x00\x03\x00\x00\x00\xc0\xff\xee";
+
+fn is_loaded_after(alloc: Global, spent: usize) -> Result<bool, Fail> {
+    spend(alloc, spent)?;
+    let platform = load(alloc, IMAGE)?;
+    Ok(matches!(platform.disk(0), Some([0xc0, 0xff, 0xee, 0, ..])))
+}
+
+// Loading takes seven: the memory's, two of the disk, those of the two lists, and those of the caches.
+#[test]
+fn memory_and_disk_are_loaded(rt: HostRuntime) -> Result<(), Fail> {
+    assert!(rt; is_loaded_after(rt.alloc(), 12)?);
+    Ok(())
+}
+
+#[test]
+fn lists_are_made_of_an_image(rt: HostRuntime) -> Result<(), Fail> {
+    assert!(rt; is_loaded_after(rt.alloc(), 9)?);
+    Ok(())
+}
+
+#[test]
+fn caches_are_made_for_an_image(rt: HostRuntime) -> Result<(), Fail> {
+    assert!(rt; is_loaded_after(rt.alloc(), 8)?);
+    Ok(())
+}
+
+fn is_assembled_after(alloc: Global, spent: usize) -> Result<bool, Fail> {
+    spend(alloc, spent)?;
+    let image = assemble(alloc, b"ram 0x80000000 0x100000\ndisk 5 2 c0ffee\n")?;
+    Ok(image.as_slice() == IMAGE)
+}
+
+// Assembling this text takes six.
+#[test]
+fn text_is_read(rt: HostRuntime) -> Result<(), Fail> {
+    assert!(rt; is_assembled_after(rt.alloc(), 12)?);
+    Ok(())
+}
+
+#[test]
+fn image_is_written(rt: HostRuntime) -> Result<(), Fail> {
+    assert!(rt; is_assembled_after(rt.alloc(), 9)?);
+    Ok(())
+}
+
+// A listing grows as its lines come.
+#[test]
+fn items_are_listed(rt: HostRuntime) -> Result<(), Fail> {
+    spend(rt.alloc(), 11)?;
+    let ram = Ram::new(rt.alloc(), BASE, 0x1000)?;
+    let listing = list(rt.alloc(), &ram, Item::Word, BASE, 64)?;
+    assert!(rt; listing.len() == 64 * 8);
     Ok(())
 }
 
