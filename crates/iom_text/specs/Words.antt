@@ -12,6 +12,10 @@ is_blank c = c == 32 || c == 9 || c == 13
 abbrev pub before_comment : List ℕ → List ℕ
 before_comment text = before_first (λ c. c == 35) text
 
+-- what a word ends before
+abbrev pub is_end : ℕ → Bool
+is_end c = is_blank c || c == 35
+
 -- what stands between blanks before the comment
 unfoldable pub words_of : List ℕ → List (List ℕ)
 words_of text = filter (λ word. nat_lt 0 (length word)) (slice_split is_blank (before_comment text))

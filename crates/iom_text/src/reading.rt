@@ -1,6 +1,7 @@
-ghost use Rattle.std.specs.Prelude.{◌≡◌, ◌==◌, ◌≤◌, take, map};
-ghost use Rattle.std.specs.List.{position};
-ghost use Rattle.iom_text.specs.Words.{is_blank, before_comment, words_of, number_in, number};
+ghost use Rattle.std.specs.Prelude.{◌≡◌, ◌<◌, ◌≤◌, [], ◌∷◌, length, not, take, drop, map, SomeIff};
+ghost use Rattle.std.specs.Char.{digit_value};
+ghost use Rattle.std.specs.List.{position, position_or_len};
+ghost use Rattle.iom_text.specs.Words.{is_blank, is_end, words_of, number_in, number};
 
 use arrayvec::ArrayVec;
 
@@ -11,25 +12,65 @@ pub const MOST_WORDS: usize = 11;
 pub type Words<'a> = ArrayVec<&'a [u8], 11>;
 
 // Whether a byte parts words: a space, a tab or a CR.
+#[inline(always)]
 fn is_blank(c: u8) -> bool
     ensures { result ≡ is_blank c }
 {
     matches!(c, b' ' | b'\t' | b'\r')
 }
 
-fn comment_at(text: &[u8]) -> Option<usize>
-    ensures { result ≡ position (λ c. c == 35) text.now }
+#[inline(always)]
+fn is_end(c: u8) -> bool
+    ensures { result ≡ is_end c }
 {
-    text.iter().position(|c| *c == b'#')
+    matches!(c, b' ' | b'\t' | b'\r' | b'#')
 }
 
-fn before_comment(text: &[u8]) -> &[u8]
-    ensures { result.now ≡ before_comment text.now }
+#[inline(always)]
+fn word_at(text: &[u8]) -> Option<usize>
+    ensures { result ≡ position (λ c. not (is_blank c)) text.now }
 {
-    match comment_at(text) {
-        Some(at) => &text[..at],
-        None => text,
+    text.iter().position(|c| !is_blank(*c))
+}
+
+#[inline(always)]
+fn end_at(text: &[u8]) -> Option<usize>
+    ensures { result ≡ position is_end text.now }
+{
+    text.iter().position(|c| is_end(*c))
+}
+
+// What follows the blanks that a text begins with.
+#[inline(always)]
+fn past_blanks(text: &[u8]) -> &[u8]
+    ensures { result.now ≡ drop (position_or_len (λ c. not (is_blank c)) text.now) text.now }
+{
+    match word_at(text) {
+        Some(at) => &text[at..],
+        None => &[],
     }
+}
+
+// What stands before the first end of a word, and what follows.
+#[inline(always)]
+fn at_end(text: &[u8]) -> (&[u8], &[u8])
+    ensures before { result.0.now ≡ take (position_or_len is_end text.now) text.now }
+    ensures after { result.1.now ≡ drop (position_or_len is_end text.now) text.now }
+{
+    match end_at(text) {
+        Some(at) => text.split_at(at),
+        None => (text, &[]),
+    }
+}
+
+// The first word of a text, or nothing where there is none, and what follows it.
+#[inline(always)]
+#[tactic(auto, using(crate::proofs::Cuts::none_of, crate::proofs::Cuts::some_of))]
+fn first_word(text: &[u8]) -> (&[u8], &[u8])
+    ensures none { length result.0.now ≡ 0 → words_of text.now ≡ [] }
+    ensures some { 0 < length result.0.now → words_of text.now ≡ result.0.now ∷ words_of result.1.now }
+{
+    at_end(past_blanks(text))
 }
 
 /// The first words of a line, at most eleven. A `#` begins a comment, in the middle of a word too.
@@ -37,19 +78,38 @@ pub fn words(text: &[u8]) -> Words<'_>
     ensures { map (λ word. word.now) result.items ≡ take 11 (words_of text.now) }
 {
     let mut words = Words::new();
-    for word in before_comment(text)
-        .split(|c| is_blank(*c))
-        .filter(|word| !word.is_empty())
-        .take(MOST_WORDS)
-    {
+    let mut rest = text;
+    for _ in 0..MOST_WORDS {
+        let (word, more) = first_word(rest);
+        if word.is_empty() {
+            break;
+        }
         words.push(word);
+        rest = more;
     }
     words
 }
 
+// The value of a digit of this radix. It is told without a branch, since digits and letters follow each other by chance.
+#[inline(always)]
+fn digit_in(radix: u64, c: u8) -> Option<u64>
+    requires { radix ≤ 16 }
+    ensures { SomeIff result (digit_value c < radix) (digit_value c) }
+{
+    let is_hex =
+        (c >= b'0') & (c <= b'9') | (c >= b'A') & (c <= b'F') | (c >= b'a') & (c <= b'f');
+    let value = u64::from(c % 16 + 9 * (c / 64));
+    if is_hex & (value < radix) {
+        Some(value)
+    } else {
+        None
+    }
+}
+
 // The number that digits of a radix write, below 2^64.
+#[inline(always)]
 #[tactic(auto, unfolding(crate::specs::Words::number_in))]
-fn number_in(radix: u32, word: &[u8]) -> Option<u64>
+fn number_in(radix: u64, word: &[u8]) -> Option<u64>
     requires least { 2 ≤ radix }
     requires most { radix ≤ 16 }
     ensures { result ≡ number_in radix word.now }
@@ -59,10 +119,8 @@ fn number_in(radix: u32, word: &[u8]) -> Option<u64>
     }
     let mut value: u64 = 0;
     for c in word {
-        let digit = char::from(*c).to_digit(radix)?;
-        value = value
-            .checked_mul(u64::from(radix))?
-            .checked_add(u64::from(digit))?;
+        let digit = digit_in(radix, *c)?;
+        value = value.checked_mul(radix)?.checked_add(digit)?;
     }
     Some(value)
 }

@@ -1,6 +1,4 @@
-pub mod Digits
 pub mod Lines
-pub mod Numbers
 pub mod Pairs
 pub mod Splits
 pub mod Outputs

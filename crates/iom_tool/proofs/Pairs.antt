@@ -1,11 +1,13 @@
 -- What pairs of hex digits write.
-use Rattle.std.proofs.Common.{◌≡◌, ◌+◌, ◌*◌, ◌<◌, ◌≤◌, ◌&&◌, ◌++◌, ℕ, List, [], ◌∷◌, length, take, drop, get_or, false, Option, Some, None, Result, Ok, Err, is_some, sym, ◌∙◌, ap, refl, arith, append_assoc, append-nil}
+use Rattle.std.proofs.Common.{◌≡◌, ◌==◌, ◌%◌, ◌+◌, ◌*◌, ◌<◌, ◌≤◌, ◌&&◌, ◌++◌, ℕ, List, [], ◌∷◌, Bool, true, if◌then◌else◌, length, take, drop, get_or, false, Option, Some, None, Result, Ok, Err, is_some, sym, ◌∙◌, ap, refl, arith, append_assoc, append-nil, ◌⊎◌, inl, inr, ⊎_elim}
+use Rattle.std.specs.List.{list_all}
 use Rattle.std.specs.Option.{option_map}
 use Rattle.std.specs.Result.{result_ok}
 use Rattle.std.proofs.lemmas.List.{drop_more, take_more_set, take_all, drop_all}
 use Rattle.std.proofs.Math.ListN.{set}
-use Rattle.hex.specs.Hex.{hex_digit_value, is_hex_digit, decode_pairs, ◌>>=◌}
+use Rattle.hex.specs.Hex.{hex_digit_value, is_hex_digit, pair_value, decode_pairs, decode_of, ◌>>=◌}
 use Rattle.hex.specs.declared.error.FromHexError.{FromHexError}
+use Rattle.hex.specs.declared.error.FromHexError.TheVariants.{OddLength}
 
 two_more : (word : List ℕ) (i : ℕ) → 2 * i + 1 < length word →
     drop (2 * i) word ≡ get_or word (2 * i) 0 ∷ get_or word (2 * i + 1) 0 ∷ drop (2 * (i + 1)) word
@@ -54,13 +56,6 @@ pair_done word bytes i h l all inside within first second so_far =
     so_far ∙ ap (option_map (λ more. take i bytes ++ more)) step ∙ fused (take i bytes) (h * 16 + l) rest
     ∙ ap (λ front. option_map (λ more. front ++ more) rest) (sym (take_more_set bytes i (h * 16 + l) within))
 
-pub pair_refused : (word bytes : List ℕ) (i : ℕ) (all : Option (List ℕ)) → 2 * i + 1 < length word →
-    is_hex_digit (get_or word (2 * i) 0) && is_hex_digit (get_or word (2 * i + 1) 0) ≡ false →
-    all ≡ option_map (λ more. take i bytes ++ more) (result_ok (decode_pairs (2 * i) (drop (2 * i) word))) → None ≡ all
-pair_refused word bytes i all inside none so_far =
-    sym (so_far ∙ ap (λ s. option_map (λ more. take i bytes ++ more) (result_ok (decode_pairs (2 * i) s))) (two_more word i inside)
-    ∙ ap (option_map (λ more. take i bytes ++ more)) (no_pair (2 * i) (get_or word (2 * i) 0) (get_or word (2 * i + 1) 0) (drop (2 * (i + 1)) word) _ _ refl refl none))
-
 pub pairs_begin : (all : Option (List ℕ)) (bytes : List ℕ) → all ≡ option_map (λ more. take 0 bytes ++ more) all
 pairs_begin (Some more) bytes = refl
 pairs_begin None bytes = refl
@@ -75,3 +70,31 @@ pairs_end word bytes i all twice past so_far =
     sym (so_far ∙ ap (λ s. option_map (λ more. take i bytes ++ more) (result_ok (decode_pairs (2 * i) s))) (drop_all (2 * i) word (omega arith))
     ∙ ap (λ r. option_map (λ more. take i bytes ++ more) (result_ok r)) (no_more (2 * i))
     ∙ ap Some (append-nil (take i bytes) ∙ take_all i bytes past))
+
+either_none : (a b rest : Bool) → a && (b && rest) ≡ false → (a && b ≡ false) ⊎ (rest ≡ false)
+either_none false b rest is = inl refl
+either_none true false rest is = inl refl
+either_none true true rest is = inr is
+
+behind : (byte : Result ℕ FromHexError) (rest : Result (List ℕ) FromHexError) → result_ok rest ≡ None →
+    result_ok (byte >>= λ first. rest >>= λ bytes. Ok (first ∷ bytes)) ≡ None
+behind (Err e) rest is = refl
+behind (Ok first) (Err e) is = refl
+behind (Ok first) (Ok bytes) is = absurd (cc is)
+
+-- where one isn't a digit, no bytes are written
+none_in : (word : List ℕ) (at : ℕ) → list_all is_hex_digit word ≡ false → result_ok (decode_pairs at word) ≡ None
+unfolding decode_pairs
+none_in [] at other = absurd (cc other)
+none_in (digit ∷ []) at other = refl
+none_in (high ∷ low ∷ rest) at other =
+    ⊎_elim
+    (λ none. no_pair at high low rest (hex_digit_value high) (hex_digit_value low) refl refl none)
+    (λ later. behind (pair_value high low at) (decode_pairs (at + 2) rest) (none_in rest (at + 2) later))
+    (either_none (is_hex_digit high) (is_hex_digit low) (list_all is_hex_digit rest) other)
+
+pub no_data : (word : List ℕ) → list_all is_hex_digit word ≡ false → result_ok (decode_of word) ≡ None
+no_data word other = by_length (length word % 2 == 1) where
+  by_length : (odd : Bool) → result_ok (if odd then Err OddLength else decode_pairs 0 word) ≡ None
+  by_length true = refl
+  by_length false = none_in word 0 other

@@ -1,8 +1,9 @@
 ghost use Rattle.std.specs.Prelude.{◌≡◌, map};
 ghost use Rattle.iom_tool.specs.Script.{load, store, reg_read, reg_write, reg, cmd, dma_read, dma_write, dma, dev_read, dev_write, dev_step, dev, place_page, place, trace, step_of, question_of, meaning, line_of};
 
-use crate::words::{bytes_of, number, words};
+use crate::words::bytes_of;
 use iom_core::Step;
+use iom_text::{number, words};
 
 /// What a line of a script says.
 #[derive(Drop)]
@@ -276,7 +277,7 @@ fn meaning(words: &[&[u8]]) -> Line
 }
 
 /// What a line says, its text given without its end.
-#[tactic(auto, using(crate::proofs::Lines::seven_words), unfolding(crate::specs::Script::line_of))]
+#[tactic(auto, using(crate::proofs::Lines::eleven_words), unfolding(crate::specs::Script::line_of))]
 pub fn line_of(text: &[u8]) -> Line
     ensures { result ≡ line_of text.now }
 {
