@@ -140,9 +140,9 @@ pub some_of : (text : List ℕ) → 0 < length (before_end (past text)) →
 some_of text some = sym (past_blanks text) ∙ first_of (past text) some
 
 -- one word more is found
-pub one_word : (all front rest more : List (List ℕ)) (word : List ℕ) (count : ℕ) → count < 11 → rest ≡ word ∷ more →
-    all ≡ front ++ take (11 - count) rest → all ≡ (front ++ word ∷ []) ++ take (11 - (count + 1)) more
-one_word all front rest more word count below next so_far =
-    let left : 11 - count ≡ suc (11 - (count + 1)) = omega arith in
-    so_far ∙ ap (λ l. front ++ take (11 - count) l) next ∙ ap (λ n. front ++ take n (word ∷ more)) left
-    ∙ sym (append_assoc front (word ∷ []) (take (11 - (count + 1)) more))
+pub one_word : (all front rest more : List (List ℕ)) (word : List ℕ) (room count : ℕ) → count < room → rest ≡ word ∷ more →
+    all ≡ front ++ take (room - count) rest → all ≡ (front ++ word ∷ []) ++ take (room - (count + 1)) more
+one_word all front rest more word room count below next so_far =
+    let left : room - count ≡ suc (room - (count + 1)) = omega arith in
+    so_far ∙ ap (λ l. front ++ take (room - count) l) next ∙ ap (λ n. front ++ take n (word ∷ more)) left
+    ∙ sym (append_assoc front (word ∷ []) (take (room - (count + 1)) more))

@@ -73,20 +73,34 @@ fn first_word(text: &[u8]) -> (&[u8], &[u8])
     at_end(past_blanks(text))
 }
 
-/// The first words of a line, at most eleven. A `#` begins a comment, in the middle of a word too.
+/// Puts the first words of a line at the front of `words`, as many as it has room for, and answers how many. A `#` begins
+/// a comment, in the middle of a word too.
+pub fn cut_words<'a>(text: &'a [u8], words: &mut [&'a [u8]]) -> usize
+    ensures words { map (λ word. word.now) (take result words.new)
+        ≡ take (length words.old) (words_of text.now) }
+    ensures count { result ≤ length words.new }
+    ensures room { length words.new ≡ length words.old }
+{
+    let mut rest = text;
+    for count in 0..words.len() {
+        let (word, more) = first_word(rest);
+        if word.is_empty() {
+            return count;
+        }
+        words[count] = word;
+        rest = more;
+    }
+    words.len()
+}
+
+/// The first words of a line, at most eleven.
 pub fn words(text: &[u8]) -> Words<'_>
     ensures { map (λ word. word.now) result.items ≡ take 11 (words_of text.now) }
 {
-    let mut words = Words::new();
-    let mut rest = text;
-    for _ in 0..MOST_WORDS {
-        let (word, more) = first_word(rest);
-        if word.is_empty() {
-            break;
-        }
-        words.push(word);
-        rest = more;
-    }
+    let none: &[u8] = &[];
+    let mut words = Words::from([none; MOST_WORDS]);
+    let count = cut_words(text, words.as_mut_slice());
+    words.truncate(count);
     words
 }
 

@@ -1,5 +1,6 @@
 pub mod Lines
 pub mod Pairs
+pub mod Searches
 pub mod Splits
 pub mod Outputs
 pub mod Feeding

@@ -3,7 +3,7 @@ ghost use Rattle.iom_tool.specs.Script.{load, store, reg_read, reg_write, reg, c
 
 use crate::words::bytes_of;
 use iom_core::Step;
-use iom_text::{number, words};
+use iom_text::{cut_words, number};
 
 /// What a line of a script says.
 #[derive(Drop)]
@@ -27,6 +27,9 @@ pub enum Question {
 
 /// The longest line, in bytes without its end.
 pub const MOST_BYTES_OF_A_LINE: usize = 512;
+
+/// One word more than any line has.
+const MOST_WORDS: usize = 7;
 
 #[tactic(auto, unfolding(crate::specs::Script::load))]
 fn load(operands: &[&[u8]]) -> Option<Step>
@@ -277,12 +280,15 @@ fn meaning(words: &[&[u8]]) -> Line
 }
 
 /// What a line says, its text given without its end.
-#[tactic(auto, using(crate::proofs::Lines::eleven_words), unfolding(crate::specs::Script::line_of))]
+#[tactic(auto, using(crate::proofs::Lines::seven_words), unfolding(crate::specs::Script::line_of))]
 pub fn line_of(text: &[u8]) -> Line
     ensures { result ≡ line_of text.now }
 {
     if text.len() > MOST_BYTES_OF_A_LINE || text.contains(&b'\n') {
         return Line::Bad;
     }
-    meaning(words(text).as_slice())
+    let none: &[u8] = &[];
+    let mut words = [none; MOST_WORDS];
+    let count = cut_words(text, &mut words);
+    meaning(&words[..count])
 }
