@@ -13,7 +13,7 @@ parts text = slice_split is_blank (before_comment text)
 abbrev kept : List (List ℕ) → List (List ℕ)
 kept all = filter (λ word. nat_lt 0 (length word)) all
 
-one_more : (n c : ℕ) (text : List ℕ) → (take (1 + n) (c ∷ text) ≡ c ∷ take n text) × (drop (1 + n) (c ∷ text) ≡ drop n text)
+pub one_more : (n c : ℕ) (text : List ℕ) → (take (1 + n) (c ∷ text) ≡ c ∷ take n text) × (drop (1 + n) (c ∷ text) ≡ drop n text)
 one_more n c text =
     let next : 1 + n ≡ suc n = omega arith in
     (ap (λ k. take k (c ∷ text)) next, ap (λ k. drop k (c ∷ text)) next)
@@ -101,7 +101,7 @@ first_of text some =
     let there : nat_lt 0 (length (take (position_or_len is_end text) text)) ≡ true = grind arith in
     ap kept it.parts ∙ rw there (ap (λ more. take (position_or_len is_end text) text ∷ more) it.words)
 
-abbrev past : List ℕ → List ℕ
+abbrev pub past : List ℕ → List ℕ
 past text = drop (position_or_len (λ c. not (is_blank c)) text) text
 
 abbrev before_end : List ℕ → List ℕ

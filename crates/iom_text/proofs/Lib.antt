@@ -1,3 +1,5 @@
 pub mod Digits
+pub mod Firsts
+pub mod Leading
 pub mod Numbers
 mod Cuts

@@ -1,5 +1,5 @@
 -- The words of a line, and what a word says.
-use Rattle.std.specs.Prelude.{ℕ, ◌^◌, ◌==◌, ◌&&◌, ◌||◌, Bool, nat_lt, List, length, take, drop, codes, bytes_eq, Option, Some, None, filter, if◌then◌else◌}
+use Rattle.std.specs.Prelude.{ℕ, ◌^◌, ◌==◌, ◌&&◌, ◌||◌, Bool, nat_lt, List, [], ◌∷◌, length, take, drop, codes, bytes_eq, Option, Some, None, filter, if◌then◌else◌}
 use Rattle.std.specs.List.{slice_split, before_first, list_all}
 use Rattle.std.specs.Char.{is_digit}
 use Rattle.std.specs.Str.Parse.{digits_value}
@@ -30,3 +30,8 @@ number_in radix word =
 -- decimal digits, or hex digits after `0x`
 unfoldable pub number : List ℕ → Option ℕ
 number word = if bytes_eq (take 2 word) (codes "0x") then number_in 16 (drop 2 word) else number_in 10 word
+
+-- the number that the first of some words writes
+abbrev pub first_number : List (List ℕ) → Option ℕ
+first_number [] = None
+first_number (word ∷ words) = number word

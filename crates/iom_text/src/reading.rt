@@ -1,7 +1,8 @@
-ghost use Rattle.std.specs.Prelude.{◌≡◌, ◌<◌, ◌≤◌, [], ◌∷◌, length, not, take, drop, map, SomeIff};
+ghost use Rattle.std.specs.Prelude.{◌≡◌, ◌==◌, ◌<◌, ◌≤◌, [], ◌∷◌, length, not, take, drop, map, SomeIff, IfSome, MatchOption, bytes_eq, codes};
 ghost use Rattle.std.specs.Char.{digit_value};
 ghost use Rattle.std.specs.List.{position, position_or_len};
-ghost use Rattle.iom_text.specs.Words.{is_blank, is_end, words_of, number_in, number};
+ghost use Rattle.std.specs.Option.{option_map};
+ghost use Rattle.iom_text.specs.Words.{is_blank, is_end, words_of, number_in, number, first_number};
 
 use arrayvec::ArrayVec;
 
@@ -73,34 +74,42 @@ fn first_word(text: &[u8]) -> (&[u8], &[u8])
     at_end(past_blanks(text))
 }
 
-/// Puts the first words of a line at the front of `words`, as many as it has room for, and answers how many. A `#` begins
-/// a comment, in the middle of a word too.
-pub fn cut_words<'a>(text: &'a [u8], words: &mut [&'a [u8]]) -> usize
-    ensures words { map (λ word. word.now) (take result words.new)
-        ≡ take (length words.old) (words_of text.now) }
-    ensures count { result ≤ length words.new }
-    ensures room { length words.new ≡ length words.old }
+/// The first word of a line, and what follows it; None where the line has none. A `#` begins a comment, in the middle of
+/// a word too.
+#[inline(always)]
+pub fn take_word(text: &[u8]) -> Option<(&[u8], &[u8])>
+    ensures { MatchOption result (words_of text.now ≡ [])
+        (λ cut. words_of text.now ≡ cut.0.now ∷ words_of cut.1.now) }
 {
-    let mut rest = text;
-    for count in 0..words.len() {
-        let (word, more) = first_word(rest);
-        if word.is_empty() {
-            return count;
-        }
-        words[count] = word;
-        rest = more;
+    let (word, rest) = first_word(text);
+    if word.is_empty() {
+        return None;
     }
-    words.len()
+    Some((word, rest))
+}
+
+/// Whether a line has no word.
+#[inline(always)]
+pub fn is_over(text: &[u8]) -> bool
+    ensures { result ≡ (length (words_of text.now) == 0) }
+{
+    take_word(text).is_none()
 }
 
 /// The first words of a line, at most eleven.
 pub fn words(text: &[u8]) -> Words<'_>
     ensures { map (λ word. word.now) result.items ≡ take 11 (words_of text.now) }
 {
-    let none: &[u8] = &[];
-    let mut words = Words::from([none; MOST_WORDS]);
-    let count = cut_words(text, words.as_mut_slice());
-    words.truncate(count);
+    let mut words = Words::new();
+    let mut rest = text;
+    for _ in 0..MOST_WORDS {
+        let (word, more) = first_word(rest);
+        if word.is_empty() {
+            break;
+        }
+        words.push(word);
+        rest = more;
+    }
     words
 }
 
@@ -147,5 +156,56 @@ pub fn number(word: &[u8]) -> Option<u64>
     match word {
         [b'0', b'x', digits @ ..] => number_in(16, digits),
         _ => number_in(10, word),
+    }
+}
+
+// The number that digits of a radix write up to the end of their word, and what follows that.
+#[inline(always)]
+fn take_digits(radix: u64, text: &[u8]) -> Option<(u64, &[u8])>
+    requires least { 2 ≤ radix }
+    requires most { radix ≤ 16 }
+    ensures number { option_map (λ cut. cut.0) result
+        ≡ number_in radix (take (position_or_len is_end text.now) text.now) }
+    ensures rest { IfSome result (λ cut. cut.1.now ≡ drop (position_or_len is_end text.now) text.now) }
+{
+    let mut value: u64 = 0;
+    for at in 0..text.len() {
+        let Some(digit) = digit_in(radix, text[at]) else {
+            if !is_end(text[at]) {
+                return None;
+            }
+            if at == 0 {
+                return None;
+            }
+            return Some((value, &text[at..]));
+        };
+        value = value.checked_mul(radix)?.checked_add(digit)?;
+    }
+    if text.is_empty() {
+        return None;
+    }
+    Some((value, &[]))
+}
+
+// Whether a text begins with `0x`.
+#[inline(always)]
+fn is_hexed(text: &[u8]) -> bool
+    ensures { result ≡ bytes_eq (take 2 text.now) (codes "0x") }
+{
+    matches!(text, [b'0', b'x', ..])
+}
+
+/// The number that the first word of a line writes, and what follows that word; None where it writes none, or there is no
+/// word.
+#[inline(always)]
+pub fn take_number(text: &[u8]) -> Option<(u64, &[u8])>
+    ensures number { option_map (λ cut. cut.0) result ≡ first_number (words_of text.now) }
+    ensures rest { IfSome result (λ cut. words_of cut.1.now ≡ drop 1 (words_of text.now)) }
+{
+    let word = past_blanks(text);
+    if is_hexed(word) {
+        take_digits(16, &word[2..])
+    } else {
+        take_digits(10, word)
     }
 }
