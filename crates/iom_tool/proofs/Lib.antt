@@ -1,4 +1,4 @@
-pub mod Lines
+pub mod Forms
 pub mod Pairs
 pub mod Searches
 pub mod Splits
