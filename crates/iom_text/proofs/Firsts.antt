@@ -1,10 +1,11 @@
 -- The first word of a text as a number.
-use Rattle.std.proofs.Common.{◌≡◌, ◌==◌, ◌&&◌, ◌+◌, ◌-◌, ◌<◌, ◌≤◌, ℕ, List, [], ◌∷◌, Bool, true, false, not, cond, nat_lt, Option, Some, None, IfSome, is_some, Bor, length, length-drop, take, drop, codes, bytes_eq, sym, ◌∙◌, ap, refl, arith, inl, inr, ◌++◌, if◌then◌else◌}
+use Rattle.std.proofs.Common.{◌≡◌, ◌==◌, ◌&&◌, ◌+◌, ◌-◌, ◌<◌, ◌≤◌, ℕ, List, [], ◌∷◌, Bool, true, false, not, cond, nat_lt, Option, Some, None, IfSome, is_some, Bor, length, length-drop, get_or, take, drop, codes, bytes_eq, sym, ◌∙◌, ap, refl, arith, inl, inr, ◌++◌, if◌then◌else◌}
 use Rattle.std.specs.List.{position_or_len}
 use Rattle.std.specs.Option.{option_map}
 use Rattle.std.proofs.lemmas.Bool.{cases_lt}
+use Rattle.std.proofs.lemmas.List.Sums.{position_or_len_is}
 use Rattle.std.proofs.lemmas.Slice.Eq.{bytes_eq-Decides}
-use Rattle.std.proofs.lemmas.List.{take-append-drop, take_all, nil_from_length}
+use Rattle.std.proofs.lemmas.List.{take-append-drop, take_all, drop_all, nil_from_length}
 use Rattle.iom_text.specs.Words.{is_blank, is_end, words_of, number_in, number, first_number}
 use Rattle.iom_text.proofs.Cuts.{past, some_of, none_of, one_more}
 use Rattle.iom_text.proofs.Leading.{the_word}
@@ -103,3 +104,15 @@ then_rest (Some cut) number after words is rest follows = ap words_of rest ∙ f
 
 pub all_left : (text : List ℕ) → take (length text - 2) (drop 2 text) ≡ drop 2 text
 all_left text = take_all (length text - 2) (drop 2 text) (omega (arith, length-drop 2 text))
+
+-- a text of one word, with blanks before it
+pub one_word_left : (text : List ℕ) → ((k : ℕ) → k < length (past text) → is_end (get_or (past text) k 0) ≡ false) → 0 < length (past text) →
+    words_of text ≡ past text ∷ []
+unfolding words_of
+one_word_left text inside some =
+    let end : position_or_len is_end (past text) ≡ length (past text) =
+    position_or_len_is is_end (past text) (length (past text)) 0 (omega arith) inside (λ below. absurd (omega (arith, below))) in
+    let all : the_word (past text) ≡ past text = take_all (position_or_len is_end (past text)) (past text) (omega (arith, end)) in
+    let left : drop (position_or_len is_end (past text)) (past text) ≡ [] = drop_all (position_or_len is_end (past text)) (past text) (omega (arith, end)) in
+    first_words text (omega (arith, ap length all)) ∙ ap (λ l. l ∷ words_of (drop (position_or_len is_end (past text)) (past text))) all
+    ∙ ap (λ l. past text ∷ words_of l) left

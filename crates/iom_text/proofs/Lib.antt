@@ -2,4 +2,4 @@ pub mod Digits
 pub mod Firsts
 pub mod Leading
 pub mod Numbers
-mod Cuts
+pub mod Cuts

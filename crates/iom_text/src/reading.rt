@@ -41,9 +41,9 @@ fn end_at(text: &[u8]) -> Option<usize>
     text.iter().position(|c| is_end(*c))
 }
 
-// What follows the blanks that a text begins with.
+/// What follows the blanks that a text begins with.
 #[inline(always)]
-fn past_blanks(text: &[u8]) -> &[u8]
+pub fn past_blanks(text: &[u8]) -> &[u8]
     ensures { result.now ≡ drop (position_or_len (λ c. not (is_blank c)) text.now) text.now }
 {
     match word_at(text) {

@@ -1,11 +1,20 @@
 -- Forms of lines by their operands.
-use Rattle.std.proofs.Common.{◌≡◌, ◌==◌, ℕ, List, [], ◌∷◌, Option, Some, None, false, true, length, drop, ◌∙◌, sym, ap, refl, arith}
+use Rattle.std.proofs.Common.{◌≡◌, ◌==◌, ◌<◌, nat_le, Bool, get_or, inl, inr, ℕ, List, [], ◌∷◌, Option, Some, None, false, true, length, drop, ◌∙◌, sym, ap, refl, arith}
 use Rattle.std.proofs.lemmas.Bool.{eqb-true}
 use Rattle.iom_core.specs.declared.step.Step.{Step}
 use Rattle.iom_core.specs.declared.step.Step.TheVariants as step
-use Rattle.iom_text.specs.Words.{number, first_number}
+use Rattle.iom_text.specs.Words.{is_end, words_of, number, first_number}
 use Rattle.iom_tool.specs.declared.script.Question.{Question}
 use Rattle.iom_tool.specs.declared.script.Question.TheVariants as question
+use Rattle.std.specs.List.{list_all}
+use Rattle.hex.specs.Hex.{is_hex_digit}
+use Rattle.std.proofs.lemmas.Bool.{cases_lt}
+use Rattle.std.proofs.lemmas.Grind.{common_steps}
+use Rattle.std.proofs.lemmas.List.{nil_from_length}
+use Rattle.std.proofs.lemmas.List.Sums.{AllPass-from_list_all}
+use Rattle.iom_text.proofs.Cuts.{past, none_of}
+use Rattle.iom_text.proofs.Firsts.{one_word_left}
+use Rattle.iom_text.proofs.Leading.{the_word}
 use Rattle.iom_tool.specs.Script.{◌>>=◌, load, store, reg_read, reg_write, dma_read, dma_write, dev_read, dev_write, dev_step, place_page, trace}
 use Rattle.iom_tool.specs.Operands.{one, with_first, data_in}
 use Rattle.iom_tool.specs.Words.{bytes_of}
@@ -239,3 +248,28 @@ dma_write_none words is = dma_write_is words ∙ rw is refl
 
 pub dma_write_some : (words : List (List ℕ)) (a b : ℕ) (c : List ℕ) → with_first (with_first data_in) words ≡ Some (a, (b, c)) → dma_write words ≡ Some (step.DmaWrite a b (record { items = c }))
 dma_write_some words a b c is = dma_write_is words ∙ rw is refl
+
+no_hex : (c : ℕ) → c < 48 → is_hex_digit c ≡ false
+no_hex c less =
+    let upper : nat_le 65 c ≡ false = grind arith in
+    let lower : nat_le 97 c ≡ false = grind arith in
+    let digit : nat_le 48 c ≡ false = grind arith in
+    rw (upper, lower, digit) refl
+
+small : (c : ℕ) → is_end c ≡ true → c < 48
+small c end = grind (arith, common_steps)
+
+by_end : (c : ℕ) (b : Bool) → is_end c ≡ b → is_hex_digit c ≡ true → b ≡ false
+by_end c true end digit = cc (digit, no_hex c (small c end))
+by_end c false end digit = refl
+
+-- hex digits to the end of the line are one word
+pub data_left : (text : List ℕ) → list_all is_hex_digit (past text) ≡ true → bytes_of (past text) ≡ data_in (words_of text)
+unfolding bytes_of
+data_left text digits =
+    elim (cases_lt 0 (length (past text))) as (λ _. bytes_of (past text) ≡ data_in (words_of text)) [
+      | inl some ↦ sym (ap data_in (one_word_left text (λ k below. by_end (get_or (past text) k 0) _ refl (AllPass-from_list_all is_hex_digit (past text) digits k 0 below)) some))
+      | inr none ↦
+          let empty : past text ≡ [] = nil_from_length (past text) (omega arith) in
+          ap bytes_of empty ∙ sym (ap data_in (none_of text (ap (λ l. length (the_word l)) empty)))
+    ]

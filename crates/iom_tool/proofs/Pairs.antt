@@ -1,13 +1,14 @@
 -- What pairs of hex digits write.
-use Rattle.std.proofs.Common.{◌≡◌, ◌==◌, ◌%◌, ◌+◌, ◌*◌, ◌<◌, ◌≤◌, ◌&&◌, ◌++◌, ℕ, List, [], ◌∷◌, Bool, true, if◌then◌else◌, length, take, drop, get_or, false, Option, Some, None, Result, Ok, Err, is_some, sym, ◌∙◌, ap, refl, arith, append_assoc, append-nil, ◌⊎◌, inl, inr, ⊎_elim}
+use Rattle.std.proofs.Common.{◌≡◌, ◌==◌, ◌%◌, ◌/◌, slice_index, ◌+◌, ◌*◌, ◌<◌, ◌≤◌, ◌&&◌, nat_le, ◌++◌, ℕ, List, [], ◌∷◌, Bool, true, if◌then◌else◌, length, take, drop, get_or, false, Option, Some, None, Result, Ok, Err, is_some, sym, ◌∙◌, ap, refl, arith, append_assoc, append-nil, ◌⊎◌, inl, inr, ⊎_elim}
 use Rattle.std.specs.List.{list_all}
 use Rattle.std.specs.Option.{option_map}
 use Rattle.std.specs.Result.{result_ok}
-use Rattle.std.proofs.lemmas.List.{drop_more, take_more_set, take_all, drop_all}
+use Rattle.std.proofs.lemmas.List.{drop_more, take_more, take_more_set, take_all, drop_all, length-set}
 use Rattle.std.proofs.Math.ListN.{set}
-use Rattle.hex.specs.Hex.{hex_digit_value, is_hex_digit, pair_value, decode_pairs, decode_of, ◌>>=◌}
+use Rattle.hex.specs.Hex.{encode_with, encode_lower, lower_digits, hex_digit_value, is_hex_digit, pair_value, decode_pairs, decode_of, ◌>>=◌}
 use Rattle.hex.specs.declared.error.FromHexError.{FromHexError}
 use Rattle.hex.specs.declared.error.FromHexError.TheVariants.{OddLength}
+use Rattle.iom_tool.specs.Words.{bytes_of}
 
 two_more : (word : List ℕ) (i : ℕ) → 2 * i + 1 < length word →
     drop (2 * i) word ≡ get_or word (2 * i) 0 ∷ get_or word (2 * i + 1) 0 ∷ drop (2 * (i + 1)) word
@@ -93,8 +94,42 @@ none_in (high ∷ low ∷ rest) at other =
     (λ later. behind (pair_value high low at) (decode_pairs (at + 2) rest) (none_in rest (at + 2) later))
     (either_none (is_hex_digit high) (is_hex_digit low) (list_all is_hex_digit rest) other)
 
-pub no_data : (word : List ℕ) → list_all is_hex_digit word ≡ false → result_ok (decode_of word) ≡ None
+no_data : (word : List ℕ) → list_all is_hex_digit word ≡ false → result_ok (decode_of word) ≡ None
 no_data word other = by_length (length word % 2 == 1) where
   by_length : (odd : Bool) → result_ok (if odd then Err OddLength else decode_pairs 0 word) ≡ None
   by_length true = refl
   by_length false = none_in word 0 other
+
+pub no_bytes : (word : List ℕ) → list_all is_hex_digit word ≡ false → bytes_of word ≡ None
+unfolding bytes_of
+no_bytes word other = by_length (nat_le 2 (length word) && nat_le (length word) 128) where
+  by_length : (fits : Bool) → (if fits then result_ok (decode_of word) else None) ≡ None
+  by_length true = no_data word other
+  by_length false = refl
+
+-- the digits of one byte more
+encode-more : (table bytes : List ℕ) (byte : ℕ) →
+    encode_with table (bytes ++ byte ∷ []) ≡ encode_with table bytes ++ slice_index table (byte / 16) ∷ slice_index table (byte % 16) ∷ []
+unfolding encode_with
+encode-more table [] byte = refl
+encode-more table (first ∷ bytes) byte =
+    ap (λ l. slice_index table (first / 16) ∷ slice_index table (first % 16) ∷ l) (encode-more table bytes byte)
+
+pub byte_written : (bytes digits : List ℕ) (i high low : ℕ) → i < length bytes → 2 * i + 1 < length digits →
+    high ≡ slice_index lower_digits (get_or bytes i 0 / 16) → low ≡ slice_index lower_digits (get_or bytes i 0 % 16) →
+    take (2 * i) digits ≡ encode_lower (take i bytes) →
+    take (2 * (i + 1)) (set (set digits (2 * i) high) (2 * i + 1) low) ≡ encode_lower (take (i + 1) bytes)
+byte_written bytes digits i high low within inside first second so_far =
+    let twice : 2 * (i + 1) ≡ 2 * i + 1 + 1 = omega arith in
+    ap (λ n. take n (set (set digits (2 * i) high) (2 * i + 1) low)) twice
+    ∙ take_more_set (set digits (2 * i) high) (2 * i + 1) low (omega (arith, length-set digits (2 * i) high))
+    ∙ ap (λ l. l ++ low ∷ []) (take_more_set digits (2 * i) high (omega arith))
+    ∙ append_assoc (take (2 * i) digits) (high ∷ []) (low ∷ [])
+    ∙ ap (λ l. l ++ high ∷ low ∷ []) so_far
+    ∙ rw (first, second) (sym (encode-more lower_digits (take i bytes) (get_or bytes i 0)))
+    ∙ ap encode_lower (sym (take_more bytes i 0 within))
+
+pub all_written : (bytes digits : List ℕ) (i : ℕ) → length digits ≡ 2 * length bytes → length bytes ≤ i →
+    take (2 * i) digits ≡ encode_lower (take i bytes) → digits ≡ encode_lower bytes
+all_written bytes digits i twice past so_far =
+    sym (take_all (2 * i) digits (omega arith)) ∙ so_far ∙ ap encode_lower (take_all i bytes past)

@@ -5,9 +5,9 @@ ghost use Rattle.std.specs.Option.{option_map};
 ghost use Rattle.iom_text.specs.Words.{words_of};
 ghost use Rattle.iom_tool.specs.Operands.{one, with_first, data_in};
 
-use crate::words::bytes_of;
+use crate::words::{are_digits, bytes_of, bytes_of_digits};
 use arrayvec::ArrayVec;
-use iom_text::{is_over, take_number, take_word};
+use iom_text::{is_over, past_blanks, take_number, take_word};
 
 #[inline(always)]
 #[tactic(auto, using(crate::proofs::Forms::one_none, crate::proofs::Forms::one_some, crate::proofs::Forms::one_more))]
@@ -49,11 +49,16 @@ pub fn four(text: &[u8]) -> Option<(u64, (u64, (u64, u64)))>
     Some((first, three(rest)?))
 }
 
+// Data that is all of the line's rest needs no search for the end of the word.
 #[inline(always)]
-#[tactic(auto, using(crate::proofs::Forms::data_none, crate::proofs::Forms::data_some, crate::proofs::Forms::data_more))]
+#[tactic(auto, using(crate::proofs::Forms::data_none, crate::proofs::Forms::data_some, crate::proofs::Forms::data_more, crate::proofs::Forms::data_left))]
 fn data_in(text: &[u8]) -> Option<ArrayVec<u8, 64>>
     ensures { option_map (λ bytes. bytes.items) result ≡ data_in (words_of text.now) }
 {
+    let left = past_blanks(text);
+    if are_digits(left) {
+        return bytes_of_digits(left);
+    }
     let (word, rest) = take_word(text)?;
     if is_over(rest) {
         bytes_of(word)

@@ -1,6 +1,6 @@
-ghost use Rattle.std.specs.Prelude.{◌≡◌, ◌+◌, ◌*◌, ◌++◌, ◌<◌, ◌≤◌, length, [], ◌∷◌, codes};
+ghost use Rattle.std.specs.Prelude.{◌≡◌, ◌+◌, ◌*◌, slice_index, ◌++◌, ◌<◌, ◌≤◌, length, [], ◌∷◌, codes};
 ghost use Rattle.std.specs.Option.{option_copied};
-ghost use Rattle.hex.specs.Hex.{encode_lower};
+ghost use Rattle.hex.specs.Hex.{encode_lower, lower_digits};
 ghost use Rattle.iom_text.specs.Texts.{numeral, hexed};
 ghost use Rattle.iom_tool.specs.Texts.{text_of, operands, step_text, entry_text};
 
@@ -20,6 +20,26 @@ pub fn push_text(out: &mut Reply, text: &[u8])
     let _fits = out.try_extend_from_slice(text);
 }
 
+// The hex digit of a number below 16, told without a branch.
+#[inline(always)]
+fn glyph(digit: u8) -> u8
+    requires { digit < 16 }
+    ensures { result ≡ slice_index lower_digits digit }
+{
+    b'0' + digit + 39 * u8::from(digit > 9)
+}
+
+// Puts bytes as hex digits in lower case, two a byte.
+fn encode(bytes: &[u8], digits: &mut [u8])
+    requires { length digits.old ≡ 2 * length bytes.now }
+    ensures { digits.new ≡ encode_lower bytes.now }
+{
+    for i in 0..bytes.len() {
+        digits[2 * i] = glyph(bytes[i] / 16);
+        digits[2 * i + 1] = glyph(bytes[i] % 16);
+    }
+}
+
 // Appends bytes as hex digits in lower case.
 fn push_bytes(out: &mut Reply, bytes: &[u8])
     requires few { length bytes.now ≤ 64 }
@@ -29,7 +49,7 @@ fn push_bytes(out: &mut Reply, bytes: &[u8])
 {
     let mut digits = [0; 128];
     let digits = &mut digits[..2 * bytes.len()];
-    let _fits = hex::encode_to_slice(bytes, digits);
+    encode(bytes, digits);
     push_text(out, digits);
 }
 

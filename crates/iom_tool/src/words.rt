@@ -24,8 +24,8 @@ fn value_of(c: u8) -> u8
     c % 16 + 9 * (c / 64)
 }
 
-// Whether all are hex digits. Each is looked at, also behind one that is none, so that many are at once.
-fn are_digits(word: &[u8]) -> bool
+/// Whether all are hex digits. Each is looked at, also behind one that is none, so that many are at once.
+pub fn are_digits(word: &[u8]) -> bool
     ensures { result ≡ list_all is_hex_digit word.now }
 {
     let mut all = true;
@@ -46,19 +46,30 @@ fn decode(word: &[u8], bytes: &mut [u8])
     }
 }
 
-/// The bytes that 2 to 128 hex digits write.
-#[tactic(auto, using(crate::proofs::Pairs::no_data), unfolding(crate::specs::Words::bytes_of))]
-pub fn bytes_of(word: &[u8]) -> Option<ArrayVec<u8, 64>>
+/// The bytes that hex digits write, where they are 2 to 128.
+#[inline(always)]
+#[tactic(auto, unfolding(crate::specs::Words::bytes_of))]
+pub fn bytes_of_digits(word: &[u8]) -> Option<ArrayVec<u8, 64>>
+    requires { list_all is_hex_digit word.now ≡ true }
     ensures { option_map (λ bytes. bytes.items) result ≡ bytes_of word.now }
 {
     if word.len() < 2 || word.len() > 128 || word.len() % 2 != 0 {
-        return None;
-    }
-    if !are_digits(word) {
         return None;
     }
     let mut bytes = ArrayVec::from([0; 64]);
     bytes.truncate(word.len() / 2);
     decode(word, bytes.as_mut_slice());
     Some(bytes)
+}
+
+/// The bytes that a word of 2 to 128 hex digits writes.
+#[tactic(auto, using(crate::proofs::Pairs::no_bytes))]
+pub fn bytes_of(word: &[u8]) -> Option<ArrayVec<u8, 64>>
+    ensures { option_map (λ bytes. bytes.items) result ≡ bytes_of word.now }
+{
+    if are_digits(word) {
+        bytes_of_digits(word)
+    } else {
+        None
+    }
 }
