@@ -1,7 +1,6 @@
 -- The words of a text, cut off one by one.
-use Rattle.std.proofs.Common.{◌≡◌, ◌==◌, ◌||◌, ◌+◌, ◌-◌, ◌<◌, ◌++◌, ℕ, suc, List, [], ◌∷◌, Bool, true, false, not, cond, nat_lt, length, take, drop, filter, sym, ◌∙◌, ap, refl, arith, append_assoc}
-use Rattle.std.specs.List.{slice_split, onto_first, before_first, position_or_len}
-use Rattle.std.proofs.lemmas.Bool.{eqb-true, eq-eqb}
+use Rattle.std.proofs.Common.{◌≡◌, ◌==◌, ◌||◌, ◌+◌, ◌-◌, ◌<◌, ◌++◌, ℕ, suc, List, [], ◌∷◌, Bool, true, false, not, nat_lt, length, take, drop, filter, sym, ◌∙◌, ap, refl, arith, append_assoc}
+use Rattle.std.specs.List.{slice_split, onto_first, position_or_len}
 use Rattle.std.proofs.lemmas.Grind.{common_steps}
 use Rattle.std.proofs.lemmas.List.Splits.{slice_split-cons_yes, slice_split-cons_no}
 use Rattle.iom_text.specs.Words.{is_blank, is_end, before_comment, words_of}

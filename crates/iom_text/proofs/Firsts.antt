@@ -1,12 +1,12 @@
 -- The first word of a text as a number.
-use Rattle.std.proofs.Common.{◌≡◌, ◌==◌, ◌&&◌, ◌+◌, ◌-◌, ◌<◌, ◌≤◌, ℕ, List, [], ◌∷◌, Bool, true, false, not, cond, nat_lt, Option, Some, None, IfSome, is_some, Bor, length, length-drop, get_or, take, drop, codes, bytes_eq, sym, ◌∙◌, ap, refl, arith, inl, inr, ◌++◌, if◌then◌else◌}
+use Rattle.std.proofs.Common.{◌≡◌, ◌-◌, ◌<◌, ℕ, List, [], ◌∷◌, Bool, true, false, Option, Some, None, IfSome, Bor, length, length-drop, get_or, take, drop, codes, bytes_eq, sym, ◌∙◌, ap, refl, arith, inl, inr, ◌++◌}
 use Rattle.std.specs.List.{position_or_len}
 use Rattle.std.specs.Option.{option_map}
 use Rattle.std.proofs.lemmas.Bool.{cases_lt}
 use Rattle.std.proofs.lemmas.List.Sums.{position_or_len_is}
 use Rattle.std.proofs.lemmas.Slice.Eq.{bytes_eq-Decides}
 use Rattle.std.proofs.lemmas.List.{take-append-drop, take_all, drop_all, nil_from_length}
-use Rattle.iom_text.specs.Words.{is_blank, is_end, words_of, number_in, number, first_number}
+use Rattle.iom_text.specs.Words.{is_end, words_of, number_in, number, first_number}
 use Rattle.iom_text.proofs.Cuts.{past, some_of, none_of, one_more}
 use Rattle.iom_text.proofs.Leading.{the_word}
 
@@ -42,8 +42,7 @@ not_hexed text other = is_true (bytes_eq (take 2 (the_word text)) (codes "0x")) 
 hexed_word : (text : List ℕ) → bytes_eq (take 2 text) (codes "0x") ≡ true →
     (the_word text ≡ 48 ∷ 120 ∷ the_word (drop 2 text)) × (drop (position_or_len is_end text) text ≡ drop (position_or_len is_end (drop 2 text)) (drop 2 text))
 hexed_word text is =
-    let all : text ≡ 48 ∷ 120 ∷ drop 2 text = hexed_is text is in
-    (
+    let all : text ≡ 48 ∷ 120 ∷ drop 2 text = hexed_is text is in (
       ap the_word all ∙ inside_take 48 (120 ∷ drop 2 text) refl ∙ ap (λ l. 48 ∷ l) (inside_take 120 (drop 2 text) refl),
       ap (λ l. drop (position_or_len is_end l) l) all ∙ inside_drop 48 (120 ∷ drop 2 text) refl ∙ inside_drop 120 (drop 2 text) refl,
     )

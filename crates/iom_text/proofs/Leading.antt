@@ -1,7 +1,7 @@
 -- Digits up to the end of their word.
-use Rattle.std.proofs.Common.{◌≡◌, ◌==◌, ◌||◌, ◌&&◌, ◌+◌, ◌*◌, ◌-◌, ◌^◌, ◌<◌, ◌≤◌, ◌++◌, ℕ, suc, List, [], ◌∷◌, Bool, true, false, not, cond, nat_lt, nat_eq, Some, None, length, take, drop, get_or, sym, ◌∙◌, ap, subst, refl, arith, inl, inr, length-drop, if◌then◌else◌}
+use Rattle.std.proofs.Common.{◌≡◌, ◌&&◌, ◌+◌, ◌*◌, ◌-◌, ◌^◌, ◌<◌, ◌≤◌, ℕ, List, ◌∷◌, Bool, true, false, not, nat_lt, Option, Some, None, length, take, drop, get_or, sym, ◌∙◌, ap, refl, arith, inl, inr, length-drop, if◌then◌else◌}
 use Rattle.std.specs.Char.{is_digit, digit_value}
-use Rattle.std.specs.List.{list_all, position_or_len, prefix_len}
+use Rattle.std.specs.List.{list_all, position_or_len}
 use Rattle.std.specs.Str.Parse.{digits_value, digits_value_after}
 use Rattle.std.proofs.lemmas.List.{drop_more, get_or-take, take_all}
 use Rattle.std.proofs.lemmas.List.Sums.{prefix_len-le-length, passes_at_first, fails_before_first}
@@ -104,3 +104,46 @@ bounded text = prefix_len-le-length (λ c. not (is_end c)) text
 
 pub behind : (text : List ℕ) (at : ℕ) → at ≡ position_or_len is_end text → take (length text - at) (drop at text) ≡ drop (position_or_len is_end text) text
 behind text at is = take_all (length text - at) (drop at text) (omega (arith, length-drop at text)) ∙ ap (λ n. drop n text) is
+
+no_ends : (radix c : ℕ) → radix ≤ 16 → is_end c ≡ true → is_digit c radix ≡ false
+no_ends radix c most end = not_below (digit_value c) radix (λ less. absurd (omega (arith, no_value c (small c end))))
+
+-- a number has no end of a word in it
+number_of_all : (radix : ℕ) (text : List ℕ) → radix ≤ 16 →
+    number_in radix text ≡ (if nat_lt (position_or_len is_end text) (length text) then None else number_in radix (the_word text))
+unfolding number_in
+number_of_all radix text most =
+    elim (cases_lt (position_or_len is_end text) (length text))
+    as (λ _. number_in radix text ≡ (if nat_lt (position_or_len is_end text) (length text) then None else number_in radix (the_word text))) [
+      | inl less ↦
+          let past : nat_lt (position_or_len is_end text) (length text) ≡ true = grind arith in
+          let end : is_digit (get_or text (position_or_len is_end text) 0) radix ≡ false =
+          no_ends radix (get_or text (position_or_len is_end text) 0) most (passes_at_first is_end text 0 less) in
+          let all : list_all (λ c. is_digit c radix) text ≡ false = list_all_at (λ c. is_digit c radix) text (position_or_len is_end text) 0 less end in
+          rw (past, all) (sym (refused (nat_lt 0 (length text)) (nat_lt (digits_value radix text) (2 ^ 64)) _))
+      | inr whole ↦
+          let past : nat_lt (position_or_len is_end text) (length text) ≡ false = grind arith in
+          rw past (ap (number_in radix) (sym (take_all (position_or_len is_end text) text whole)))
+    ]
+
+either_none : {A : Type 0} (b : Bool) (found : Option A) → None ≡ found → None ≡ (if b then None else found)
+either_none true found is = refl
+either_none false found is = is
+
+pub refused_front : (radix : ℕ) (text : List ℕ) → radix ≤ 16 → None ≡ number_in radix (the_word text) → None ≡ number_in radix text
+refused_front radix text most is = either_none _ _ is ∙ sym (number_of_all radix text most)
+
+pub refused_rest : (radix : ℕ) (text : List ℕ) → radix ≤ 16 → ¬ (length (drop (position_or_len is_end text) text) ≡ 0) → None ≡ number_in radix text
+refused_rest radix text most some =
+    elim (cases_lt (position_or_len is_end text) (length text)) as (λ _. None ≡ number_in radix text) [
+      | inl less ↦
+          let past : nat_lt (position_or_len is_end text) (length text) ≡ true = grind arith in
+          sym (number_of_all radix text most ∙ rw past refl)
+      | inr whole ↦ absurd (some (omega (arith, length-drop (position_or_len is_end text) text)))
+    ]
+
+pub whole_word : (radix value : ℕ) (text : List ℕ) → radix ≤ 16 → length (drop (position_or_len is_end text) text) ≡ 0 →
+    Some value ≡ number_in radix (the_word text) → Some value ≡ number_in radix text
+whole_word radix value text most none is =
+    let past : nat_lt (position_or_len is_end text) (length text) ≡ false = grind (arith, length-drop (position_or_len is_end text) text) in
+    sym (number_of_all radix text most ∙ rw past (sym is))

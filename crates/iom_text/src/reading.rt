@@ -119,43 +119,12 @@ fn digit_in(radix: u64, c: u8) -> Option<u64>
     requires { radix ≤ 16 }
     ensures { SomeIff result (digit_value c < radix) (digit_value c) }
 {
-    let is_hex =
-        (c >= b'0') & (c <= b'9') | (c >= b'A') & (c <= b'F') | (c >= b'a') & (c <= b'f');
+    let is_hex = (c >= b'0') & (c <= b'9') | (c >= b'A') & (c <= b'F') | (c >= b'a') & (c <= b'f');
     let value = u64::from(c % 16 + 9 * (c / 64));
     if is_hex & (value < radix) {
         Some(value)
     } else {
         None
-    }
-}
-
-// The number that digits of a radix write, below 2^64.
-#[inline(always)]
-#[tactic(auto, unfolding(crate::specs::Words::number_in))]
-fn number_in(radix: u64, word: &[u8]) -> Option<u64>
-    requires least { 2 ≤ radix }
-    requires most { radix ≤ 16 }
-    ensures { result ≡ number_in radix word.now }
-{
-    if word.is_empty() {
-        return None;
-    }
-    let mut value: u64 = 0;
-    for c in word {
-        let digit = digit_in(radix, *c)?;
-        value = value.checked_mul(radix)?.checked_add(digit)?;
-    }
-    Some(value)
-}
-
-/// The number that a word writes: decimal digits, or hex digits of either case after `0x`, below 2^64.
-#[tactic(auto, unfolding(crate::specs::Words::number))]
-pub fn number(word: &[u8]) -> Option<u64>
-    ensures { result ≡ number word.now }
-{
-    match word {
-        [b'0', b'x', digits @ ..] => number_in(16, digits),
-        _ => number_in(10, word),
     }
 }
 
@@ -185,6 +154,28 @@ fn take_digits(radix: u64, text: &[u8]) -> Option<(u64, &[u8])>
         return None;
     }
     Some((value, &[]))
+}
+
+// The number that digits of a radix write, below 2^64.
+#[inline(always)]
+fn number_in(radix: u64, word: &[u8]) -> Option<u64>
+    requires least { 2 ≤ radix }
+    requires most { radix ≤ 16 }
+    ensures { result ≡ number_in radix word.now }
+{
+    let (value, rest) = take_digits(radix, word)?;
+    if rest.is_empty() { Some(value) } else { None }
+}
+
+/// The number that a word writes: decimal digits, or hex digits of either case after `0x`, below 2^64.
+#[tactic(auto, unfolding(crate::specs::Words::number))]
+pub fn number(word: &[u8]) -> Option<u64>
+    ensures { result ≡ number word.now }
+{
+    match word {
+        [b'0', b'x', digits @ ..] => number_in(16, digits),
+        _ => number_in(10, word),
+    }
 }
 
 // Whether a text begins with `0x`.

@@ -1,10 +1,9 @@
-use Rattle.std.proofs.Common.{◌≡◌, ◌+◌, ◌*◌, ◌^◌, ◌<◌, ◌≤◌, length, drop, nat_eq, false, get_or, ◌∙◌, ap, sym, arith}
-use Rattle.std.specs.Char.{digit_value}
+use Rattle.std.proofs.Common.{◌≡◌, ◌+◌, ◌*◌, ◌^◌, ◌≤◌, length, drop, nat_eq, false, ◌∙◌, ap, arith}
 use Rattle.std.specs.List.{position_or_len}
 use Rattle.std.specs.Str.Parse.{digits_value_after}
 use Rattle.std.proofs.lemmas.Grind.{common_steps}
 use Rattle.iom_text.specs.Words.{is_end}
-use Rattle.iom_text.proofs.Leading.{Goes, goes, goes_on, digit_inside, no_digit, ends_here, empty, behind, bounded, long, the_word}
+use Rattle.iom_text.proofs.Leading.{Goes, goes, no_digit, ends_here, empty, behind, bounded, long, the_word}
 use Rattle.iom_text.proofs.Numbers.{too_large, whole}
 use Rattle.iom_text.proofs.reading.take_digits.Goals as goal
 

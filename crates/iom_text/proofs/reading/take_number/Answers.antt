@@ -1,6 +1,5 @@
-use Rattle.std.proofs.Common.{◌≡◌, ◌-◌, ◌∙◌, List, ℕ, bytes_eq, codes, length, take, drop, true, false, sym, ap}
+use Rattle.std.proofs.Common.{◌≡◌, ◌∙◌, bytes_eq, codes, take, drop, true, false, sym, ap}
 use Rattle.std.specs.List.{position_or_len}
-use Rattle.std.proofs.lemmas.Grind.{common_steps}
 use Rattle.iom_text.specs.Words.{is_end, words_of, number_in}
 use Rattle.iom_text.proofs.Cuts.{past}
 use Rattle.iom_text.proofs.Firsts.{all_left, hexed_number, hexed_rest, plain_number, plain_rest, then_rest}

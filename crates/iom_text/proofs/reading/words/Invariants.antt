@@ -1,4 +1,4 @@
-use Rattle.std.proofs.Common.{◌≡◌, ◌+◌, ◌-◌, ◌≤◌, ◌++◌, length, map, take}
+use Rattle.std.proofs.Common.{◌≡◌, ◌-◌, ◌++◌, length, map, take}
 use Rattle.iom_text.specs.Words.{words_of}
 use Rattle.iom_text.proofs.reading.words.Given as goal
 
