@@ -1,10 +1,8 @@
 -- Forms of lines by their operands.
 use Rattle.std.proofs.Common.{◌≡◌, ◌==◌, ◌<◌, nat_le, Bool, get_or, inl, inr, ℕ, List, [], ◌∷◌, Option, Some, None, false, true, length, drop, ◌∙◌, sym, ap, refl, arith}
 use Rattle.std.proofs.lemmas.Bool.{eqb-true}
-use Rattle.iom_core.specs.declared.step.Step.{Step}
 use Rattle.iom_core.specs.declared.step.Step.TheVariants as step
 use Rattle.iom_text.specs.Words.{is_end, words_of, number, first_number}
-use Rattle.iom_tool.specs.declared.script.Question.{Question}
 use Rattle.iom_tool.specs.declared.script.Question.TheVariants as question
 use Rattle.std.specs.List.{list_all}
 use Rattle.hex.specs.Hex.{is_hex_digit}
@@ -94,7 +92,7 @@ all_3 (Some x) (Some y) (Some z) f = refl
 all_4 : {C : Type 0} (a b c d : Option ℕ) (f : ℕ → ℕ → ℕ → ℕ → C) →
     (a >>= λ x. b >>= λ y. c >>= λ z. d >>= λ w. Some (f x y z w))
     ≡ ((a >>= λ x. ((b >>= λ y. ((c >>= λ z. d >>= λ w. paired z w) >>= λ rest. paired y rest)) >>= λ rest. paired x rest))
-        >>= λ it. Some (f it.0 it.1.0 it.1.1.0 it.1.1.1))
+    >>= λ it. Some (f it.0 it.1.0 it.1.1.0 it.1.1.1))
 all_4 None b c d f = refl
 all_4 (Some x) None c d f = refl
 all_4 (Some x) (Some y) None d f = refl

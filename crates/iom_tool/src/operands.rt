@@ -15,11 +15,7 @@ pub fn one(text: &[u8]) -> Option<u64>
     ensures { result ≡ one (words_of text.now) }
 {
     let (value, rest) = take_number(text)?;
-    if is_over(rest) {
-        Some(value)
-    } else {
-        None
-    }
+    if is_over(rest) { Some(value) } else { None }
 }
 
 #[inline(always)]
@@ -60,11 +56,7 @@ fn data_in(text: &[u8]) -> Option<ArrayVec<u8, 64>>
         return bytes_of_digits(left);
     }
     let (word, rest) = take_word(text)?;
-    if is_over(rest) {
-        bytes_of(word)
-    } else {
-        None
-    }
+    if is_over(rest) { bytes_of(word) } else { None }
 }
 
 #[inline(always)]

@@ -1,4 +1,4 @@
-use Rattle.std.proofs.Common.{◌≡◌, ◌+◌, ◌*◌, ◌<◌, ◌≤◌, length, refl, arith}
+use Rattle.std.proofs.Common.{refl, arith}
 use Rattle.hex.specs.Hex.{encode_with}
 use Rattle.iom_tool.proofs.Pairs.{byte_written, all_written}
 use Rattle.iom_tool.proofs.text.encode.Goals as goal
