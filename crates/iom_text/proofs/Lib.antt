@@ -1,2 +1,5 @@
+pub mod Cuts
 pub mod Digits
+pub mod Firsts
+pub mod Leading
 pub mod Numbers

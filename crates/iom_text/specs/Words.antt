@@ -1,5 +1,5 @@
 -- The words of a line, and what a word says.
-use Rattle.std.specs.Prelude.{ℕ, ◌^◌, ◌==◌, ◌&&◌, ◌||◌, Bool, nat_lt, List, length, take, drop, codes, bytes_eq, Option, Some, None, filter, if◌then◌else◌}
+use Rattle.std.specs.Prelude.{ℕ, ◌^◌, ◌==◌, ◌&&◌, ◌||◌, Bool, nat_lt, List, [], ◌∷◌, length, take, drop, codes, bytes_eq, Option, Some, None, filter, if◌then◌else◌}
 use Rattle.std.specs.List.{slice_split, before_first, list_all}
 use Rattle.std.specs.Char.{is_digit}
 use Rattle.std.specs.Str.Parse.{digits_value}
@@ -11,6 +11,10 @@ is_blank c = c == 32 || c == 9 || c == 13
 -- what stands before the first `#`
 abbrev pub before_comment : List ℕ → List ℕ
 before_comment text = before_first (λ c. c == 35) text
+
+-- what a word ends before
+abbrev pub is_end : ℕ → Bool
+is_end c = is_blank c || c == 35
 
 -- what stands between blanks before the comment
 unfoldable pub words_of : List ℕ → List (List ℕ)
@@ -26,3 +30,8 @@ number_in radix word =
 -- decimal digits, or hex digits after `0x`
 unfoldable pub number : List ℕ → Option ℕ
 number word = if bytes_eq (take 2 word) (codes "0x") then number_in 16 (drop 2 word) else number_in 10 word
+
+-- the number that the first of some words writes
+abbrev pub first_number : List (List ℕ) → Option ℕ
+first_number [] = None
+first_number (word ∷ words) = number word

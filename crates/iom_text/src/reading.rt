@@ -1,6 +1,8 @@
-ghost use Rattle.std.specs.Prelude.{◌≡◌, ◌==◌, ◌≤◌, take, map};
-ghost use Rattle.std.specs.List.{position};
-ghost use Rattle.iom_text.specs.Words.{is_blank, before_comment, words_of, number_in, number};
+ghost use Rattle.std.specs.Prelude.{◌≡◌, ◌==◌, ◌<◌, ◌≤◌, [], ◌∷◌, length, not, take, drop, map, SomeIff, IfSome, MatchOption, bytes_eq, codes};
+ghost use Rattle.std.specs.Char.{digit_value};
+ghost use Rattle.std.specs.List.{position, position_or_len};
+ghost use Rattle.std.specs.Option.{option_map};
+ghost use Rattle.iom_text.specs.Words.{is_blank, is_end, words_of, number_in, number, first_number};
 
 use arrayvec::ArrayVec;
 
@@ -11,60 +13,158 @@ pub const MOST_WORDS: usize = 11;
 pub type Words<'a> = ArrayVec<&'a [u8], 11>;
 
 // Whether a byte parts words: a space, a tab or a CR.
+#[inline(always)]
 fn is_blank(c: u8) -> bool
     ensures { result ≡ is_blank c }
 {
     matches!(c, b' ' | b'\t' | b'\r')
 }
 
-fn comment_at(text: &[u8]) -> Option<usize>
-    ensures { result ≡ position (λ c. c == 35) text.now }
+#[inline(always)]
+fn is_end(c: u8) -> bool
+    ensures { result ≡ is_end c }
 {
-    text.iter().position(|c| *c == b'#')
+    matches!(c, b' ' | b'\t' | b'\r' | b'#')
 }
 
-fn before_comment(text: &[u8]) -> &[u8]
-    ensures { result.now ≡ before_comment text.now }
+#[inline(always)]
+fn word_at(text: &[u8]) -> Option<usize>
+    ensures { result ≡ position (λ c. not (is_blank c)) text.now }
 {
-    match comment_at(text) {
-        Some(at) => &text[..at],
-        None => text,
+    text.iter().position(|c| !is_blank(*c))
+}
+
+#[inline(always)]
+fn end_at(text: &[u8]) -> Option<usize>
+    ensures { result ≡ position is_end text.now }
+{
+    text.iter().position(|c| is_end(*c))
+}
+
+/// What follows the blanks that a text begins with.
+#[inline(always)]
+pub fn past_blanks(text: &[u8]) -> &[u8]
+    ensures { result.now ≡ drop (position_or_len (λ c. not (is_blank c)) text.now) text.now }
+{
+    match word_at(text) {
+        Some(at) => &text[at..],
+        None => &[],
     }
 }
 
-/// The first words of a line, at most eleven. A `#` begins a comment, in the middle of a word too.
+// What stands before the first end of a word, and what follows.
+#[inline(always)]
+fn at_end(text: &[u8]) -> (&[u8], &[u8])
+    ensures before { result.0.now ≡ take (position_or_len is_end text.now) text.now }
+    ensures after { result.1.now ≡ drop (position_or_len is_end text.now) text.now }
+{
+    match end_at(text) {
+        Some(at) => text.split_at(at),
+        None => (text, &[]),
+    }
+}
+
+// The first word of a text, or nothing where there is none, and what follows it.
+#[inline(always)]
+#[tactic(auto, using(crate::proofs::Cuts::none_of, crate::proofs::Cuts::some_of))]
+fn first_word(text: &[u8]) -> (&[u8], &[u8])
+    ensures none { length result.0.now ≡ 0 → words_of text.now ≡ [] }
+    ensures some { 0 < length result.0.now → words_of text.now ≡ result.0.now ∷ words_of result.1.now }
+{
+    at_end(past_blanks(text))
+}
+
+/// The first word of a line, and what follows it; None where the line has none. A `#` begins a comment, in the middle of
+/// a word too.
+#[inline(always)]
+pub fn take_word(text: &[u8]) -> Option<(&[u8], &[u8])>
+    ensures { MatchOption result (words_of text.now ≡ [])
+        (λ cut. words_of text.now ≡ cut.0.now ∷ words_of cut.1.now) }
+{
+    let (word, rest) = first_word(text);
+    if word.is_empty() {
+        return None;
+    }
+    Some((word, rest))
+}
+
+/// Whether a line has no word.
+#[inline(always)]
+pub fn is_over(text: &[u8]) -> bool
+    ensures { result ≡ (length (words_of text.now) == 0) }
+{
+    take_word(text).is_none()
+}
+
+/// The first words of a line, at most eleven.
 pub fn words(text: &[u8]) -> Words<'_>
     ensures { map (λ word. word.now) result.items ≡ take 11 (words_of text.now) }
 {
     let mut words = Words::new();
-    for word in before_comment(text)
-        .split(|c| is_blank(*c))
-        .filter(|word| !word.is_empty())
-        .take(MOST_WORDS)
-    {
+    let mut rest = text;
+    for _ in 0..MOST_WORDS {
+        let (word, more) = first_word(rest);
+        if word.is_empty() {
+            break;
+        }
         words.push(word);
+        rest = more;
     }
     words
 }
 
+// The value of a digit of this radix. It is told without a branch, since digits and letters follow each other by chance.
+#[inline(always)]
+fn digit_in(radix: u64, c: u8) -> Option<u64>
+    requires { radix ≤ 16 }
+    ensures { SomeIff result (digit_value c < radix) (digit_value c) }
+{
+    let is_hex = (c >= b'0') & (c <= b'9') | (c >= b'A') & (c <= b'F') | (c >= b'a') & (c <= b'f');
+    let value = u64::from(c % 16 + 9 * (c / 64));
+    if is_hex & (value < radix) {
+        Some(value)
+    } else {
+        None
+    }
+}
+
+// The number that digits of a radix write up to the end of their word, and what follows that.
+#[inline(always)]
+fn take_digits(radix: u64, text: &[u8]) -> Option<(u64, &[u8])>
+    requires least { 2 ≤ radix }
+    requires most { radix ≤ 16 }
+    ensures number { option_map (λ cut. cut.0) result
+        ≡ number_in radix (take (position_or_len is_end text.now) text.now) }
+    ensures rest { IfSome result (λ cut. cut.1.now ≡ drop (position_or_len is_end text.now) text.now) }
+{
+    let mut value: u64 = 0;
+    for at in 0..text.len() {
+        let Some(digit) = digit_in(radix, text[at]) else {
+            if !is_end(text[at]) {
+                return None;
+            }
+            if at == 0 {
+                return None;
+            }
+            return Some((value, &text[at..]));
+        };
+        value = value.checked_mul(radix)?.checked_add(digit)?;
+    }
+    if text.is_empty() {
+        return None;
+    }
+    Some((value, &[]))
+}
+
 // The number that digits of a radix write, below 2^64.
-#[tactic(auto, unfolding(crate::specs::Words::number_in))]
-fn number_in(radix: u32, word: &[u8]) -> Option<u64>
+#[inline(always)]
+fn number_in(radix: u64, word: &[u8]) -> Option<u64>
     requires least { 2 ≤ radix }
     requires most { radix ≤ 16 }
     ensures { result ≡ number_in radix word.now }
 {
-    if word.is_empty() {
-        return None;
-    }
-    let mut value: u64 = 0;
-    for c in word {
-        let digit = char::from(*c).to_digit(radix)?;
-        value = value
-            .checked_mul(u64::from(radix))?
-            .checked_add(u64::from(digit))?;
-    }
-    Some(value)
+    let (value, rest) = take_digits(radix, word)?;
+    if rest.is_empty() { Some(value) } else { None }
 }
 
 /// The number that a word writes: decimal digits, or hex digits of either case after `0x`, below 2^64.
@@ -75,5 +175,28 @@ pub fn number(word: &[u8]) -> Option<u64>
     match word {
         [b'0', b'x', digits @ ..] => number_in(16, digits),
         _ => number_in(10, word),
+    }
+}
+
+// Whether a text begins with `0x`.
+#[inline(always)]
+fn is_hexed(text: &[u8]) -> bool
+    ensures { result ≡ bytes_eq (take 2 text.now) (codes "0x") }
+{
+    matches!(text, [b'0', b'x', ..])
+}
+
+/// The number that the first word of a line writes, and what follows that word; None where it writes none, or there is no
+/// word.
+#[inline(always)]
+pub fn take_number(text: &[u8]) -> Option<(u64, &[u8])>
+    ensures number { option_map (λ cut. cut.0) result ≡ first_number (words_of text.now) }
+    ensures rest { IfSome result (λ cut. words_of cut.1.now ≡ drop 1 (words_of text.now)) }
+{
+    let word = past_blanks(text);
+    if is_hexed(word) {
+        take_digits(16, &word[2..])
+    } else {
+        take_digits(10, word)
     }
 }

@@ -1,4 +1,4 @@
-ghost use Rattle.std.specs.Prelude.{◌≡◌, ◌+◌, ◌++◌, ◌<◌, ◌≤◌, length, false};
+ghost use Rattle.std.specs.Prelude.{◌≡◌, ◌+◌, ◌/◌, ◌%◌, ◌++◌, ◌<◌, ◌≤◌, length, false};
 ghost use Rattle.std.specs.Fmt.{digit_glyph};
 ghost use Rattle.std.specs.Int.Digits.{digits_of};
 ghost use Rattle.iom_text.specs.Texts.{digits_in, numeral, hexed};
@@ -19,6 +19,31 @@ fn glyph(digit: u64) -> u8
     }
 }
 
+// By 16, which nearly all numbers are written in, no division is needed.
+#[inline(always)]
+fn quotient(number: u64, radix: u64) -> u64
+    requires { 0 < radix }
+    ensures { result ≡ number / radix }
+{
+    if radix == 16 {
+        number / 16
+    } else {
+        number / radix
+    }
+}
+
+#[inline(always)]
+fn remainder(number: u64, radix: u64) -> u64
+    requires { 0 < radix }
+    ensures { result ≡ number % radix }
+{
+    if radix == 16 {
+        number % 16
+    } else {
+        number % radix
+    }
+}
+
 // The digits of a number that isn't 0; of 0 there are none.
 fn push_digits(out: &mut Numeral, number: u64, radix: u64)
     requires least { 2 ≤ radix }
@@ -27,8 +52,8 @@ fn push_digits(out: &mut Numeral, number: u64, radix: u64)
     ensures { out.new.items ≡ out.old.items ++ digits_in radix number }
 {
     if number > 0 {
-        push_digits(out, number / radix, radix);
-        out.push(glyph(number % radix));
+        push_digits(out, quotient(number, radix), radix);
+        out.push(glyph(remainder(number, radix)));
     }
 }
 

@@ -1,7 +1,6 @@
-pub mod Digits
-pub mod Lines
-pub mod Numbers
+pub mod Forms
 pub mod Pairs
+pub mod Searches
 pub mod Splits
 pub mod Outputs
 pub mod Feeding

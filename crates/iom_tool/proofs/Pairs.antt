@@ -1,11 +1,14 @@
 -- What pairs of hex digits write.
-use Rattle.std.proofs.Common.{◌≡◌, ◌+◌, ◌*◌, ◌<◌, ◌≤◌, ◌&&◌, ◌++◌, ℕ, List, [], ◌∷◌, length, take, drop, get_or, false, Option, Some, None, Result, Ok, Err, is_some, sym, ◌∙◌, ap, refl, arith, append_assoc, append-nil}
+use Rattle.std.proofs.Common.{◌≡◌, ◌==◌, ◌%◌, ◌/◌, slice_index, ◌+◌, ◌*◌, ◌<◌, ◌≤◌, ◌&&◌, nat_le, ◌++◌, ℕ, List, [], ◌∷◌, Bool, true, if◌then◌else◌, length, take, drop, get_or, false, Option, Some, None, Result, Ok, Err, is_some, sym, ◌∙◌, ap, refl, arith, append_assoc, append-nil, ◌⊎◌, inl, inr, ⊎_elim}
+use Rattle.std.specs.List.{list_all}
 use Rattle.std.specs.Option.{option_map}
 use Rattle.std.specs.Result.{result_ok}
-use Rattle.std.proofs.lemmas.List.{drop_more, take_more_set, take_all, drop_all}
+use Rattle.std.proofs.lemmas.List.{drop_more, take_more, take_more_set, take_all, drop_all, length-set}
 use Rattle.std.proofs.Math.ListN.{set}
-use Rattle.hex.specs.Hex.{hex_digit_value, is_hex_digit, decode_pairs, ◌>>=◌}
+use Rattle.hex.specs.Hex.{encode_with, encode_lower, lower_digits, hex_digit_value, is_hex_digit, pair_value, decode_pairs, decode_of, ◌>>=◌}
 use Rattle.hex.specs.declared.error.FromHexError.{FromHexError}
+use Rattle.hex.specs.declared.error.FromHexError.TheVariants.{OddLength}
+use Rattle.iom_tool.specs.Words.{bytes_of}
 
 two_more : (word : List ℕ) (i : ℕ) → 2 * i + 1 < length word →
     drop (2 * i) word ≡ get_or word (2 * i) 0 ∷ get_or word (2 * i + 1) 0 ∷ drop (2 * (i + 1)) word
@@ -54,13 +57,6 @@ pair_done word bytes i h l all inside within first second so_far =
     so_far ∙ ap (option_map (λ more. take i bytes ++ more)) step ∙ fused (take i bytes) (h * 16 + l) rest
     ∙ ap (λ front. option_map (λ more. front ++ more) rest) (sym (take_more_set bytes i (h * 16 + l) within))
 
-pub pair_refused : (word bytes : List ℕ) (i : ℕ) (all : Option (List ℕ)) → 2 * i + 1 < length word →
-    is_hex_digit (get_or word (2 * i) 0) && is_hex_digit (get_or word (2 * i + 1) 0) ≡ false →
-    all ≡ option_map (λ more. take i bytes ++ more) (result_ok (decode_pairs (2 * i) (drop (2 * i) word))) → None ≡ all
-pair_refused word bytes i all inside none so_far =
-    sym (so_far ∙ ap (λ s. option_map (λ more. take i bytes ++ more) (result_ok (decode_pairs (2 * i) s))) (two_more word i inside)
-    ∙ ap (option_map (λ more. take i bytes ++ more)) (no_pair (2 * i) (get_or word (2 * i) 0) (get_or word (2 * i + 1) 0) (drop (2 * (i + 1)) word) _ _ refl refl none))
-
 pub pairs_begin : (all : Option (List ℕ)) (bytes : List ℕ) → all ≡ option_map (λ more. take 0 bytes ++ more) all
 pairs_begin (Some more) bytes = refl
 pairs_begin None bytes = refl
@@ -75,3 +71,65 @@ pairs_end word bytes i all twice past so_far =
     sym (so_far ∙ ap (λ s. option_map (λ more. take i bytes ++ more) (result_ok (decode_pairs (2 * i) s))) (drop_all (2 * i) word (omega arith))
     ∙ ap (λ r. option_map (λ more. take i bytes ++ more) (result_ok r)) (no_more (2 * i))
     ∙ ap Some (append-nil (take i bytes) ∙ take_all i bytes past))
+
+either_none : (a b rest : Bool) → a && (b && rest) ≡ false → (a && b ≡ false) ⊎ (rest ≡ false)
+either_none false b rest is = inl refl
+either_none true false rest is = inl refl
+either_none true true rest is = inr is
+
+behind : (byte : Result ℕ FromHexError) (rest : Result (List ℕ) FromHexError) → result_ok rest ≡ None →
+    result_ok (byte >>= λ first. rest >>= λ bytes. Ok (first ∷ bytes)) ≡ None
+behind (Err e) rest is = refl
+behind (Ok first) (Err e) is = refl
+behind (Ok first) (Ok bytes) is = absurd (cc is)
+
+-- where one isn't a digit, no bytes are written
+none_in : (word : List ℕ) (at : ℕ) → list_all is_hex_digit word ≡ false → result_ok (decode_pairs at word) ≡ None
+unfolding decode_pairs
+none_in [] at other = absurd (cc other)
+none_in (digit ∷ []) at other = refl
+none_in (high ∷ low ∷ rest) at other =
+    ⊎_elim
+    (λ none. no_pair at high low rest (hex_digit_value high) (hex_digit_value low) refl refl none)
+    (λ later. behind (pair_value high low at) (decode_pairs (at + 2) rest) (none_in rest (at + 2) later))
+    (either_none (is_hex_digit high) (is_hex_digit low) (list_all is_hex_digit rest) other)
+
+no_data : (word : List ℕ) → list_all is_hex_digit word ≡ false → result_ok (decode_of word) ≡ None
+no_data word other = by_length (length word % 2 == 1) where
+  by_length : (odd : Bool) → result_ok (if odd then Err OddLength else decode_pairs 0 word) ≡ None
+  by_length true = refl
+  by_length false = none_in word 0 other
+
+pub no_bytes : (word : List ℕ) → list_all is_hex_digit word ≡ false → bytes_of word ≡ None
+unfolding bytes_of
+no_bytes word other = by_length (nat_le 2 (length word) && nat_le (length word) 128) where
+  by_length : (fits : Bool) → (if fits then result_ok (decode_of word) else None) ≡ None
+  by_length true = no_data word other
+  by_length false = refl
+
+-- the digits of one byte more
+encode-more : (table bytes : List ℕ) (byte : ℕ) →
+    encode_with table (bytes ++ byte ∷ []) ≡ encode_with table bytes ++ slice_index table (byte / 16) ∷ slice_index table (byte % 16) ∷ []
+unfolding encode_with
+encode-more table [] byte = refl
+encode-more table (first ∷ bytes) byte =
+    ap (λ l. slice_index table (first / 16) ∷ slice_index table (first % 16) ∷ l) (encode-more table bytes byte)
+
+pub byte_written : (bytes digits : List ℕ) (i high low : ℕ) → i < length bytes → 2 * i + 1 < length digits →
+    high ≡ slice_index lower_digits (get_or bytes i 0 / 16) → low ≡ slice_index lower_digits (get_or bytes i 0 % 16) →
+    take (2 * i) digits ≡ encode_lower (take i bytes) →
+    take (2 * (i + 1)) (set (set digits (2 * i) high) (2 * i + 1) low) ≡ encode_lower (take (i + 1) bytes)
+byte_written bytes digits i high low within inside first second so_far =
+    let twice : 2 * (i + 1) ≡ 2 * i + 1 + 1 = omega arith in
+    ap (λ n. take n (set (set digits (2 * i) high) (2 * i + 1) low)) twice
+    ∙ take_more_set (set digits (2 * i) high) (2 * i + 1) low (omega (arith, length-set digits (2 * i) high))
+    ∙ ap (λ l. l ++ low ∷ []) (take_more_set digits (2 * i) high (omega arith))
+    ∙ append_assoc (take (2 * i) digits) (high ∷ []) (low ∷ [])
+    ∙ ap (λ l. l ++ high ∷ low ∷ []) so_far
+    ∙ rw (first, second) (sym (encode-more lower_digits (take i bytes) (get_or bytes i 0)))
+    ∙ ap encode_lower (sym (take_more bytes i 0 within))
+
+pub all_written : (bytes digits : List ℕ) (i : ℕ) → length digits ≡ 2 * length bytes → length bytes ≤ i →
+    take (2 * i) digits ≡ encode_lower (take i bytes) → digits ≡ encode_lower bytes
+all_written bytes digits i twice past so_far =
+    sym (take_all (2 * i) digits (omega arith)) ∙ so_far ∙ ap encode_lower (take_all i bytes past)

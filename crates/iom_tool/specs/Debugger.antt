@@ -8,7 +8,8 @@ use Rattle.iom_cache.specs.declared.key.Key.{Key}
 use Rattle.iom_cache.specs.declared.place.Place.{Place}
 use Rattle.iom_cache.specs.declared.place.Place.TheVariants.{Beyond, Empty, Live}
 use Rattle.iom_tool.specs.Console.{Console}
-use Rattle.iom_tool.specs.Texts.{hexed, entry_text}
+use Rattle.iom_text.specs.Texts.{hexed}
+use Rattle.iom_tool.specs.Texts.{entry_text}
 use Rattle.iom_tool.specs.declared.script.Question.{Question}
 use Rattle.iom_tool.specs.declared.script.Question.TheVariants as question
 

@@ -1,5 +1,6 @@
 pub mod Words
 pub mod Script
+pub mod Operands
 pub mod Texts
 pub mod Console
 pub mod Debugger

@@ -8,7 +8,8 @@ use Rattle.iom_tool.specs.declared.script.Line.{Line}
 use Rattle.iom_tool.specs.declared.script.Line.TheVariants as line
 use Rattle.iom_tool.specs.declared.script.Question.{Question}
 use Rattle.iom_tool.specs.declared.script.Question.TheVariants as question
-use Rattle.iom_tool.specs.Words.{words_of, number, bytes_of}
+use Rattle.iom_text.specs.Words.{words_of, number}
+use Rattle.iom_tool.specs.Words.{bytes_of}
 
 -- the second, where there is a first
 infixl 10 ◌>>=◌

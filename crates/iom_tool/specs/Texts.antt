@@ -1,24 +1,13 @@
 -- The texts of answers and of steps.
-use Rattle.std.specs.Prelude.{ℕ, ◌==◌, ◌++◌, false, List, [], ◌∷◌, codes, map, Option, Some, None, if◌then◌else◌}
+use Rattle.std.specs.Prelude.{ℕ, ◌++◌, List, [], ◌∷◌, codes, Option, Some, None}
 use Rattle.std.specs.List.{flat_map}
-use Rattle.std.specs.Fmt.{digit_glyph}
-use Rattle.std.specs.Int.Digits.{digits_of}
 use Rattle.hex.specs.Hex.{encode_lower}
+use Rattle.iom_text.specs.Texts.{numeral, hexed}
 use Rattle.iom_core.specs.declared.step.Step.{Step}
 use Rattle.iom_core.specs.declared.step.Step.TheVariants as step
 use Rattle.iom_core.specs.declared.step.Answer.{Answer}
 use Rattle.iom_core.specs.declared.step.Answer.TheVariants as answer
 use Rattle.iom_tool.specs.declared.trace.Entry.{Entry}
-
--- the digits of a number with no zero before them, letters in lower case
-abbrev pub digits_in : ℕ → ℕ → List ℕ
-digits_in radix number = map (digit_glyph false) (digits_of radix number)
-
-abbrev pub numeral : ℕ → ℕ → List ℕ
-numeral radix number = if number == 0 then codes "0" else digits_in radix number
-
-abbrev pub hexed : ℕ → List ℕ
-hexed number = codes "0x" ++ numeral 16 number
 
 unfoldable pub text_of : Answer → List ℕ
 text_of (answer.Value value) = hexed value

@@ -1,5 +1,5 @@
 ghost use Rattle.std.specs.Prelude.{◌≡◌, ◌+◌, ◌++◌, ◌<◌, ◌≤◌, length, codes};
-ghost use Rattle.iom_tool.specs.Texts.{hexed};
+ghost use Rattle.iom_text.specs.Texts.{hexed};
 ghost use Rattle.iom_tool.specs.Console.{console};
 ghost use Rattle.iom_tool.specs.Debugger.{answer_in, id_text, kind_text, named, page_text, place_text};
 

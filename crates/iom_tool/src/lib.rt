@@ -13,6 +13,7 @@ mod answering;
 mod debugger;
 mod fault;
 mod feeder;
+mod operands;
 mod rest;
 mod running;
 mod script;

@@ -105,10 +105,12 @@ fn flush<W: Write>(writer: &mut WatchedWriter<'_, W>) -> Result<(), RunFault>
     }
 }
 
+// Where the first line end of a text stands.
+#[tactic(auto, using(crate::proofs::Searches::first_is))]
 fn line_end(text: &[u8]) -> Option<usize>
     ensures { result ≡ position (λ c. c == 10) text.now }
 {
-    text.iter().position(|c| *c == b'\n')
+    memchr::memchr(b'\n', text)
 }
 
 /// What is kept of a script between its pieces.

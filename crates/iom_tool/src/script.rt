@@ -1,8 +1,10 @@
-ghost use Rattle.std.specs.Prelude.{◌≡◌, map};
+ghost use Rattle.std.specs.Prelude.{◌≡◌};
+ghost use Rattle.iom_text.specs.Words.{words_of};
 ghost use Rattle.iom_tool.specs.Script.{load, store, reg_read, reg_write, reg, cmd, dma_read, dma_write, dma, dev_read, dev_write, dev_step, dev, place_page, place, trace, step_of, question_of, meaning, line_of};
 
-use crate::words::{bytes_of, number, words};
+use crate::operands::{four, numbers_and_data, one, three, two};
 use iom_core::Step;
+use iom_text::{is_over, take_word};
 
 /// What a line of a script says.
 #[derive(Drop)]
@@ -27,261 +29,223 @@ pub enum Question {
 /// The longest line, in bytes without its end.
 pub const MOST_BYTES_OF_A_LINE: usize = 512;
 
-#[tactic(auto, unfolding(crate::specs::Script::load))]
-fn load(operands: &[&[u8]]) -> Option<Step>
-    ensures { result ≡ load (map (λ word. word.now) operands.now) }
+#[inline(always)]
+#[tactic(auto, using(crate::proofs::Forms::load_none, crate::proofs::Forms::load_some))]
+fn load(text: &[u8]) -> Option<Step>
+    ensures { result ≡ load (words_of text.now) }
 {
-    let [addr, size] = operands else {
-        return None;
-    };
-    Some(Step::Load {
-        addr: number(addr)?,
-        size: number(size)?,
-    })
+    let (addr, size) = two(text)?;
+    Some(Step::Load { addr, size })
 }
 
-#[tactic(auto, unfolding(crate::specs::Script::store))]
-fn store(operands: &[&[u8]]) -> Option<Step>
-    ensures { result ≡ store (map (λ word. word.now) operands.now) }
+#[inline(always)]
+#[tactic(auto, using(crate::proofs::Forms::store_none, crate::proofs::Forms::store_some))]
+fn store(text: &[u8]) -> Option<Step>
+    ensures { result ≡ store (words_of text.now) }
 {
-    let [addr, size, value] = operands else {
-        return None;
-    };
-    Some(Step::Store {
-        addr: number(addr)?,
-        size: number(size)?,
-        value: number(value)?,
-    })
+    let (addr, (size, value)) = three(text)?;
+    Some(Step::Store { addr, size, value })
 }
 
-#[tactic(auto, unfolding(crate::specs::Script::reg_read))]
-fn reg_read(operands: &[&[u8]]) -> Option<Step>
-    ensures { result ≡ reg_read (map (λ word. word.now) operands.now) }
+#[inline(always)]
+#[tactic(auto, using(crate::proofs::Forms::reg_read_none, crate::proofs::Forms::reg_read_some))]
+fn reg_read(text: &[u8]) -> Option<Step>
+    ensures { result ≡ reg_read (words_of text.now) }
 {
-    let [off, size] = operands else {
-        return None;
-    };
-    Some(Step::RegRead {
-        off: number(off)?,
-        size: number(size)?,
-    })
+    let (off, size) = two(text)?;
+    Some(Step::RegRead { off, size })
 }
 
-#[tactic(auto, unfolding(crate::specs::Script::reg_write))]
-fn reg_write(operands: &[&[u8]]) -> Option<Step>
-    ensures { result ≡ reg_write (map (λ word. word.now) operands.now) }
+#[inline(always)]
+#[tactic(auto, using(crate::proofs::Forms::reg_write_none, crate::proofs::Forms::reg_write_some))]
+fn reg_write(text: &[u8]) -> Option<Step>
+    ensures { result ≡ reg_write (words_of text.now) }
 {
-    let [off, size, value] = operands else {
-        return None;
-    };
-    Some(Step::RegWrite {
-        off: number(off)?,
-        size: number(size)?,
-        value: number(value)?,
-    })
+    let (off, (size, value)) = three(text)?;
+    Some(Step::RegWrite { off, size, value })
 }
 
+#[inline(always)]
 #[tactic(auto, unfolding(crate::specs::Script::reg))]
-fn reg(operands: &[&[u8]]) -> Option<Step>
-    ensures { result ≡ reg (map (λ word. word.now) operands.now) }
+fn reg(text: &[u8]) -> Option<Step>
+    ensures { result ≡ reg (words_of text.now) }
 {
-    let [way, operands @ ..] = operands else {
-        return None;
-    };
-    match *way {
-        b"read" => reg_read(operands),
-        b"write" => reg_write(operands),
+    let (way, text) = take_word(text)?;
+    match way {
+        b"read" => reg_read(text),
+        b"write" => reg_write(text),
         _ => None,
     }
 }
 
+#[inline(always)]
 #[tactic(auto, unfolding(crate::specs::Script::cmd))]
-fn cmd(operands: &[&[u8]]) -> Option<Step>
-    ensures { result ≡ cmd (map (λ word. word.now) operands.now) }
+fn cmd(text: &[u8]) -> Option<Step>
+    ensures { result ≡ cmd (words_of text.now) }
 {
-    if operands.is_empty() {
+    if is_over(text) {
         Some(Step::Command)
     } else {
         None
     }
 }
 
-#[tactic(auto, unfolding(crate::specs::Script::dma_read))]
-fn dma_read(operands: &[&[u8]]) -> Option<Step>
-    ensures { result ≡ dma_read (map (λ word. word.now) operands.now) }
+#[inline(always)]
+#[tactic(auto, using(crate::proofs::Forms::dma_read_none, crate::proofs::Forms::dma_read_some))]
+fn dma_read(text: &[u8]) -> Option<Step>
+    ensures { result ≡ dma_read (words_of text.now) }
 {
-    let [did, iova, len] = operands else {
-        return None;
-    };
-    Some(Step::DmaRead {
-        did: number(did)?,
-        iova: number(iova)?,
-        len: number(len)?,
-    })
+    let (did, (iova, len)) = three(text)?;
+    Some(Step::DmaRead { did, iova, len })
 }
 
-#[tactic(auto, unfolding(crate::specs::Script::dma_write))]
-fn dma_write(operands: &[&[u8]]) -> Option<Step>
-    ensures { result ≡ dma_write (map (λ word. word.now) operands.now) }
+#[inline(always)]
+#[tactic(auto, using(crate::proofs::Forms::dma_write_none, crate::proofs::Forms::dma_write_some))]
+fn dma_write(text: &[u8]) -> Option<Step>
+    ensures { result ≡ dma_write (words_of text.now) }
 {
-    let [did, iova, bytes] = operands else {
-        return None;
-    };
-    Some(Step::DmaWrite {
-        did: number(did)?,
-        iova: number(iova)?,
-        bytes: bytes_of(bytes)?,
-    })
+    let (did, (iova, bytes)) = numbers_and_data(text)?;
+    Some(Step::DmaWrite { did, iova, bytes })
 }
 
+#[inline(always)]
 #[tactic(auto, unfolding(crate::specs::Script::dma))]
-fn dma(operands: &[&[u8]]) -> Option<Step>
-    ensures { result ≡ dma (map (λ word. word.now) operands.now) }
+fn dma(text: &[u8]) -> Option<Step>
+    ensures { result ≡ dma (words_of text.now) }
 {
-    let [way, operands @ ..] = operands else {
-        return None;
-    };
-    match *way {
-        b"read" => dma_read(operands),
-        b"write" => dma_write(operands),
+    let (way, text) = take_word(text)?;
+    match way {
+        b"read" => dma_read(text),
+        b"write" => dma_write(text),
         _ => None,
     }
 }
 
-#[tactic(auto, unfolding(crate::specs::Script::dev_read))]
-fn dev_read(operands: &[&[u8]]) -> Option<Step>
-    ensures { result ≡ dev_read (map (λ word. word.now) operands.now) }
+#[inline(always)]
+#[tactic(auto, using(crate::proofs::Forms::dev_read_none, crate::proofs::Forms::dev_read_some))]
+fn dev_read(text: &[u8]) -> Option<Step>
+    ensures { result ≡ dev_read (words_of text.now) }
 {
-    let [dev, off, size] = operands else {
-        return None;
-    };
-    Some(Step::DevRead {
-        dev: number(dev)?,
-        off: number(off)?,
-        size: number(size)?,
-    })
+    let (dev, (off, size)) = three(text)?;
+    Some(Step::DevRead { dev, off, size })
 }
 
-#[tactic(auto, unfolding(crate::specs::Script::dev_write))]
-fn dev_write(operands: &[&[u8]]) -> Option<Step>
-    ensures { result ≡ dev_write (map (λ word. word.now) operands.now) }
+#[inline(always)]
+#[tactic(auto, using(crate::proofs::Forms::dev_write_none, crate::proofs::Forms::dev_write_some))]
+fn dev_write(text: &[u8]) -> Option<Step>
+    ensures { result ≡ dev_write (words_of text.now) }
 {
-    let [dev, off, size, value] = operands else {
-        return None;
-    };
+    let (dev, (off, (size, value))) = four(text)?;
     Some(Step::DevWrite {
-        dev: number(dev)?,
-        off: number(off)?,
-        size: number(size)?,
-        value: number(value)?,
+        dev,
+        off,
+        size,
+        value,
     })
 }
 
-#[tactic(auto, unfolding(crate::specs::Script::dev_step))]
-fn dev_step(operands: &[&[u8]]) -> Option<Step>
-    ensures { result ≡ dev_step (map (λ word. word.now) operands.now) }
+#[inline(always)]
+#[tactic(auto, using(crate::proofs::Forms::dev_step_none, crate::proofs::Forms::dev_step_some))]
+fn dev_step(text: &[u8]) -> Option<Step>
+    ensures { result ≡ dev_step (words_of text.now) }
 {
-    let [dev] = operands else {
-        return None;
-    };
-    Some(Step::Device { dev: number(dev)? })
+    Some(Step::Device { dev: one(text)? })
 }
 
+#[inline(always)]
 #[tactic(auto, unfolding(crate::specs::Script::dev))]
-fn dev(operands: &[&[u8]]) -> Option<Step>
-    ensures { result ≡ dev (map (λ word. word.now) operands.now) }
+fn dev(text: &[u8]) -> Option<Step>
+    ensures { result ≡ dev (words_of text.now) }
 {
-    let [way, operands @ ..] = operands else {
-        return None;
-    };
-    match *way {
-        b"read" => dev_read(operands),
-        b"write" => dev_write(operands),
-        b"step" => dev_step(operands),
+    let (way, text) = take_word(text)?;
+    match way {
+        b"read" => dev_read(text),
+        b"write" => dev_write(text),
+        b"step" => dev_step(text),
         _ => None,
     }
 }
 
-#[tactic(auto, unfolding(crate::specs::Script::place_page))]
-fn place_page(operands: &[&[u8]]) -> Option<Question>
-    ensures { result ≡ place_page (map (λ word. word.now) operands.now) }
+#[inline(always)]
+#[tactic(auto, using(crate::proofs::Forms::place_page_none, crate::proofs::Forms::place_page_some))]
+fn place_page(text: &[u8]) -> Option<Question>
+    ensures { result ≡ place_page (words_of text.now) }
 {
-    let [i] = operands else {
-        return None;
-    };
-    Some(Question::Page(number(i)?))
+    Some(Question::Page(one(text)?))
 }
 
+#[inline(always)]
 #[tactic(auto, unfolding(crate::specs::Script::place))]
-fn place(operands: &[&[u8]]) -> Option<Question>
-    ensures { result ≡ place (map (λ word. word.now) operands.now) }
+fn place(text: &[u8]) -> Option<Question>
+    ensures { result ≡ place (words_of text.now) }
 {
-    let [cache, operands @ ..] = operands else {
-        return None;
-    };
-    match *cache {
-        b"page" => place_page(operands),
+    let (way, text) = take_word(text)?;
+    match way {
+        b"page" => place_page(text),
         _ => None,
     }
 }
 
-#[tactic(auto, unfolding(crate::specs::Script::trace))]
-fn trace(operands: &[&[u8]]) -> Option<Question>
-    ensures { result ≡ trace (map (λ word. word.now) operands.now) }
+#[inline(always)]
+#[tactic(auto, using(crate::proofs::Forms::trace_none, crate::proofs::Forms::trace_some))]
+fn trace(text: &[u8]) -> Option<Question>
+    ensures { result ≡ trace (words_of text.now) }
 {
-    let [i] = operands else {
-        return None;
-    };
-    Some(Question::Trace(number(i)?))
+    Some(Question::Trace(one(text)?))
 }
 
+#[inline(always)]
 #[tactic(auto, unfolding(crate::specs::Script::step_of))]
-fn step_of(verb: &[u8], operands: &[&[u8]]) -> Option<Step>
-    ensures { result ≡ step_of verb.now (map (λ word. word.now) operands.now) }
+fn step_of(verb: &[u8], text: &[u8]) -> Option<Step>
+    ensures { result ≡ step_of verb.now (words_of text.now) }
 {
     match verb {
-        b"load" => load(operands),
-        b"store" => store(operands),
-        b"reg" => reg(operands),
-        b"cmd" => cmd(operands),
-        b"dma" => dma(operands),
-        b"dev" => dev(operands),
+        b"load" => load(text),
+        b"store" => store(text),
+        b"reg" => reg(text),
+        b"cmd" => cmd(text),
+        b"dma" => dma(text),
+        b"dev" => dev(text),
         _ => None,
     }
 }
 
 #[tactic(auto, unfolding(crate::specs::Script::question_of))]
-fn question_of(verb: &[u8], operands: &[&[u8]]) -> Option<Question>
-    ensures { result ≡ question_of verb.now (map (λ word. word.now) operands.now) }
+fn question_of(verb: &[u8], text: &[u8]) -> Option<Question>
+    ensures { result ≡ question_of verb.now (words_of text.now) }
 {
     match verb {
-        b"place" => place(operands),
-        b"trace" => trace(operands),
+        b"place" => place(text),
+        b"trace" => trace(text),
         _ => None,
     }
 }
 
+#[inline(always)]
 #[tactic(auto, unfolding(crate::specs::Script::meaning))]
-fn meaning(words: &[&[u8]]) -> Line
-    ensures { result ≡ meaning (map (λ word. word.now) words.now) }
+fn meaning(text: &[u8]) -> Line
+    ensures { result ≡ meaning (words_of text.now) }
 {
-    let [verb, operands @ ..] = words else {
+    let Some((verb, text)) = take_word(text) else {
         return Line::Blank;
     };
-    match (step_of(verb, operands), question_of(verb, operands)) {
-        (Some(step), _) => Line::Does(step),
-        (None, Some(question)) => Line::Asks(question),
-        (None, None) => Line::Bad,
+    if let Some(step) = step_of(verb, text) {
+        return Line::Does(step);
+    }
+    match question_of(verb, text) {
+        Some(question) => Line::Asks(question),
+        None => Line::Bad,
     }
 }
 
 /// What a line says, its text given without its end.
-#[tactic(auto, using(crate::proofs::Lines::seven_words), unfolding(crate::specs::Script::line_of))]
+#[inline(always)]
+#[tactic(auto, unfolding(crate::specs::Script::line_of))]
 pub fn line_of(text: &[u8]) -> Line
     ensures { result ≡ line_of text.now }
 {
     if text.len() > MOST_BYTES_OF_A_LINE || text.contains(&b'\n') {
         return Line::Bad;
     }
-    meaning(words(text).as_slice())
+    meaning(text)
 }

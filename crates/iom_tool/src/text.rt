@@ -1,9 +1,8 @@
-ghost use Rattle.std.specs.Prelude.{◌≡◌, ◌+◌, ◌*◌, ◌++◌, ◌<◌, ◌≤◌, length, [], ◌∷◌, codes, false};
+ghost use Rattle.std.specs.Prelude.{◌≡◌, ◌+◌, ◌*◌, slice_index, ◌++◌, ◌<◌, ◌≤◌, length, [], ◌∷◌, codes};
 ghost use Rattle.std.specs.Option.{option_copied};
-ghost use Rattle.std.specs.Fmt.{digit_glyph};
-ghost use Rattle.std.specs.Int.Digits.{digits_of};
-ghost use Rattle.hex.specs.Hex.{encode_lower};
-ghost use Rattle.iom_tool.specs.Texts.{digits_in, numeral, hexed, text_of, operands, step_text, entry_text};
+ghost use Rattle.hex.specs.Hex.{encode_lower, lower_digits};
+ghost use Rattle.iom_text.specs.Texts.{numeral, hexed};
+ghost use Rattle.iom_tool.specs.Texts.{text_of, operands, step_text, entry_text};
 
 use crate::trace::Entry;
 use arrayvec::ArrayVec;
@@ -21,40 +20,23 @@ pub fn push_text(out: &mut Reply, text: &[u8])
     let _fits = out.try_extend_from_slice(text);
 }
 
-fn glyph(digit: u64) -> u8
+// The hex digit of a number below 16, told without a branch.
+#[inline(always)]
+fn glyph(digit: u8) -> u8
     requires { digit < 16 }
-    ensures { result ≡ digit_glyph false digit }
+    ensures { result ≡ slice_index lower_digits digit }
 {
-    if digit < 10 {
-        b'0' + digit as u8
-    } else {
-        b'a' - 10 + digit as u8
-    }
+    b'0' + digit + 39 * u8::from(digit > 9)
 }
 
-// The digits of a number that isn't 0; of 0 there are none.
-fn push_digits(out: &mut Reply, number: u64, radix: u64)
-    requires least { 2 ≤ radix }
-    requires most { radix ≤ 16 }
-    requires room { length out.old.items + length (digits_of radix number) ≤ 320 }
-    ensures { out.new.items ≡ out.old.items ++ digits_in radix number }
+// Puts bytes as hex digits in lower case, two a byte.
+fn encode(bytes: &[u8], digits: &mut [u8])
+    requires { length digits.old ≡ 2 * length bytes.now }
+    ensures { digits.new ≡ encode_lower bytes.now }
 {
-    if number > 0 {
-        push_digits(out, number / radix, radix);
-        out.push(glyph(number % radix));
-    }
-}
-
-fn push_numeral(out: &mut Reply, number: u64, radix: u64)
-    requires least { 2 ≤ radix }
-    requires most { radix ≤ 16 }
-    requires room { length out.old.items + length (digits_of radix number) < 320 }
-    ensures { out.new.items ≡ out.old.items ++ numeral radix number }
-{
-    if number == 0 {
-        out.push(b'0');
-    } else {
-        push_digits(out, number, radix);
+    for i in 0..bytes.len() {
+        digits[2 * i] = glyph(bytes[i] / 16);
+        digits[2 * i + 1] = glyph(bytes[i] % 16);
     }
 }
 
@@ -67,7 +49,7 @@ fn push_bytes(out: &mut Reply, bytes: &[u8])
 {
     let mut digits = [0; 128];
     let digits = &mut digits[..2 * bytes.len()];
-    let _fits = hex::encode_to_slice(bytes, digits);
+    encode(bytes, digits);
     push_text(out, digits);
 }
 
@@ -77,17 +59,16 @@ pub fn push_hexed(out: &mut Reply, number: u64)
     ensures text { out.new.items ≡ out.old.items ++ hexed number }
     ensures room { length out.new.items ≤ length out.old.items + 18 }
 {
-    push_text(out, b"0x");
-    push_numeral(out, number, 16);
+    push_text(out, iom_text::hexed(number).as_slice());
 }
 
 fn push_denied(out: &mut Reply, cause: u16)
-    requires { length out.old.items + 12 < 320 }
+    requires { length out.old.items + 27 < 320 }
     ensures text { out.new.items ≡ out.old.items ++ codes "denied " ++ numeral 10 cause }
-    ensures room { length out.new.items ≤ length out.old.items + 12 }
+    ensures room { length out.new.items ≤ length out.old.items + 27 }
 {
     push_text(out, b"denied ");
-    push_numeral(out, u64::from(cause), 10);
+    push_text(out, iom_text::decimal(u64::from(cause)).as_slice());
 }
 
 /// Appends the text of an answer.

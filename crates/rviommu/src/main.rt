@@ -24,6 +24,9 @@ const BASE: u64 = 0x8000_0000;
 
 const SIZE: u64 = 0x10_0000;
 
+// The bytes that are read, and written, at once.
+const BLOCK: usize = 0x1_0000;
+
 fn built_in(alloc: Global) -> Result<Platform, Fault> {
     let ram = Ram::new(alloc, BASE, SIZE)?;
     Ok(Platform::new(alloc, ram, Vec::new(alloc))?)
@@ -38,7 +41,7 @@ fn run(
 ) -> Result<(), Fault> {
     let mut trace = Trace::new(alloc)?;
     let tied = Tied { input, output };
-    let mut reader = BufReader::new(alloc, tied).map_err(|_| Fault::OutOfMemory)?;
+    let mut reader = BufReader::with_capacity(alloc, BLOCK, tied).map_err(|_| Fault::OutOfMemory)?;
     let mut writer = Shared { output };
     let ended = iom_tool::run(platform, &mut trace, &mut reader, &mut writer);
     // The answers before a fault are written too.
@@ -53,7 +56,8 @@ fn run_built_in(
     output: impl Write + Drop,
 ) -> Result<(), Fault> {
     let mut platform = built_in(alloc)?;
-    let output = RefCell::new(BufWriter::new(alloc, output).map_err(|_| Fault::OutOfMemory)?);
+    let writer = BufWriter::with_capacity(alloc, BLOCK, output).map_err(|_| Fault::OutOfMemory)?;
+    let output = RefCell::new(writer);
     run(alloc, &mut platform, input, &output)
 }
 

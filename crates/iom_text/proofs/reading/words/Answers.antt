@@ -1,18 +1,16 @@
-use Rattle.std.proofs.Common.{length, nat_lt, rules, tests}
-use Rattle.std.proofs.lemmas.Iterator.{YieldsList-from_take}
-use Rattle.std.proofs.lemmas.Iterator.Consumers.{YieldsList-end, YieldsList-at, YieldsList-from_filter}
-use Rattle.std.proofs.lemmas.Iterator.Splits.{YieldsList-from_slice_split}
-use Rattle.iom_text.specs.Words.{is_blank, words_of}
+use Rattle.std.proofs.Common.{◌+◌, ◌-◌, ◌∷◌, [], ◌++◌, ◌∙◌, ◌<◌, length, take, map, sym, ap, arith}
+use Rattle.std.proofs.lemmas.Grind.{common_steps}
+use Rattle.std.proofs.lemmas.List.{map-append}
+use Rattle.iom_text.specs.Words.{words_of}
+use Rattle.iom_text.proofs.Cuts.{one_word}
 use Rattle.iom_text.proofs.reading.words.Goals as goal
 
-pub returns : goal.returns
-unfolding words_of
-returns c =
-    let end = YieldsList-end
-    (YieldsList-at c.into_iter-word-iterator.ensures.into_iter_gives (YieldsList-from_take 11
-    (YieldsList-at c.take-word-items.ensures.source (YieldsList-from_filter _ (λ w. nat_lt 0 (length w))
-    (YieldsList-at c.filter.ensures.source (YieldsList-from_slice_split _ is_blank _ c.split.ensures.rest c.split.ensures.done c.split.ensures.closure (λ x b q k. search (rules, tests))))
-    c.filter.ensures.closure (λ x b q k. search (rules, tests))))
-    c.take-word-items.ensures.count))
-    c.loop-word.yielded _ c.loop-word.yielded_by _ _ c.in-None.is c.next.ensures.steps in
-    rw (c.loop-word.invariant.words, ← c.before_comment.ensures) end.0
+pub loop-preserved : goal.loop-preserved
+loop-preserved c = record {
+  count = omega (arith, c.loop.invariant.count, c.push.ensures.len);
+  words =
+      let some : 0 < length c.first_word.result.0.now = grind (arith, common_steps) in
+      one_word _ _ _ _ c.first_word.result.0.now 11 c.loop.counter c.loop-test.true (c.first_word.ensures.some some) c.loop.invariant.words
+      ∙ ap (λ front. front ++ take (11 - (c.loop.counter + 1)) (words_of c.first_word.result.1.now))
+      (sym (ap (λ items. map (λ word. word.now) items) c.push.ensures.items ∙ map-append (λ word. word.now) c.loop.words.items (c.first_word.result.0 ∷ [])));
+}

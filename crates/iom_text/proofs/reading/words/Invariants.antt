@@ -1,9 +1,9 @@
-use Rattle.std.proofs.Common.{◌≡◌}
+use Rattle.std.proofs.Common.{◌≡◌, ◌-◌, ◌++◌, length, map, take}
+use Rattle.iom_text.specs.Words.{words_of}
 use Rattle.iom_text.proofs.reading.words.Given as goal
 
-abbrev pub invariant-loop-word : goal.invariant-loop-word
-invariant-loop-word l = record {
-  can : (goal.iterator-loop-word).can_next l.word-iterator;
-  finite : (goal.iterator-loop-word).is_finite l.word-iterator;
-  words : l.words.items ≡ l.yielded;
+abbrev pub invariant-loop : goal.invariant-loop
+invariant-loop l = record {
+  count : length l.words.items ≡ l.counter;
+  words : take 11 (words_of l.text) ≡ map (λ word. word.now) l.words.items ++ take (11 - l.counter) (words_of l.rest);
 }

@@ -1,0 +1,71 @@
+//! The operands of a line, where it has just so many.
+
+ghost use Rattle.std.specs.Prelude.{◌≡◌};
+ghost use Rattle.std.specs.Option.{option_map};
+ghost use Rattle.iom_text.specs.Words.{words_of};
+ghost use Rattle.iom_tool.specs.Operands.{one, with_first, data_in};
+
+use crate::words::{are_digits, bytes_of, bytes_of_digits};
+use arrayvec::ArrayVec;
+use iom_text::{is_over, past_blanks, take_number, take_word};
+
+#[inline(always)]
+#[tactic(auto, using(crate::proofs::Forms::one_none, crate::proofs::Forms::one_some, crate::proofs::Forms::one_more))]
+pub fn one(text: &[u8]) -> Option<u64>
+    ensures { result ≡ one (words_of text.now) }
+{
+    let (value, rest) = take_number(text)?;
+    if is_over(rest) { Some(value) } else { None }
+}
+
+#[inline(always)]
+#[tactic(auto, using(crate::proofs::Forms::first_none, crate::proofs::Forms::first_some))]
+pub fn two(text: &[u8]) -> Option<(u64, u64)>
+    ensures { result ≡ with_first one (words_of text.now) }
+{
+    let (first, rest) = take_number(text)?;
+    Some((first, one(rest)?))
+}
+
+#[inline(always)]
+#[tactic(auto, using(crate::proofs::Forms::first_none, crate::proofs::Forms::first_some))]
+pub fn three(text: &[u8]) -> Option<(u64, (u64, u64))>
+    ensures { result ≡ with_first (with_first one) (words_of text.now) }
+{
+    let (first, rest) = take_number(text)?;
+    Some((first, two(rest)?))
+}
+
+#[inline(always)]
+#[tactic(auto, using(crate::proofs::Forms::first_none, crate::proofs::Forms::first_some))]
+pub fn four(text: &[u8]) -> Option<(u64, (u64, (u64, u64)))>
+    ensures { result ≡ with_first (with_first (with_first one)) (words_of text.now) }
+{
+    let (first, rest) = take_number(text)?;
+    Some((first, three(rest)?))
+}
+
+// Data that is all of the line's rest needs no search for the end of the word.
+#[inline(always)]
+#[tactic(auto, using(crate::proofs::Forms::data_none, crate::proofs::Forms::data_some, crate::proofs::Forms::data_more, crate::proofs::Forms::data_left))]
+fn data_in(text: &[u8]) -> Option<ArrayVec<u8, 64>>
+    ensures { option_map (λ bytes. bytes.items) result ≡ data_in (words_of text.now) }
+{
+    let left = past_blanks(text);
+    if are_digits(left) {
+        return bytes_of_digits(left);
+    }
+    let (word, rest) = take_word(text)?;
+    if is_over(rest) { bytes_of(word) } else { None }
+}
+
+#[inline(always)]
+#[tactic(auto, using(crate::proofs::Forms::first_none, crate::proofs::Forms::first_some))]
+pub fn numbers_and_data(text: &[u8]) -> Option<(u64, (u64, ArrayVec<u8, 64>))>
+    ensures { option_map (λ it. (it.0, (it.1.0, it.1.1.items))) result
+        ≡ with_first (with_first data_in) (words_of text.now) }
+{
+    let (first, rest) = take_number(text)?;
+    let (second, rest) = take_number(rest)?;
+    Some((first, (second, data_in(rest)?)))
+}
