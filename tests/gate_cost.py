@@ -65,6 +65,15 @@ def edits_of(folder):
     return sum(name.endswith(".edit") for name in names)
 
 
+def words_for(folder):
+    """The words that a program is run with: those of its file args, one a line. The gate runs it in its folder data."""
+    if not os.path.isfile(f"{folder}/args"):
+        return []
+    with open(f"{folder}/args", encoding="utf-8") as file:
+        words = file.read().split()
+    return ["--", *("data" if word == "." else word for word in words)]
+
+
 def has_tests(folder):
     for at, _, names in os.walk(f"{folder}/src"):
         for name in names:
@@ -94,7 +103,7 @@ def measure(top, name, row):
     folder = f"{top}/crates/{name}"
     if os.path.isfile(f"{folder}/src/main.rt"):
         shutil.copy2(f"{folder}/out/{name}", f"{top}/{name}")
-        row.second = cost(folder, "rt", "run", "--backend", "rattle", *ONE_JOB)
+        row.second = cost(folder, "rt", "run", "--backend", "rattle", *ONE_JOB, *words_for(folder))
     if has_tests(folder):
         shutil.rmtree(f"{folder}/out/incremental", ignore_errors=True)
         row.tests = cost(folder, "rt", "test", *ONE_JOB)
@@ -144,7 +153,7 @@ def main():
             rows[name] = Row(name)
             start = time.monotonic()
             word = "run" if os.path.isfile(f"{folder}/src/main.rt") else "lib"
-            rows[name].build = cost(folder, "rt", word, *ONE_JOB)
+            rows[name].build = cost(folder, "rt", word, *ONE_JOB, *words_for(folder))
             if name in below(PROGRAM, crates):
                 clock += time.monotonic() - start
             if name in named:
