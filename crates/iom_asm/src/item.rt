@@ -1,5 +1,5 @@
 ghost use Rattle.std.specs.Prelude.{◌≡◌, ◌*◌};
-ghost use Rattle.iom_asm.specs.Items.{words_in};
+ghost use Rattle.iom_asm.specs.Items.{item_named, words_in};
 
 /// What some words of memory are looked at as.
 #[derive(Clone, Copy, Debug, PartialEq)]
@@ -19,6 +19,22 @@ pub enum Item {
 }
 
 impl Item {
+    /// The item of this name: `cmd`, `fault`, `context`, `dir`, `pte` or `u64`.
+    #[tactic(auto, unfolding(crate::specs::Items::item_named))]
+    pub fn named(name: &[u8]) -> Option<Item>
+        ensures { result ≡ item_named name.now }
+    {
+        match name {
+            b"cmd" => Some(Item::Cmd),
+            b"fault" => Some(Item::Fault),
+            b"context" => Some(Item::Context),
+            b"dir" => Some(Item::Dir),
+            b"pte" => Some(Item::Pte),
+            b"u64" => Some(Item::Word),
+            _ => None,
+        }
+    }
+
     /// How many bytes it has.
     pub fn size(self) -> u64
         ensures { result ≡ 8 * words_in self }
