@@ -24,14 +24,20 @@ impl Item {
     pub fn named(name: &[u8]) -> Option<Item>
         ensures { result ≡ item_named name.now }
     {
-        match name {
-            b"cmd" => Some(Item::Cmd),
-            b"fault" => Some(Item::Fault),
-            b"context" => Some(Item::Context),
-            b"dir" => Some(Item::Dir),
-            b"pte" => Some(Item::Pte),
-            b"u64" => Some(Item::Word),
-            _ => None,
+        if name == b"cmd".as_slice() {
+            Some(Item::Cmd)
+        } else if name == b"fault".as_slice() {
+            Some(Item::Fault)
+        } else if name == b"context".as_slice() {
+            Some(Item::Context)
+        } else if name == b"dir".as_slice() {
+            Some(Item::Dir)
+        } else if name == b"pte".as_slice() {
+            Some(Item::Pte)
+        } else if name == b"u64".as_slice() {
+            Some(Item::Word)
+        } else {
+            None
         }
     }
 
