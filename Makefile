@@ -5,7 +5,8 @@
 #   make rows                 plays the scripts of crates/iom_rows/data, and prints each answer that is not the expected one
 #   make cost                 processor seconds of what make test does, crate by crate, on a copy
 #   make bench [OTHER=FILE]   lines per second, beside another program where one is named
-#   make install PREFIX=..    copy the program to PREFIX/bin, /usr/local/bin where PREFIX is not given
+#   make install PREFIX=..    copy the program to PREFIX/bin, /usr/local/bin where PREFIX is not given, with its man page and
+#                             completions for bash and zsh
 
 PREFIX = /usr/local
 program = crates/rviommu/out/rviommu
@@ -51,3 +52,9 @@ bench: $(program)
 install: $(program)
 	install -d $(DESTDIR)$(PREFIX)/bin
 	install -m 755 $(program) $(DESTDIR)$(PREFIX)/bin/rviommu
+	install -d $(DESTDIR)$(PREFIX)/share/man/man1
+	install -m 644 man/rviommu.1 $(DESTDIR)$(PREFIX)/share/man/man1/rviommu.1
+	install -d $(DESTDIR)$(PREFIX)/share/bash-completion/completions
+	install -m 644 completions/rviommu.bash $(DESTDIR)$(PREFIX)/share/bash-completion/completions/rviommu
+	install -d $(DESTDIR)$(PREFIX)/share/zsh/site-functions
+	install -m 644 completions/_rviommu $(DESTDIR)$(PREFIX)/share/zsh/site-functions/_rviommu
