@@ -557,7 +557,7 @@ def _():
     page = man_page()
     forms = [form.decode() for form in FORMS + STATEMENTS]
     wanted = [*commands(), "--help", "--version", "asm SOURCE IMAGE", "run IMAGE", "list IMAGE KIND ADDR COUNT", *forms, *KINDS, *ANSWERS, *TEXTS]
-    missing = [it for it in wanted if not re.search(r"(?m)(^|[\s,])" + re.escape(it) + r"(?=[\s,.;]|$)", page)]
+    missing = [it for it in wanted if not re.search(r"(?m)(^|[\s,])" + re.escape(it) + r"(?=[\s,.;=]|$)", page)]
     want("what the man page lacks", missing, [])
 
 
