@@ -80,7 +80,11 @@ fn what_is_no_image_is_refused(rt: HostRuntime) {
     let facts = [
         is_refused(rt.alloc(), b"", LoadFault::Truncated),
         is_refused(rt.alloc(), b"RVIOMMU0", LoadFault::BadMagic),
-        is_refused(rt.alloc(), &built_in()[..31], LoadFault::Truncated),
+        is_refused(
+            rt.alloc(),
+            b"RVIOMMU1\x00\x00\x00\x80",
+            LoadFault::Truncated,
+        ),
     ];
     assert_eq!(rt; first_wrong(&facts), None);
 }
