@@ -18,6 +18,8 @@ mod ddt;
 #[cfg(test)]
 mod devices;
 #[cfg(test)]
+mod harmed;
+#[cfg(test)]
 mod mem;
 #[cfg(test)]
 mod nested;
