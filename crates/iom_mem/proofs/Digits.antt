@@ -153,3 +153,12 @@ small_part bytes at count small i =
       | inl within ↦ rw (get_or-take count (drop at bytes) i 0 within, get_or-drop at bytes i 0) (small (at + i))
       | inr past ↦ rw (get_or_past (take count (drop at bytes)) i 0 (omega (arith, length-take count (drop at bytes)))) (omega arith)
     ]
+
+pub number_fits : (bytes : List ℕ) → ((i : ℕ) → get_or bytes i 0 < 256) → number_of_bytes bytes < 2 ^ (8 * length bytes)
+number_fits [] small = omega arith
+number_fits (byte ∷ bytes) small =
+    let power : 2 ^ (8 * suc (length bytes)) ≡ 2 ^ (8 * length bytes) * 2 ^ 8 =
+    ap (λ k. 2 ^ k) (omega arith) ∙ pow-add 2 (8 * length bytes) 8 in
+    let low : byte < 256 = small 0 in
+    let rest : number_of_bytes bytes < 2 ^ (8 * length bytes) = number_fits bytes (λ i. small (suc i)) in
+    omega (arith, power, low, rest)

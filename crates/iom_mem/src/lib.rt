@@ -161,13 +161,11 @@ impl Ram {
         ensures outside { OnFalse result (words_at self.now addr (length out.old) ≡ None) }
         ensures unchanged { OnFalse result (out.new ≡ out.old) }
     {
-        match self.place(addr, 8 * out.len()) {
-            Some(at) => {
-                read_words(&self.words, at, out);
-                true
-            }
-            None => out.is_empty(),
-        }
+        let Some(at) = self.place(addr, 8 * out.len()) else {
+            return out.is_empty();
+        };
+        read_words(&self.words, at, out);
+        true
     }
 
     /// All of memory as words: word i is the one at physical address `base + 8 * i`.

@@ -3,7 +3,7 @@ ghost use Rattle.std.proofs.Math.Seq.{paste};
 ghost use Rattle.iom_bits.specs.Bytes.{number_of_bytes, bytes_of_number};
 ghost use Rattle.iom_mem.specs.Words.{bytes_of_words, AreWords, StartsWith};
 
-use iom_bits::{le_u64, with_field};
+use iom_bits::{field, le_u64, with_field};
 
 // The places of bytes count from the first byte of the first word.
 
@@ -79,14 +79,17 @@ pub fn read_bytes(words: &[u64], at: usize, out: &mut [u8])
     }
 }
 
-// Fills in the words that lie whole in what is read, where the bytes before them are there.
+// Fills in all but the last eight bytes of what is read, where the first eight are there.
 fn read_whole(words: &[u64], at: usize, out: &mut [u8])
     requires within { at + length out.old ≤ 8 * length words.now }
     requires some { 8 ≤ length out.old }
     requires start { StartsWith out.old (bytes_of_words words.now) at 8 }
-    ensures read { StartsWith out.new (bytes_of_words words.now) at (length out.old - 7) }
+    ensures read { StartsWith out.new (bytes_of_words words.now) at (length out.old - 8) }
     ensures length { length out.new ≡ length out.old }
 {
+    if out.len() <= 16 {
+        return;
+    }
     let skipped = 8 - at % 8;
     let first = at / 8 + 1;
     for i in 0..(out.len() - skipped) / 8 {
@@ -129,11 +132,47 @@ pub fn write_bytes(words: &mut [u64], at: usize, bytes: &[u8])
 {
     let head = ((8 - at % 8) % 8).min(bytes.len());
     let (start, rest) = bytes.split_at(head);
-    put_piece(words, at, start);
+    put_piece(words, at, start, first_number(bytes, head));
     if !rest.is_empty() {
         let (whole, end) = rest.split_at(rest.len() / 8 * 8);
         write_whole(words, (at + head) / 8, whole);
-        put_piece(words, at + head + whole.len(), end);
+        put_piece(
+            words,
+            at + head + whole.len(),
+            end,
+            last_number(bytes, end.len()),
+        );
+    }
+}
+
+// The number of the first bytes, fewer than eight.
+fn first_number(bytes: &[u8], count: usize) -> u64
+    requires within { count ≤ length bytes.now }
+    requires few { count < 8 }
+    ensures { result ≡ number_of_bytes (take count bytes.now) }
+{
+    if count == 0 {
+        0
+    } else {
+        field(number(&bytes[..bytes.len().min(8)]), 0, 8 * count as u32)
+    }
+}
+
+// The number of the last bytes, fewer than eight.
+fn last_number(bytes: &[u8], count: usize) -> u64
+    requires within { count ≤ length bytes.now }
+    requires few { count < 8 }
+    ensures { result ≡ number_of_bytes (drop (length bytes.now - count) bytes.now) }
+{
+    if count == 0 {
+        0
+    } else {
+        let last = bytes.len().min(8);
+        field(
+            number(&bytes[bytes.len() - last..]),
+            8 * (last - count) as u32,
+            8 * count as u32,
+        )
     }
 }
 
@@ -148,8 +187,9 @@ fn write_whole(words: &mut [u64], first: usize, bytes: &[u8])
     }
 }
 
-// Replaces the bytes from place `at` on by `bytes`, all in one word.
-fn put_piece(words: &mut [u64], at: usize, bytes: &[u8])
+// Replaces the bytes from place `at` on by `bytes`, all in one word, whose number is `number`.
+fn put_piece(words: &mut [u64], at: usize, bytes: &[u8], number: u64)
+    requires value { number ≡ number_of_bytes bytes.now }
     requires together { at % 8 + length bytes.now ≤ 8 }
     requires within { at + length bytes.now ≤ 8 * length words.old }
     ensures bytes { bytes_of_words words.new ≡ paste (bytes_of_words words.old) at bytes.now (length bytes.now) }
@@ -160,7 +200,7 @@ fn put_piece(words: &mut [u64], at: usize, bytes: &[u8])
     }
     let low = 8 * (at % 8) as u32;
     let width = 8 * bytes.len() as u32;
-    words[at / 8] = with_field(words[at / 8], low, width, number(bytes));
+    words[at / 8] = with_field(words[at / 8], low, width, number);
 }
 
 // The number of at most eight bytes.

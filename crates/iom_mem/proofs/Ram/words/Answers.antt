@@ -5,8 +5,8 @@ use Rattle.iom_mem.specs.Words.{bytes_of_words, AreWords}
 use Rattle.iom_mem.proofs.Several.{words_at_inside, words_at_outside}
 use Rattle.iom_mem.proofs.Ram.words.Goals as goal
 
-pub returns-in-Some-clause-read : goal.returns-in-Some-clause-read
-returns-in-Some-clause-read c =
+pub returns-clause-read : goal.returns-clause-read
+returns-clause-read c =
     let memory = c.args.self.now in
     let out : List ℕ = c.read_words.new.out in
     let at : ℕ = c.in-Some.at in
@@ -17,6 +17,6 @@ returns-in-Some-clause-read c =
     λ i h. c.read_words.ensures.read i (omega (arith, size)) ∙ ap (λ bs. number_of_bytes (take 8 (drop (at + 8 * i) bs))) bytes in
     subst (λ n. words_at memory c.args.addr n ≡ Some out) size (words_at_inside memory c.args.addr at out c.in-Some.ensures.place.0 room each)
 
-pub returns-in-None-clause-outside : goal.returns-in-None-clause-outside
-returns-in-None-clause-outside c =
-    words_at_outside c.args.self.now c.args.addr (length c.args.out.now) c.is_empty.result c.is_empty.ensures c.in-None.ensures.beyond
+pub returns-in_default-clause-outside : goal.returns-in_default-clause-outside
+returns-in_default-clause-outside c =
+    words_at_outside c.args.self.now c.args.addr (length c.args.out.now) c.is_empty.result c.is_empty.ensures c.in_default.ensures.beyond

@@ -25,10 +25,10 @@ returns-then-len-ge8 c =
     let first : length c.put_word.new.out ≡ count =
     rw c.put_word.ensures (length-paste c.args.out.now 0 (bytes_of_number 8 c.word_at.result) 8 c.if-len-ge8.true (omega (arith, length-bytes_of_number 8 c.word_at.result))) in
     let size : length out ≡ count = c.read_whole.ensures.length ∙ first in
-    let covered : StartsWith out bytes at (count - 7) = subst (λ n. StartsWith out bytes at (n - 7)) first c.read_whole.ensures.read in
+    let covered : StartsWith out bytes at (count - 8) = subst (λ n. StartsWith out bytes at (n - 8)) first c.read_whole.ensures.read in
     let end : count - 8 + 8 ≡ count = omega arith in
     let more : StartsWith (paste out (count - 8) (bytes_of_number 8 word) 8) bytes at (count - 8 + 8) =
-    more_read out bytes at (count - 8) (count - 7) word covered (omega arith) (omega (arith, size)) own c.word_at-then-len-ge8.ensures.bytes in
+    more_read out bytes at (count - 8) (count - 8) word covered (omega arith) (omega (arith, size)) own c.word_at-then-len-ge8.ensures.bytes in
     let whole : length (paste out (count - 8) (bytes_of_number 8 word) 8) ≡ count =
     length-paste out (count - 8) (bytes_of_number 8 word) 8 (omega (arith, size)) (omega (arith, own)) ∙ size in
     rw c.put_word-then-len-ge8.ensures (all_read (paste out (count - 8) (bytes_of_number 8 word) 8) bytes at count whole
