@@ -87,17 +87,18 @@ fn agrees(ram: &mut Ram, list: &mut [u8], at: usize, bytes: &[u8]) -> bool {
 
 // Whether each write of 1 to 20 bytes does so whose first byte is that many bytes from the start of memory, and whose
 // last byte is that many from its end.
-fn agree_at(ram: &mut Ram, list: &mut [u8], offset: usize) -> bool {
-    let bytes = [
+fn agree_at(ram: &mut Ram, list: &mut [u8], offset: u8) -> bool {
+    let bytes: [u8; 20] = [
         1, 2, 3, 4, 5, 6, 7, 8, 9, 10, 11, 12, 13, 14, 15, 16, 17, 18, 19, 20,
     ];
     for len in 1..=20_usize {
         let mut own = bytes;
         for byte in own.iter_mut() {
-            *byte = byte.wrapping_mul(len as u8).wrapping_add(offset as u8);
+            *byte = byte.wrapping_mul(len as u8).wrapping_add(offset);
         }
-        let end = list.len().wrapping_sub(offset).wrapping_sub(len);
-        if !agrees(ram, list, offset, &own[..len]) || !agrees(ram, list, end, &own[..len]) {
+        let start = offset as usize;
+        let end = list.len().wrapping_sub(start).wrapping_sub(len);
+        if !agrees(ram, list, start, &own[..len]) || !agrees(ram, list, end, &own[..len]) {
             return false;
         }
     }
