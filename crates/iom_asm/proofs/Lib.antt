@@ -17,5 +17,4 @@ pub mod Lasting
 pub mod Retold
 pub mod Found
 pub mod Started
-pub mod Loaded
 pub mod Warranted

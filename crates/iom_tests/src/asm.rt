@@ -1,7 +1,7 @@
 //! Images, the assembler and listings.
 
 use crate::first_wrong;
-use iom_asm::{AsmFault, Item, ListFault, LoadFault, assemble, item_line, judge, list, open};
+use iom_asm::{AsmFault, Item, ListFault, LoadFault, assemble, item_line, judge, list, load};
 use iom_mem::Ram;
 use std::alloc::Global;
 use std::test::Fail;
@@ -301,8 +301,8 @@ dir ppn=0x80003
 pte flags=0xd7 ppn=0x80010
 u64 0x10";
     let image = assemble(alloc, text)?;
-    let started = open(alloc, &image)?;
-    let ram = &started.ram;
+    let platform = load(alloc, &image)?;
+    let ram = platform.ram();
     let mut bytes = [7; 16];
     let facts = [
         ram.read(0x8009_0000, &mut bytes),
@@ -334,8 +334,8 @@ u64 0x10";
 #[test]
 fn listings_at_the_end(rt: HostRuntime) -> Result<(), Fail> {
     let alloc = rt.alloc();
-    let started = open(alloc, &assemble(alloc, MEMORY)?)?;
-    let ram = &started.ram;
+    let platform = load(alloc, &assemble(alloc, MEMORY)?)?;
+    let ram = platform.ram();
     let facts = [
         list(alloc, ram, Item::Word, 0x800f_fff8, 1)?.as_str() == "u64 0x0\n",
         list(alloc, ram, Item::Word, 0x800f_fff8, 2).err() == Some(ListFault::Outside),
