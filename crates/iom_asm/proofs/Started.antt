@@ -3,7 +3,7 @@ use Rattle.std.proofs.Common.{◌≡◌, ℕ, suc, ◌^◌, ◌≤◌, ◌<◌, 
 use Rattle.std.specs.List.{list_any}
 use Rattle.std.proofs.lemmas.Bool.{and_parts, ltb-true, not-true, eq-eqb, true≢false}
 use Rattle.iom_blk.specs.Device.{Device}
-use Rattle.iom_core.specs.State.{State, opening, AreDevices, AreDistinct, EachFits, EachOther}
+use Rattle.iom_core.specs.State.{State, AreDevices, AreDistinct, EachFits, EachOther}
 use Rattle.iom_asm.specs.declared.fault.LoadFault.{LoadFault}
 use Rattle.iom_asm.specs.Image.{Disk, Image, AreDisks, AreBytes}
 use Rattle.iom_asm.specs.Loading.{devices_of, state_from}

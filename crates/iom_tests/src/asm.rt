@@ -331,6 +331,37 @@ u64 0x10";
     Ok(())
 }
 
+// Several numbers on a line, blank lines and comments between, and items of one kind that the text states in another order.
+#[test]
+fn items_that_follow_each_other_are_listed(rt: HostRuntime) -> Result<(), Fail> {
+    let alloc = rt.alloc();
+    let text = b"ram 0x80000000 0x100000
+at 0x80090010
+u64 1 2
+
+ # a comment
+u64 3\t4
+at 0x80090008
+u64 0
+at 0x80090030
+pte ppn=1
+
+dir ppn=2
+at 0x80090000
+u64 0xff";
+    let platform = load(alloc, &assemble(alloc, text)?)?;
+    let ram = platform.ram();
+    let facts = [
+        list(alloc, ram, Item::Word, 0x8009_0000, 6)?.as_str()
+            == "u64 0xff\nu64 0x0\nu64 0x1\nu64 0x2\nu64 0x3\nu64 0x4\n",
+        list(alloc, ram, Item::Pte, 0x8009_0030, 2)?.as_str()
+            == "pte ppn=0x1 flags=0x0\npte ppn=0x2 flags=0x1\n",
+        list(alloc, ram, Item::Dir, 0x8009_0030, 2)?.as_str() == "u64 0x400\ndir ppn=0x2\n",
+    ];
+    assert_eq!(rt; first_wrong(&facts), None);
+    Ok(())
+}
+
 #[test]
 fn listings_at_the_end(rt: HostRuntime) -> Result<(), Fail> {
     let alloc = rt.alloc();
