@@ -28,8 +28,7 @@ copy_for_the_context_of_the_walk AllocError
 copies_go_their_own_ways AllocError
 block_device_is_copied AllocError
 platform_with_a_device_is_copied AllocError
-memory_and_disk_are_loaded OutOfMemory
-lists_are_made_of_an_image OutOfMemory
+memory_and_devices_are_loaded OutOfMemory
 caches_are_made_for_an_image OutOfMemory
 image_is_played OutOfMemory
 text_is_read OutOfMemory

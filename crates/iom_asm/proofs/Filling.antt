@@ -1,4 +1,4 @@
--- Chunks put into memory and disks made, one after the other, as a loop does.
+-- Chunks put into memory and devices made, one after the other, as a loop does.
 use Rattle.std.proofs.Common.{◌≡◌, ℕ, suc, ◌-◌, ◌+◌, ◌≤◌, ◌<◌, Bool, true, false, List, [], ◌∷◌, ◌++◌, length, take, drop, map, Result, Ok, Err, ◌==◌, refl, sym, ap, ◌∙◌, append_assoc, arith}
 use Rattle.std.specs.Prelude.{IsOk}
 use Rattle.std.specs.Option.{is_some}
@@ -9,7 +9,10 @@ use Rattle.iom_mem.proofs.Bytes.{bytes_at_inside}
 use Rattle.iom_asm.specs.declared.fault.LoadFault.{LoadFault}
 use Rattle.iom_asm.specs.declared.fault.LoadFault.TheVariants.{Trailing}
 use Rattle.iom_asm.specs.Image.{Chunk, Disk, Image, end_of, with_chunks}
-use Rattle.iom_asm.specs.Reading.{◌>>=◌, Read, Head, Start, checked, mapped, filled, joined, started, opening_of, head_at, chunk_at, chunks_at, disk_at, disks_at, image_of}
+use Rattle.iom_blk.specs.Device.{Device}
+use Rattle.iom_core.specs.State.{State, opening}
+use Rattle.iom_asm.specs.Loading.{device_of, devices_of, joined, state_from}
+use Rattle.iom_asm.specs.Reading.{◌>>=◌, Read, Head, checked, mapped, filled, started, opening_of, head_at, chunk_at, chunks_at, disk_at, disks_at, image_of}
 
 pub inside : (memory : Memory) (addr count : ℕ) → memory.base ≤ addr → addr + count ≤ memory.base + size_of memory →
     is_some (bytes_at memory addr count) ≡ true
@@ -61,22 +64,22 @@ fill_done memory base size end count i bytes total le so_far =
     let one : filled memory (chunks_at base size end (count - i) bytes) ≡ Ok (memory, bytes) = rw k refl in
     sym so_far ∙ one
 
-first_joined : (before : List (ℕ × List ℕ)) (d : Disk) (read : Read (List Disk)) →
-    joined before (read >>= λ x. Ok (d ∷ x.0, x.1)) ≡ joined (before ++ started d ∷ []) read
-first_joined before d (Ok x) = ap Ok (sym (append_assoc before (started d ∷ []) (map started x.0)))
+first_joined : (before : List (ℕ × Device)) (d : Disk) (read : Read (List Disk)) →
+    joined before (read >>= λ x. Ok (d ∷ x.0, x.1)) ≡ joined (before ++ device_of (started d) ∷ []) read
+first_joined before d (Ok x) = ap Ok (sym (append_assoc before (device_of (started d) ∷ []) (devices_of (map started x.0))))
 first_joined before d (Err fault) = refl
 
-pub join_goes_on : (before : List (ℕ × List ℕ)) (ids : List ℕ) (count i : ℕ) (bytes after : List ℕ) (d : Disk) (total : Result (List (ℕ × List ℕ)) LoadFault) →
+pub join_goes_on : (before : List (ℕ × Device)) (ids : List ℕ) (count i : ℕ) (bytes after : List ℕ) (d : Disk) (total : Result (List (ℕ × Device)) LoadFault) →
     i < count → disk_at ids bytes ≡ Ok (d, after) → joined before (disks_at ids (count - i) bytes) ≡ total →
-    joined (before ++ started d ∷ []) (disks_at (ids ++ d.id ∷ []) (count - (i + 1)) after) ≡ total
+    joined (before ++ device_of (started d) ∷ []) (disks_at (ids ++ d.id ∷ []) (count - (i + 1)) after) ≡ total
 unfolding disks_at
 join_goes_on before ids count i bytes after d total lt h so_far =
     let k : count - i ≡ suc (count - (i + 1)) = omega arith in
-    let one : joined before (disks_at ids (count - i) bytes) ≡ joined (before ++ started d ∷ []) (disks_at (ids ++ d.id ∷ []) (count - (i + 1)) after) =
+    let one : joined before (disks_at ids (count - i) bytes) ≡ joined (before ++ device_of (started d) ∷ []) (disks_at (ids ++ d.id ∷ []) (count - (i + 1)) after) =
     rw (k, h) (first_joined before d (disks_at (ids ++ d.id ∷ []) (count - (i + 1)) after)) in
     sym one ∙ so_far
 
-pub join_fails : (before : List (ℕ × List ℕ)) (ids : List ℕ) (count i : ℕ) (bytes : List ℕ) (fault : LoadFault) (total : Result (List (ℕ × List ℕ)) LoadFault) →
+pub join_fails : (before : List (ℕ × Device)) (ids : List ℕ) (count i : ℕ) (bytes : List ℕ) (fault : LoadFault) (total : Result (List (ℕ × Device)) LoadFault) →
     i < count → disk_at ids bytes ≡ Err fault → joined before (disks_at ids (count - i) bytes) ≡ total → total ≡ Err fault
 unfolding disks_at
 join_fails before ids count i bytes fault total lt h so_far =
@@ -84,7 +87,7 @@ join_fails before ids count i bytes fault total lt h so_far =
     let one : joined before (disks_at ids (count - i) bytes) ≡ Err fault = rw (k, h) refl in
     sym so_far ∙ one
 
-pub join_done : (before : List (ℕ × List ℕ)) (ids : List ℕ) (count i : ℕ) (bytes : List ℕ) (total : Result (List (ℕ × List ℕ)) LoadFault) → count ≤ i →
+pub join_done : (before : List (ℕ × Device)) (ids : List ℕ) (count i : ℕ) (bytes : List ℕ) (total : Result (List (ℕ × Device)) LoadFault) → count ≤ i →
     joined before (disks_at ids (count - i) bytes) ≡ total → total ≡ Ok before
 unfolding disks_at
 join_done before ids count i bytes total le so_far =
@@ -98,10 +101,10 @@ ends head chunks read =
     read >>= λ disks. checked (length disks.1 == 0) Trailing
     (Ok (record { base = head.base; size = head.size; chunks = chunks; disks = disks.0 }))
 
-ended : {A : Type 0} (b : Bool) (x y : A) (f : A → Start) (s : Start) → IsOk (checked b Trailing (Ok x)) → f x ≡ s →
+ended : {A : Type 0} (b : Bool) (x : A) (f : A → State) (s : State) → IsOk (checked b Trailing (Ok x)) → f x ≡ s →
     mapped f (checked b Trailing (Ok x)) ≡ Ok s
-ended true x y f s ok e = ap Ok e
-ended false x y f s ok e = absurd cc
+ended true x f s ok e = ap Ok e
+ended false x f s ok e = absurd cc
 
 abbrev good : {A : Type 0} → A → Result A LoadFault
 good x = Ok x
@@ -109,31 +112,31 @@ good x = Ok x
 ok_is : {A : Type 0} (x y : A) → good x ≡ good y → x ≡ y
 ok_is x y e = cc
 
-disks_built : (head : Head) (chunks : List Chunk) (read : Read (List Disk)) (disks : List (ℕ × List ℕ)) →
-    joined [] read ≡ Ok disks → IsOk (ends head chunks read) →
-    mapped opening_of (ends head chunks read) ≡ Ok (record { memory = with_chunks (zeroed head.base head.size) chunks; disks = disks })
+devices_built : (head : Head) (chunks : List Chunk) (read : Read (List Disk)) (devices : List (ℕ × Device)) →
+    joined [] read ≡ Ok devices → IsOk (ends head chunks read) →
+    mapped state_from (ends head chunks read) ≡ Ok (opening (with_chunks (zeroed head.base head.size) chunks) devices)
 unfolding opening_of
-disks_built head chunks (Ok x) disks made ok =
-    let is : map started x.0 ≡ disks = ok_is (map started x.0) disks made in
-    ended (length x.1 == 0) _ (record { base = head.base; size = head.size; chunks = chunks; disks = x.0 }) opening_of _ ok (rw is refl)
-disks_built head chunks (Err fault) disks made ok = absurd cc
+devices_built head chunks (Ok x) devices made ok =
+    let is : devices_of (map started x.0) ≡ devices = ok_is (devices_of (map started x.0)) devices made in
+    ended (length x.1 == 0) (record { base = head.base; size = head.size; chunks = chunks; disks = x.0 }) state_from _ ok (rw is refl)
+devices_built head chunks (Err fault) devices made ok = absurd cc
 
-chunks_built : (head : Head) (read : Read (List Chunk)) (memory : Memory) (rest : List ℕ) (disks : List (ℕ × List ℕ)) →
-    filled (zeroed head.base head.size) read ≡ Ok (memory, rest) → joined [] (disks_at [] head.disks rest) ≡ Ok disks →
+chunks_built : (head : Head) (read : Read (List Chunk)) (memory : Memory) (rest : List ℕ) (devices : List (ℕ × Device)) →
+    filled (zeroed head.base head.size) read ≡ Ok (memory, rest) → joined [] (disks_at [] head.disks rest) ≡ Ok devices →
     IsOk (read >>= λ chunks. ends head chunks.0 (disks_at [] head.disks chunks.1)) →
-    mapped opening_of (read >>= λ chunks. ends head chunks.0 (disks_at [] head.disks chunks.1)) ≡ Ok (record { memory = memory; disks = disks })
-chunks_built head (Ok x) memory rest disks full made ok =
+    mapped state_from (read >>= λ chunks. ends head chunks.0 (disks_at [] head.disks chunks.1)) ≡ Ok (opening memory devices)
+chunks_built head (Ok x) memory rest devices full made ok =
     let both = ok_is (with_chunks (zeroed head.base head.size) x.0, x.1) (memory, rest) full in
     let put_there : with_chunks (zeroed head.base head.size) x.0 ≡ memory = ap (λ (p : Memory × List ℕ). p.0) both in
     let left : x.1 ≡ rest = ap (λ (p : Memory × List ℕ). p.1) both in
-    rw (← put_there) (disks_built head x.0 (disks_at [] head.disks x.1) disks (rw left made) ok)
-chunks_built head (Err fault) memory rest disks full made ok = absurd cc
+    rw (← put_there) (devices_built head x.0 (disks_at [] head.disks x.1) devices (rw left made) ok)
+chunks_built head (Err fault) memory rest devices full made ok = absurd cc
 
-pub image_built : (bytes : List ℕ) (head : Head) (after : List ℕ) (memory : Memory) (rest : List ℕ) (disks : List (ℕ × List ℕ)) →
+pub image_built : (bytes : List ℕ) (head : Head) (after : List ℕ) (memory : Memory) (rest : List ℕ) (devices : List (ℕ × Device)) →
     head_at bytes ≡ Ok (head, after) →
     filled (zeroed head.base head.size) (chunks_at head.base head.size 0 head.chunks after) ≡ Ok (memory, rest) →
-    joined [] (disks_at [] head.disks rest) ≡ Ok disks → IsOk (image_of bytes) →
-    mapped opening_of (image_of bytes) ≡ Ok (record { memory = memory; disks = disks })
+    joined [] (disks_at [] head.disks rest) ≡ Ok devices → IsOk (image_of bytes) →
+    mapped state_from (image_of bytes) ≡ Ok (opening memory devices)
 unfolding image_of
-image_built bytes head after memory rest disks first full made ok =
-    rw first (chunks_built head (chunks_at head.base head.size 0 head.chunks after) memory rest disks full made (rw first at ok))
+image_built bytes head after memory rest devices first full made ok =
+    rw first (chunks_built head (chunks_at head.base head.size 0 head.chunks after) memory rest devices full made (rw first at ok))

@@ -202,7 +202,7 @@ record HeadTakes (bytes : List ℕ) (x : Head × List ℕ) : Type 0 where
   size : is_good_size x.0.base x.0.size ≡ true
   few : x.0.disks ≤ 8
 
-same_bytes : (first second : List ℕ) → bytes_eq first second ≡ true → first ≡ second
+pub same_bytes : (first second : List ℕ) → bytes_eq first second ≡ true → first ≡ second
 same_bytes [] [] is = refl
 same_bytes [] (b ∷ second) is = absurd cc
 same_bytes (a ∷ first) [] is = absurd cc

@@ -16,6 +16,6 @@ pub mod Bounds
 pub mod Lasting
 pub mod Retold
 pub mod Found
+pub mod Following
 pub mod Started
-pub mod Loaded
 pub mod Warranted

@@ -1,7 +1,9 @@
 -- What a text says is told again.
-use Rattle.std.proofs.Common.{◌≡◌, ℕ, suc, ◌+◌, ◌*◌, Bool, true, false, nat_lt, if◌then◌else◌, List, [], ◌∷◌, ◌++◌, length, Option, Some, None, Result, Ok, Err, refl, sym, subst, ap, ◌∙◌, arith}
+use Rattle.std.proofs.Common.{◌≡◌, ℕ, suc, ◌+◌, ◌*◌, Bool, true, false, nat_lt, if◌then◌else◌, List, [], ◌∷◌, ◌++◌, length, Option, Some, None, Result, Ok, Err, refl, sym, subst, ap, ◌∙◌, append_assoc, arith}
 use Rattle.std.specs.List.{list_any}
 use Rattle.std.specs.Option.{option_map}
+use Rattle.iom_bits.specs.Bytes.{bytes_of_number}
+use Rattle.iom_mem.specs.Memory.{Memory, bytes_at}
 use Rattle.iom_text.specs.Words.{words_of}
 use Rattle.iom_asm.specs.declared.asm_fault.AsmFault.{AsmFault}
 use Rattle.iom_asm.specs.declared.asm_fault.AsmFault.TheVariants.{BadLine, Outside, Overlap}
@@ -14,15 +16,15 @@ use Rattle.iom_asm.specs.Lines.{line_of, item_line}
 use Rattle.iom_asm.specs.Listing.{listed}
 use Rattle.iom_asm.specs.Reading.{image_of, opening_of}
 use Rattle.iom_asm.specs.Assembly.{Draft, meets, is_inside, with_bytes, placed, bytes_for, or_bad, then_so, stated, after_words, after_line, after_lines, lines_of, ended, described}
-use Rattle.iom_asm.specs.Retelling.{States, AreTold, StandsIn}
+use Rattle.iom_asm.specs.Retelling.{StandsIn, IsStated, AreStated, lines_told}
 use Rattle.iom_asm.proofs.Keeping.{Good, lines_good}
 use Rattle.iom_asm.proofs.Images.{read_again}
-use Rattle.iom_asm.proofs.Standing.{IsIn, stands}
+use Rattle.iom_asm.proofs.Standing.{IsIn, stands, front_at, behind_at}
 use Rattle.iom_asm.proofs.Bounds.{AreWords, words_fine, words_again, length_of_words}
 use Rattle.iom_asm.proofs.Lasting.{now_in, lines_has}
 
 -- a step that gave a value
-step_ok : {A B : Type 0} (made : Result A AsmFault) (f : A → Result B AsmFault) (y : B) → then_so made f ≡ Ok y → (x : A) × (made ≡ Ok x) × (f x ≡ Ok y)
+pub step_ok : {A B : Type 0} (made : Result A AsmFault) (f : A → Result B AsmFault) (y : B) → then_so made f ≡ Ok y → (x : A) × (made ≡ Ok x) × (f x ≡ Ok y)
 step_ok (Ok x) f y is = (x, refl, is)
 step_ok (Err fault) f y is = absurd cc
 
@@ -66,62 +68,61 @@ placed_next line draft next words is =
     let step = step_ok (placed line draft (bytes_of_words words)) (λ draft. Ok (Some draft)) next is in
     ap (λ draft. Some draft) (placed_is line draft step.0 (bytes_of_words words) step.1) ∙ ok_is (Some step.0) next step.2
 
-after_item : (kind : Item) (line : ℕ) (draft : Draft) (next : Option Draft) (words text : List ℕ) → States kind words text →
+-- the statement of an item on a line: its words are placed
+pub after_item : (kind : Item) (line : ℕ) (draft : Draft) (next : Option Draft) (words text : List ℕ) (operands : List (List ℕ)) →
+    words_of text ≡ name_of kind ∷ operands → words_for (name_of kind) operands ≡ Some words →
     after_line line (Some draft) (words_of text) ≡ Ok next → Some (with_bytes draft (bytes_of_words words)) ≡ next
 unfolding after_line after_words
-after_item kind line draft next words text states is =
-    let operands = states.operands in
-    let first : after_line line (Some draft) (name_of kind ∷ operands) ≡ Ok next = rw states.parts at is in
+after_item kind line draft next words text operands parts are is =
+    let first : after_line line (Some draft) (name_of kind ∷ operands) ≡ Ok next = rw parts at is in
     let second = test_ok (nat_lt 10 (length (name_of kind ∷ operands))) (BadLine line) (after_words line (Some draft) (name_of kind ∷ operands)) next first in
-    placed_next line draft next words (rw (stated_is kind line draft operands, states.words_are) at second)
+    placed_next line draft next words (rw (stated_is kind line draft operands, are) at second)
 
--- its line
-told_line : (image : Image) (kind : Item) (words : List ℕ) (place : ℕ) → IsImage image → length words ≡ words_in kind → AreWords words →
-    IsIn (record { addr = place; bytes = bytes_of_words words }) image.chunks →
-    item_line (opening_of image).memory kind place ≡ Some (line_of kind words)
-unfolding item_line words_at opening_of
-told_line image kind words place is len fine has =
-    let chunk : Chunk = record { addr = place; bytes = bytes_of_words words } in
-    let size : length (bytes_of_words words) ≡ 8 * words_in kind = length_of_words words ∙ ap (λ n. 8 * n) len in
-    let there = stands image.base image.size image.chunks chunk is.chunks has in
-    rw (← size, there, words_again (words_in kind) words len fine) refl
-
-words_of_item : (kind : Item) (words text : List ℕ) → States kind words text → AreWords words
-words_of_item kind words text states = rw states.words_are at (words_fine kind states.operands)
-
-abbrev Stood : Draft → List ℕ → Chunk
-Stood draft words = record { addr = draft.place; bytes = bytes_of_words words }
-
--- the first of some lines, where it is an item's: what is made of it, and its line
-goes_past : (kind : Item) (line : ℕ) (draft last : Draft) (words text : List ℕ) (others : List (List ℕ)) → States kind words text →
+-- the lines behind it go on from there
+pub goes_past : (kind : Item) (line : ℕ) (draft last : Draft) (words text : List ℕ) (operands others : List (List ℕ)) →
+    words_of text ≡ name_of kind ∷ operands → words_for (name_of kind) operands ≡ Some words →
     after_lines line (Some draft) (text ∷ others) ≡ Ok (Some last) →
     after_lines (line + 1) (Some (with_bytes draft (bytes_of_words words))) others ≡ Ok (Some last)
 unfolding after_lines
-goes_past kind line draft last words text others states made =
+goes_past kind line draft last words text operands others parts are made =
     let step = step_ok (after_line line (Some draft) (words_of text)) (λ next. after_lines (line + 1) next others) (Some last) made in
-    rw (after_item kind line draft step.0 words text states step.1) step.2
+    rw (after_item kind line draft step.0 words text operands parts are step.1) step.2
 
-run_first : (kind : Item) (line : ℕ) (draft last : Draft) (words text : List ℕ) (others : List (List ℕ)) → Good last → States kind words text →
-    after_lines line (Some draft) (text ∷ others) ≡ Ok (Some last) → item_line (opening_of last.image).memory kind draft.place ≡ Some (line_of kind words)
-run_first kind line draft last words text others is states made =
-    let going = goes_past kind line draft last words text others states made in
-    let has : IsIn (Stood draft words) last.image.chunks =
-    rw going at (lines_has (Stood draft words) (line + 1) (with_bytes draft (bytes_of_words words)) others (now_in (Stood draft words) draft.image.chunks)) in
-    told_line last.image kind words draft.place is states.one (words_of_item kind words text states) has
+-- words among others, and their bytes
+bytes_join : (words more : List ℕ) → bytes_of_words (words ++ more) ≡ bytes_of_words words ++ bytes_of_words more
+bytes_join [] more = refl
+bytes_join (word ∷ words) more =
+    ap (λ rest. bytes_of_number 8 word ++ rest) (bytes_join words more)
+    ∙ sym (append_assoc (bytes_of_number 8 word) (bytes_of_words words) (bytes_of_words more))
 
--- lines of items of one kind
-run : (kind : Item) (line : ℕ) (draft last : Draft) (texts after : List (List ℕ)) (told : List ℕ) → Good last → AreTold kind texts told →
-    after_lines line (Some draft) (texts ++ after) ≡ Ok (Some last) →
-    listed (opening_of last.image).memory kind draft.place (length texts) ≡ Some told
-unfolding after_lines listed
-run kind line draft last [] after told is tells made = ap (λ told. Some told) (sym tells)
-run kind line draft last (text ∷ texts) after told is (words, rest, states, same, others) made =
-    let bytes = bytes_of_words words in
-    let first = run_first kind line draft last words text (texts ++ after) is states made in
-    let size : length bytes ≡ 8 * words_in kind = length_of_words words ∙ ap (λ n. 8 * n) states.one in
-    let later : listed (opening_of last.image).memory kind (draft.place + 8 * words_in kind) (length texts) ≡ Some rest =
-    rw (← size) (run kind (line + 1) (with_bytes draft bytes) last texts after rest is others (goes_past kind line draft last words text (texts ++ after) states made)) in
-    rw (first, later) (ap (λ told. Some told) (sym same))
+words_behind : (before words : List ℕ) → AreWords (before ++ words) → AreWords words
+words_behind [] words fine = fine
+words_behind (word ∷ before) words fine = words_behind before words fine.1
+
+words_front : (words after : List ℕ) → AreWords (words ++ after) → AreWords words
+words_front [] after fine = tt
+words_front (word ∷ words) after fine = (fine.0, words_front words after fine.1)
+
+-- the words of an item, as they stand in memory
+told_words : (memory : Memory) (kind : Item) (words : List ℕ) (addr : ℕ) → length words ≡ words_in kind → AreWords words →
+    bytes_at memory addr (length (bytes_of_words words)) ≡ Some (bytes_of_words words) → item_line memory kind addr ≡ Some (line_of kind words)
+unfolding item_line words_at
+told_words memory kind words addr one fine there =
+    let size : length (bytes_of_words words) ≡ 8 * words_in kind = length_of_words words ∙ ap (λ n. 8 * n) one in
+    rw (← size, there, words_again (words_in kind) words one fine) refl
+
+-- a part of what a chunk has stands in memory too
+part_told : (memory : Memory) (kind : Item) (before words after : List ℕ) (place : ℕ) → length words ≡ words_in kind →
+    AreWords (before ++ (words ++ after)) →
+    bytes_at memory place (length (bytes_of_words (before ++ (words ++ after)))) ≡ Some (bytes_of_words (before ++ (words ++ after))) →
+    item_line memory kind (place + 8 * length before) ≡ Some (line_of kind words)
+part_told memory kind before words after place one fine there =
+    let joined : bytes_of_words (before ++ (words ++ after)) ≡ bytes_of_words before ++ (bytes_of_words words ++ bytes_of_words after) =
+    bytes_join before (words ++ after) ∙ ap (λ rest. bytes_of_words before ++ rest) (bytes_join words after) in
+    let whole = behind_at memory place (bytes_of_words before) (bytes_of_words words ++ bytes_of_words after) (rw joined at there) in
+    let part = front_at memory (place + length (bytes_of_words before)) (bytes_of_words words) (bytes_of_words after) whole in
+    told_words memory kind words (place + 8 * length before) one (words_front words after (words_behind before (words ++ after) fine))
+    (rw (length_of_words before) at part)
 
 -- lines before others
 next_then : (line : ℕ) (made : Result (Option Draft) AsmFault) (before after : List (List ℕ)) →
@@ -132,7 +133,7 @@ next_then : (line : ℕ) (made : Result (Option Draft) AsmFault) (before after :
 next_then line (Err fault) before after others = refl
 next_then line (Ok next) before after others = let same : line + suc (length before) ≡ line + 1 + length before = omega arith in rw same (others next)
 
-lines_then : (line : ℕ) (draft : Option Draft) (before after : List (List ℕ)) →
+pub lines_then : (line : ℕ) (draft : Option Draft) (before after : List (List ℕ)) →
     after_lines line draft (before ++ after) ≡ then_so (after_lines line draft before) (λ next. after_lines (line + length before) next after)
 unfolding after_lines
 lines_then line draft [] after = let same : line + 0 ≡ line = omega arith in rw same refl
@@ -145,7 +146,7 @@ end_is : (made : Result (Option Draft) AsmFault) (next : Option Draft) (image : 
 end_is made None image is end = absurd cc
 end_is made (Some last) image is end = (last, is, ok_is last.image image end)
 
-last_of : (text : List ℕ) (image : Image) → described text ≡ Ok image → (last : Draft) × (after_lines 1 None (lines_of text) ≡ Ok (Some last)) × (last.image ≡ image)
+pub last_of : (text : List ℕ) (image : Image) → described text ≡ Ok image → (last : Draft) × (after_lines 1 None (lines_of text) ≡ Ok (Some last)) × (last.image ≡ image)
 unfolding described
 last_of text image is =
     let step = step_ok (after_lines 1 None (lines_of text)) ended image is in
@@ -160,24 +161,43 @@ image_good text image is = let last = last_of text image is in subst IsImage las
 pub reads_again : (text : List ℕ) (image : Image) → described text ≡ Ok image → image_of (image_bytes image) ≡ Ok image
 reads_again text image is = read_again image (image_good text image is)
 
-pub lists_items : (text : List ℕ) (image : Image) (draft : Draft) (kind : Item) (lines : List (List ℕ)) (told : List ℕ) → described text ≡ Ok image →
-    StandsIn lines text draft → AreTold kind lines told → listed (opening_of image).memory kind draft.place (length lines) ≡ Some told
-lists_items text image draft kind lines told is stand tells =
-    let last = last_of text image is in
-    let whole : after_lines (1 + length stand.before) (Some draft) (lines ++ stand.after) ≡ Ok (Some last.0) =
+-- the lines of a text from some on, after what the lines before them make
+pub going_on : (text : List ℕ) (draft last : Draft) (lines : List (List ℕ)) (stand : StandsIn lines text draft) →
+    after_lines 1 None (lines_of text) ≡ Ok (Some last) → after_lines (1 + length stand.before) (Some draft) (lines ++ stand.after) ≡ Ok (Some last)
+going_on text draft last lines stand made =
     sym (lines_then 1 None stand.before (lines ++ stand.after)
     ∙ ap (λ made. then_so made (λ next. after_lines (1 + length stand.before) next (lines ++ stand.after))) stand.made)
-    ∙ ap (after_lines 1 None) (sym stand.lines) ∙ last.1 in
-    subst (λ (image : Image). listed (opening_of image).memory kind draft.place (length lines) ≡ Some told) last.2
-    (run kind (1 + length stand.before) draft last.0 lines stand.after told (good_last text last.0 last.1) tells whole)
+    ∙ ap (after_lines 1 None) (sym stand.parts) ∙ made
 
-pub tells_items : (text : List ℕ) (image : Image) (draft : Draft) (kind : Item) (words line : List ℕ) → described text ≡ Ok image →
-    StandsIn (line ∷ []) text draft → States kind words line → item_line (opening_of image).memory kind draft.place ≡ Some (line_of kind words)
-tells_items text image draft kind words line is stand states =
+stated_told : (text : List ℕ) (last : Draft) (kind : Item) (words : List ℕ) (addr : ℕ) → after_lines 1 None (lines_of text) ≡ Ok (Some last) →
+    IsStated text kind words addr → item_line (opening_of last.image).memory kind addr ≡ Some (line_of kind words)
+unfolding opening_of
+stated_told text last kind words addr made it =
+    let good = good_last text last made in
+    let states = it.states in
+    let all = states.before ++ (words ++ states.after) in
+    let line = 1 + length it.stands.before in
+    let next = goes_past kind line it.draft last all it.line states.operands it.stands.after states.statement states.parts
+    (going_on text it.draft last (it.line ∷ []) it.stands made) in
+    let chunk : Chunk = record { addr = it.draft.place; bytes = bytes_of_words all } in
+    let has : IsIn chunk last.image.chunks =
+    rw next at (lines_has chunk (line + 1) (with_bytes it.draft (bytes_of_words all)) it.stands.after (now_in chunk it.draft.image.chunks)) in
+    let fine : AreWords all = rw states.parts at (words_fine kind states.operands) in
+    let place : it.draft.place + 8 * length states.before ≡ addr = ap (λ n. it.draft.place + 8 * n) states.behind ∙ sym it.place in
+    subst (λ (addr : ℕ). item_line (opening_of last.image).memory kind addr ≡ Some (line_of kind words)) place
+    (part_told (opening_of last.image).memory kind states.before words states.after it.draft.place states.one fine
+    (stands last.image.base last.image.size last.image.chunks chunk good.chunks has))
+
+pub tells_items : (text : List ℕ) (image : Image) (kind : Item) (words : List ℕ) (addr : ℕ) → described text ≡ Ok image →
+    IsStated text kind words addr → item_line (opening_of image).memory kind addr ≡ Some (line_of kind words)
+tells_items text image kind words addr is it =
     let last = last_of text image is in
-    let whole : after_lines (1 + length stand.before) (Some draft) ((line ∷ []) ++ stand.after) ≡ Ok (Some last.0) =
-    sym (lines_then 1 None stand.before ((line ∷ []) ++ stand.after)
-    ∙ ap (λ made. then_so made (λ next. after_lines (1 + length stand.before) next ((line ∷ []) ++ stand.after))) stand.made)
-    ∙ ap (after_lines 1 None) (sym stand.lines) ∙ last.1 in
-    subst (λ (image : Image). item_line (opening_of image).memory kind draft.place ≡ Some (line_of kind words)) last.2
-    (run_first kind (1 + length stand.before) draft last.0 words line stand.after (good_last text last.0 last.1) states whole)
+    subst (λ (image : Image). item_line (opening_of image).memory kind addr ≡ Some (line_of kind words)) last.2
+    (stated_told text last.0 kind words addr last.1 it)
+
+pub lists_items : (text : List ℕ) (image : Image) (kind : Item) (items : List (List ℕ)) (addr : ℕ) → described text ≡ Ok image →
+    AreStated text kind items addr → listed (opening_of image).memory kind addr (length items) ≡ Some (lines_told kind items)
+unfolding listed
+lists_items text image kind [] addr is stated = refl
+lists_items text image kind (words ∷ items) addr is stated =
+    rw (tells_items text image kind words addr is stated.0, lists_items text image kind items (addr + 8 * words_in kind) is stated.1) refl

@@ -1,7 +1,7 @@
 -- The bytes of a chunk stand in the memory that an image starts.
-use Rattle.std.proofs.Common.{◌≡◌, ℕ, zero, suc, ◌+◌, ◌-◌, ◌≤◌, ◌⊎◌, List, [], ◌∷◌, ◌++◌, length, take, drop, replicate, Some, refl, sym, subst, ap, ◌∙◌, inl, inr, arith}
+use Rattle.std.proofs.Common.{◌≡◌, ℕ, zero, suc, ◌+◌, ◌-◌, ◌≤◌, ◌⊎◌, List, [], ◌∷◌, ◌++◌, length, take, drop, replicate, Option, Some, None, refl, sym, subst, ap, ◌∙◌, inl, inr, arith}
 use Rattle.std.proofs.lemmas.List.{take_at, drop_at, length-take}
-use Rattle.iom_mem.specs.Memory.{Memory, size_of, bytes_at, put}
+use Rattle.iom_mem.specs.Memory.{Memory, byte, before, size_of, bytes_at, put}
 use Rattle.iom_mem.specs.Sizes.{zeroed}
 use Rattle.iom_mem.proofs.Bytes.{bytes_at_inside}
 use Rattle.iom_asm.specs.Image.{Chunk, AreChunks, end_of, with_chunks}
@@ -72,3 +72,27 @@ length-replicate-is (suc n) = ap suc (length-replicate-is n)
 pub stands : (base size : ℕ) (chunks : List Chunk) (chunk : Chunk) → AreChunks base size 0 chunks → IsIn chunk chunks →
     bytes_at (with_chunks (zeroed base size) chunks) chunk.addr (length chunk.bytes) ≡ Some chunk.bytes
 stands base size chunks chunk good is = stands_in (zeroed base size) base size 0 chunks chunk refl (length-replicate-is size) good is
+
+-- bytes that stand in memory, cut in two
+before_is : (first : Option ℕ) (rest : Option (List ℕ)) (byte : ℕ) (bytes : List ℕ) → before first rest ≡ Some (byte ∷ bytes) →
+    (first ≡ Some byte) × (rest ≡ Some bytes)
+before_is (Some first) (Some rest) byte bytes is = (cc, cc)
+before_is (Some first) None byte bytes is = absurd cc
+before_is None rest byte bytes is = absurd cc
+
+pub front_at : (memory : Memory) (addr : ℕ) (front back : List ℕ) → bytes_at memory addr (length (front ++ back)) ≡ Some (front ++ back) →
+    bytes_at memory addr (length front) ≡ Some front
+unfolding bytes_at
+front_at memory addr [] back there = refl
+front_at memory addr (byte_of ∷ front) back there =
+    let both = before_is (byte memory addr) (bytes_at memory (addr + 1) (length (front ++ back))) byte_of (front ++ back) there in
+    rw (both.0, front_at memory (addr + 1) front back both.1) refl
+
+pub behind_at : (memory : Memory) (addr : ℕ) (front back : List ℕ) → bytes_at memory addr (length (front ++ back)) ≡ Some (front ++ back) →
+    bytes_at memory (addr + length front) (length back) ≡ Some back
+unfolding bytes_at
+behind_at memory addr [] back there = let same : addr + 0 ≡ addr = omega arith in rw same there
+behind_at memory addr (byte_of ∷ front) back there =
+    let both = before_is (byte memory addr) (bytes_at memory (addr + 1) (length (front ++ back))) byte_of (front ++ back) there in
+    let same : addr + suc (length front) ≡ addr + 1 + length front = omega arith in
+    rw same (behind_at memory (addr + 1) front back both.1)

@@ -1,30 +1,18 @@
--- The disks that an image starts are those of a platform.
-use Rattle.std.proofs.Common.{◌≡◌, ℕ, zero, suc, ◌-◌, ◌*◌, ◌^◌, ◌<◌, ◌==◌, Bool, true, false, ◌||◌, not, nat_lt, nat_le, List, [], ◌∷◌, ◌++◌, length, get_or, map, replicate, Result, Ok, Err, refl, sym, subst, ap, ◌∙◌, length-append, arith}
-use Rattle.std.specs.Prelude.{IfOk}
+-- The devices that an image starts are those of a platform.
+use Rattle.std.proofs.Common.{◌≡◌, ℕ, suc, ◌^◌, ◌≤◌, ◌<◌, ◌==◌, Bool, true, false, ◌||◌, not, nat_lt, List, [], ◌∷◌, ◌++◌, length, get_or, map, Result, Ok, Err, refl, sym, subst, ap, ◌∙◌}
 use Rattle.std.specs.List.{list_any}
-use Rattle.std.proofs.lemmas.Bool.{and_parts, ltb-true, leb-true, not-true, eq-eqb, true≢false}
-use Rattle.std.proofs.lemmas.List.{length-map}
+use Rattle.std.proofs.lemmas.Bool.{and_parts, ltb-true, not-true, eq-eqb, true≢false}
+use Rattle.iom_blk.specs.Device.{Device}
+use Rattle.iom_core.specs.State.{State, AreDevices, AreDistinct, EachFits, EachOther}
 use Rattle.iom_asm.specs.declared.fault.LoadFault.{LoadFault}
-use Rattle.iom_asm.specs.declared.start.Opening.{Opening}
-use Rattle.iom_asm.specs.Image.{Disk, Image, IsDisk, AreDisks, AreBytes}
-use Rattle.iom_asm.specs.Reading.{Start, Gives, mapped, started, image_of, opening_of}
-use Rattle.iom_asm.specs.Openings.{IsStarted, EachOther, EachStarted, AreStarted, opening_seen, disks_started}
+use Rattle.iom_asm.specs.Image.{Disk, Image, AreDisks, AreBytes}
+use Rattle.iom_asm.specs.Loading.{devices_of, state_from}
+use Rattle.iom_asm.specs.Reading.{mapped, started, image_of, opening_of}
 use Rattle.iom_asm.proofs.Found.{read_is}
 
-length_of_zeros : (n : ℕ) → length {A = ℕ} (replicate n 0) ≡ n
-length_of_zeros zero = refl
-length_of_zeros (suc n) = ap suc (length_of_zeros n)
-
-one_started : (ids : List ℕ) (disk : Disk) → IsDisk ids disk → IsStarted (started disk)
-one_started ids disk good =
-    let id = ltb-true disk.id (2 ^ 24) (and_parts (nat_lt disk.id (2 ^ 24)) _ good.id).0 in
-    let sizes = and_parts (nat_le 1 disk.sectors) (nat_le disk.sectors 65536) good.sectors in
-    let some = leb-true 1 disk.sectors sizes.0 in
-    let most = leb-true disk.sectors 65536 sizes.1 in
-    let zeros = disk.sectors * 512 - length disk.bytes in
-    let size : length (disk.bytes ++ replicate zeros 0) ≡ disk.sectors * 512 =
-    omega (arith, length-append disk.bytes (replicate zeros 0), length_of_zeros zeros, good.room) in
-    record { id = id; some = omega (arith, size, some); most = omega (arith, size, most); whole = omega (arith, size) }
+-- the devices of some disks
+abbrev devices_from : List Disk → List (ℕ × Device)
+devices_from disks = devices_of (map started disks)
 
 -- whether an id is among others
 abbrev is_met : ℕ → List ℕ → Bool
@@ -46,7 +34,7 @@ met_last : (id : ℕ) (ids : List ℕ) → is_met id (ids ++ id ∷ []) ≡ true
 met_last id [] = rw (eq-eqb id id refl) refl
 met_last id (first ∷ ids) = met_later (first == id) (is_met id (ids ++ id ∷ [])) (met_last id ids)
 
-others_other : (ids : List ℕ) (disks : List Disk) (id : ℕ) → is_met id ids ≡ true → AreDisks ids disks → EachOther id (map started disks)
+others_other : (ids : List ℕ) (disks : List Disk) (id : ℕ) → is_met id ids ≡ true → AreDisks ids disks → EachOther id (devices_from disks)
 others_other ids [] id met good = tt
 others_other ids (disk ∷ disks) id met good =
     let new = not-true (is_met disk.id ids) (and_parts (nat_lt disk.id (2 ^ 24)) (not (is_met disk.id ids)) good.0.id).1 in (
@@ -54,13 +42,30 @@ others_other ids (disk ∷ disks) id met good =
       others_other (ids ++ disk.id ∷ []) disks id (met_more id disk.id ids met) good.1,
     )
 
-each_started : (ids : List ℕ) (disks : List Disk) → AreDisks ids disks → EachStarted (map started disks)
-each_started ids [] good = tt
-each_started ids (disk ∷ disks) good = (
-  one_started ids disk good.0,
-  others_other (ids ++ disk.id ∷ []) disks disk.id (met_last disk.id ids) good.1,
-  each_started (ids ++ disk.id ∷ []) disks good.1,
+each_fits : (ids : List ℕ) (disks : List Disk) → AreDisks ids disks → EachFits (devices_from disks)
+each_fits ids [] good = tt
+each_fits ids (disk ∷ disks) good = (
+  ltb-true disk.id (2 ^ 24) (and_parts (nat_lt disk.id (2 ^ 24)) _ good.0.id).0,
+  each_fits (ids ++ disk.id ∷ []) disks good.1,
 )
+
+are_distinct : (ids : List ℕ) (disks : List Disk) → AreDisks ids disks → AreDistinct (devices_from disks)
+are_distinct ids [] good = tt
+are_distinct ids (disk ∷ disks) good = (
+  others_other (ids ++ disk.id ∷ []) disks disk.id (met_last disk.id ids) good.1,
+  are_distinct (ids ++ disk.id ∷ []) disks good.1,
+)
+
+as_many : (disks : List Disk) → length (devices_from disks) ≡ length disks
+as_many [] = refl
+as_many (disk ∷ disks) = ap suc (as_many disks)
+
+are_devices : (disks : List Disk) → length disks ≤ 8 → AreDisks [] disks → AreDevices (devices_from disks)
+are_devices disks few good = record {
+  few = subst (λ (n : ℕ). n ≤ 8) (sym (as_many disks)) few;
+  fit = each_fits [] disks good;
+  distinct = are_distinct [] disks good;
+}
 
 are_bytes : (bytes : List ℕ) → ((i : ℕ) → get_or bytes i 0 < 256) → AreBytes bytes
 are_bytes [] fits = tt
@@ -72,20 +77,15 @@ good x = Ok x
 ok_is : {A : Type 0} (x y : A) → good x ≡ good y → x ≡ y
 ok_is x y is = cc
 
-image_started : (bytes : List ℕ) (read : Result Image LoadFault) (start : Start) → AreBytes bytes → image_of bytes ≡ read →
-    mapped opening_of read ≡ Ok start → AreStarted start.disks
+image_started : (bytes : List ℕ) (read : Result Image LoadFault) (state : State) → AreBytes bytes → image_of bytes ≡ read →
+    mapped state_from read ≡ Ok state → AreDevices state.devices
 unfolding opening_of
-image_started bytes (Err fault) start are is made = absurd cc
-image_started bytes (Ok image) start are is made =
-    let image_is = read_is bytes image are is in
-    let good = image_is.good in
-    let disks : map started image.disks ≡ start.disks = ap (λ (start : Start). start.disks) (ok_is (opening_of image) start made) in
-    subst AreStarted disks (record {
-      few = omega (arith, length-map image.disks started, good.few);
-      each = each_started [] image.disks good.disks;
-    })
+image_started bytes (Err fault) state are is made = absurd cc
+image_started bytes (Ok image) state are is made =
+    let good = (read_is bytes image are is).good in
+    let devices : devices_from image.disks ≡ state.devices = ap (λ (state : State). state.devices) (ok_is (state_from image) state made) in
+    subst AreDevices devices (are_devices image.disks good.few good.disks)
 
-pub are_started : (bytes : List ℕ) (result : Result Opening LoadFault) → ((i : ℕ) → get_or bytes i 0 < 256) →
-    Gives opening_seen result (mapped opening_of (image_of bytes)) → IfOk result (λ opening. AreStarted (disks_started opening.disks.items))
-are_started bytes (Ok opening) fits made = image_started bytes (image_of bytes) (opening_seen opening) (are_bytes bytes fits) refl made
-are_started bytes (Err fault) fits made = tt
+pub devices_started : (bytes : List ℕ) (state : State) → ((i : ℕ) → get_or bytes i 0 < 256) →
+    mapped state_from (image_of bytes) ≡ Ok state → AreDevices state.devices
+devices_started bytes state fits made = image_started bytes (image_of bytes) state (are_bytes bytes fits) refl made

@@ -1,9 +1,10 @@
 -- The platform that an image starts.
-use Rattle.std.specs.Prelude.{ℕ, List, [], map}
+use Rattle.std.specs.Prelude.{ℕ, ◌++◌, List, [], map, Result, Ok}
 use Rattle.iom_blk.specs.Device.{Device, at_reset}
 use Rattle.iom_core.specs.State.{State, opening}
-use Rattle.iom_asm.specs.Image.{Image}
-use Rattle.iom_asm.specs.Reading.{Start, opening_of}
+use Rattle.iom_asm.specs.declared.fault.LoadFault.{LoadFault}
+use Rattle.iom_asm.specs.Image.{Disk, Image}
+use Rattle.iom_asm.specs.Reading.{◌>>=◌, Read, Start, started, opening_of}
 
 -- each disk in a block device that was not touched yet
 abbrev pub device_of : ℕ × List ℕ → ℕ × Device
@@ -18,6 +19,10 @@ state_of start = opening start.memory (devices_of start.disks)
 
 abbrev pub state_from : Image → State
 state_from image = state_of (opening_of image)
+
+-- devices before those of the disks that were read
+abbrev pub joined : List (ℕ × Device) → Read (List Disk) → Result (List (ℕ × Device)) LoadFault
+joined before read = read >>= λ x. Ok (before ++ devices_of (map started x.0))
 
 -- 1 MiB of memory at 0x80000000, all 0, and no block device
 abbrev pub built_in : Image

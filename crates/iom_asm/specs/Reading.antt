@@ -126,9 +126,6 @@ opening_of image = record { memory = with_chunks (zeroed image.base image.size) 
 abbrev pub mapped : {A B : Type 0} → (A → B) → Result A LoadFault → Result B LoadFault
 mapped f read = read >>= λ x. Ok (f x)
 
--- a memory with the chunks that were read, and disks before those that were read
+-- a memory with the chunks that were read
 abbrev pub filled : Memory → Read (List Chunk) → Result (Memory × List ℕ) LoadFault
 filled memory read = read >>= λ x. Ok (with_chunks memory x.0, x.1)
-
-abbrev pub joined : List (ℕ × List ℕ) → Read (List Disk) → Result (List (ℕ × List ℕ)) LoadFault
-joined before read = read >>= λ x. Ok (before ++ map started x.0)

@@ -1,52 +1,97 @@
 -- What a text says is told again by what it describes.
-use Rattle.std.specs.Prelude.{ℕ, ◌≡◌, ◌↔◌, ◌++◌, List, [], ◌∷◌, length, Some, None, Ok}
+use Rattle.std.specs.Prelude.{ℕ, ◌≡◌, ◌↔◌, ◌+◌, ◌*◌, ◌++◌, List, [], ◌∷◌, length, map, bytes_eq, Option, Some, None, Ok}
+use Rattle.std.specs.Option.{option_map}
 use Rattle.iom_text.specs.Words.{words_of}
 use Rattle.iom_asm.specs.declared.item.Item.{Item}
+use Rattle.iom_asm.specs.declared.item.Item.TheVariants as item
 use Rattle.iom_asm.specs.Image.{Image, IsImageOf, AreBytes, image_bytes}
 use Rattle.iom_asm.specs.Items.{name_of, words_in}
-use Rattle.iom_asm.specs.Forms.{words_for}
+use Rattle.iom_asm.specs.Forms.{where_so, words_for}
 use Rattle.iom_asm.specs.Lines.{line_of, item_line}
 use Rattle.iom_asm.specs.Listing.{listed}
+use Rattle.iom_asm.specs.Operands.{◌>>=◌}
 use Rattle.iom_asm.specs.Reading.{image_of, opening_of}
 use Rattle.iom_asm.specs.Assembly.{Draft, lines_of, after_lines, described}
 
--- a line of a text is the statement of one such item, which has these words
-pub record States (kind : Item) (words text : List ℕ) : Type 0 where
-  pub operands : List (List ℕ)
-  pub parts : words_of text ≡ name_of kind ∷ operands
-  pub words_are : words_for (name_of kind) operands ≡ Some words
-  pub one : length words ≡ words_in kind
-
--- lines of a text are statements of items of one kind, which these lines tell in order
-abbrev pub AreTold : Item → List (List ℕ) → List ℕ → Type 0
-AreTold kind [] told = told ≡ []
-AreTold kind (text ∷ texts) told =
-    (words : List ℕ) × (rest : List ℕ) × States kind words text × (told ≡ (line_of kind words ++ 10 ∷ []) ++ rest) × AreTold kind texts rest
-
 -- these lines of a text stand between others, and this is what the statements before them make
-pub record StandsIn (texts : List (List ℕ)) (text : List ℕ) (draft : Draft) : Type 0 where
+pub record StandsIn (lines : List (List ℕ)) (text : List ℕ) (draft : Draft) : Type 0 where
   pub before : List (List ℕ)
   pub after : List (List ℕ)
-  pub lines : lines_of text ≡ before ++ (texts ++ after)
+  pub parts : lines_of text ≡ before ++ (lines ++ after)
   pub made : after_lines 1 None before ≡ Ok (Some draft)
+
+-- a line is a statement of this kind, and an item's words are among its words, behind so many others
+pub record States (line : List ℕ) (kind : Item) (words : List ℕ) (skipped : ℕ) : Type 0 where
+  pub operands : List (List ℕ)
+  pub statement : words_of line ≡ name_of kind ∷ operands
+  pub before : List ℕ
+  pub after : List ℕ
+  pub parts : words_for (name_of kind) operands ≡ Some (before ++ (words ++ after))
+  pub one : length words ≡ words_in kind
+  pub behind : length before ≡ skipped
+
+-- a line of a text states an item, whose words it places at this physical address
+pub record IsStated (text : List ℕ) (kind : Item) (words : List ℕ) (addr : ℕ) : Type 0 where
+  pub line : List ℕ
+  pub draft : Draft
+  pub skipped : ℕ
+  pub stands : StandsIn (line ∷ []) text draft
+  pub states : States line kind words skipped
+  pub place : addr ≡ draft.place + 8 * skipped
+
+-- items of one kind are stated, each at the end of the one before, wherever the text does so
+abbrev pub AreStated : List ℕ → Item → List (List ℕ) → ℕ → Type 0
+AreStated text kind [] addr = Unit {0}
+AreStated text kind (words ∷ items) addr = IsStated text kind words addr × AreStated text kind items (addr + 8 * words_in kind)
+
+-- their lines, each with its line end
+abbrev pub lines_told : Item → List (List ℕ) → List ℕ
+lines_told kind [] = []
+lines_told kind (words ∷ items) = (line_of kind words ++ 10 ∷ []) ++ lines_told kind items
 
 -- The image that a text describes is read as that image.
 abbrev pub ReadsAgain : Type 0
 ReadsAgain = (text : List ℕ) (image : Image) → described text ≡ Ok image → image_of (image_bytes image) ≡ Ok image
 
--- In the memory that it starts, where the statement of an item stands, the item's line is that of the statement's words.
+-- In the memory that it starts, where an item is stated, the item's line is that of its words.
 abbrev pub TellsItems : Type 0
 TellsItems =
-    (text : List ℕ) (image : Image) (draft : Draft) (kind : Item) (words line : List ℕ) → described text ≡ Ok image →
-    StandsIn (line ∷ []) text draft → States kind words line →
-    item_line (opening_of image).memory kind draft.place ≡ Some (line_of kind words)
+    (text : List ℕ) (image : Image) (kind : Item) (words : List ℕ) (addr : ℕ) → described text ≡ Ok image →
+    IsStated text kind words addr → item_line (opening_of image).memory kind addr ≡ Some (line_of kind words)
 
 -- Items of one kind that follow each other are listed in order.
 abbrev pub ListsItems : Type 0
 ListsItems =
-    (text : List ℕ) (image : Image) (draft : Draft) (kind : Item) (lines : List (List ℕ)) (told : List ℕ) → described text ≡ Ok image →
-    StandsIn lines text draft → AreTold kind lines told →
-    listed (opening_of image).memory kind draft.place (length lines) ≡ Some told
+    (text : List ℕ) (image : Image) (kind : Item) (items : List (List ℕ)) (addr : ℕ) → described text ≡ Ok image →
+    AreStated text kind items addr → listed (opening_of image).memory kind addr (length items) ≡ Some (lines_told kind items)
+
+-- the items that a statement's words are: of numbers each is one
+abbrev pub items_of : Item → List ℕ → List (List ℕ)
+items_of item.Word words = map (λ word. word ∷ []) words
+items_of item.Cmd words = words ∷ []
+items_of item.Fault words = words ∷ []
+items_of item.Context words = words ∷ []
+items_of item.Dir words = words ∷ []
+items_of item.Pte words = words ∷ []
+
+-- the items of one kind that lines state; a line without words states none; None: a line states something else
+unfoldable pub items_on : Item → List (List ℕ) → Option (List (List ℕ))
+items_on kind [] = Some []
+items_on kind (name ∷ operands) =
+    where_so (bytes_eq name (name_of kind)) (option_map (items_of kind) (words_for (name_of kind) operands))
+
+unfoldable pub items_in : Item → List (List ℕ) → Option (List (List ℕ))
+items_in kind [] = Some []
+items_in kind (line ∷ lines) = do
+  first ← items_on kind (words_of line)
+  others ← items_in kind lines
+  Some (first ++ others)
+
+-- Lines that state items of one kind and nothing else state them one behind the other.
+abbrev pub FollowItems : Type 0
+FollowItems =
+    (text : List ℕ) (image : Image) (draft : Draft) (kind : Item) (lines items : List (List ℕ)) → described text ≡ Ok image →
+    StandsIn lines text draft → items_in kind lines ≡ Some items → AreStated text kind items draft.place
 
 -- Reading bytes gives an image exactly where they are the bytes of that image.
 abbrev pub ReadsImages : Type 0

@@ -12,10 +12,8 @@ pub use lines::{Line, context_line, item_line};
 pub use list_fault::ListFault;
 pub use listing::list;
 pub use loading::load;
-pub use opening::open;
 pub use playing::play;
 pub use retelling::{images_are_what_is_read, texts_are_told_again};
-pub use start::Opening;
 
 mod asm_fault;
 mod assembling;
@@ -35,7 +33,6 @@ mod operands;
 mod placing;
 mod playing;
 mod retelling;
-mod start;
 mod statements;
 mod words;
 mod writing;

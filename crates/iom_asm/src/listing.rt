@@ -41,11 +41,11 @@ fn push_line(out: &mut String, line: &[u8]) -> Result<(), AllocError>
     requires { IsAscii line.now }
     ensures { OnOk result (string_bytes out.new ≡ string_bytes out.old ++ (line.now ++ 10 ∷ [])) }
 {
-    for c in line {
-        out.push(char::from(*c))?;
+    match str::from_utf8(line) {
+        Ok(text) => out.push_str(text)?,
+        Err(_) => unreachable!(),
     }
-    out.push('\n')?;
-    Ok(())
+    out.push('\n')
 }
 
 /// The lines of `count` items one after the other, the first at physical address `addr`, each with its line end. Of no items the

@@ -1,37 +1,37 @@
 //! The platform that an image starts.
 
-ghost use Rattle.std.specs.Prelude.{◌≡◌, IfOk, IfErr, IsOk};
-ghost use Rattle.iom_asm.specs.Loading.{devices_of, state_from};
-ghost use Rattle.iom_asm.specs.Openings.{AreStarted, EachStarted, disks_started};
+ghost use Rattle.std.specs.Prelude.{◌≡◌, IfErr, IsOk};
+ghost use Rattle.iom_asm.specs.Loading.{state_from};
 ghost use Rattle.iom_asm.specs.Reading.{Gives, image_of, mapped};
 ghost use Rattle.iom_asm.specs.declared.fault.LoadFault.TheVariants as fault;
 
 use crate::fault::LoadFault;
-use crate::opening::open;
-use crate::start::Opening;
-use iom_blk::Blk;
+use crate::fields::header_of;
+use crate::judging::judge;
+use crate::opening::{fill, make_devices, zeros};
 use iom_core::Platform;
-use std::alloc::{AllocError, Global};
+use std::alloc::Global;
+
+// Of an image that was judged. All that is taken is kept: the memory, the devices with their disks, and the caches.
+#[tactic(auto, unfolding(crate::specs::Reading::image_of))]
+fn build(alloc: Global, bytes: &[u8]) -> Result<Platform, LoadFault>
+    requires { IsOk (image_of bytes.now) }
+    ensures { Gives (λ platform. platform) result (mapped state_from (image_of bytes.now)) }
+{
+    let (header, rest) = header_of(bytes)?;
+    let mut ram = zeros(alloc, header.base, header.size)?;
+    let rest = fill(&mut ram, &header, rest)?;
+    let devices = make_devices(alloc, header.disks, rest)?;
+    Ok(Platform::new(alloc, ram, devices)?)
+}
 
 /// The platform that an image starts: its memory and its block devices, the registers at reset, nothing cached. The whole image
-/// is judged first, so `OutOfMemory` is answered only for an image that would be accepted.
+/// is judged first, so `OutOfMemory` is answered only for an image that would be accepted. No memory is taken beyond the
+/// platform's own.
 pub fn load(alloc: Global, bytes: &[u8]) -> Result<Platform, LoadFault>
     ensures exact { Gives (λ platform. platform) result (mapped state_from (image_of bytes.now)) }
     ensures memory { IfErr result (λ e. e ≡ fault.OutOfMemory → IsOk (image_of bytes.now)) }
 {
-    let Opening { ram, disks } = open(alloc, bytes)?;
-    let devices = devices(alloc, disks)?;
-    Ok(Platform::new(alloc, ram, devices)?)
-}
-
-// A block device for each disk.
-fn devices(alloc: Global, disks: Vec<(u32, Vec<u8>)>) -> Result<Vec<(u32, Blk)>, AllocError>
-    requires { EachStarted (disks_started disks.items) }
-    ensures { IfOk result (λ devices. devices.items ≡ devices_of (disks_started disks.items)) }
-{
-    let mut devices = Vec::new(alloc);
-    for (id, disk) in disks {
-        devices.push((id, Blk::new(disk)))?;
-    }
-    Ok(devices)
+    judge(bytes)?;
+    build(alloc, bytes)
 }

@@ -1,17 +1,17 @@
-//! The second pass over an image: it takes memory, and builds what the image starts.
+//! The second pass over an image: it takes memory, and builds the parts of the platform that the image starts.
 
-ghost use Rattle.std.specs.Prelude.{◌≡◌, ◌+◌, ◌*◌, ◌++◌, ◌-◌, ◌≤◌, ◌<◌, ◌^◌, [], length, replicate, IfOk, IfErr, IsOk};
+ghost use Rattle.std.specs.Prelude.{◌≡◌, ◌+◌, ◌*◌, ◌++◌, ◌-◌, ◌≤◌, ◌^◌, [], length, replicate, IfOk, IfErr};
+ghost use Rattle.iom_blk.specs.Device.{at_reset};
 ghost use Rattle.iom_mem.specs.Memory.{size_of, put};
 ghost use Rattle.iom_mem.specs.Sizes.{zeroed};
-ghost use Rattle.iom_asm.specs.Reading.{Reads, Gives, mapped, filled, joined, chunks_at, disks_at, image_of, opening_of};
-ghost use Rattle.iom_asm.specs.Openings.{opening_seen, disks_started, AreStarted};
+ghost use Rattle.iom_asm.specs.Loading.{joined};
+ghost use Rattle.iom_asm.specs.Reading.{Reads, Gives, filled, chunks_at, disks_at};
 ghost use Rattle.iom_asm.specs.declared.fault.LoadFault.TheVariants as fault;
 
 use crate::fault::LoadFault;
-use crate::fields::{Header, chunk, disk, header_of};
-use crate::judging::judge;
-use crate::start::Opening;
+use crate::fields::{DiskPart, Header, chunk, disk};
 use arrayvec::ArrayVec;
+use iom_blk::Blk;
 use iom_mem::Ram;
 use std::alloc::{AllocError, Global};
 
@@ -25,8 +25,8 @@ fn store(ram: &mut Ram, addr: u64, bytes: &[u8])
     prove!(stored);
 }
 
-// Puts the chunks in place, and answers the bytes after them.
-fn fill<'a>(ram: &mut Ram, header: &Header, bytes: &'a [u8]) -> Result<&'a [u8], LoadFault>
+/// Puts the chunks in place, and answers the bytes after them.
+pub fn fill<'a>(ram: &mut Ram, header: &Header, bytes: &'a [u8]) -> Result<&'a [u8], LoadFault>
     requires end { header.now.base + header.now.size ≤ 2 ^ 56 }
     requires base { ram.old.base ≡ header.now.base }
     requires size { size_of ram.old ≡ header.now.size }
@@ -49,29 +49,44 @@ fn make_disk(alloc: Global, first: &[u8], size: usize) -> Result<Vec<u8>, AllocE
     requires { length first.now ≤ size }
     ensures { IfOk result (λ disk. disk.items ≡ first.now ++ replicate (size - length first.now) 0) }
 {
-    let mut bytes = Vec::from_slice(alloc, first)?;
+    let mut bytes = Vec::with_capacity(alloc, size)?;
+    bytes.extend_from_slice(first)?;
     bytes.resize(size, 0)?;
     Ok(bytes)
 }
 
-fn make_disks(alloc: Global, count: u32, bytes: &[u8]) -> Result<Vec<(u32, Vec<u8>)>, LoadFault>
+// A device that was not touched yet, with this disk.
+fn make_device(alloc: Global, part: &DiskPart) -> Result<Blk, AllocError>
+    requires some { 1 ≤ part.now.sectors }
+    requires most { part.now.sectors ≤ 65536 }
+    requires room { length part.now.bytes.now ≤ part.now.sectors * 512 }
+    ensures { IfOk result (λ device. device
+        ≡ at_reset (part.now.bytes.now ++ replicate (part.now.sectors * 512 - length part.now.bytes.now) 0)) }
+{
+    let disk = make_disk(alloc, part.bytes, part.sectors as usize * 512)?;
+    Ok(Blk::new(disk))
+}
+
+/// The block devices that so many disks are read to make, with their ids.
+pub fn make_devices(alloc: Global, count: u32, bytes: &[u8]) -> Result<Vec<(u32, Blk)>, LoadFault>
     requires { count ≤ 8 }
-    ensures { Gives (λ disks. disks_started disks.items) result (joined [] (disks_at [] count bytes.now)) }
+    ensures { Gives (λ devices. devices.items) result (joined [] (disks_at [] count bytes.now)) }
 {
     let mut rest = bytes;
     let mut ids: ArrayVec<u32, 8> = ArrayVec::new();
-    let mut disks = Vec::new(alloc);
+    let mut devices = Vec::with_capacity(alloc, count as usize)?;
     for _ in 0..count {
         let (part, after) = disk(ids.as_slice(), rest)?;
-        let made = make_disk(alloc, part.bytes, part.sectors as usize * 512)?;
+        let device = make_device(alloc, &part)?;
         ids.push(part.id);
-        disks.push((part.id, made))?;
+        devices.push((part.id, device))?;
         rest = after;
     }
-    Ok(disks)
+    Ok(devices)
 }
 
-fn zeros(alloc: Global, base: u64, size: u64) -> Result<Ram, LoadFault>
+/// Memory of which every byte is 0.
+pub fn zeros(alloc: Global, base: u64, size: u64) -> Result<Ram, LoadFault>
     ensures made { IfOk result (λ ram. ram ≡ zeroed base size) }
     ensures memory { IfErr result (λ e. e ≡ fault.OutOfMemory) }
 {
@@ -79,28 +94,4 @@ fn zeros(alloc: Global, base: u64, size: u64) -> Result<Ram, LoadFault>
         Ok(ram) => Ok(ram),
         Err(_) => Err(LoadFault::OutOfMemory),
     }
-}
-
-// Of an image that was judged.
-#[tactic(auto, unfolding(crate::specs::Reading::image_of))]
-fn build(alloc: Global, bytes: &[u8]) -> Result<Opening, LoadFault>
-    requires { IsOk (image_of bytes.now) }
-    ensures { Gives opening_seen result (mapped opening_of (image_of bytes.now)) }
-{
-    let (header, rest) = header_of(bytes)?;
-    let mut ram = zeros(alloc, header.base, header.size)?;
-    let rest = fill(&mut ram, &header, rest)?;
-    let disks = make_disks(alloc, header.disks, rest)?;
-    Ok(Opening { ram, disks })
-}
-
-/// What an image starts: memory, and at most eight disks, no two of one id. The whole image is judged first, so `OutOfMemory` is answered only for an
-/// image that would be accepted.
-pub fn open(alloc: Global, bytes: &[u8]) -> Result<Opening, LoadFault>
-    ensures exact { Gives opening_seen result (mapped opening_of (image_of bytes.now)) }
-    ensures memory { IfErr result (λ e. e ≡ fault.OutOfMemory → IsOk (image_of bytes.now)) }
-    ensures disks { IfOk result (λ opening. AreStarted (disks_started opening.disks.items)) }
-{
-    judge(bytes)?;
-    build(alloc, bytes)
 }

@@ -1,7 +1,7 @@
 //! Images, the assembler and listings.
 
 use crate::first_wrong;
-use iom_asm::{AsmFault, Item, ListFault, LoadFault, assemble, item_line, judge, list, open};
+use iom_asm::{AsmFault, Item, ListFault, LoadFault, assemble, item_line, judge, list, load};
 use iom_mem::Ram;
 use std::alloc::Global;
 use std::test::Fail;
@@ -301,8 +301,8 @@ dir ppn=0x80003
 pte flags=0xd7 ppn=0x80010
 u64 0x10";
     let image = assemble(alloc, text)?;
-    let started = open(alloc, &image)?;
-    let ram = &started.ram;
+    let platform = load(alloc, &image)?;
+    let ram = platform.ram();
     let mut bytes = [7; 16];
     let facts = [
         ram.read(0x8009_0000, &mut bytes),
@@ -331,11 +331,42 @@ u64 0x10";
     Ok(())
 }
 
+// Several numbers on a line, blank lines and comments between, and items of one kind that the text states in another order.
+#[test]
+fn items_that_follow_each_other_are_listed(rt: HostRuntime) -> Result<(), Fail> {
+    let alloc = rt.alloc();
+    let text = b"ram 0x80000000 0x100000
+at 0x80090010
+u64 1 2
+
+ # a comment
+u64 3\t4
+at 0x80090008
+u64 0
+at 0x80090030
+pte ppn=1
+
+dir ppn=2
+at 0x80090000
+u64 0xff";
+    let platform = load(alloc, &assemble(alloc, text)?)?;
+    let ram = platform.ram();
+    let facts = [
+        list(alloc, ram, Item::Word, 0x8009_0000, 6)?.as_str()
+            == "u64 0xff\nu64 0x0\nu64 0x1\nu64 0x2\nu64 0x3\nu64 0x4\n",
+        list(alloc, ram, Item::Pte, 0x8009_0030, 2)?.as_str()
+            == "pte ppn=0x1 flags=0x0\npte ppn=0x2 flags=0x1\n",
+        list(alloc, ram, Item::Dir, 0x8009_0030, 2)?.as_str() == "u64 0x400\ndir ppn=0x2\n",
+    ];
+    assert_eq!(rt; first_wrong(&facts), None);
+    Ok(())
+}
+
 #[test]
 fn listings_at_the_end(rt: HostRuntime) -> Result<(), Fail> {
     let alloc = rt.alloc();
-    let started = open(alloc, &assemble(alloc, MEMORY)?)?;
-    let ram = &started.ram;
+    let platform = load(alloc, &assemble(alloc, MEMORY)?)?;
+    let ram = platform.ram();
     let facts = [
         list(alloc, ram, Item::Word, 0x800f_fff8, 1)?.as_str() == "u64 0x0\n",
         list(alloc, ram, Item::Word, 0x800f_fff8, 2).err() == Some(ListFault::Outside),

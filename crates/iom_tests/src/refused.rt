@@ -197,22 +197,16 @@ fn is_loaded_after(alloc: Global, spent: usize) -> Result<bool, Fail> {
     Ok(matches!(platform.disk(0), Some([0xc0, 0xff, 0xee, 0, ..])))
 }
 
-// Loading takes seven: the memory's, two of the disk, those of the two lists, and those of the caches.
+// Loading takes five: the memory's, that of the list of devices, the disk's, and those of the caches.
 #[test]
-fn memory_and_disk_are_loaded(rt: HostRuntime) -> Result<(), Fail> {
+fn memory_and_devices_are_loaded(rt: HostRuntime) -> Result<(), Fail> {
     assert!(rt; is_loaded_after(rt.alloc(), 12)?);
     Ok(())
 }
 
 #[test]
-fn lists_are_made_of_an_image(rt: HostRuntime) -> Result<(), Fail> {
-    assert!(rt; is_loaded_after(rt.alloc(), 9)?);
-    Ok(())
-}
-
-#[test]
 fn caches_are_made_for_an_image(rt: HostRuntime) -> Result<(), Fail> {
-    assert!(rt; is_loaded_after(rt.alloc(), 8)?);
+    assert!(rt; is_loaded_after(rt.alloc(), 10)?);
     Ok(())
 }
 

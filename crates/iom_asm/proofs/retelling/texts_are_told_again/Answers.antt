@@ -1,3 +1,4 @@
+use Rattle.iom_asm.proofs.Following.{follow_items}
 use Rattle.iom_asm.proofs.Retold.{reads_again, tells_items, lists_items}
 use Rattle.iom_asm.proofs.retelling.texts_are_told_again.Goals as goal
 
@@ -9,3 +10,6 @@ returns-clause-tells c = tells_items
 
 pub returns-clause-lists : goal.returns-clause-lists
 returns-clause-lists c = lists_items
+
+pub returns-clause-follow : goal.returns-clause-follow
+returns-clause-follow c = follow_items
