@@ -4,7 +4,7 @@
 #   make test                 every proof from nothing, the edits that must be refused, every test
 #   make rows                 plays the scripts of crates/iom_rows/data, and prints each answer that is not the expected one
 #   make cost                 processor seconds of what make test does, crate by crate, on a copy
-#   make bench [OTHER=FILE]   lines per second, beside another program where one is named
+#   make bench [OTHER=FILE]   lines per second, and images loaded, assembled and listed, beside another program where one is named
 #   make fuzz OTHER=FILE     cases made to harm, beside another program; MINUTES=1 and SEED=1 where they aren't given
 #   make install PREFIX=..    copy the program to PREFIX/bin, /usr/local/bin where PREFIX is not given, with its man page and
 #                             completions for bash and zsh
@@ -51,6 +51,7 @@ cost:
 bench: $(program)
 	@$(has_python)
 	bench/bench.py $(program) $(OTHER)
+	bench/images.py $(program) $(OTHER)
 
 fuzz: $(program)
 	@$(has_python)

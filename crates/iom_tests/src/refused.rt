@@ -210,12 +210,23 @@ fn caches_are_made_for_an_image(rt: HostRuntime) -> Result<(), Fail> {
     Ok(())
 }
 
+fn is_played_after(alloc: Global, spent: usize) -> Result<bool, Fail> {
+    spend(alloc, spent)?;
+    let mut out = [Answer::Done];
+    let _platform = play(alloc, IMAGE, &[Step::Command], &mut out)?;
+    Ok(matches!(out, [Answer::Idle]))
+}
+
+// Playing takes what loading takes.
 #[test]
 fn image_is_played(rt: HostRuntime) -> Result<(), Fail> {
-    spend(rt.alloc(), 9)?;
-    let mut out = [Answer::Done];
-    let _platform = play(rt.alloc(), IMAGE, &[Step::Command], &mut out)?;
-    assert!(rt; matches!(out, [Answer::Idle]));
+    assert!(rt; is_played_after(rt.alloc(), 12)?);
+    Ok(())
+}
+
+#[test]
+fn caches_are_made_for_a_played_image(rt: HostRuntime) -> Result<(), Fail> {
+    assert!(rt; is_played_after(rt.alloc(), 10)?);
     Ok(())
 }
 
