@@ -17,10 +17,9 @@ use Rattle.iom_queue.specs.Commands.{command_words}
 use Rattle.iom_queue.specs.Records.{record_words}
 use Rattle.iom_asm.specs.declared.item.Item.{Item}
 use Rattle.iom_asm.specs.declared.item.Item.TheVariants as item
-use Rattle.iom_asm.specs.Items.{Entry, dir_word, pte_word, words_of_bytes, bytes_of_words}
+use Rattle.iom_asm.specs.Items.{name_of, Entry, dir_word, pte_word, words_of_bytes, bytes_of_words}
 use Rattle.iom_asm.specs.Operands.{◌>>=◌, limited, flag_for, value_of, below}
 use Rattle.iom_asm.specs.Forms.{where_so, vma, gvma, fence, iodir, command, fault, context, dir, pte, each_number, numbers, words_for}
-use Rattle.iom_asm.specs.Retelling.{name_of}
 use Rattle.iom_asm.proofs.Images.{length_of_number, number_back}
 
 abbrev pub AreWords : List ℕ → Type 0

@@ -18,3 +18,4 @@ pub mod Retold
 pub mod Found
 pub mod Started
 pub mod Loaded
+pub mod Warranted

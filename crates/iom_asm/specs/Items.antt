@@ -1,11 +1,30 @@
 -- The words of items in memory, and items of one word.
-use Rattle.std.specs.Prelude.{ℕ, zero, suc, ◌+◌, ◌*◌, ◌^◌, ◌==◌, ◌&&◌, ◌++◌, List, [], ◌∷◌, take, drop, Option, Some, None, if◌then◌else◌}
+use Rattle.std.specs.Prelude.{ℕ, zero, suc, ◌+◌, ◌*◌, ◌^◌, ◌==◌, ◌&&◌, ◌++◌, List, [], ◌∷◌, take, drop, codes, bytes_eq, Option, Some, None, if◌then◌else◌}
 use Rattle.std.specs.Option.{option_map}
 use Rattle.iom_bits.specs.Bits.{field_of}
 use Rattle.iom_bits.specs.Bytes.{number_of_bytes, bytes_of_number}
 use Rattle.iom_mem.specs.Memory.{Memory, bytes_at}
 use Rattle.iom_asm.specs.declared.item.Item.{Item}
 use Rattle.iom_asm.specs.declared.item.Item.TheVariants as item
+
+-- the name of an item's statements, and the item of a name
+abbrev pub name_of : Item → List ℕ
+name_of item.Cmd = codes "cmd"
+name_of item.Fault = codes "fault"
+name_of item.Context = codes "context"
+name_of item.Dir = codes "dir"
+name_of item.Pte = codes "pte"
+name_of item.Word = codes "u64"
+
+unfoldable pub item_named : List ℕ → Option Item
+item_named name =
+    if bytes_eq name (codes "cmd") then Some item.Cmd
+    else if bytes_eq name (codes "fault") then Some item.Fault
+    else if bytes_eq name (codes "context") then Some item.Context
+    else if bytes_eq name (codes "dir") then Some item.Dir
+    else if bytes_eq name (codes "pte") then Some item.Pte
+    else if bytes_eq name (codes "u64") then Some item.Word
+    else None
 
 -- how many words an item has
 abbrev pub words_in : Item → ℕ

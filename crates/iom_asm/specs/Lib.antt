@@ -10,3 +10,4 @@ pub mod Drafts
 pub mod Listing
 pub mod Retelling
 pub mod Loading
+pub mod Theorem

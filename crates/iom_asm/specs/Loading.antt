@@ -1,6 +1,5 @@
 -- The platform that an image starts.
-use Rattle.std.specs.Prelude.{ℕ, List, map}
-use Rattle.std.specs.Global.{Vec}
+use Rattle.std.specs.Prelude.{ℕ, List, [], map}
 use Rattle.iom_blk.specs.Device.{Device, at_reset}
 use Rattle.iom_core.specs.State.{State, opening}
 use Rattle.iom_asm.specs.Image.{Image}
@@ -19,3 +18,7 @@ state_of start = opening start.memory (devices_of start.disks)
 
 abbrev pub state_from : Image → State
 state_from image = state_of (opening_of image)
+
+-- 1 MiB of memory at 0x80000000, all 0, and no block device
+abbrev pub built_in : Image
+built_in = record { base = 2147483648; size = 1048576; chunks = []; disks = [] }

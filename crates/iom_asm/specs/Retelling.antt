@@ -1,24 +1,14 @@
 -- What a text says is told again by what it describes.
-use Rattle.std.specs.Prelude.{ℕ, ◌≡◌, ◌↔◌, ◌++◌, List, [], ◌∷◌, length, codes, Some, None, Ok}
+use Rattle.std.specs.Prelude.{ℕ, ◌≡◌, ◌↔◌, ◌++◌, List, [], ◌∷◌, length, Some, None, Ok}
 use Rattle.iom_text.specs.Words.{words_of}
 use Rattle.iom_asm.specs.declared.item.Item.{Item}
-use Rattle.iom_asm.specs.declared.item.Item.TheVariants as item
 use Rattle.iom_asm.specs.Image.{Image, IsImageOf, AreBytes, image_bytes}
-use Rattle.iom_asm.specs.Items.{words_in}
+use Rattle.iom_asm.specs.Items.{name_of, words_in}
 use Rattle.iom_asm.specs.Forms.{words_for}
 use Rattle.iom_asm.specs.Lines.{line_of, item_line}
 use Rattle.iom_asm.specs.Listing.{listed}
 use Rattle.iom_asm.specs.Reading.{image_of, opening_of}
 use Rattle.iom_asm.specs.Assembly.{Draft, lines_of, after_lines, described}
-
--- the name of an item's statements
-abbrev pub name_of : Item → List ℕ
-name_of item.Cmd = codes "cmd"
-name_of item.Fault = codes "fault"
-name_of item.Context = codes "context"
-name_of item.Dir = codes "dir"
-name_of item.Pte = codes "pte"
-name_of item.Word = codes "u64"
 
 -- a line of a text is the statement of one such item, which has these words
 pub record States (kind : Item) (words text : List ℕ) : Type 0 where

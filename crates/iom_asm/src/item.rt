@@ -1,5 +1,5 @@
 ghost use Rattle.std.specs.Prelude.{◌≡◌, ◌*◌};
-ghost use Rattle.iom_asm.specs.Items.{words_in};
+ghost use Rattle.iom_asm.specs.Items.{item_named, words_in};
 
 /// What some words of memory are looked at as.
 #[derive(Clone, Copy, Debug, PartialEq)]
@@ -19,6 +19,28 @@ pub enum Item {
 }
 
 impl Item {
+    /// The item of this name: `cmd`, `fault`, `context`, `dir`, `pte` or `u64`.
+    #[tactic(auto, unfolding(crate::specs::Items::item_named))]
+    pub fn named(name: &[u8]) -> Option<Item>
+        ensures { result ≡ item_named name.now }
+    {
+        if name == b"cmd".as_slice() {
+            Some(Item::Cmd)
+        } else if name == b"fault".as_slice() {
+            Some(Item::Fault)
+        } else if name == b"context".as_slice() {
+            Some(Item::Context)
+        } else if name == b"dir".as_slice() {
+            Some(Item::Dir)
+        } else if name == b"pte".as_slice() {
+            Some(Item::Pte)
+        } else if name == b"u64".as_slice() {
+            Some(Item::Word)
+        } else {
+            None
+        }
+    }
+
     /// How many bytes it has.
     pub fn size(self) -> u64
         ensures { result ≡ 8 * words_in self }
