@@ -1,4 +1,5 @@
-ghost use Rattle.std.specs.Prelude.{◌≡◌, [], ◌++◌, ◌<◌, length, is_some};
+ghost use Rattle.std.specs.Prelude.{◌≡◌, ◌==◌, [], ◌++◌, ◌<◌, false, length, is_some};
+ghost use Rattle.std.specs.List.{list_any};
 ghost use Rattle.std.specs.Option.{unwrap_or};
 ghost use Rattle.iom_core.specs.Run.{end_of};
 ghost use Rattle.iom_tool.specs.Script.{line_of};
@@ -26,7 +27,30 @@ fn carry_out(platform: &mut Platform, trace: &mut Trace, step: Step, out: &mut R
 
 /// Carries out the line of this text, and puts its answer in place of what `out` holds. Whether there is one; to a
 /// blank line there is none.
+#[tactic(auto, unfolding(crate::specs::Script::line_of))]
 pub fn answer_to(platform: &mut Platform, trace: &mut Trace, text: &[u8], out: &mut Reply) -> bool
+    ensures reply { out.new.items ≡ unwrap_or (reply (console platform.old trace.old) (line_of text.now)) [] }
+    ensures said { result ≡ is_some (reply (console platform.old trace.old) (line_of text.now)) }
+    ensures room { length out.new.items < 320 }
+    ensures state { platform.new ≡ end_of platform.old (steps_of text.now) }
+    ensures trace { trace.new ≡ trace_after trace.old platform.old (steps_of text.now) }
+{
+    if text.contains(&b'\n') {
+        out.clear();
+        push_text(out, b"bad");
+        return true;
+    }
+    answer_to_cut(platform, trace, text, out)
+}
+
+/// The same for a text that was cut off at its line end, and so isn't searched for one.
+pub fn answer_to_cut(
+    platform: &mut Platform,
+    trace: &mut Trace,
+    text: &[u8],
+    out: &mut Reply,
+) -> bool
+    requires { list_any (λ c. c == 10) text.now ≡ false }
     ensures reply { out.new.items ≡ unwrap_or (reply (console platform.old trace.old) (line_of text.now)) [] }
     ensures said { result ≡ is_some (reply (console platform.old trace.old) (line_of text.now)) }
     ensures room { length out.new.items < 320 }

@@ -1,4 +1,5 @@
-ghost use Rattle.std.specs.Prelude.{◌≡◌};
+ghost use Rattle.std.specs.Prelude.{◌≡◌, ◌==◌, false};
+ghost use Rattle.std.specs.List.{list_any};
 ghost use Rattle.iom_text.specs.Words.{words_of};
 ghost use Rattle.iom_tool.specs.Script.{load, store, reg_read, reg_write, reg, cmd, dma_read, dma_write, dma, dev_read, dev_write, dev_step, dev, place_page, place, trace, step_of, question_of, meaning, line_of};
 
@@ -238,13 +239,14 @@ fn meaning(text: &[u8]) -> Line
     }
 }
 
-/// What a line says, its text given without its end.
+/// What a line says, its text given without its end, and with no line end in it.
 #[inline(always)]
 #[tactic(auto, unfolding(crate::specs::Script::line_of))]
 pub fn line_of(text: &[u8]) -> Line
+    requires { list_any (λ c. c == 10) text.now ≡ false }
     ensures { result ≡ line_of text.now }
 {
-    if text.len() > MOST_BYTES_OF_A_LINE || text.contains(&b'\n') {
+    if text.len() > MOST_BYTES_OF_A_LINE {
         return Line::Bad;
     }
     meaning(text)
