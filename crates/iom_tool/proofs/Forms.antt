@@ -3,6 +3,7 @@ use Rattle.std.proofs.Common.{◌≡◌, ◌==◌, ◌<◌, nat_le, Bool, get_or
 use Rattle.std.proofs.lemmas.Bool.{eqb-true}
 use Rattle.iom_core.specs.declared.step.Step.TheVariants as step
 use Rattle.iom_text.specs.Words.{is_end, words_of, number, first_number}
+use Rattle.iom_asm.specs.declared.item.Item.{Item}
 use Rattle.iom_tool.specs.declared.script.Question.TheVariants as question
 use Rattle.std.specs.List.{list_all}
 use Rattle.hex.specs.Hex.{is_hex_digit}
@@ -13,7 +14,7 @@ use Rattle.std.proofs.lemmas.List.Sums.{AllPass-from_list_all}
 use Rattle.iom_text.proofs.Cuts.{past, none_of}
 use Rattle.iom_text.proofs.Firsts.{one_word_left}
 use Rattle.iom_text.proofs.Leading.{the_word}
-use Rattle.iom_tool.specs.Script.{◌>>=◌, load, store, reg_read, reg_write, dma_read, dma_write, dev_read, dev_write, dev_step, place_page, trace}
+use Rattle.iom_tool.specs.Script.{◌>>=◌, load, store, reg_read, reg_write, dma_read, dma_write, dev_read, dev_write, dev_step, place_page, place_context, shown, trace}
 use Rattle.iom_tool.specs.Operands.{one, with_first, data_in}
 use Rattle.iom_tool.specs.Words.{bytes_of}
 
@@ -166,6 +167,18 @@ place_page_is [] = refl
 place_page_is (a ∷ []) = refl
 place_page_is (a ∷ b ∷ more) = refl
 
+place_context_is : (words : List (List ℕ)) → place_context words ≡ (one words >>= λ it. Some (question.Context it))
+unfolding place_context
+place_context_is [] = refl
+place_context_is (a ∷ []) = refl
+place_context_is (a ∷ b ∷ more) = refl
+
+shown_is : (kind : Item) (words : List (List ℕ)) → shown kind words ≡ (one words >>= λ it. Some (question.Show kind it))
+unfolding shown
+shown_is kind [] = refl
+shown_is kind (a ∷ []) = refl
+shown_is kind (a ∷ b ∷ more) = refl
+
 trace_is : (words : List (List ℕ)) → trace words ≡ (one words >>= λ it. Some (question.Trace it))
 unfolding trace
 trace_is [] = refl
@@ -234,6 +247,18 @@ place_page_none words is = place_page_is words ∙ rw is refl
 
 pub place_page_some : (words : List (List ℕ)) (a : ℕ) → one words ≡ Some a → place_page words ≡ Some (question.Page a)
 place_page_some words a is = place_page_is words ∙ rw is refl
+
+pub place_context_none : (words : List (List ℕ)) → one words ≡ None → place_context words ≡ None
+place_context_none words is = place_context_is words ∙ rw is refl
+
+pub place_context_some : (words : List (List ℕ)) (a : ℕ) → one words ≡ Some a → place_context words ≡ Some (question.Context a)
+place_context_some words a is = place_context_is words ∙ rw is refl
+
+pub shown_none : (kind : Item) (words : List (List ℕ)) → one words ≡ None → shown kind words ≡ None
+shown_none kind words is = shown_is kind words ∙ rw is refl
+
+pub shown_some : (kind : Item) (words : List (List ℕ)) (a : ℕ) → one words ≡ Some a → shown kind words ≡ Some (question.Show kind a)
+shown_some kind words a is = shown_is kind words ∙ rw is refl
 
 pub trace_none : (words : List (List ℕ)) → one words ≡ None → trace words ≡ None
 trace_none words is = trace_is words ∙ rw is refl

@@ -1,12 +1,17 @@
 -- Questions, which are no steps, and the texts of their answers.
 use Rattle.std.specs.Prelude.{ℕ, ◌++◌, Bool, List, codes, Option, Some, None, slice_get, if◌then◌else◌}
+use Rattle.std.specs.Option.{unwrap_or}
 use Rattle.iom_bits.specs.declared.causes.Kind.{Kind}
 use Rattle.iom_bits.specs.declared.causes.Kind.TheVariants.{Read, Write}
+use Rattle.iom_mem.specs.Memory.{Memory}
+use Rattle.iom_ddt.specs.declared.context.Context.{Context}
 use Rattle.iom_nested.specs.declared.translation.Hit.{Hit}
 use Rattle.iom_cache.specs.Places.{place_in}
 use Rattle.iom_cache.specs.declared.key.Key.{Key}
 use Rattle.iom_cache.specs.declared.place.Place.{Place}
 use Rattle.iom_cache.specs.declared.place.Place.TheVariants.{Beyond, Empty, Live}
+use Rattle.iom_asm.specs.declared.item.Item.{Item}
+use Rattle.iom_asm.specs.Lines.{context_text, item_line}
 use Rattle.iom_tool.specs.Console.{Console}
 use Rattle.iom_text.specs.Texts.{hexed}
 use Rattle.iom_tool.specs.Texts.{entry_text}
@@ -41,6 +46,18 @@ place_text Beyond = codes "none"
 place_text Empty = codes "empty"
 place_text (Live key hit) = page_text key hit
 
+-- the id of the device, and its context as the item's line
+unfoldable pub context_place_text : Place ℕ Context → List ℕ
+context_place_text Beyond = codes "none"
+context_place_text Empty = codes "empty"
+context_place_text (Live did context) = codes "did=" ++ hexed did ++ codes " " ++ context_text context
+
+-- the line of an item in memory
+abbrev pub item_text : Memory → Item → ℕ → List ℕ
+item_text memory kind addr = unwrap_or (item_line memory kind addr) (codes "outside")
+
 abbrev pub answer_in : Console → Question → List ℕ
 answer_in now (question.Page i) = place_text (place_in (slice_get now.state.machine.pages i))
+answer_in now (question.Context i) = context_place_text (place_in (slice_get now.state.machine.contexts i))
+answer_in now (question.Show kind addr) = item_text now.state.machine.memory kind addr
 answer_in now (question.Trace i) = entry_text (slice_get now.trace i)

@@ -9,6 +9,8 @@ use Rattle.iom_tool.specs.declared.script.Line.TheVariants as line
 use Rattle.iom_tool.specs.declared.script.Question.{Question}
 use Rattle.iom_tool.specs.declared.script.Question.TheVariants as question
 use Rattle.iom_text.specs.Words.{words_of, number}
+use Rattle.iom_asm.specs.declared.item.Item.{Item}
+use Rattle.iom_asm.specs.Items.{item_named}
 use Rattle.iom_tool.specs.Words.{bytes_of}
 
 -- the second, where there is a first
@@ -128,9 +130,30 @@ place_page (i ∷ []) = do
   Some (question.Page i)
 place_page _ = None
 
+-- place context I
+unfoldable pub place_context : List (List ℕ) → Option Question
+place_context (i ∷ []) = do
+  i ← number i
+  Some (question.Context i)
+place_context _ = None
+
 unfoldable pub place : List (List ℕ) → Option Question
 place [] = None
-place (cache ∷ operands) = if bytes_eq cache (codes "page") then place_page operands else None
+place (cache ∷ operands) =
+    if bytes_eq cache (codes "page") then place_page operands
+    else if bytes_eq cache (codes "context") then place_context operands
+    else None
+
+-- show KIND ADDR
+unfoldable pub shown : Item → List (List ℕ) → Option Question
+shown kind (addr ∷ []) = do
+  addr ← number addr
+  Some (question.Show kind addr)
+shown kind _ = None
+
+unfoldable pub show : List (List ℕ) → Option Question
+show [] = None
+show (kind ∷ operands) = item_named kind >>= λ kind. shown kind operands
 
 -- trace I
 unfoldable pub trace : List (List ℕ) → Option Question
@@ -153,7 +176,8 @@ step_of verb operands =
 -- a question by its first word, which is that of no step
 unfoldable pub question_of : List ℕ → List (List ℕ) → Option Question
 question_of verb operands =
-    if bytes_eq verb (codes "place") then place operands
+    if bytes_eq verb (codes "show") then show operands
+    else if bytes_eq verb (codes "place") then place operands
     else if bytes_eq verb (codes "trace") then trace operands
     else None
 

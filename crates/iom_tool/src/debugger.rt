@@ -1,14 +1,17 @@
 ghost use Rattle.std.specs.Prelude.{◌≡◌, ◌+◌, ◌++◌, ◌<◌, ◌≤◌, length, codes};
 ghost use Rattle.iom_text.specs.Texts.{hexed};
 ghost use Rattle.iom_tool.specs.Console.{console};
-ghost use Rattle.iom_tool.specs.Debugger.{answer_in, id_text, kind_text, named, page_text, place_text};
+ghost use Rattle.iom_tool.specs.Debugger.{answer_in, context_place_text, id_text, item_text, kind_text, named, page_text, place_text};
 
 use crate::script::Question;
 use crate::text::{Reply, push_entry, push_hexed, push_text};
 use crate::trace::Trace;
+use iom_asm::{Item, context_line, item_line};
 use iom_bits::Kind;
 use iom_cache::{Key, Place};
 use iom_core::Platform;
+use iom_ddt::Context;
+use iom_mem::Ram;
 use iom_nested::Hit;
 
 /// Puts the text of the answer to a question, without a line end.
@@ -19,6 +22,8 @@ pub fn push_answer_in(out: &mut Reply, platform: &Platform, trace: &Trace, quest
 {
     match question {
         Question::Page(i) => push_place(out, platform.trans().place(i)),
+        Question::Context(i) => push_context_place(out, platform.contexts().place(i)),
+        Question::Show(kind, addr) => push_item(out, platform.ram(), kind, addr),
         Question::Trace(i) => push_entry(out, trace.entry(i)),
     }
 }
@@ -33,6 +38,34 @@ fn push_place(out: &mut Reply, place: Place<Key, Hit>)
         Place::Beyond => push_text(out, b"none"),
         Place::Empty => push_text(out, b"empty"),
         Place::Live(key, hit) => push_page(out, key, hit),
+    }
+}
+
+#[tactic(auto, unfolding(crate::specs::Debugger::context_place_text))]
+fn push_context_place(out: &mut Reply, place: Place<u32, Context>)
+    requires { length out.old.items ≡ 0 }
+    ensures text { out.new.items ≡ out.old.items ++ context_place_text place }
+    ensures room { length out.new.items < 320 }
+{
+    let (did, context) = match place {
+        Place::Beyond => return push_text(out, b"none"),
+        Place::Empty => return push_text(out, b"empty"),
+        Place::Live(did, context) => (did, context),
+    };
+    push_text(out, b"did=");
+    push_hexed(out, u64::from(did));
+    push_text(out, b" ");
+    push_text(out, context_line(&context).as_slice());
+}
+
+fn push_item(out: &mut Reply, ram: &Ram, kind: Item, addr: u64)
+    requires { length out.old.items ≡ 0 }
+    ensures text { out.new.items ≡ out.old.items ++ item_text ram.now kind addr }
+    ensures room { length out.new.items < 320 }
+{
+    match item_line(ram, kind, addr) {
+        Some(line) => push_text(out, line.as_slice()),
+        None => push_text(out, b"outside"),
     }
 }
 

@@ -1,9 +1,10 @@
 ghost use Rattle.std.specs.Prelude.{◌≡◌, ◌==◌, false};
 ghost use Rattle.std.specs.List.{list_any};
 ghost use Rattle.iom_text.specs.Words.{words_of};
-ghost use Rattle.iom_tool.specs.Script.{load, store, reg_read, reg_write, reg, cmd, dma_read, dma_write, dma, dev_read, dev_write, dev_step, dev, place_page, place, trace, step_of, question_of, meaning, line_of};
+ghost use Rattle.iom_tool.specs.Script.{load, store, reg_read, reg_write, reg, cmd, dma_read, dma_write, dma, dev_read, dev_write, dev_step, dev, place_page, place_context, place, shown, show, trace, step_of, question_of, meaning, line_of};
 
 use crate::operands::{four, numbers_and_data, one, three, two};
+use iom_asm::Item;
 use iom_core::Step;
 use iom_text::{is_over, take_word};
 
@@ -23,6 +24,10 @@ pub enum Line {
 pub enum Question {
     /// What stands at this place of the translation cache; the oldest is place 0.
     Page(u64),
+    /// What stands at this place of the context cache; the oldest is place 0.
+    Context(u64),
+    /// The item at this physical address.
+    Show(Item, u64),
     /// Which step stands at this place of the trace, and its answer; the oldest is at place 0.
     Trace(u64),
 }
@@ -175,6 +180,13 @@ fn place_page(text: &[u8]) -> Option<Question>
     Some(Question::Page(one(text)?))
 }
 
+#[tactic(auto, using(crate::proofs::Forms::place_context_none, crate::proofs::Forms::place_context_some))]
+fn place_context(text: &[u8]) -> Option<Question>
+    ensures { result ≡ place_context (words_of text.now) }
+{
+    Some(Question::Context(one(text)?))
+}
+
 #[inline(always)]
 #[tactic(auto, unfolding(crate::specs::Script::place))]
 fn place(text: &[u8]) -> Option<Question>
@@ -183,8 +195,24 @@ fn place(text: &[u8]) -> Option<Question>
     let (way, text) = take_word(text)?;
     match way {
         b"page" => place_page(text),
+        b"context" => place_context(text),
         _ => None,
     }
+}
+
+#[tactic(auto, using(crate::proofs::Forms::shown_none, crate::proofs::Forms::shown_some))]
+fn shown(kind: Item, text: &[u8]) -> Option<Question>
+    ensures { result ≡ shown kind (words_of text.now) }
+{
+    Some(Question::Show(kind, one(text)?))
+}
+
+#[tactic(auto, unfolding(crate::specs::Script::show))]
+fn show(text: &[u8]) -> Option<Question>
+    ensures { result ≡ show (words_of text.now) }
+{
+    let (kind, text) = take_word(text)?;
+    shown(Item::named(kind)?, text)
 }
 
 #[inline(always)]
@@ -216,6 +244,7 @@ fn question_of(verb: &[u8], text: &[u8]) -> Option<Question>
     ensures { result ≡ question_of verb.now (words_of text.now) }
 {
     match verb {
+        b"show" => show(text),
         b"place" => place(text),
         b"trace" => trace(text),
         _ => None,

@@ -13,17 +13,60 @@ Numbers are decimal, or hex after 0x; DATA is 2 to 128 hex digits.
   dev read N OFF SIZE           the hart reads a register of a block device
   dev write N OFF SIZE VALUE    the hart writes a register of a block device
   dev step N                    a block device goes on by one access
+  show KIND ADDR                the item at a physical address; KIND is cmd,
+                                fault, context, dir, pte or u64
+  place context I               place I of the context cache, the oldest 0
   place page I                  place I of the translation cache, the oldest 0
   trace I                       step I of the last 32, the oldest 0
 
 Each line that isn't blank is answered by one line: the number or the bytes
 that were read, done, idle, denied CAUSE, bus error, bad access, no device,
-misuse, the place, the step with its answer, or bad for what is no line.
+misuse, the item, the place, the step with its answer, or bad for what is
+no line.
 
-Memory is 1 MiB at 0x80000000. An example:
+Without words memory is 1 MiB at 0x80000000, all 0. An example:
 
   $ printf '%s\\n' 'reg write 16 8 1' 'dma write 5 0x80000000 aabb' \\
       'load 0x80000000 2' | rviommu
   done
   done
   0xbbaa";
+
+/// What stands at the end of the help of `asm`.
+pub const ASM: &str = "\
+A line is one statement; '#' starts a comment. Numbers are decimal, or hex
+after 0x.
+
+  ram BASE SIZE                 the memory; the first statement
+  at ADDR                       where the next data stand
+  u64 VALUE ..                  one to eight words
+  bytes HEX                     bytes
+  cmd NAME KEY=NUMBER ..        a command: vma, gvma, fence or iodir
+  context KEY=NUMBER ..         a device context
+  dir ppn=NUMBER                an entry of a device directory
+  pte ppn=NUMBER flags=NUMBER   an entry of a page table
+  fault KEY=NUMBER ..           a fault record
+  disk DID SECTORS [HEX]        a block device and the first bytes of its disk
+
+An example:
+
+  $ printf '%s\\n' 'ram 0x80000000 0x1000' 'u64 7' > seven.asm
+  $ rviommu asm seven.asm seven.image
+  $ rviommu list seven.image u64 0x80000000 1
+  u64 0x7";
+
+/// What stands at the end of the help of `run`.
+pub const RUN: &str = "\
+The lines of a script are those of `rviommu --help`. An example:
+
+  $ echo 'load 0x80000000 8' | rviommu run seven.image
+  0x7";
+
+/// What stands at the end of the help of `list`.
+pub const LIST: &str = "\
+ADDR and COUNT are decimal, or hex after 0x. An item that its words are not is
+listed as u64. An example:
+
+  $ rviommu list seven.image u64 0x80000000 2
+  u64 0x7
+  u64 0x0";

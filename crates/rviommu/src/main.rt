@@ -1,97 +1,109 @@
-//! The program `rviommu`: a script on standard input, its answers on standard output.
+//! The program `rviommu`: scripts on images, the assembler and listings.
 #![tactic(auto)]
 
-use clap::error::ErrorKind;
-use clap::{Command, Error};
 use fault::Fault;
-use iom_core::Platform;
-use iom_mem::Ram;
+use iom_asm::Item;
 use iom_tool::{RunFault, Trace};
 use std::alloc::Global;
 use std::cell::RefCell;
 use std::env;
+use std::fs::Files;
 use std::io::{self, BufReader, BufWriter, Read, Write};
 use std::process::ExitCode;
 use std::rt::Env;
 use tied::{Shared, Tied};
+use words::{Task, task_of};
 
 mod fault;
+mod files;
 mod help;
 mod tied;
-
-// The built-in memory.
-const BASE: u64 = 0x8000_0000;
-
-const SIZE: u64 = 0x10_0000;
+mod words;
 
 // The bytes that are read, and written, at once.
 const BLOCK: usize = 0x1_0000;
 
-fn built_in(alloc: Global) -> Result<Platform, Fault> {
-    let ram = Ram::new(alloc, BASE, SIZE)?;
-    Ok(Platform::new(alloc, ram, Vec::new(alloc))?)
-}
-
-// Runs a script. Its answers are written by blocks, but before it waits for input.
-fn run(
+// Runs a script on an image. Its answers are written by blocks, but before it waits for input.
+fn run<'a>(
     alloc: Global,
-    platform: &mut Platform,
+    image: &[u8],
     input: impl Read + Drop,
-    output: &RefCell<impl Write + Drop>,
-) -> Result<(), Fault> {
+    output: impl Write + Drop,
+) -> Result<(), Fault<'a>> {
+    let mut platform = iom_asm::load(alloc, image)?;
     let mut trace = Trace::new(alloc)?;
+    let writer = BufWriter::with_capacity(alloc, BLOCK, output).map_err(|_| Fault::OutOfMemory)?;
+    let output = RefCell::new(writer);
+    let output = &output;
     let tied = Tied { input, output };
     let mut reader = BufReader::with_capacity(alloc, BLOCK, tied).map_err(|_| Fault::OutOfMemory)?;
     let mut writer = Shared { output };
-    let ended = iom_tool::run(platform, &mut trace, &mut reader, &mut writer);
+    let ended = iom_tool::run(&mut platform, &mut trace, &mut reader, &mut writer);
     // The answers before a fault are written too.
     writer.flush().map_err(|_| RunFault::Write)?;
     Ok(ended?)
 }
 
-// Runs the script on the built-in memory.
-fn run_built_in(
+// The image is written only where the whole text is assembled.
+fn assemble<'a>(
+    rt: &impl Files,
     alloc: Global,
+    source: &'a str,
+    image: &'a str,
+) -> Result<(), Fault<'a>> {
+    let text = files::read(rt, alloc, source)?;
+    let bytes = iom_asm::assemble(alloc, text.as_slice())?;
+    files::write(rt, image, bytes.as_slice())
+}
+
+fn list<'a>(
+    alloc: Global,
+    image: &[u8],
+    item: Item,
+    addr: u64,
+    count: u64,
+    mut output: impl Write + Drop,
+) -> Result<(), Fault<'a>> {
+    let platform = iom_asm::load(alloc, image)?;
+    let text = iom_asm::list(alloc, platform.ram(), item, addr, count)?;
+    output
+        .write_all(text.as_bytes())
+        .map_err(|_| RunFault::Write)?;
+    output.flush().map_err(|_| RunFault::Write)?;
+    Ok(())
+}
+
+fn carry_out<'a>(
+    rt: &impl Files,
+    alloc: Global,
+    task: Task<'a>,
     input: impl Read + Drop,
     output: impl Write + Drop,
-) -> Result<(), Fault> {
-    let mut platform = built_in(alloc)?;
-    let writer = BufWriter::with_capacity(alloc, BLOCK, output).map_err(|_| Fault::OutOfMemory)?;
-    let output = RefCell::new(writer);
-    run(alloc, &mut platform, input, &output)
-}
-
-// Help and version that were asked for, or what is wrong with the words: printed, with the status to
-// end with. What is wrong may go unseen, and the status stays.
-fn shown(rt: &(impl Print + Eprint), error: Error) -> Result<ExitCode, Fault> {
-    if error.kind() == ErrorKind::OutOfMemory {
-        return Err(Fault::OutOfMemory);
-    }
-    let printed = error.print(rt);
-    if !error.use_stderr() {
-        printed.map_err(|_| RunFault::Write)?;
-    }
-    Ok(ExitCode::from(error.exit_code() as u8))
-}
-
-// The status to end with where the words ask for no run.
-fn judged(
-    rt: &(impl Print + Eprint),
-    alloc: Global,
-    words: &[String],
-) -> Result<Option<ExitCode>, Fault> {
-    let command = Command::new(alloc, "rviommu")
-        .version("0.1.0")
-        .about("A model of the RISC-V IOMMU: runs the script on standard input")
-        .after_help(help::SCRIPT);
-    match command.try_get_matches_from(words) {
-        Ok(_matches) => Ok(None),
-        Err(error) => Ok(Some(shown(rt, error)?)),
+) -> Result<(), Fault<'a>> {
+    match task {
+        Task::RunBuiltIn => run(alloc, &iom_asm::built_in(), input, output),
+        Task::Run { image } => {
+            let image = files::read(rt, alloc, image)?;
+            run(alloc, image.as_slice(), input, output)
+        }
+        Task::Assemble { source, image } => assemble(rt, alloc, source, image),
+        Task::List {
+            image,
+            item,
+            addr,
+            count,
+        } => {
+            let image = files::read(rt, alloc, image)?;
+            list(alloc, image.as_slice(), item, addr, count, output)
+        }
     }
 }
 
 // The words that the program was started with.
-fn words(rt: &(impl Env + Alloc<A = Global>), alloc: Global) -> Result<Vec<String>, Fault> {
+fn given(
+    rt: &(impl Env + Alloc<A = Global>),
+    alloc: Global,
+) -> Result<Vec<String>, Fault<'static>> {
     match env::args(rt) {
         Ok(words) => Ok(words.collect::<Vec<String>>(alloc)?),
         Err(error) if error.kind() == io::ErrorKind::InvalidData => Err(Fault::BadWord),
@@ -99,26 +111,46 @@ fn words(rt: &(impl Env + Alloc<A = Global>), alloc: Global) -> Result<Vec<Strin
     }
 }
 
+// Help that can't be written is a failed write. What is wrong may go unseen, and the status stays.
+fn shown(rt: &(impl Print + Eprint), error: &clap::Error) -> u8 {
+    let printed = error.print(rt);
+    if printed.is_err() && !error.use_stderr() {
+        return told(rt, &Fault::Run(RunFault::Write));
+    }
+    error.exit_code() as u8
+}
+
+fn told(rt: &impl Eprint, fault: &Fault<'_>) -> u8 {
+    let _ = rt.eprintln(format_args!("rviommu: {fault}"));
+    fault.status()
+}
+
+// Tells a fault, and the status to end with.
+fn status_of(rt: &(impl Print + Eprint), ended: Result<(), Fault<'_>>) -> ExitCode {
+    match ended {
+        Ok(()) => ExitCode::SUCCESS,
+        Err(Fault::Words(error)) => ExitCode::from(shown(rt, &error)),
+        Err(fault) => ExitCode::from(told(rt, &fault)),
+    }
+}
+
 fn program(
-    rt: &(impl Env + Alloc<A = Global> + Print + Eprint),
+    rt: &(impl Env + Files + Alloc<A = Global> + Print + Eprint),
     alloc: Global,
     input: impl Read + Drop,
     output: impl Write + Drop,
-) -> Result<ExitCode, Fault> {
-    let words = words(rt, alloc)?;
-    if let Some(status) = judged(rt, alloc, words.as_slice())? {
-        return Ok(status);
-    }
-    run_built_in(alloc, input, output)?;
-    Ok(ExitCode::SUCCESS)
+) -> ExitCode {
+    let words = match given(rt, alloc) {
+        Ok(words) => words,
+        Err(fault) => return status_of(rt, Err(fault)),
+    };
+    let ended = match task_of(alloc, words.as_slice()) {
+        Ok(task) => carry_out(rt, alloc, task, input, output),
+        Err(fault) => Err(fault),
+    };
+    status_of(rt, ended)
 }
 
 fn main(rt: HostRuntime) -> ExitCode {
-    match program(&rt, rt.alloc(), rt.stdin(), rt.stdout()) {
-        Ok(status) => status,
-        Err(fault) => {
-            let _ = rt.eprintln(format_args!("rviommu: {fault}"));
-            ExitCode::from(fault.status())
-        }
-    }
+    program(&rt, rt.alloc(), rt.stdin(), rt.stdout())
 }

@@ -1,0 +1,25 @@
+//! Files, each as a whole.
+
+use crate::fault::Fault;
+use std::alloc::Global;
+use std::fs::{self, File, Files};
+use std::io::{ErrorKind, Read};
+
+/// The most bytes of a file that is read.
+const MOST_BYTES: u64 = 1 << 30;
+
+/// The bytes of a file of at most 2^30 bytes.
+pub fn read<'a>(rt: &impl Files, alloc: Global, name: &'a str) -> Result<Vec<u8>, Fault<'a>> {
+    let file = File::open(rt, name).map_err(|_| Fault::CannotRead(name))?;
+    let mut bytes = Vec::new(alloc);
+    match file.take(MOST_BYTES + 1).read_to_end(&mut bytes) {
+        Ok(_) if bytes.len() as u64 <= MOST_BYTES => Ok(bytes),
+        Err(error) if error.kind() == ErrorKind::OutOfMemory => Err(Fault::OutOfMemory),
+        _ => Err(Fault::CannotRead(name)),
+    }
+}
+
+/// Puts bytes into a file, in place of what it has.
+pub fn write<'a>(rt: &impl Files, name: &'a str, bytes: &[u8]) -> Result<(), Fault<'a>> {
+    fs::write(rt, name, bytes).map_err(|_| Fault::CannotWrite(name))
+}
