@@ -5,9 +5,13 @@
 #   make rows                 plays the scripts of crates/iom_rows/data, and prints each answer that is not the expected one
 #   make cost                 processor seconds of what make test does, crate by crate, on a copy
 #   make bench [OTHER=FILE]   lines per second, beside another program where one is named
-#   make install PREFIX=..    copy the program to PREFIX/bin, /usr/local/bin where PREFIX is not given
+#   make fuzz OTHER=FILE     cases made to harm, beside another program; MINUTES=1 and SEED=1 where they aren't given
+#   make install PREFIX=..    copy the program to PREFIX/bin, /usr/local/bin where PREFIX is not given, with its man page and
+#                             completions for bash and zsh
 
 PREFIX = /usr/local
+MINUTES = 1
+SEED = 1
 program = crates/rviommu/out/rviommu
 sources = $(shell find crates -name out -prune -o -type f \( -name '*.rt' -o -name '*.antt' \) -print)
 
@@ -17,7 +21,7 @@ has_python = command -v python3 >/dev/null || { echo "python3 is not on the path
 # rt builds the program and then runs it, here on nothing.
 build = cd crates/rviommu && rt run </dev/null >/dev/null
 
-.PHONY: run test rows cost bench install
+.PHONY: run test rows cost bench fuzz install
 
 $(program): crates.txt $(sources)
 	@$(has_rt)
@@ -48,6 +52,16 @@ bench: $(program)
 	@$(has_python)
 	bench/bench.py $(program) $(OTHER)
 
+fuzz: $(program)
+	@$(has_python)
+	tests/fuzz.py $(program) $(OTHER) $(MINUTES) $(SEED)
+
 install: $(program)
 	install -d $(DESTDIR)$(PREFIX)/bin
 	install -m 755 $(program) $(DESTDIR)$(PREFIX)/bin/rviommu
+	install -d $(DESTDIR)$(PREFIX)/share/man/man1
+	install -m 644 man/rviommu.1 $(DESTDIR)$(PREFIX)/share/man/man1/rviommu.1
+	install -d $(DESTDIR)$(PREFIX)/share/bash-completion/completions
+	install -m 644 completions/rviommu.bash $(DESTDIR)$(PREFIX)/share/bash-completion/completions/rviommu
+	install -d $(DESTDIR)$(PREFIX)/share/zsh/site-functions
+	install -m 644 completions/_rviommu $(DESTDIR)$(PREFIX)/share/zsh/site-functions/_rviommu

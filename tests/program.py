@@ -1,4 +1,4 @@
-#!/usr/bin/env python3
+#!/usr/bin/env -S python3 -B
 """program.py PROGRAM    Runs the built program from outside, and compares what it writes and how it ends.
 
 Prints one line a check, and 'program: N passed, M failed' at the end. The status is 1 where a check failed.
@@ -15,79 +15,10 @@ import tempfile
 import time
 import tty
 
-EXAMPLES = os.path.join(os.path.dirname(os.path.abspath(__file__)), os.pardir, "examples")
-ANSWER_SECONDS = 10
-RUN_SECONDS = 120
-QUIET_SECONDS = 0.2
-
-MOST_LINES = 2**20
-MOST_BYTES = 2**26
-MOST_IN_LINE = 512
-
-# A line with a known answer, of the built-in platform.
-ASK = b"reg read 8 4"
-ANSWER = b"0x2\n"
-
-READ_FAILED = (1, b"rviommu: read failed\n")
-WRITE_FAILED = (1, b"rviommu: write failed\n")
-TOO_LONG = (1, b"rviommu: script too long\n")
-OUT_OF_MEMORY = (1, b"rviommu: out of memory\n")
-WELL = (0, b"")
-
-
-class Failure(Exception):
-    """A check that isn't met, and why."""
-
-
-class Skip(Exception):
-    """A check that can't be tried here, and why."""
-
-
-CHECKS = []
-
-
-def check(name):
-    def add(function):
-        CHECKS.append((name, function))
-        return function
-
-    return add
-
-
-def short(data):
-    return repr(data) if len(data) <= 200 else f"{data[:100]!r} .. {data[-80:]!r} ({len(data)} bytes)"
-
-
-def want(what, seen, wanted):
-    if seen != wanted:
-        if isinstance(seen, bytes):
-            seen, wanted = short(seen), short(wanted)
-        raise Failure(f"{what} is {seen}, wanted {wanted}")
-
-
-def run(words=(), given=b"", at_pipe=False, **how):
-    """Runs the program on these bytes, in a file or a pipe; returns its status, standard output and standard error."""
-    with tempfile.TemporaryFile() as script, tempfile.TemporaryFile() as errors:
-        script.write(given)
-        script.seek(0)
-        source = {"input": given} if at_pipe else {"stdin": script}
-        how = {**source, "stdout": subprocess.PIPE, "stderr": errors, **how}
-        try:
-            ended = subprocess.run([PROGRAM, *words], timeout=RUN_SECONDS, **how)
-        except subprocess.TimeoutExpired:
-            raise Failure(f"the program had not ended after {RUN_SECONDS} seconds") from None
-        errors.seek(0)
-        return ended.returncode, ended.stdout, errors.read()
-
-
-def want_run(given, wanted_out, ending=WELL, **how):
-    """Wants a run without words to write exactly this, and to end with this status and text on standard error."""
-    status, out, errors = run((), given, **how)
-    if wanted_out is not None and out != wanted_out:
-        ended = f"status {status}, standard error {short(errors)}"
-        raise Failure(f"standard output is {short(out)}, wanted {short(wanted_out)} ({ended})")
-    want("status and standard error", (status, errors), ending)
-
+from checks import *  # noqa: F403
+import program_images  # noqa: F401
+import program_memory  # noqa: F401
+import program_pages  # noqa: F401
 
 # A conversation over two pipes.
 
@@ -216,8 +147,15 @@ def add_examples():
 
         @check(f"examples/{os.path.basename(path)}")
         def _(path=path):
-            with open(path, "rb") as script, open(os.path.splitext(path)[0] + ".answers", "rb") as answers:
-                want_run(script.read(), answers.read())
+            name = os.path.splitext(path)[0]
+            with open(path, "rb") as script, open(name + ".answers", "rb") as answers:
+                given, wanted = script.read(), answers.read()
+            if not os.path.isfile(name + ".asm"):
+                return want_run(given, wanted)
+            with folder() as here:
+                image = os.path.join(here, "image")
+                want_words(["asm", name + ".asm", image], b"")
+                want_words(["run", image], wanted, given=given)
 
 
 add_examples()
@@ -236,22 +174,6 @@ def _():
 
 
 # Words.
-
-
-FORMS = [
-    b"load ADDR SIZE",
-    b"store ADDR SIZE VALUE",
-    b"reg read OFF SIZE",
-    b"reg write OFF SIZE VALUE",
-    b"dma read DID IOVA LEN",
-    b"dma write DID IOVA DATA",
-    b"cmd",
-    b"dev read N OFF SIZE",
-    b"dev write N OFF SIZE VALUE",
-    b"dev step N",
-    b"place page I",
-    b"trace I",
-]
 
 
 def add_help(word):
@@ -303,6 +225,16 @@ def add_refused(*words):
 add_refused("jump")
 add_refused("--jump")
 add_refused("-j")
+add_refused("asm")
+add_refused("asm", "source")
+add_refused("asm", "source", "image", "more")
+add_refused("run")
+add_refused("run", "image", "more")
+add_refused("list", "image", "u64", "0")
+add_refused("list", "image", "word", "0", "1")
+add_refused("list", "image", "u64", "0X1", "1")
+add_refused("list", "image", "u64", "0", "18446744073709551616")
+add_refused("list", "image", "u64", "+1", "1")
 
 
 @check("a word that isn't UTF-8 is refused with status 2")
@@ -521,10 +453,8 @@ def _():
 
 
 def main():
-    global PROGRAM
     if len(sys.argv) != 2:
         sys.exit("usage: program.py PROGRAM")
-    PROGRAM = os.path.abspath(sys.argv[1])
     if not os.path.isfile(PROGRAM) or not os.access(PROGRAM, os.X_OK):
         sys.exit(f"program.py: {sys.argv[1]} is no program that can be run")
     passed = failed = 0

@@ -31,6 +31,7 @@ platform_with_a_device_is_copied AllocError
 memory_and_disk_are_loaded OutOfMemory
 lists_are_made_of_an_image OutOfMemory
 caches_are_made_for_an_image OutOfMemory
+image_is_played OutOfMemory
 text_is_read OutOfMemory
 image_is_written OutOfMemory
 items_are_listed OutOfMemory

@@ -82,23 +82,13 @@ fn pointed_by(ram: &Ram, place: u64) -> Result<u64, Cause>
 
 // The context at this physical address.
 fn context_at(ram: &Ram, place: u64) -> Result<Context, Cause>
-    requires { place < 2 ^ 57 }
     ensures verdict { decided_by (Leaf (words_at ram.now place 4)) ≡ Some result }
     ensures meaning { IsContextOf (words_at ram.now place 4) result }
     ensures sound { IfOk result (λ context. IsWellFormed context) }
 {
-    let words = words_at(ram, place).ok_or(Cause::DirAccess)?;
+    let mut words = [0; 4];
+    if !ram.words(place, &mut words) {
+        return Err(Cause::DirAccess);
+    }
     context_of(words)
-}
-
-fn words_at(ram: &Ram, place: u64) -> Option<[u64; 4]>
-    requires { place < 2 ^ 57 }
-    ensures { result ≡ words_at ram.now place 4 }
-{
-    Some([
-        ram.word(place)?,
-        ram.word(place + 8)?,
-        ram.word(place + 16)?,
-        ram.word(place + 24)?,
-    ])
 }

@@ -32,11 +32,11 @@ byte_past memory addr h =
     let past : slice_get memory.bytes (addr - memory.base) ≡ None = slice_get_past memory.bytes (addr - memory.base) (omega arith) in
     grind arith
 
-before-none : (first : Option ℕ) → before first None ≡ None
-before-none (Some first) = refl
-before-none None = refl
+pub before_none : (first : Option ℕ) → before first None ≡ None
+before_none (Some first) = refl
+before_none None = refl
 
-not_empty : (count : ℕ) → nat_eq (suc count) 0 ≡ false
+pub not_empty : (count : ℕ) → nat_eq (suc count) 0 ≡ false
 not_empty count = grind arith
 
 -- what a read and a write of `bytes` answer where no place was found: `empty` says that there are none
@@ -73,6 +73,6 @@ unfolding bytes_at
 bytes_at_past memory addr zero h some = absurd (omega arith)
 bytes_at_past memory addr (suc count) h some =
     elim (cases_lt addr (memory.base + length memory.bytes)) as (λ _. before (byte memory addr) (bytes_at memory (addr + 1) count) ≡ None) [
-      | inl near ↦ ap (before (byte memory addr)) (bytes_at_past memory (addr + 1) count (omega arith) (omega arith)) ∙ before-none (byte memory addr)
+      | inl near ↦ ap (before (byte memory addr)) (bytes_at_past memory (addr + 1) count (omega arith) (omega arith)) ∙ before_none (byte memory addr)
       | inr past ↦ ap (λ b. before b (bytes_at memory (addr + 1) count)) (byte_past memory addr past)
     ]

@@ -1,2 +1,3 @@
 pub mod Memory
 pub mod Sizes
+pub mod Words

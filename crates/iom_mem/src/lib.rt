@@ -1,14 +1,16 @@
 //! Physical memory: one region of bytes.
 #![tactic(auto)]
 
-ghost use Rattle.std.specs.Prelude.{◌≡◌, ◌+◌, ◌≤◌, ◌<◌, length, take, drop, Some, None, IfOk, IfErr, IfSome, IfNone};
+ghost use Rattle.std.specs.Prelude.{◌≡◌, ◌+◌, ◌/◌, ◌≤◌, ◌<◌, ◌⊎◌, length, take, drop, Some, None, IfOk, IfErr, IfSome, IfNone};
 ghost use Rattle.std.specs.Bool.{OnTrue, OnFalse};
 ghost use Rattle.std.specs.Option.{is_some};
 
-use iom_bits::le_u64;
 use std::alloc::{AllocError, Global};
 use std::marker::Model;
 use thiserror::Error;
+use words::{all_words, read_bytes, read_words, word_at, write_bytes};
+
+mod words;
 
 /// Why there is no memory of the base and size that were asked for.
 #[derive(Clone, Copy, Debug, PartialEq, Error)]
@@ -31,7 +33,7 @@ const ADDRESS_END: u64 = 1 << 56;
 #[derive(Debug, Drop)]
 pub struct Ram {
     base: u64,
-    bytes: Vec<u8>,
+    words: Vec<u64>,
 }
 
 impl Model for Ram {
@@ -40,19 +42,22 @@ impl Model for Ram {
 
     ghost Value = { Memory };
 
-    ghost view = { λ r. record { base = r.base; bytes = r.bytes.items } };
+    ghost use Rattle.iom_mem.specs.Words.{bytes_of_words};
 
-    ghost invariant = { λ r. IsLegal (record { base = r.base; bytes = r.bytes.items }) };
+    ghost view = { λ r. record { base = r.base; bytes = bytes_of_words r.words.items } };
+
+    ghost invariant = { λ r. IsLegal (record { base = r.base; bytes = bytes_of_words r.words.items }) };
 }
 
 impl Ram {
-    ghost use Rattle.iom_mem.specs.Memory.{size_of, bytes_at, word, put, ReplacesBytes};
+    ghost use Rattle.iom_mem.specs.Memory.{size_of, bytes_at, word, words_at, put, ReplacesBytes};
     ghost use Rattle.iom_mem.specs.Sizes.{IsLegal, refusal_of, zeroed};
 
     /// Memory of `size` bytes, all 0, from physical address `base` on.
     ///
     /// `base` is a multiple of 4096, else `BadBase`. `size` is a multiple of 4096 from 4096 to
     /// 64 MiB, and `base + size` is at most 2^56, else `BadSize`. `OutOfMemory` comes last.
+    #[tactic(auto, using(crate::proofs::WordBytes::zeros_hold))]
     pub fn new(alloc: Global, base: u64, size: u64) -> Result<Ram, MemFault>
         ensures refused { IfSome (refusal_of base size) (λ fault. result ≡ Err fault) }
         ensures made { IfOk result (λ ram. ram ≡ zeroed base size) }
@@ -65,12 +70,12 @@ impl Ram {
         if size == 0 || size % 4096 != 0 || size > MOST_BYTES || base > ADDRESS_END - size {
             return Err(MemFault::BadSize);
         }
-        // One allocation and one fill of it; `vec!` would write it byte by byte.
-        let mut bytes = Vec::new(alloc);
-        bytes
-            .resize(size as usize, 0)
+        // One allocation and one fill of it; `vec!` would write it word by word.
+        let mut words = Vec::new(alloc);
+        words
+            .resize(size as usize / 8, 0)
             .map_err(|_| MemFault::OutOfMemory)?;
-        Ok(Ram { base, bytes })
+        Ok(Ram { base, words })
     }
 
     /// A memory with the same base and the same bytes. The fault is want of memory for the copy.
@@ -79,7 +84,7 @@ impl Ram {
     {
         Ok(Ram {
             base: self.base,
-            bytes: Vec::from_slice(alloc, &self.bytes)?,
+            words: Vec::from_slice(alloc, &self.words)?,
         })
     }
 
@@ -92,17 +97,18 @@ impl Ram {
     }
 
     /// How many bytes there are.
+    #[tactic(auto, using(crate::proofs::WordBytes::words_hold))]
     pub fn size(&self) -> u64
         ensures value { result ≡ size_of self.now }
         ensures legal { IsLegal self.now }
     {
-        self.bytes.len() as u64
+        8 * self.words.len() as u64
     }
 
     /// Reads the bytes from physical address `addr` on into `out`, and answers true; false where
     /// one of them is outside, and then `out` is unchanged. An empty `out` is read anywhere, outside
     /// memory too.
-    #[tactic(auto, using(crate::proofs::Bytes::empty_read))]
+    #[tactic(auto, using(crate::proofs::Bytes::empty_read, crate::proofs::WordBytes::words_hold))]
     pub fn read(&self, addr: u64, out: &mut [u8]) -> bool
         ensures read { OnTrue result (bytes_at self.now addr (length out.old) ≡ Some out.new) }
         ensures outside { OnFalse result (bytes_at self.now addr (length out.old) ≡ None) }
@@ -110,7 +116,7 @@ impl Ram {
     {
         match self.place(addr, out.len()) {
             Some(at) => {
-                out.copy_from_slice(&self.bytes[at..at + out.len()]);
+                read_bytes(&self.words, at, out);
                 true
             }
             None => out.is_empty(),
@@ -120,7 +126,7 @@ impl Ram {
     /// Writes `bytes` from physical address `addr` on, and answers true; false where one of the
     /// places is outside, and then nothing is changed. Empty `bytes` are written anywhere, outside
     /// memory too.
-    #[tactic(auto, using(crate::proofs::Bytes::empty_write))]
+    #[tactic(auto, using(crate::proofs::Bytes::empty_write, crate::proofs::WordBytes::words_hold))]
     pub fn write(&mut self, addr: u64, bytes: &[u8]) -> bool
         ensures inside { result ≡ is_some (bytes_at self.old addr (length bytes.now)) }
         ensures written { OnTrue result (self.new ≡ put self.old addr bytes.now) }
@@ -129,7 +135,7 @@ impl Ram {
     {
         match self.place(addr, bytes.len()) {
             Some(at) => {
-                self.bytes[at..at + bytes.len()].copy_from_slice(bytes);
+                write_bytes(&mut self.words, at, bytes);
                 true
             }
             None => bytes.is_empty(),
@@ -138,15 +144,35 @@ impl Ram {
 
     /// The number of the eight bytes from physical address `addr` on, the lowest byte first; None
     /// where one of them is outside. `addr` may be any address.
+    #[tactic(auto, using(crate::proofs::WordBytes::words_hold))]
     pub fn word(&self, addr: u64) -> Option<u64>
         ensures { result ≡ word self.now addr }
     {
-        let mut bytes = [0; 8];
-        if self.read(addr, &mut bytes) {
-            Some(le_u64(bytes))
-        } else {
-            None
-        }
+        let at = self.place(addr, 8)?;
+        Some(word_at(&self.words, at))
+    }
+
+    /// Reads the words from physical address `addr` on into `out`, word i from `addr + 8 * i`, and
+    /// answers true; false where a byte of one is outside, and then `out` is unchanged. `addr` may be
+    /// any address, and an empty `out` is read anywhere, outside memory too.
+    #[tactic(auto, using(crate::proofs::WordBytes::words_hold))]
+    pub fn words(&self, addr: u64, out: &mut [u64]) -> bool
+        ensures read { OnTrue result (words_at self.now addr (length out.old) ≡ Some out.new) }
+        ensures outside { OnFalse result (words_at self.now addr (length out.old) ≡ None) }
+        ensures unchanged { OnFalse result (out.new ≡ out.old) }
+    {
+        let Some(at) = self.place(addr, 8 * out.len()) else {
+            return out.is_empty();
+        };
+        read_words(&self.words, at, out);
+        true
+    }
+
+    /// All of memory as words: word i is the one at physical address `base + 8 * i`.
+    pub fn as_words(&self) -> &[u64]
+        ensures { words_at self.now self.now.base (size_of self.now / 8) ≡ Some result.now }
+    {
+        all_words(&self.words)
     }
 
     // Where the `len` bytes from `addr` on stand; None where one is outside.
@@ -156,11 +182,13 @@ impl Ram {
             (λ at. (self.now.base + at ≡ addr) × (at + len ≤ size_of self.now)) }
         ensures inside { IfSome result
             (λ at. bytes_at self.now addr len ≡ Some (take len (drop at self.now.bytes))) }
+        ensures beyond { IfNone result
+            ((addr < self.now.base) ⊎ (self.now.base + size_of self.now < addr + len)) }
         ensures outside { IfNone result (0 < len → bytes_at self.now addr len ≡ None) }
     {
         let at = addr.checked_sub(self.base)?;
         let end = at.checked_add(len as u64)?;
-        if end <= self.bytes.len() as u64 {
+        if end <= self.size() {
             Some(at as usize)
         } else {
             None

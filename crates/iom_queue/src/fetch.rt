@@ -1,5 +1,4 @@
 ghost use Rattle.std.specs.Prelude.{◌≡◌, ◌+◌, ◌<◌, ◌^◌};
-ghost use Rattle.iom_mem.specs.Memory.{words_at};
 ghost use Rattle.iom_regs.specs.Table.{with_pending};
 ghost use Rattle.iom_queue.specs.Fetching.{is_idle, command_addr, fetch_of, IsFetch};
 
@@ -42,9 +41,10 @@ pub fn next_command(registers: &Regs, ram: &Ram) -> Fetch
     if is_idle(registers) {
         return Fetch::Idle;
     }
-    let Some(words) = two_words(ram, command_addr(registers)) else {
+    let mut words = [0; 2];
+    if !ram.words(command_addr(registers), &mut words) {
         return Fetch::Fault;
-    };
+    }
     match decode_command(words) {
         Some(command) => Fetch::Ready(command),
         None => Fetch::Illegal,
@@ -67,14 +67,4 @@ fn command_addr(registers: &Regs) -> u64
 {
     let queue = registers.queue(Which::Commands);
     queue.base * 4096 + queue.head * COMMAND_SIZE
-}
-
-// The two words from physical address `addr` on; None where a byte of them is outside memory.
-fn two_words(ram: &Ram, addr: u64) -> Option<[u64; 2]>
-    requires { addr + 8 < 2 ^ 64 }
-    ensures { result ≡ words_at ram.now addr 2 }
-{
-    let first = ram.word(addr)?;
-    let second = ram.word(addr + 8)?;
-    Some([first, second])
 }

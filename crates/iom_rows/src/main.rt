@@ -1,18 +1,16 @@
-//! Plays whole scripts: for each file NAME.script of the folder that it is given, what the script writes on the built-in
-//! memory is to be what NAME.expect has. Prints each answer that is otherwise.
+//! Plays whole scripts: for each file NAME.script of the folder that it is given, what the script writes on the image of
+//! NAME.asm, or on the built-in one where there is no such file, is to be what NAME.expect has. Prints each answer that is
+//! otherwise.
 #![tactic(auto)]
 
-use iom_core::Platform;
-use iom_mem::Ram;
 use iom_tool::Trace;
 use std::alloc::Global;
 use std::process::ExitCode;
 use std::{env, fs, io};
 
-// What a script writes, on the memory of the program.
-fn written(alloc: Global, script: &[u8]) -> anyhow::Result<Vec<u8>> {
-    let ram = Ram::new(alloc, 0x8000_0000, 0x10_0000)?;
-    let mut platform = Platform::new(alloc, ram, Vec::new(alloc))?;
+// What a script writes on an image.
+fn written(alloc: Global, image: &[u8], script: &[u8]) -> anyhow::Result<Vec<u8>> {
+    let mut platform = iom_asm::load(alloc, image)?;
     let mut trace = Trace::new(alloc)?;
     let mut reader = script;
     let mut writer = Vec::new(alloc);
@@ -46,11 +44,24 @@ fn compare(rt: &HostRuntime, name: &str, written: &[u8], expected: &[u8]) -> io:
     Ok(())
 }
 
+// The image that a script is played on.
+fn image(rt: &HostRuntime, name: &str) -> anyhow::Result<Vec<u8>> {
+    let source = format!(in rt.alloc(); "{name}.asm")?;
+    if !fs::exists(rt, source.as_str())? {
+        let mut built_in = Vec::new(rt.alloc());
+        built_in.extend_from_slice(&iom_asm::built_in())?;
+        return Ok(built_in);
+    }
+    let text = fs::read(rt, source.as_str())?;
+    Ok(iom_asm::assemble(rt.alloc(), text.as_slice())?)
+}
+
 // Whether a script writes what is expected of it.
 fn is_as_expected(rt: &HostRuntime, name: &str) -> anyhow::Result<bool> {
     let script = fs::read(rt, format!(in rt.alloc(); "{name}.script")?)?;
     let expected = fs::read(rt, format!(in rt.alloc(); "{name}.expect")?)?;
-    let written = written(rt.alloc(), script.as_slice())?;
+    let image = image(rt, name)?;
+    let written = written(rt.alloc(), image.as_slice(), script.as_slice())?;
     compare(rt, name, written.as_slice(), expected.as_slice())?;
     Ok(written == expected)
 }

@@ -18,9 +18,13 @@ mod ddt;
 #[cfg(test)]
 mod devices;
 #[cfg(test)]
+mod harmed;
+#[cfg(test)]
 mod mem;
 #[cfg(test)]
 mod nested;
+#[cfg(test)]
+mod playing;
 #[cfg(test)]
 mod queue;
 #[cfg(test)]

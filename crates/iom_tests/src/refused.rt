@@ -6,7 +6,7 @@ use crate::blk_requests::with_disk;
 use crate::devices::devices;
 use crate::first_wrong;
 use crate::warrants::{MAPPED, memory, otherwise, read, stored, walked, written};
-use iom_asm::{Item, assemble, list, load};
+use iom_asm::{Item, assemble, list, load, play};
 use iom_cache::{ContextCache, Place, TransCache};
 use iom_core::{Answer, Platform, Step};
 use iom_mem::Ram;
@@ -213,6 +213,15 @@ fn lists_are_made_of_an_image(rt: HostRuntime) -> Result<(), Fail> {
 #[test]
 fn caches_are_made_for_an_image(rt: HostRuntime) -> Result<(), Fail> {
     assert!(rt; is_loaded_after(rt.alloc(), 8)?);
+    Ok(())
+}
+
+#[test]
+fn image_is_played(rt: HostRuntime) -> Result<(), Fail> {
+    spend(rt.alloc(), 9)?;
+    let mut out = [Answer::Done];
+    let _platform = play(rt.alloc(), IMAGE, &[Step::Command], &mut out)?;
+    assert!(rt; matches!(out, [Answer::Idle]));
     Ok(())
 }
 

@@ -1,0 +1,224 @@
+ghost use Rattle.std.specs.Prelude.{◌≡◌, ◌+◌, ◌-◌, ◌*◌, ◌/◌, ◌%◌, ◌^◌, ◌<◌, ◌≤◌, ℕ, length, take, drop};
+ghost use Rattle.std.proofs.Math.Seq.{paste};
+ghost use Rattle.iom_bits.specs.Bytes.{number_of_bytes, bytes_of_number};
+ghost use Rattle.iom_mem.specs.Words.{bytes_of_words, AreWords, StartsWith};
+
+use iom_bits::{field, le_u64, with_field};
+
+// The places of bytes count from the first byte of the first word.
+
+/// All the words.
+pub fn all_words(words: &[u64]) -> &[u64]
+    ensures all { result.now ≡ words.now }
+    ensures read { AreWords result.now (bytes_of_words words.now) 0 (length words.now) }
+{
+    words
+}
+
+/// The eight bytes from place `at` on, as a number.
+pub fn word_at(words: &[u64], at: usize) -> u64
+    requires { at + 8 ≤ 8 * length words.now }
+    ensures bytes { bytes_of_number 8 result ≡ take 8 (drop at (bytes_of_words words.now)) }
+    ensures value { result ≡ number_of_bytes (take 8 (drop at (bytes_of_words words.now))) }
+{
+    if at % 8 == 0 {
+        words[at / 8]
+    } else {
+        joined(words[at / 8], words[at / 8 + 1], at % 8)
+    }
+}
+
+// Fewer than eight bytes from place `at` on, as the low bytes of a number.
+fn few_at(words: &[u64], at: usize, count: usize) -> u64
+    requires few { count < 8 }
+    requires within { at + count ≤ 8 * length words.now }
+    requires some { 1 ≤ count }
+    ensures { bytes_of_number count result ≡ take count (drop at (bytes_of_words words.now)) }
+{
+    if at % 8 + count <= 8 {
+        words[at / 8] >> (8 * (at % 8))
+    } else {
+        joined(words[at / 8], words[at / 8 + 1], at % 8)
+    }
+}
+
+// The eight bytes that begin `skipped` bytes into two words.
+fn joined(first: u64, second: u64, skipped: usize) -> u64
+    requires some { 1 ≤ skipped }
+    requires few { skipped < 8 }
+    ensures value { result
+        ≡ second % 2 ^ (8 * skipped) * 2 ^ (8 * (8 - skipped)) + first / 2 ^ (8 * skipped) }
+    ensures low { first / 2 ^ (8 * skipped) < 2 ^ (8 * (8 - skipped)) }
+{
+    (second << (8 * (8 - skipped))) | (first >> (8 * skipped))
+}
+
+/// Fills `out` with the words from place `at` on.
+pub fn read_words(words: &[u64], at: usize, out: &mut [u64])
+    requires { at + 8 * length out.old ≤ 8 * length words.now }
+    ensures read { AreWords out.new (bytes_of_words words.now) at (length out.old) }
+    ensures length { length out.new ≡ length out.old }
+{
+    for i in 0..out.len() {
+        out[i] = word_at(words, at + 8 * i);
+    }
+}
+
+/// Fills `out` with the bytes from place `at` on.
+pub fn read_bytes(words: &[u64], at: usize, out: &mut [u8])
+    requires { at + length out.old ≤ 8 * length words.now }
+    ensures { out.new ≡ take (length out.old) (drop at (bytes_of_words words.now)) }
+{
+    let len = out.len();
+    if len >= 8 {
+        put_word(out, 0, word_at(words, at));
+        read_whole(words, at, out);
+        put_word(out, len - 8, word_at(words, at + (len - 8)));
+    } else if len > 0 {
+        put_few(out, few_at(words, at, len));
+    }
+}
+
+// Fills in all but the last eight bytes of what is read, where the first eight are there.
+fn read_whole(words: &[u64], at: usize, out: &mut [u8])
+    requires within { at + length out.old ≤ 8 * length words.now }
+    requires some { 8 ≤ length out.old }
+    requires start { StartsWith out.old (bytes_of_words words.now) at 8 }
+    ensures read { StartsWith out.new (bytes_of_words words.now) at (length out.old - 8) }
+    ensures length { length out.new ≡ length out.old }
+{
+    if out.len() <= 16 {
+        return;
+    }
+    let skipped = 8 - at % 8;
+    let first = at / 8 + 1;
+    for i in 0..(out.len() - skipped) / 8 {
+        put_word(out, skipped + 8 * i, words[first + i]);
+    }
+}
+
+// Replaces eight bytes of `out` by those of a word.
+fn put_word(out: &mut [u8], at: usize, word: u64)
+    requires { at + 8 ≤ length out.old }
+    ensures { out.new ≡ paste out.old at (bytes_of_number 8 word) 8 }
+{
+    out[at..at + 8].copy_from_slice(&word.to_le_bytes());
+}
+
+// Replaces all of `out` by the lowest bytes of a number.
+fn put_few(out: &mut [u8], number: u64)
+    requires { length out.old ≤ 8 }
+    ensures { out.new ≡ bytes_of_number (length out.old) number }
+{
+    let [a, b, c, d, e, f, g, h] = number.to_le_bytes();
+    match out.len() {
+        0 => {}
+        1 => out.copy_from_slice(&[a]),
+        2 => out.copy_from_slice(&[a, b]),
+        3 => out.copy_from_slice(&[a, b, c]),
+        4 => out.copy_from_slice(&[a, b, c, d]),
+        5 => out.copy_from_slice(&[a, b, c, d, e]),
+        6 => out.copy_from_slice(&[a, b, c, d, e, f]),
+        7 => out.copy_from_slice(&[a, b, c, d, e, f, g]),
+        _ => out.copy_from_slice(&[a, b, c, d, e, f, g, h]),
+    }
+}
+
+/// Replaces the bytes from place `at` on by `bytes`.
+pub fn write_bytes(words: &mut [u64], at: usize, bytes: &[u8])
+    requires { at + length bytes.now ≤ 8 * length words.old }
+    ensures bytes { bytes_of_words words.new ≡ paste (bytes_of_words words.old) at bytes.now (length bytes.now) }
+    ensures size { length words.new ≡ length words.old }
+{
+    let head = ((8 - at % 8) % 8).min(bytes.len());
+    let (start, rest) = bytes.split_at(head);
+    put_piece(words, at, start, first_number(bytes, head));
+    if !rest.is_empty() {
+        let (whole, end) = rest.split_at(rest.len() / 8 * 8);
+        write_whole(words, (at + head) / 8, whole);
+        put_piece(
+            words,
+            at + head + whole.len(),
+            end,
+            last_number(bytes, end.len()),
+        );
+    }
+}
+
+// The number of the first bytes, fewer than eight.
+fn first_number(bytes: &[u8], count: usize) -> u64
+    requires within { count ≤ length bytes.now }
+    requires few { count < 8 }
+    ensures { result ≡ number_of_bytes (take count bytes.now) }
+{
+    if count == 0 {
+        0
+    } else {
+        field(number(&bytes[..bytes.len().min(8)]), 0, 8 * count as u32)
+    }
+}
+
+// The number of the last bytes, fewer than eight.
+fn last_number(bytes: &[u8], count: usize) -> u64
+    requires within { count ≤ length bytes.now }
+    requires few { count < 8 }
+    ensures { result ≡ number_of_bytes (drop (length bytes.now - count) bytes.now) }
+{
+    if count == 0 {
+        0
+    } else {
+        let last = bytes.len().min(8);
+        field(
+            number(&bytes[bytes.len() - last..]),
+            8 * (last - count) as u32,
+            8 * count as u32,
+        )
+    }
+}
+
+// Replaces whole words by the bytes, eight for each; those that are left over are not written.
+fn write_whole(words: &mut [u64], first: usize, bytes: &[u8])
+    requires { 8 * first + length bytes.now ≤ 8 * length words.old }
+    ensures bytes { bytes_of_words words.new ≡ paste (bytes_of_words words.old) (8 * first) bytes.now (8 * (length bytes.now / 8)) }
+    ensures size { length words.new ≡ length words.old }
+{
+    for i in 0..bytes.len() / 8 {
+        words[first + i] = number(&bytes[8 * i..8 * i + 8]);
+    }
+}
+
+// Replaces the bytes from place `at` on by `bytes`, all in one word, whose number is `number`.
+fn put_piece(words: &mut [u64], at: usize, bytes: &[u8], number: u64)
+    requires value { number ≡ number_of_bytes bytes.now }
+    requires together { at % 8 + length bytes.now ≤ 8 }
+    requires within { at + length bytes.now ≤ 8 * length words.old }
+    ensures bytes { bytes_of_words words.new ≡ paste (bytes_of_words words.old) at bytes.now (length bytes.now) }
+    ensures size { length words.new ≡ length words.old }
+{
+    if bytes.is_empty() {
+        return;
+    }
+    let low = 8 * (at % 8) as u32;
+    let width = 8 * bytes.len() as u32;
+    words[at / 8] = with_field(words[at / 8], low, width, number);
+}
+
+// The number of at most eight bytes.
+fn number(bytes: &[u8]) -> u64
+    requires { length bytes.now ≤ 8 }
+    ensures value { result ≡ number_of_bytes bytes.now }
+    ensures fits { result < 2 ^ (8 * length bytes.now) }
+{
+    match *bytes {
+        [] => 0,
+        [a] => a as u64,
+        [a, b] => le_u64([a, b, 0, 0, 0, 0, 0, 0]),
+        [a, b, c] => le_u64([a, b, c, 0, 0, 0, 0, 0]),
+        [a, b, c, d] => le_u64([a, b, c, d, 0, 0, 0, 0]),
+        [a, b, c, d, e] => le_u64([a, b, c, d, e, 0, 0, 0]),
+        [a, b, c, d, e, f] => le_u64([a, b, c, d, e, f, 0, 0]),
+        [a, b, c, d, e, f, g] => le_u64([a, b, c, d, e, f, g, 0]),
+        [a, b, c, d, e, f, g, h] => le_u64([a, b, c, d, e, f, g, h]),
+        _ => 0,
+    }
+}

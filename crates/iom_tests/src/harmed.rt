@@ -1,0 +1,90 @@
+//! Queues laid over tables and over each other: what then was let through, and what was changed.
+
+use crate::warrants::{MAPPED, memory, otherwise, read, stored, walked, written};
+use iom_core::{Platform, Step};
+use iom_mem::Ram;
+use std::alloc::Global;
+use std::test::Fail;
+
+// The first word of memory that differs and doesn't begin between two addresses.
+fn other_word(one: &Ram, other: &Ram, from: u64, to: u64) -> Option<u64> {
+    for i in 0..0x2_0000 {
+        let addr = 0x8000_0000 + 8 * i;
+        if (addr < from || addr >= to) && one.word(addr) != other.word(addr) {
+            return Some(addr);
+        }
+    }
+    None
+}
+
+// Whether the last of some steps changes the first word between two addresses, and no word that isn't there.
+fn last_changes(
+    alloc: Global,
+    words: &[(u64, u64)],
+    steps: &[Step],
+    from: u64,
+    to: u64,
+) -> Result<bool, Fail> {
+    let ram = memory(alloc, words)?;
+    let mut platform = Platform::new(alloc, ram, Vec::new(alloc))?;
+    let mut before = platform.try_clone(alloc)?;
+    for step in steps {
+        before = platform.try_clone(alloc)?;
+        platform.step(step);
+    }
+    let is_changed = before.ram().word(from) != platform.ram().word(from);
+    Ok(is_changed && other_word(before.ram(), platform.ram(), from, to).is_none())
+}
+
+// The fault queue lies on the leaf table. A page that was read before serves on by its place; the record of a denied access
+// takes the entry's place, and no other byte.
+#[test]
+fn record_on_a_table(rt: HostRuntime) -> Result<(), Fail> {
+    let steps = [
+        written(16, 8, 0x2000_0402),
+        written(40, 8, 0x2000_1001),
+        written(76, 4, 1),
+        read(0x40_0000_0000),
+        read(0x4020_1abc),
+    ];
+    let cases = [(3, None), (4, None)];
+    assert_eq!(rt; otherwise(rt.alloc(), &MAPPED, &steps, &cases)?, None);
+    let denied = &steps[..4];
+    assert!(rt; last_changes(rt.alloc(), &MAPPED, denied, 0x8000_4000, 0x8000_4020)?);
+    Ok(())
+}
+
+#[test]
+fn page_read_before_its_table_was_hit(rt: HostRuntime) -> Result<(), Fail> {
+    let steps = [
+        written(16, 8, 0x2000_0402),
+        written(40, 8, 0x2000_1001),
+        written(76, 4, 1),
+        read(0x4020_1abc),
+        read(0x40_0000_0000),
+        read(0x4020_1abc),
+    ];
+    let cases = [(3, walked(3, 3, 3)), (4, None), (5, walked(3, 3, 3))];
+    assert_eq!(rt; otherwise(rt.alloc(), &MAPPED, &steps, &cases)?, None);
+    Ok(())
+}
+
+// A fence stores over the command behind it: these four bytes change, and no step has a warrant.
+#[test]
+fn fence_over_a_command(rt: HostRuntime) -> Result<(), Fail> {
+    let steps = [
+        written(24, 8, 0x2002_4003),
+        written(72, 4, 1),
+        stored(0x8009_0000, 0x801_0000_0402),
+        stored(0x8009_0008, 0x2002_4004),
+        stored(0x8009_0010, 3),
+        written(36, 4, 2),
+        Step::Command,
+        Step::Command,
+    ];
+    let cases = [(6, None), (7, None)];
+    assert_eq!(rt; otherwise(rt.alloc(), &[], &steps, &cases)?, None);
+    let fence = &steps[..7];
+    assert!(rt; last_changes(rt.alloc(), &[], fence, 0x8009_0010, 0x8009_0018)?);
+    Ok(())
+}

@@ -1,0 +1,107 @@
+"""Checks of the man page and of the completions against what the program knows."""
+import os
+import re
+import subprocess
+
+from checks import EXAMPLES, FORMS, PROGRAM, RUN_SECONDS, Skip, check, folder, put, run, want, want_words
+from program_images import STATEMENTS
+
+TOP = os.path.join(EXAMPLES, os.pardir)
+KINDS = ["cmd", "fault", "context", "dir", "pte", "u64"]
+ANSWERS = ["done", "idle", "denied", "bus error", "bad access", "no device", "misuse", "outside", "none", "empty", "bad"]
+TEXTS = [
+    *("line N: bad line", "line N: overlap", "line N: outside memory", "bad magic", "truncated", "trailing bytes"),
+    *("bad memory", "bad chunk", "bad device", "outside memory", "read failed", "write failed", "script too long"),
+    *("out of memory", "cannot read FILE", "cannot write FILE"),
+]
+
+
+def commands():
+    """The words that the program knows, by its help."""
+    out = run(["--help"])[1].decode()
+    return [line.split()[0] for line in out[out.index("Commands:\n") : out.index("Options:\n")].splitlines()[1:] if line.strip()]
+
+
+def plain(page):
+    """The text of a man page, its fonts and macros taken away."""
+    lines = []
+    for line in page.splitlines():
+        macro, _, rest = line.partition(" ")
+        if macro in (".B", ".I", ".BI", ".BR", ".RB", ".RI", ".IR", ".SH", ".SS"):
+            parts = re.findall(r'"([^"]*)"|(\S+)', rest)
+            words = [quoted or word for quoted, word in parts]
+            line = (" " if macro in (".B", ".I", ".SH", ".SS") else "").join(words)
+        elif line.startswith("."):
+            continue
+        lines.append(line.replace("\\-", "-").replace("\\en", "\\n").replace("\\fR", "").replace("\\fB", "").replace("\\fI", ""))
+    return "\n".join(lines) + "\n"
+
+
+def man_page():
+    with open(os.path.join(TOP, "man", "rviommu.1")) as file:
+        return plain(file.read())
+
+
+@check("man page: it names every word, line, statement, answer and text of the program")
+def _():
+    page = man_page()
+    forms = [form.decode() for form in FORMS + STATEMENTS]
+    wanted = [*commands(), "--help", "--version", "asm SOURCE IMAGE", "run IMAGE", "list IMAGE KIND ADDR COUNT", *forms, *KINDS, *ANSWERS, *TEXTS]
+    missing = [it for it in wanted if not re.search(r"(?m)(^|[\s,])" + re.escape(it) + r"(?=[\s,.;=]|$)", page)]
+    want("what the man page lacks", missing, [])
+
+
+@check("man page: each line of a script that it shows is answered as it says")
+def _():
+    shown = re.findall(r"(?m)^(.+?) -> (.+)$", man_page())
+    want("how many lines it shows", len(shown), len(FORMS))
+    for form, (line, _) in zip(sorted(FORMS), sorted(shown)):
+        want("the word of a line", line.split()[0], form.decode().split()[0])
+    with folder() as here:
+        source, image = put(here, "source", b"ram 0x80000000 0x1000\ndisk 5 1\n"), os.path.join(here, "image")
+        want_words(["asm", source, image], b"")
+        given = "".join(line + "\n" for line, _ in shown).encode()
+        want_words(["run", image], "".join(answer + "\n" for _, answer in shown).encode(), given=given)
+
+
+@check("man page: its commands are answered as it says")
+def _():
+    page = man_page()
+    block = page[page.index("$ printf 'ram") : page.index("help, --help")]
+    lines = [line for line in block.splitlines() if re.match(r"\$ |0x|u64 ", line)]
+    with folder() as here:
+        put(here, "rviommu", b'#!/bin/sh\nexec "$PROGRAM" "$@"\n')
+        os.chmod(os.path.join(here, "rviommu"), 0o755)
+        where = {**os.environ, "PATH": here + ":" + os.environ["PATH"], "PROGRAM": os.path.abspath(PROGRAM)}
+        command = "\n".join(line[2:] for line in lines if line.startswith("$ "))
+        ended = subprocess.run(["sh", "-c", command], cwd=here, env=where, stdout=subprocess.PIPE, timeout=RUN_SECONDS)
+    answers = "".join(line + "\n" for line in lines if not line.startswith("$ "))
+    want("status and standard output", (ended.returncode, ended.stdout.decode()), (0, answers))
+
+
+@check("completions: they know every word and every kind")
+def _():
+    for name in ("rviommu.bash", "_rviommu"):
+        with open(os.path.join(TOP, "completions", name)) as file:
+            words = set(re.findall(r"[-\w]+", file.read()))
+        want(f"what {name} lacks", [it for it in [*commands(), "--help", "--version", *KINDS] if it not in words], [])
+
+
+def add_completed(line, wanted):
+    @check(f"bash completes `{line}`")
+    def _():
+        script = os.path.join(TOP, "completions", "rviommu.bash")
+        words = line.split(" ")
+        quoted = " ".join(f"'{word}'" for word in words)
+        text = f"source '{script}'; COMP_WORDS=({quoted}); COMP_CWORD={len(words) - 1}; _rviommu; echo ${{COMPREPLY[@]}}"
+        try:
+            ended = subprocess.run(["bash", "-c", text], stdout=subprocess.PIPE, timeout=RUN_SECONDS)
+        except FileNotFoundError:
+            raise Skip("there is no bash") from None
+        want("what it offers", ended.stdout.decode().split(), wanted)
+
+
+add_completed("rviommu a", ["asm"])
+add_completed("rviommu list image ", KINDS)
+add_completed("rviommu list image c", ["cmd", "context"])
+add_completed("rviommu help ", ["asm", "run", "list"])
