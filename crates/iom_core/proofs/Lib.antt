@@ -5,6 +5,7 @@ pub mod Untouched
 pub mod Ways
 pub mod Moments
 pub mod Fresh
+pub mod Learnt
 pub mod Explained
 pub mod Puts
 pub mod Slots

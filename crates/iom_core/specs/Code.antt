@@ -1,13 +1,8 @@
--- What the types of the code that callers don't see stand for, and what each caching of the code keeps.
-use Rattle.std.specs.Prelude.{ℕ, ◌≡◌, Bool, true, false, List, None, Result, Ok, Err, IfSome}
-use Rattle.iom_nested.specs.Nested.{HitFits}
+-- What the types of the code that callers don't see stand for.
+use Rattle.std.specs.Prelude.{ℕ, Bool, true, false, List, Result, Ok, Err}
 use Rattle.iom_queue.specs.declared.command.Command.{Command}
 use Rattle.iom_queue.specs.declared.command.Command.TheVariants.{Vma, Gvma, Fence, Iodir}
-use Rattle.iom_cache.specs.Keys.{same_key, same_did}
-use Rattle.iom_cache.specs.Places.{find}
-use Rattle.iom_cache.specs.Entries.{HoldsHit, HoldsContext}
 use Rattle.iom_blk.specs.Device.{Device}
-use Rattle.iom_core.specs.State.{Machine}
 use Rattle.iom_core.specs.Access.{Request, Denial, Way, Led, ByRegister, ByContext, Walked, Denied}
 use Rattle.iom_core.specs.declared.access.Request.{Request as CodeRequest}
 use Rattle.iom_core.specs.declared.access.Denial.{Denial as CodeDenial}
@@ -36,19 +31,6 @@ address_of (Err denial) = Err (denial_of denial)
 
 abbrev pub disk_of : ℕ × Device → List ℕ
 disk_of own = own.1.disk
-
--- a frame that fits
-abbrev pub WayFits : Way → Type 0
-WayFits ByRegister = Unit {0}
-WayFits (ByContext context) = Unit {0}
-WayFits (Walked context hit) = HitFits hit
-WayFits (Denied denial) = Unit {0}
-
--- what is filled has no live place yet, and is within its bounds
-pub record CanFill (m : Machine) (led : Led) : Type 0 where
-  pub way : WayFits led.way
-  pub context : IfSome led.context (λ entry. (find (same_did entry.0) m.contexts ≡ None) × HoldsContext entry)
-  pub page : IfSome led.page (λ entry. (find (same_key entry.0) m.pages ≡ None) × HoldsHit entry)
 
 -- the commands that drop translations, and those that drop contexts
 abbrev pub is_for_pages : Command → Bool

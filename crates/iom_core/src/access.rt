@@ -1,21 +1,21 @@
 //! A device's access: where it leads, and what it leaves in the caches (RISC-V IOMMU Architecture 1.0, "Process to translate
 //! an IOVA", "Caching in-memory data structures").
 
-ghost use Rattle.std.specs.Prelude.{◌≡◌, ◌<◌, ◌≤◌, ◌^◌, [], length, None, Ok, IfSome};
+ghost use Rattle.std.specs.Prelude.{◌≡◌, ◌<◌, ◌≤◌, ◌^◌, ◌+◌, ◌*◌, ◌%◌, [], false, length, None, Ok};
 ghost use Rattle.iom_regs.specs.Views.{mode_of};
-ghost use Rattle.iom_ddt.specs.Directory.{levels_of};
-ghost use Rattle.iom_ddt.specs.Contexts.{IsWellFormed};
-ghost use Rattle.iom_cache.specs.Entries.{HoldsContext, HoldsHit};
+ghost use Rattle.iom_ddt.specs.Directory.{levels_of, located};
+ghost use Rattle.iom_ddt.specs.Contexts.{IsWellFormed, is_bare};
 ghost use Rattle.iom_cache.specs.Keys.{same_did, same_key};
-ghost use Rattle.iom_cache.specs.Places.{filled_by, find};
+ghost use Rattle.iom_nested.specs.Nested.{HitFits};
+ghost use Rattle.iom_cache.specs.Places.{find, look};
 ghost use Rattle.std.specs.Bool.{OnFalse};
 ghost use Rattle.iom_virtq.specs.Bus.{Read, Write, is_granted, reply_of};
-ghost use Rattle.iom_core.specs.Access.{address_on, context_look, learnt, led, led_by_context, plain, record_left, refused, served, translating, with_delivery};
-ghost use Rattle.iom_core.specs.Code.{CanFill, address_of, denial_of, led_of, request_in};
+ghost use Rattle.iom_core.specs.Access.{address_on, context_look, learnt, led, led_by_context, plain, record_left, refused, request_key, served, translating, with_delivery};
+ghost use Rattle.iom_core.specs.Code.{address_of, denial_of, led_of, request_in};
 
 use crate::machine::Machine;
 use iom_bits::{Cause, Kind};
-use iom_cache::{ContextCache, Key, TransCache, key_of};
+use iom_cache::{Key, key_of};
 use iom_ddt::{Context, is_too_wide, locate};
 use iom_nested::{Fault, Hit, translate};
 use iom_queue::{Record, deliver, is_reported};
@@ -82,7 +82,6 @@ impl Machine {
     pub fn lead(&self, request: Request) -> Led
         requires { request.did < 2 ^ 24 }
         ensures led { led_of result ≡ led self.now (request_in request) }
-        ensures fills { CanFill self.now (led_of result) }
     {
         match self.registers.mode() {
             Mode::Off => Led::refused(Cause::Off),
@@ -103,7 +102,6 @@ impl Machine {
         ensures led { led_of result
             ≡ led_by_context self.now (request_in request)
             (context_look self.now request.did).filled (context_look self.now request.did).used }
-        ensures fills { CanFill self.now (led_of result) }
     {
         if is_too_wide(&self.registers, request.did) {
             return Led::refused(Cause::TooWide);
@@ -126,11 +124,8 @@ impl Machine {
         learnt: Option<(u32, Context)>,
     ) -> Led
         requires well_formed { IsWellFormed context }
-        requires learnt { IfSome learnt
-            (λ entry. (find (same_did entry.0) self.now.contexts ≡ None) × HoldsContext entry) }
         ensures led { led_of result
             ≡ led_by_context self.now (request_in request) learnt (Ok context) }
-        ensures fills { CanFill self.now (led_of result) }
     {
         if context.is_bare() {
             return Led {
@@ -159,16 +154,6 @@ impl Machine {
                 page: None,
             },
         }
-    }
-
-    // Fills both caches with what a request brings.
-    #[tactic(auto, using(iom_cache::proofs::Live::live_filled))]
-    fn learn(&mut self, led: &Led)
-        requires { CanFill self.old (led_of led.now) }
-        ensures { self.new ≡ learnt self.old (led_of led.now) }
-    {
-        fill_context(&mut self.contexts, led.context);
-        fill_page(&mut self.pages, led.page);
     }
 
     /// Reads the bytes at `iova` for a device into `out`, which is unchanged unless the answer is Ok.
@@ -211,18 +196,109 @@ impl Machine {
     }
 
     // The physical address that a request leads to. What is learnt on the way is cached.
+    #[inline(always)]
+    #[tactic(auto, unfolding(crate::specs::Access::led))]
     fn address(&mut self, request: Request) -> Result<u64, Denial>
         requires { request.did < 2 ^ 24 }
         ensures address { address_of result
             ≡ address_on (led self.old (request_in request)).way request.iova }
         ensures learnt { self.new ≡ learnt self.old (led self.old (request_in request)) }
     {
-        let led = self.lead(request);
-        self.learn(&led);
-        match led.way {
-            Way::ByRegister | Way::ByContext(_) => Ok(request.iova),
-            Way::Walked(_, hit) => Ok(hit.frame * 4096 + request.iova % 4096),
-            Way::Denied(denial) => Err(denial),
+        match self.registers.mode() {
+            Mode::Off => Err(plain(Cause::Off)),
+            Mode::Bare => Ok(request.iova),
+            Mode::Levels(_) => self.address_by_directory(request),
+        }
+    }
+
+    // The same by the context of the device's id, from its live place or else from the directory.
+    #[inline(always)]
+    #[tactic(auto, unfolding(crate::specs::Access::context_look), using(crate::proofs::Wide::too_wide_located))]
+    fn address_by_directory(&mut self, request: Request) -> Result<u64, Denial>
+        requires directory { 1 ≤ levels_of (mode_of self.old.registers) }
+        requires width { request.did < 2 ^ 24 }
+        ensures address { address_of result ≡ address_on (led_by_context self.old (request_in request)
+            (context_look self.old request.did).filled (context_look self.old request.did).used).way request.iova }
+        ensures learnt { self.new ≡ learnt self.old (led_by_context self.old (request_in request)
+            (context_look self.old request.did).filled (context_look self.old request.did).used) }
+    {
+        if is_too_wide(&self.registers, request.did) {
+            return Err(plain(Cause::TooWide));
+        }
+        match self.contexts.find(request.did) {
+            Some(context) => self.address_by_context(request, &context),
+            None => self.address_by_new_context(request),
+        }
+    }
+
+    // The same by a context that the directory has. It is filled also where the walk fails.
+    #[inline(never)]
+    #[tactic(auto, using(crate::proofs::Learnt::apart))]
+    fn address_by_new_context(&mut self, request: Request) -> Result<u64, Denial>
+        requires directory { 1 ≤ levels_of (mode_of self.old.registers) }
+        requires width { request.did < 2 ^ 24 }
+        requires new { find (same_did request.did) self.old.contexts ≡ None }
+        ensures address { address_of result ≡ address_on (led_by_context self.old (request_in request)
+            (look request.did None (located self.old.memory self.old.registers request.did)).filled
+            (located self.old.memory self.old.registers request.did)).way request.iova }
+        ensures learnt { self.new ≡ learnt self.old (led_by_context self.old (request_in request)
+            (look request.did None (located self.old.memory self.old.registers request.did)).filled
+            (located self.old.memory self.old.registers request.did)) }
+    {
+        match locate(&self.ram, &self.registers, request.did) {
+            Ok(context) => {
+                let reached = self.address_by_context(request, &context);
+                self.contexts.fill(request.did, context);
+                reached
+            }
+            Err(cause) => Err(plain(cause)),
+        }
+    }
+
+    // The same by a context, from the page's live place or else by the stages.
+    #[inline(always)]
+    #[tactic(auto, unfolding(crate::specs::Access::page_look))]
+    fn address_by_context(&mut self, request: Request, context: &Context) -> Result<u64, Denial>
+        requires { IsWellFormed context.now }
+        ensures address { address_of result
+            ≡ address_on (led_by_context self.old (request_in request) None (Ok context.now)).way request.iova }
+        ensures learnt { self.new
+            ≡ learnt self.old (led_by_context self.old (request_in request) None (Ok context.now)) }
+    {
+        if context.is_bare() {
+            return Ok(request.iova);
+        }
+        let key = key_of(context, request.did, request.iova, request.kind);
+        match self.pages.find(&key) {
+            Some(hit) => Ok(in_frame(&hit, request.iova)),
+            None => self.address_by_walk(request, context, key),
+        }
+    }
+
+    // The same by the stages of a context, where no live place has the page.
+    #[inline(never)]
+    #[tactic(auto, unfolding(crate::specs::Access::page_look))]
+    fn address_by_walk(
+        &mut self,
+        request: Request,
+        context: &Context,
+        key: Key,
+    ) -> Result<u64, Denial>
+        requires well_formed { IsWellFormed context.now }
+        requires staged { is_bare context.now ≡ false }
+        requires key { key ≡ request_key (request_in request) context.now }
+        requires new { find (same_key key) self.old.pages ≡ None }
+        ensures address { address_of result
+            ≡ address_on (led_by_context self.old (request_in request) None (Ok context.now)).way request.iova }
+        ensures learnt { self.new
+            ≡ learnt self.old (led_by_context self.old (request_in request) None (Ok context.now)) }
+    {
+        match translate(&self.ram, context, request.iova, request.kind) {
+            Ok(hit) => {
+                self.pages.fill(key, hit);
+                Ok(in_frame(&hit, request.iova))
+            }
+            Err(fault) => Err(translating(context, fault)),
         }
     }
 
@@ -242,22 +318,13 @@ impl Machine {
     }
 }
 
-fn fill_context(contexts: &mut ContextCache, learnt: Option<(u32, Context)>)
-    requires { IfSome learnt (λ entry. (find (same_did entry.0) contexts.old ≡ None) × HoldsContext entry) }
-    ensures { contexts.new ≡ filled_by 16 learnt contexts.old }
+// The physical address of an IOVA in the frame that its page leads to.
+#[inline(always)]
+fn in_frame(hit: &Hit, iova: u64) -> u64
+    requires { HitFits hit.now }
+    ensures { result ≡ hit.now.frame * 4096 + iova % 4096 }
 {
-    if let Some((did, context)) = learnt {
-        contexts.fill(did, context);
-    }
-}
-
-fn fill_page(pages: &mut TransCache, learnt: Option<(Key, Hit)>)
-    requires { IfSome learnt (λ entry. (find (same_key entry.0) pages.old ≡ None) × HoldsHit entry) }
-    ensures { pages.new ≡ filled_by 64 learnt pages.old }
-{
-    if let Some((key, hit)) = learnt {
-        pages.fill(key, hit);
-    }
+    hit.frame * 4096 + iova % 4096
 }
 
 // A fault before any page table is read.

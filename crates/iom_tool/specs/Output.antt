@@ -4,25 +4,23 @@ use Rattle.std.specs.List.{slice_split, flat_map}
 use Rattle.iom_core.specs.Table.{next}
 use Rattle.iom_core.specs.declared.step.Step.{Step}
 use Rattle.iom_tool.specs.Console.{Console, console_after}
-use Rattle.iom_tool.specs.declared.script.Line.{Line}
-use Rattle.iom_tool.specs.declared.script.Line.TheVariants as line
-use Rattle.iom_tool.specs.Script.{line_of}
+use Rattle.iom_tool.specs.Script.{Line, Blank, Bad, Does, Asks, line_of}
 use Rattle.iom_tool.specs.Debugger.{answer_in}
 use Rattle.iom_tool.specs.Texts.{text_of}
 
 -- what is answered to a line; None: nothing
 abbrev pub reply : Console → Line → Option (List ℕ)
-reply now line.Blank = None
-reply now line.Bad = Some (codes "bad")
-reply now (line.Does step) = Some (text_of (next now.state step).answer)
-reply now (line.Asks question) = Some (answer_in now question)
+reply now Blank = None
+reply now Bad = Some (codes "bad")
+reply now (Does step) = Some (text_of (next now.state step).answer)
+reply now (Asks question) = Some (answer_in now question)
 
 -- the steps that a line is, one or none
 abbrev pub steps_in : Line → List Step
-steps_in line.Blank = []
-steps_in line.Bad = []
-steps_in (line.Does step) = step ∷ []
-steps_in (line.Asks question) = []
+steps_in Blank = []
+steps_in Bad = []
+steps_in (Does step) = step ∷ []
+steps_in (Asks question) = []
 
 abbrev pub steps_of : List ℕ → List Step
 steps_of text = steps_in (line_of text)

@@ -4,8 +4,6 @@ use Rattle.std.specs.Option.{option_and_then}
 use Rattle.std.specs.List.{list_any}
 use Rattle.iom_core.specs.declared.step.Step.{Step}
 use Rattle.iom_core.specs.declared.step.Step.TheVariants as step
-use Rattle.iom_tool.specs.declared.script.Line.{Line}
-use Rattle.iom_tool.specs.declared.script.Line.TheVariants as line
 use Rattle.iom_tool.specs.declared.script.Question.{Question}
 use Rattle.iom_tool.specs.declared.script.Question.TheVariants as question
 use Rattle.iom_text.specs.Words.{words_of, number}
@@ -181,16 +179,24 @@ question_of verb operands =
     else if bytes_eq verb (codes "trace") then trace operands
     else None
 
+pub data Line : Type 0 where
+  -- it has no words
+  Blank : Line
+  -- it is no line that there is
+  Bad : Line
+  Does : Step → Line
+  Asks : Question → Line
+
 abbrev pub line_by : Option Step → Option Question → Line
-line_by (Some step) asked = line.Does step
-line_by None (Some question) = line.Asks question
-line_by None None = line.Bad
+line_by (Some step) asked = Does step
+line_by None (Some question) = Asks question
+line_by None None = Bad
 
 unfoldable pub meaning : List (List ℕ) → Line
-meaning [] = line.Blank
+meaning [] = Blank
 meaning (verb ∷ operands) = line_by (step_of verb operands) (question_of verb operands)
 
 -- a line of at most 512 bytes, without its end
 unfoldable pub line_of : List ℕ → Line
 line_of text =
-    if nat_lt 512 (length text) || list_any (λ c. c == 10) text then line.Bad else meaning (words_of text)
+    if nat_lt 512 (length text) || list_any (λ c. c == 10) text then Bad else meaning (words_of text)

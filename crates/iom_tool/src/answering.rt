@@ -1,23 +1,25 @@
-ghost use Rattle.std.specs.Prelude.{◌≡◌, [], ◌++◌, ◌<◌, length, is_some};
+ghost use Rattle.std.specs.Prelude.{◌≡◌, ◌==◌, [], ◌++◌, ◌<◌, false, length, is_some};
+ghost use Rattle.std.specs.List.{list_any};
 ghost use Rattle.std.specs.Option.{unwrap_or};
 ghost use Rattle.iom_core.specs.Run.{end_of};
-ghost use Rattle.iom_tool.specs.Script.{line_of};
+ghost use Rattle.iom_tool.specs.Script.{Does, line_of};
 ghost use Rattle.iom_tool.specs.Console.{console, trace_after};
 ghost use Rattle.iom_tool.specs.Output.{reply, steps_in, steps_of};
 
 use crate::debugger::push_answer_in;
-use crate::script::{Line, line_of};
+use crate::script::{MOST_BYTES_OF_A_LINE, question_of, step_of};
 use crate::text::{Reply, push_answer, push_text};
 use crate::trace::Trace;
 use iom_core::{Platform, Step};
+use iom_text::take_word;
 
 // Carries out a step, keeps it in the trace, and puts the text of its answer.
 fn carry_out(platform: &mut Platform, trace: &mut Trace, step: Step, out: &mut Reply)
     requires { length out.old.items ≡ 0 }
-    ensures reply { out.new.items ≡ unwrap_or (reply (console platform.old trace.old) (Line.Does step)) [] }
+    ensures reply { out.new.items ≡ unwrap_or (reply (console platform.old trace.old) (Does step)) [] }
     ensures room { length out.new.items < 320 }
-    ensures state { platform.new ≡ end_of platform.old (steps_in (Line.Does step)) }
-    ensures trace { trace.new ≡ trace_after trace.old platform.old (steps_in (Line.Does step)) }
+    ensures state { platform.new ≡ end_of platform.old (steps_in (Does step)) }
+    ensures trace { trace.new ≡ trace_after trace.old platform.old (steps_in (Does step)) }
 {
     let answer = platform.step(&step);
     push_answer(out, &answer);
@@ -26,6 +28,7 @@ fn carry_out(platform: &mut Platform, trace: &mut Trace, step: Step, out: &mut R
 
 /// Carries out the line of this text, and puts its answer in place of what `out` holds. Whether there is one; to a
 /// blank line there is none.
+#[tactic(auto, unfolding(crate::specs::Script::line_of))]
 pub fn answer_to(platform: &mut Platform, trace: &mut Trace, text: &[u8], out: &mut Reply) -> bool
     ensures reply { out.new.items ≡ unwrap_or (reply (console platform.old trace.old) (line_of text.now)) [] }
     ensures said { result ≡ is_some (reply (console platform.old trace.old) (line_of text.now)) }
@@ -33,12 +36,44 @@ pub fn answer_to(platform: &mut Platform, trace: &mut Trace, text: &[u8], out: &
     ensures state { platform.new ≡ end_of platform.old (steps_of text.now) }
     ensures trace { trace.new ≡ trace_after trace.old platform.old (steps_of text.now) }
 {
+    if text.contains(&b'\n') {
+        out.clear();
+        push_text(out, b"bad");
+        return true;
+    }
+    answer_to_cut(platform, trace, text, out)
+}
+
+/// The same for a text that was cut off at its line end, and so isn't searched for one.
+#[tactic(auto, unfolding(crate::specs::Script::line_of, crate::specs::Script::meaning))]
+pub fn answer_to_cut(
+    platform: &mut Platform,
+    trace: &mut Trace,
+    text: &[u8],
+    out: &mut Reply,
+) -> bool
+    requires { list_any (λ c. c == 10) text.now ≡ false }
+    ensures reply { out.new.items ≡ unwrap_or (reply (console platform.old trace.old) (line_of text.now)) [] }
+    ensures said { result ≡ is_some (reply (console platform.old trace.old) (line_of text.now)) }
+    ensures room { length out.new.items < 320 }
+    ensures state { platform.new ≡ end_of platform.old (steps_of text.now) }
+    ensures trace { trace.new ≡ trace_after trace.old platform.old (steps_of text.now) }
+{
     out.clear();
-    match line_of(text) {
-        Line::Blank => return false,
-        Line::Bad => push_text(out, b"bad"),
-        Line::Does(step) => carry_out(platform, trace, step, out),
-        Line::Asks(question) => push_answer_in(out, platform, trace, question),
+    if text.len() > MOST_BYTES_OF_A_LINE {
+        push_text(out, b"bad");
+        return true;
+    }
+    let Some((verb, rest)) = take_word(text) else {
+        return false;
+    };
+    if let Some(step) = step_of(verb, rest) {
+        carry_out(platform, trace, step, out);
+        return true;
+    }
+    match question_of(verb, rest) {
+        Some(question) => push_answer_in(out, platform, trace, question),
+        None => push_text(out, b"bad"),
     }
     true
 }

@@ -5,7 +5,7 @@ ghost use Rattle.iom_tool.specs.Console.{console, console_after};
 ghost use Rattle.iom_tool.specs.Output.{steps_of, output_to, after, output_of, last_line};
 ghost use Rattle.iom_tool.specs.Running.{Progress, progress, WritesFront, Fed, AfterLines, AfterPiece, AfterEnd, is_write};
 
-use crate::answering::answer_to;
+use crate::answering::{answer_to, answer_to_cut};
 use crate::fault::RunFault;
 use crate::text::Reply;
 use crate::trace::Trace;
@@ -39,7 +39,26 @@ fn write_out<W: Write>(writer: &mut WatchedWriter<'_, W>, text: &[u8]) -> Result
     Ok(())
 }
 
-// Carries out a line and writes its answer, with its line end, by one call where the writer takes it whole.
+// Writes an answer with its line end, by one call where the writer takes it whole.
+fn write_answer<W: Write>(
+    out: &mut Reply,
+    writer: &mut WatchedWriter<'_, W>,
+) -> Result<(), RunFault>
+    requires can { writer.old.failed ≡ false }
+    requires room { length out.old.items < 320 }
+    ensures ok { OnOk result (Appends (W.contents writer.old.inner.now) (W.contents writer.new.inner.now)
+        (out.old.items ++ 10 ∷ [])) }
+    ensures front { WritesFront (W.contents writer.old.inner.now) (W.contents writer.new.inner.now)
+        (out.old.items ++ 10 ∷ []) }
+    ensures fault { IfErr result (λ fault. fault ≡ RunFault.Write) }
+    ensures told { writer.new.failed ≡ is_err result }
+    ensures same_writer { writer.new.inner.ghost_name ≡ writer.old.inner.ghost_name }
+{
+    out.push(b'\n');
+    write_out(writer, out.as_slice())
+}
+
+// Carries out a line and writes its answer.
 fn answer<W: Write>(
     platform: &mut Platform,
     trace: &mut Trace,
@@ -61,8 +80,33 @@ fn answer<W: Write>(
     if !answer_to(platform, trace, line, out) {
         return Ok(());
     }
-    out.push(b'\n');
-    write_out(writer, out.as_slice())
+    write_answer(out, writer)
+}
+
+// The same for a line that was cut off at its end, and so isn't searched for one.
+fn answer_cut<W: Write>(
+    platform: &mut Platform,
+    trace: &mut Trace,
+    line: &[u8],
+    out: &mut Reply,
+    writer: &mut WatchedWriter<'_, W>,
+) -> Result<(), RunFault>
+    requires can { writer.old.failed ≡ false }
+    requires cut { list_any (λ c. c == 10) line.now ≡ false }
+    ensures console { console platform.new trace.new
+        ≡ console_after (console platform.old trace.old) (steps_of line.now) }
+    ensures ok { OnOk result (Appends (W.contents writer.old.inner.now) (W.contents writer.new.inner.now)
+        (output_to (console platform.old trace.old) line.now)) }
+    ensures front { WritesFront (W.contents writer.old.inner.now) (W.contents writer.new.inner.now)
+        (output_to (console platform.old trace.old) line.now) }
+    ensures fault { IfErr result (λ fault. fault ≡ RunFault.Write) }
+    ensures told { writer.new.failed ≡ is_err result }
+    ensures same_writer { writer.new.inner.ghost_name ≡ writer.old.inner.ghost_name }
+{
+    if !answer_to_cut(platform, trace, line, out) {
+        return Ok(());
+    }
+    write_answer(out, writer)
 }
 
 // Carries out and answers a last line that lacks its line end; where it has no byte there is none.
@@ -174,7 +218,7 @@ impl Rest {
     {
         self.lines += 1;
         if self.line.is_empty() {
-            return answer(platform, trace, part, &mut self.reply, writer);
+            return answer_cut(platform, trace, part, &mut self.reply, writer);
         }
         self.keep(part);
         answer(

@@ -1,22 +1,11 @@
 ghost use Rattle.std.specs.Prelude.{◌≡◌};
 ghost use Rattle.iom_text.specs.Words.{words_of};
-ghost use Rattle.iom_tool.specs.Script.{load, store, reg_read, reg_write, reg, cmd, dma_read, dma_write, dma, dev_read, dev_write, dev_step, dev, place_page, place_context, place, shown, show, trace, step_of, question_of, meaning, line_of};
+ghost use Rattle.iom_tool.specs.Script.{load, store, reg_read, reg_write, reg, cmd, dma_read, dma_write, dma, dev_read, dev_write, dev_step, dev, place_page, place_context, place, shown, show, trace, step_of, question_of};
 
 use crate::operands::{four, numbers_and_data, one, three, two};
 use iom_asm::Item;
 use iom_core::Step;
 use iom_text::{is_over, take_word};
-
-/// What a line of a script says.
-#[derive(Drop)]
-pub enum Line {
-    /// It has no words.
-    Blank,
-    /// It is no line that there is.
-    Bad,
-    Does(Step),
-    Asks(Question),
-}
 
 /// A question about the platform or the trace. It is no step.
 #[derive(Drop)]
@@ -222,9 +211,10 @@ fn trace(text: &[u8]) -> Option<Question>
     Some(Question::Trace(one(text)?))
 }
 
+/// The step that a line is, by its first word and what follows it.
 #[inline(always)]
 #[tactic(auto, unfolding(crate::specs::Script::step_of))]
-fn step_of(verb: &[u8], text: &[u8]) -> Option<Step>
+pub fn step_of(verb: &[u8], text: &[u8]) -> Option<Step>
     ensures { result ≡ step_of verb.now (words_of text.now) }
 {
     match verb {
@@ -238,8 +228,9 @@ fn step_of(verb: &[u8], text: &[u8]) -> Option<Step>
     }
 }
 
+/// The question that a line is, by its first word and what follows it.
 #[tactic(auto, unfolding(crate::specs::Script::question_of))]
-fn question_of(verb: &[u8], text: &[u8]) -> Option<Question>
+pub fn question_of(verb: &[u8], text: &[u8]) -> Option<Question>
     ensures { result ≡ question_of verb.now (words_of text.now) }
 {
     match verb {
@@ -248,33 +239,4 @@ fn question_of(verb: &[u8], text: &[u8]) -> Option<Question>
         b"trace" => trace(text),
         _ => None,
     }
-}
-
-#[inline(always)]
-#[tactic(auto, unfolding(crate::specs::Script::meaning))]
-fn meaning(text: &[u8]) -> Line
-    ensures { result ≡ meaning (words_of text.now) }
-{
-    let Some((verb, text)) = take_word(text) else {
-        return Line::Blank;
-    };
-    if let Some(step) = step_of(verb, text) {
-        return Line::Does(step);
-    }
-    match question_of(verb, text) {
-        Some(question) => Line::Asks(question),
-        None => Line::Bad,
-    }
-}
-
-/// What a line says, its text given without its end.
-#[inline(always)]
-#[tactic(auto, unfolding(crate::specs::Script::line_of))]
-pub fn line_of(text: &[u8]) -> Line
-    ensures { result ≡ line_of text.now }
-{
-    if text.len() > MOST_BYTES_OF_A_LINE || text.contains(&b'\n') {
-        return Line::Bad;
-    }
-    meaning(text)
 }

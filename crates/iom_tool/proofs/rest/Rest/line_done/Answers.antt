@@ -8,9 +8,9 @@ pub returns-then-is_empty-clause-fed : goal.returns-then-is_empty-clause-fed
 returns-then-is_empty-clause-fed g c start text h short =
     let nothing = none_kept c.args.self.now.line.items c.if-is_empty.ensures in
     let begun = unbegun _ _ h.keeps nothing.0 in
-    line_answered _ _ _ c.args.part.now _ _ _ _ _ _ c.answer.result h c.requires.one short c.requires.few
+    line_answered _ _ _ c.args.part.now _ _ _ _ _ _ c.answer_cut.result h c.requires.one short c.requires.few
     (ap (λ l. line_of (l ++ c.args.part.now)) (sym begun))
-    c.answer.ensures.console c.answer.ensures.ok c.answer.ensures.front c.answer.ensures.fault nothing.1
+    c.answer_cut.ensures.console c.answer_cut.ensures.ok c.answer_cut.ensures.front c.answer_cut.ensures.fault nothing.1
 
 pub returns-in_err-answer-clause-fed : goal.returns-in_err-answer-clause-fed
 returns-in_err-answer-clause-fed g c start text h short =
