@@ -113,19 +113,36 @@ pub fn words(text: &[u8]) -> Words<'_>
     words
 }
 
-// The value of a digit of this radix. It is told without a branch, since digits and letters follow each other by chance.
+// The value of each byte as a digit: 0 to 35, and 36 where it is no digit. A table has no branch, and digits and letters follow
+// each other by chance.
+#[rattlefmt::skip]
+static DIGITS: [u8; 256] = [
+    36, 36, 36, 36, 36, 36, 36, 36, 36, 36, 36, 36, 36, 36, 36, 36,
+    36, 36, 36, 36, 36, 36, 36, 36, 36, 36, 36, 36, 36, 36, 36, 36,
+    36, 36, 36, 36, 36, 36, 36, 36, 36, 36, 36, 36, 36, 36, 36, 36,
+    0, 1, 2, 3, 4, 5, 6, 7, 8, 9, 36, 36, 36, 36, 36, 36,
+    36, 10, 11, 12, 13, 14, 15, 16, 17, 18, 19, 20, 21, 22, 23, 24,
+    25, 26, 27, 28, 29, 30, 31, 32, 33, 34, 35, 36, 36, 36, 36, 36,
+    36, 10, 11, 12, 13, 14, 15, 16, 17, 18, 19, 20, 21, 22, 23, 24,
+    25, 26, 27, 28, 29, 30, 31, 32, 33, 34, 35, 36, 36, 36, 36, 36,
+    36, 36, 36, 36, 36, 36, 36, 36, 36, 36, 36, 36, 36, 36, 36, 36,
+    36, 36, 36, 36, 36, 36, 36, 36, 36, 36, 36, 36, 36, 36, 36, 36,
+    36, 36, 36, 36, 36, 36, 36, 36, 36, 36, 36, 36, 36, 36, 36, 36,
+    36, 36, 36, 36, 36, 36, 36, 36, 36, 36, 36, 36, 36, 36, 36, 36,
+    36, 36, 36, 36, 36, 36, 36, 36, 36, 36, 36, 36, 36, 36, 36, 36,
+    36, 36, 36, 36, 36, 36, 36, 36, 36, 36, 36, 36, 36, 36, 36, 36,
+    36, 36, 36, 36, 36, 36, 36, 36, 36, 36, 36, 36, 36, 36, 36, 36,
+    36, 36, 36, 36, 36, 36, 36, 36, 36, 36, 36, 36, 36, 36, 36, 36,
+];
+
+// The value of a digit of this radix.
 #[inline(always)]
 fn digit_in(radix: u64, c: u8) -> Option<u64>
     requires { radix ≤ 16 }
     ensures { SomeIff result (digit_value c < radix) (digit_value c) }
 {
-    let is_hex = (c >= b'0') & (c <= b'9') | (c >= b'A') & (c <= b'F') | (c >= b'a') & (c <= b'f');
-    let value = u64::from(c % 16 + 9 * (c / 64));
-    if is_hex & (value < radix) {
-        Some(value)
-    } else {
-        None
-    }
+    let value = u64::from(DIGITS[usize::from(c)]);
+    if value < radix { Some(value) } else { None }
 }
 
 // The number that digits of a radix write up to the end of their word, and what follows that.
