@@ -90,7 +90,7 @@ pub fn with_disk(disk: Vec<u8>) -> Option<Blk> {
 }
 
 // A device that was not touched yet.
-pub fn device(alloc: Global) -> Result<Blk, Fail> {
+fn device(alloc: Global) -> Result<Blk, Fail> {
     Ok(with_disk(disk(alloc)?).ok_or("a disk of two sectors")?)
 }
 

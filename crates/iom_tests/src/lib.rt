@@ -6,8 +6,6 @@ mod asm;
 #[cfg(test)]
 mod bits;
 #[cfg(test)]
-mod blk_registers;
-#[cfg(test)]
 mod blk_requests;
 #[cfg(test)]
 mod cache;
