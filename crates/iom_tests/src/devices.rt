@@ -1,14 +1,11 @@
-//! Block devices behind the IOMMU: whole requests, copies amid them, disks, and what an unmapped page does to them.
+//! Block devices behind the IOMMU: copies amid a request, its warrants, and what an unmapped page does to it.
 
 ghost use Rattle.std.specs.Prelude.{IfOk};
 ghost use Rattle.iom_core.specs.State.{AreDevices};
 
-use crate::asm::REQUEST;
-use iom_asm::{assemble, load};
 use iom_blk::Blk;
 use iom_core::{Answer, Platform, Step, Warrant, explain};
 use iom_mem::Ram;
-use iom_tool::Trace;
 use std::alloc::Global;
 use std::test::Fail;
 
@@ -134,19 +131,6 @@ fn moved(platform: &mut Platform, count: usize) -> usize {
     count
 }
 
-// What a script writes.
-fn answered(alloc: Global, platform: &mut Platform, script: &[u8]) -> Result<Vec<u8>, Fail> {
-    let mut trace = Trace::new(alloc)?;
-    let mut reader = script;
-    let mut writer = Vec::new(alloc);
-    iom_tool::run(platform, &mut trace, &mut reader, &mut writer)?;
-    Ok(writer)
-}
-
-fn is_text(written: &Vec<u8>, want: &[u8]) -> bool {
-    written.as_slice() == want
-}
-
 // The platform of a read at physical addresses, notified.
 fn reading(alloc: Global) -> Result<Platform, Fail> {
     let ram = memory(alloc, &BARE_READ)?;
@@ -158,80 +142,6 @@ fn reading(alloc: Global) -> Result<Platform, Fail> {
     });
     notified(&mut platform, 0x8004_0000, 0x8004_1000, 0x8004_2000);
     Ok(platform)
-}
-
-// The used index is written last, and a device that there is not is no device.
-#[test]
-fn sector_is_read(rt: HostRuntime) -> Result<(), Fail> {
-    let mut platform = reading(rt.alloc())?;
-    let before = answered(
-        rt.alloc(),
-        &mut platform,
-        b"dev step 0\ndev step 0\ndev step 0\ndev step 0\ndev step 0\ndev step 0\ndev step 0\ndev step 0\ndev step 0\ndev step 0\ndev step 0\ndev step 0\ndev step 0\ndev step 0\ndev step 0\ndev step 0\ndev step 0\ndev step 0\ndev step 0\nload 0x80042002 2\n",
-    )?;
-    assert!(rt;
-        is_text(
-            &before,
-            b"done\ndone\ndone\ndone\ndone\ndone\ndone\ndone\ndone\ndone\ndone\ndone\ndone\ndone\ndone\ndone\ndone\ndone\ndone\n0x0\n"
-        )
-    );
-    let after = answered(
-        rt.alloc(),
-        &mut platform,
-        b"dev step 0\nload 0x80051000 4\nload 0x80050010 1\nload 0x80042000 8\nload 0x80042008 4\ndev read 0 0x60 4\ndev step 0\ndev step 0\ndev step 1\ndev read 1 0 4\ndev write 1 0 4 0x100000000\ndev read 0 0 3\ndev write 0 0x38 4 0x100000000\ndev write 0 0x38 2 1\n",
-    )?;
-    assert!(rt;
-        is_text(
-            &after,
-            b"done\n0xeeffc0\n0x0\n0x10000\n0x201\n0x1\ndone\nidle\nno device\nno device\nno device\nbad access\nmisuse\nbad access\n"
-        )
-    );
-    Ok(())
-}
-
-// The hart spoils the request while it stands in memory: what the device reads then is what it goes by.
-#[test]
-fn request_changed_by_the_hart(rt: HostRuntime) -> Result<(), Fail> {
-    let mut platform = reading(rt.alloc())?;
-    let written = answered(
-        rt.alloc(),
-        &mut platform,
-        b"store 0x80050008 8 2\nstore 0x80042008 4 7\ndev step 0\ndev step 0\ndev step 0\ndev step 0\ndev step 0\ndev step 0\ndev step 0\ndev step 0\ndev step 0\ndev step 0\ndev step 0\ndev step 0\nload 0x80050010 1\nload 0x80042008 4\nload 0x80042002 2\n",
-    )?;
-    assert!(rt;
-        is_text(
-            &written,
-            b"done\ndone\ndone\ndone\ndone\ndone\ndone\ndone\ndone\ndone\ndone\ndone\ndone\ndone\n0x1\n0x0\n0x1\n"
-        )
-    );
-    Ok(())
-}
-
-// The page behind the first data isn't mapped: the device is denied and breaks, and the bytes before are on the disk.
-#[test]
-fn device_is_denied(rt: HostRuntime) -> Result<(), Fail> {
-    let ram = memory(rt.alloc(), &WALKED_WRITE)?;
-    let mut platform = Platform::new(rt.alloc(), ram, devices(rt.alloc(), 512, &[])?)?;
-    let _queue = answered(
-        rt.alloc(),
-        &mut platform,
-        b"reg write 16 8 0x20000402\nreg write 40 8 0x20020001\nreg write 76 4 1\n",
-    )?;
-    notified(&mut platform, 0x4020_1000, 0x4020_1100, 0x4020_1200);
-    assert!(rt; moved(&mut platform, 10) == 10);
-    let written = answered(
-        rt.alloc(),
-        &mut platform,
-        b"dev step 0\ndev step 0\ndev read 0 0x70 4\ndev read 0 0x60 4\nload 0x80080010 8\ndev write 0 0x70 4 0\ndev read 0 0x70 4\n",
-    )?;
-    assert!(rt;
-        is_text(
-            &written,
-            b"denied 13\nidle\n0x4f\n0x2\n0x40202000\ndone\n0x0\n"
-        )
-    );
-    assert!(rt; matches!(platform.disk(0), Some([0x5a, 0, ..])) && platform.disk(1).is_none());
-    Ok(())
 }
 
 // Which steps of a list have these warrants, from a platform on which nothing happened yet.
@@ -462,23 +372,5 @@ fn requests_behind_both_stages(rt: HostRuntime) -> Result<(), Fail> {
     for (i, request) in requests.iter().enumerate() {
         assert!(rt; goes(rt.alloc(), *request)?, "request {i}");
     }
-    Ok(())
-}
-
-// The image of the same request, loaded: the sector is read, and the disk has its bytes, then zeros.
-#[test]
-fn loaded_image_reads_its_disk(rt: HostRuntime) -> Result<(), Fail> {
-    let image = assemble(rt.alloc(), REQUEST)?;
-    let mut platform = load(rt.alloc(), image.as_slice())?;
-    platform.step(&Step::RegWrite {
-        off: 16,
-        size: 8,
-        value: 1,
-    });
-    notified(&mut platform, 0x8004_0000, 0x8004_1000, 0x8004_2000);
-    assert!(rt; moved(&mut platform, 23) == 21);
-    assert!(rt; platform.ram().word(0x8005_1000) == Some(0xee_ffc0));
-    let disk = platform.disk(0).unwrap_or(&[]);
-    assert!(rt; disk.len() == 1024 && matches!(disk, [0xc0, 0xff, 0xee, 0, ..]));
     Ok(())
 }
