@@ -21,13 +21,18 @@ SECONDS = 60
 BUILT_IN = "ram 0x80000000 0x100000\n"
 NUMBER = re.compile(r"\b(0x[0-9a-fA-F]+|[0-9]+)\b")
 LIMITS = [0, 1, 2, 3, 4, 5, 7, 8, 9, 16, 63, 64, 65, 127, 128, 511, 512, 513, 4095, 4096, 2**16 - 1, 2**16, 2**24 - 1, 2**24, 2**32 - 1, 2**32]
-LIMITS += [2**38, 2**39, 2**41, 2**44, 2**56 - 1, 2**56, 2**63, 2**64 - 1, 2**64, 0x80000000, 0x800FFFFF, 0x80100000]
+LIMITS += [2**38, 2**39, 2**41, 2**44, 2**47, 2**48, 2**50, 2**56 - 1, 2**56, 2**63, 2**64 - 1, 2**64, 0x80000000, 0x800FFFFF, 0x80100000]
+IOVAS = [0x40201ABC, 0x40202000, 0x8040201ABC, 0xFFFF800080010ABC, 0x2010080010ABC]
+# Of a stage of device 5's context: its modes, one that there isn't, and the PPNs of roots, two of them not aligned.
+MODES = [0, 8, 9, 10]
+ROOTS = [0x30, 0x80002, 0x80005, 0x80020, 0x80024, 0x80030]
 KINDS = ["cmd", "fault", "context", "dir", "pte", "u64"]
 THEMES = {
     "registers": ["registers", "register_table", "identity", "off_"],
     "directory": ["at_one", "at_three", "no_context", "misconfigured", "upper_entries", "too_wide", "first_bit", "directory"],
     "one stage": ["first_stage", "superpage", "upper_half", "read_only", "root_that", "stale", "bytes_at"],
     "both stages": ["both_stages", "guest_fault", "second_stage", "entry_o"],
+    "four levels": ["four_levels", "every_mode", "of_four"],
     "queues": ["queue", "fence", "illegal", "command"],
     "caches": ["oldest_place", "one_page", "global", "full_inv", "stale", "directory_inv", "places"],
     "rings and disks": ["disk", "chain", "descriptor", "sector"],
@@ -121,7 +126,8 @@ class Mutator:
                             f"reg read {self.random.choice([16, 24, 32, 36, 40, 48, 52, 72, 76, 84])} 4",
                             "cmd",
                             "dev step 0",
-                            f"dma read 5 {self.random.choice([0x40201ABC, 0x40202000, near]):#x} {self.random.choice([1, 8, 64])}",
+                            f"dma read 5 {self.random.choice(IOVAS + [near]):#x} {self.random.choice([1, 8, 64])}",
+                            f"store {self.random.choice([0x800010A8, 0x800010B8]):#x} 8 {self.random.choice(MODES) << 60 | self.random.choice(ROOTS):#x}",
                         ]
                     )
                 )

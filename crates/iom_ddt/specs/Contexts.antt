@@ -2,15 +2,15 @@
 use Rattle.std.specs.Prelude.{ℕ, ◌≡◌, ◌≢◌, ◌<◌, ◌^◌, ◌%◌, ◌==◌, ◌&&◌, ◌||◌, Bool, IsTrue}
 use Rattle.iom_ddt.specs.declared.context.Context.{Context}
 
--- the modes of a stage: 0 is Bare, 8 is Sv39 for the first stage and Sv39x4 for the second
+-- the modes of a stage: 0 is Bare; for the first stage 8 is Sv39 and 9 Sv48, for the second 8 is Sv39x4 and 9 Sv48x4
 abbrev pub is_mode : ℕ → Bool
-is_mode mode = mode == 0 || mode == 8
+is_mode mode = mode == 0 || mode == 8 || mode == 9
 
 -- neither stage translates
 abbrev pub is_bare : Context → Bool
 is_bare c = c.mode == 0 && c.gmode == 0
 
--- its fields fit, its modes are 0 or 8, and the second stage's root table is aligned to its 16 KiB
+-- its fields fit, its modes are 0, 8 or 9, and the second stage's root table is aligned to its 16 KiB
 pub record IsWellFormed (c : Context) : Type 0 where
   pub custom : c.custom < 2 ^ 8
   pub second_mode : IsTrue (is_mode c.gmode)

@@ -8,16 +8,22 @@ use Rattle.iom_walk.specs.Outcome.{outcome_of}
 use Rattle.iom_walk.specs.declared.source.Got.{Got}
 use Rattle.iom_walk.specs.declared.source.Got.TheVariants as got
 use Rattle.iom_walk.specs.declared.shape.Shape.{Shape}
-use Rattle.iom_walk.specs.declared.shape.Shape.TheVariants.{Sv39, Sv39x4}
+use Rattle.iom_walk.specs.declared.shape.Shape.TheVariants.{Sv39, Sv39x4, Sv48, Sv48x4}
 use Rattle.iom_walk.specs.declared.outcome.Outcome.{Outcome}
 use Rattle.iom_walk.specs.declared.outcome.Outcome.TheVariants as outcome
 
--- the shape of a stage's tables; None: the stage is Bare, which mode 0 alone says
-abbrev pub first_shape_of : Context → Option Shape
-first_shape_of context = if context.mode == 0 then None else Some Sv39
+-- The shape of a stage's tables, by its mode: that of mode 8 or that of mode 9, which are all but 0 that a well-formed context
+-- has. None: the stage is Bare, which mode 0 alone says.
+abbrev pub shape_by : ℕ → Shape → Shape → Option Shape
+shape_by mode eight nine = if mode == 0 then None else if mode == 8 then Some eight else Some nine
 
+-- the first stage's mode is that of fsc
+abbrev pub first_shape_of : Context → Option Shape
+first_shape_of context = shape_by context.mode Sv39 Sv48
+
+-- the second stage's is that of iohgatp
 abbrev pub second_shape_of : Context → Option Shape
-second_shape_of context = if context.gmode == 0 then None else Some Sv39x4
+second_shape_of context = shape_by context.gmode Sv39x4 Sv48x4
 
 -- what memory has at a physical address
 abbrev pub got_word : Option ℕ → Got

@@ -55,9 +55,9 @@ impl Words for Second<'_> {
 pub fn second_shape(context: &Context) -> Option<Shape>
     ensures { result ≡ second_shape_of context.now }
 {
-    if context.gmode == 0 {
-        None
-    } else {
-        Some(Shape::Sv39x4)
+    match context.gmode {
+        0 => None,
+        8 => Some(Shape::Sv39x4),
+        _ => Some(Shape::Sv48x4),
     }
 }

@@ -18,7 +18,7 @@ use iom_walk::{Outcome, Shape, walk};
 pub struct Hit {
     /// The PPN of the page's frame, 44 bits: its physical address divided by 4096.
     pub frame: u64,
-    /// The level of the first stage's leaf, 0 to 2; 0 where that stage is Bare.
+    /// The level of the first stage's leaf, 0 to 3; 0 where that stage is Bare.
     pub level: u8,
     /// Whether the first stage's mapping is global; false where that stage is Bare.
     pub global: bool,
@@ -141,9 +141,9 @@ fn entry_outside(kind: Kind) -> Fault
 fn first_shape(context: &Context) -> Option<Shape>
     ensures { result ≡ first_shape_of context.now }
 {
-    if context.mode == 0 {
-        None
-    } else {
-        Some(Shape::Sv39)
+    match context.mode {
+        0 => None,
+        8 => Some(Shape::Sv39),
+        _ => Some(Shape::Sv48),
     }
 }

@@ -58,9 +58,10 @@ slot_at off =
     else if off == 84 then Whole Ipsr
     else Free
 
--- what a read shows. "IOMMU capabilities": version 1.0, Sv39, Sv39x4, IGS = WSI, PAS = 56. "Features-control register": WSI
+-- what a read shows. "IOMMU capabilities": version 1.0, Sv39, Sv48, Sv39x4, Sv48x4, IGS = WSI, PAS = 56. "Features-control register":
+-- WSI
 abbrev pub shown : Registers → Name → ℕ
-shown r Capabilities = 0x3810020210
+shown r Capabilities = 0x3810060610
 shown r Fctl = 2
 shown r Ddtp = r.ddtp
 shown r Cqb = r.cqb

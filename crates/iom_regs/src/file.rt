@@ -10,8 +10,8 @@ use crate::views::{Mode, Queue, Which};
 use iom_bits::{field, with_field};
 use std::marker::Model;
 
-// capabilities: version 1.0, Sv39, Sv39x4, interrupts by wire alone, 56 bits of physical address.
-const CAPABILITIES: u64 = 0x38_1002_0210;
+// capabilities: version 1.0, Sv39, Sv48, Sv39x4, Sv48x4, interrupts by wire alone, 56 bits of physical address.
+const CAPABILITIES: u64 = 0x38_1006_0610;
 
 // fctl: interrupts by wire.
 const FCTL: u64 = 2;

@@ -90,7 +90,7 @@ fn otherwise_shown(regs: &mut Regs, events: &[(Event, [u64; 5])]) -> Option<usiz
 fn registers_are_as_in_the_table(rt: HostRuntime) {
     let mut regs = Regs::reset();
     let writes = [
-        (0, 8, 0xffff_ffff_ffff_ffff, 0x38_1002_0210),
+        (0, 8, 0xffff_ffff_ffff_ffff, 0x38_1006_0610),
         (4, 4, 0, 0x38),
         (8, 4, 0, 2),
         (80, 4, 1, 0),

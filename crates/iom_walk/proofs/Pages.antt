@@ -6,7 +6,7 @@ use Rattle.iom_bits.specs.Bits.{has_bit}
 use Rattle.iom_bits.specs.declared.causes.Kind.{Kind}
 use Rattle.iom_walk.specs.declared.source.Got.{Got}
 use Rattle.iom_walk.specs.declared.shape.Shape.{Shape}
-use Rattle.iom_walk.specs.declared.shape.Shape.TheVariants.{Sv39, Sv39x4}
+use Rattle.iom_walk.specs.declared.shape.Shape.TheVariants.{Sv39, Sv39x4, Sv48, Sv48x4}
 use Rattle.iom_walk.specs.declared.outcome.Outcome.TheVariants as outcome
 use Rattle.iom_walk.specs.Shape.{index_of, index_width, is_in_width, levels}
 use Rattle.iom_walk.specs.Verdict.{Verdict, ppn}
@@ -30,6 +30,8 @@ same_width : (shape : Shape) (a b : ℕ) → a / 4096 ≡ b / 4096 → is_in_wid
 unfolding is_in_width has_bit
 same_width Sv39 a b same = rw (same_bits a b 26 same, same_bits a b 27 same) refl
 same_width Sv39x4 a b same = rw (same_bits a b 29 same) refl
+same_width Sv48 a b same = rw (same_bits a b 35 same, same_bits a b 36 same) refl
+same_width Sv48x4 a b same = rw (same_bits a b 38 same) refl
 
 same_path : (at : ℕ → Got) (shape : Shape) (a b table count : ℕ) → a / 4096 ≡ b / 4096 →
     path_from at shape a table count ≡ path_from at shape b table count

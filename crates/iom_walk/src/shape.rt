@@ -12,6 +12,11 @@ pub enum Shape {
     /// Three levels, of which the root has four times as many entries. An address, a guest-physical one, is below
     /// 2^41.
     Sv39x4,
+    /// Four levels. Bits 63:48 of an address repeat bit 47.
+    Sv48,
+    /// Four levels, of which the root has four times as many entries. An address, a guest-physical one, is below
+    /// 2^50.
+    Sv48x4,
 }
 
 impl Shape {
@@ -24,6 +29,7 @@ impl Shape {
     {
         match self {
             Shape::Sv39 | Shape::Sv39x4 => 3,
+            Shape::Sv48 | Shape::Sv48x4 => 4,
         }
     }
 
@@ -33,13 +39,13 @@ impl Shape {
         ensures most { result ≤ 2 }
     {
         match self {
-            Shape::Sv39 => 0,
-            Shape::Sv39x4 => 2,
+            Shape::Sv39 | Shape::Sv48 => 0,
+            Shape::Sv39x4 | Shape::Sv48x4 => 2,
         }
     }
 
-    /// The index of the entry that `addr` is met at in a table of level `level`: below 2^11 in the root of
-    /// Sv39x4, below 2^9 in all other tables.
+    /// The index of the entry that `addr` is met at in a table of level `level`: below 2^11 in a root of
+    /// Sv39x4 or Sv48x4, below 2^9 in all other tables.
     #[tactic(auto, unfolding(crate::specs::Shape::index_of))]
     pub(crate) fn index(self, addr: u64, level: u8) -> u64
         requires { level < levels self }
@@ -62,6 +68,8 @@ impl Shape {
         match self {
             Shape::Sv39 => field(addr, 39, 25) == if has_bit(addr, 38) { 0x1ff_ffff } else { 0 },
             Shape::Sv39x4 => field(addr, 41, 23) == 0,
+            Shape::Sv48 => field(addr, 48, 16) == if has_bit(addr, 47) { 0xffff } else { 0 },
+            Shape::Sv48x4 => field(addr, 50, 14) == 0,
         }
     }
 }

@@ -10,3 +10,11 @@ returns-after-has_bit c = search rules
 pub returns-in-Sv39x4 : goal.returns-in-Sv39x4
 unfolding is_in_width
 returns-in-Sv39x4 c = search rules
+
+pub returns-after-has_bit-2 : goal.returns-after-has_bit-2
+unfolding is_in_width
+returns-after-has_bit-2 c = search rules
+
+pub returns-in-Sv48x4 : goal.returns-in-Sv48x4
+unfolding is_in_width
+returns-in-Sv48x4 c = search rules

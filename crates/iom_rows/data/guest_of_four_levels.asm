@@ -1,0 +1,11 @@
+ram 0x80000000 0x100000
+at 0x800010a0
+context gmode=8 gppn=0x80020 gscid=7 mode=8 ppn=0x30 # device 5 of guest 7: both stages, their roots at pages 0x30 and 0x80020
+at 0x80030008
+pte ppn=0x31 flags=1                                 # first stage, level 2: a pointer to the guest's page 0x31
+at 0x80031008
+pte ppn=0x32 flags=1                                 # level 1: a pointer to the guest's page 0x32
+at 0x80032008
+pte ppn=0x40 flags=0xd7                              # level 0: the guest's page 0x40, with V, R, W, U, A and D
+at 0x80040abc
+bytes a1a2a3a4                                       # what the device is to read
