@@ -3,8 +3,8 @@
 
 A case is a text for an image and a script, made by small changes from those of examples/ and crates/iom_rows/data: numbers moved to
 their neighbours, to limits and to other numbers of the case, bits turned over, lines left out, doubled, moved and taken from other
-cases, stores into tables, rings and queues between other lines, images cut short and with bytes replaced. What the programs write, the images, the
-statuses and the texts of faults are compared. Prints how many lines were compared for each theme; at the first difference its line and the
+cases, writable disks made read-only, stores into tables, rings and queues between other lines, images of both versions cut short and with bytes
+replaced. What the programs write, the images, upgraded ones too, the statuses and the texts of faults are compared. Prints how many lines were compared for each theme; at the first difference its line and the
 shortest script and text that show it, and the status is 1.
 """
 import glob
@@ -107,6 +107,12 @@ class Mutator:
                 lines[at:at] = donor[first : first + self.random.choice([1, 2, 8])]
         return lines
 
+    def disks(self, lines):
+        """The lines with some disks of the other kind."""
+        other = {"disk": "rodisk", "rodisk": "disk"}
+        parts = [line.split(" ", 1) for line in lines]
+        return [" ".join([other[first] if first in other and self.random.random() < 0.2 else first, *rest]) for first, *rest in parts]
+
     def watched(self, lines):
         """The lines with stores, accesses and questions between them."""
         addresses = [int(it, 0) for line in lines for it in NUMBER.findall(line) if it.startswith("0x") and 0x80000000 <= int(it, 0) < 0x80100000] or [0x80000000]
@@ -197,7 +203,16 @@ class Pair:
         if found:
             return found, lines
         listed, more = self.ran(self.both(lambda _: ["list", path, *words]), 0)
-        return listed, lines + more
+        return listed or self.upgraded(path), lines + more
+
+    def upgraded(self, path):
+        """What differs on an image that is upgraded."""
+        for number in range(2):
+            self.put(f"image{number}", b"before")
+        ended = self.both(lambda number: ["upgrade", path, self.path(f"image{number}")])
+        if ended[0] != ended[1] or self.image(0) != self.image(1):
+            return f"upgrade: {ended[0]} and {ended[1]}, images {self.image(0).hex()} and {self.image(1).hex()}"
+        return None
 
 
 def shortened(lines, is_shown):
@@ -227,6 +242,7 @@ def tried(pair, mutator, theme, found):
     names = [name for name in found if any(name.startswith(start) or (start and start in name) or not start for start in THEMES[theme])]
     text, script = found[mutator.random.choice(names)]
     donor = found[mutator.random.choice(list(found))]
+    text = mutator.disks(text)
     if theme == "images":
         pair.difference(text, [])
         words = [mutator.random.choice(KINDS), mutator.written(mutator.number(0x800FFFF0, [])), str(mutator.random.choice([0, 1, 2, 9, 2**64 - 1]))]

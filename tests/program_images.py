@@ -1,12 +1,18 @@
-"""Checks of the program on images: the words asm, run and list, what they refuse, and their help."""
+"""Checks of the program on images: the words asm, run, list and upgrade, what they refuse, and their help."""
+import glob
 import os
 import subprocess
 
-from checks import ANSWER, ASK, PROGRAM, READ_FAILED, RUN_SECONDS, WELL, Failure, check, folder, put, run, want, want_words
+from checks import ANSWER, ASK, EXAMPLES, PROGRAM, READ_FAILED, RUN_SECONDS, WELL, Failure, check, folder, put, run, want, want_words
 
 BUILT_IN = b"RVIOMMU1" + (0x80000000).to_bytes(8, "little") + (0x100000).to_bytes(8, "little") + bytes(8)
+READ_ONLY = b"RVIOMMU2" + (0x80000000).to_bytes(8, "little") + (0x1000).to_bytes(8, "little") + bytes(4) + b"".join(
+    number.to_bytes(4, "little") for number in (1, 5, 1, 1, 1)) + b"\xaa"
 TEXT = b"ram 0x80000000 0x1000 # a page\nat 0x80000ff0\ncmd iodir dv=1 did=5\n"
 COMMAND = b"cmd iodir dv=0x1 did=0x5\n"
+
+
+ROWS = os.path.join(EXAMPLES, os.pardir, "crates", "iom_rows", "data")
 
 
 def fault(text):
@@ -37,6 +43,59 @@ def _():
         want_words(["run", image], ANSWER, given=ASK)
 
 
+def read(path):
+    with open(path, "rb") as file:
+        return file.read()
+
+
+def upgraded(here, image):
+    """The bytes that `upgrade` makes of those of an image, once and twice."""
+    old, new, twice = put(here, "old", image), os.path.join(here, "once"), os.path.join(here, "twice")
+    want_words(["upgrade", old, new], b"")
+    want_words(["upgrade", new, twice], b"")
+    return read(new), read(twice)
+
+
+@check("upgrade: version 1 gets another magic and flags, version 2 comes back, and a file may be upgraded in place")
+def _():
+    with folder() as here:
+        wanted = BUILT_IN[:7] + b"2" + BUILT_IN[8:]
+        want("the built-in image", upgraded(here, BUILT_IN), (wanted, wanted))
+        want("a read-only disk", upgraded(here, READ_ONLY), (READ_ONLY, READ_ONLY))
+        one = b"RVIOMMU1" + READ_ONLY[8:40] + READ_ONLY[44:]
+        two = READ_ONLY[:40] + bytes(4) + READ_ONLY[44:]
+        want("a disk", upgraded(here, one), (two, two))
+        image = put(here, "image", one)
+        want_words(["upgrade", image, image], b"")
+        want("the image", read(image), two)
+
+
+@check("asm: a text with rodisk gives version 2, any other version 1")
+def _():
+    with folder() as here:
+        for word, wanted in ((b"rodisk", READ_ONLY), (b"disk", b"RVIOMMU1" + READ_ONLY[8:40] + READ_ONLY[44:])):
+            source, image = put(here, "source", b"ram 0x80000000 0x1000\n" + word + b" 5 1 aa\n"), os.path.join(here, "image")
+            want_words(["asm", source, image], b"")
+            want("the image", read(image), wanted)
+
+
+@check("upgrade: every image of the examples and the rows gives the same answers to its script")
+def _():
+    played = 0
+    for text in sorted(glob.glob(os.path.join(EXAMPLES, "*.asm")) + glob.glob(os.path.join(ROWS, "*.asm"))):
+        script = text[: -len("asm")] + "script"
+        if not os.path.exists(script):
+            continue
+        with folder() as here:
+            image, new, given = os.path.join(here, "image"), os.path.join(here, "new"), read(script)
+            want_words(["asm", text, image], b"")
+            want_words(["upgrade", image, new], b"")
+            want(f"the version of {text}", read(new)[:8], b"RVIOMMU2")
+            want(f"the answers to {script}", run(["run", new], given), run(["run", image], given))
+            played += 1
+    want("whether there were some", played > 20, True)
+
+
 def add_bad_text(name, text, line):
     @check(f"asm: {name}, and the image's file is as it was")
     def _():
@@ -56,17 +115,24 @@ add_bad_text("two data at one address", b"ram 0x80000000 0x1000\nu64 1\nat 0x800
 
 
 def add_bad_image(name, image, text):
-    @check(f"run, list: {name}")
+    @check(f"run, list, upgrade: {name}")
     def _():
         with folder() as here:
             path = put(here, "image", image)
             want_words(["run", path], b"", fault(text), given=ASK)
             want_words(["list", path, "u64", "0", "0"], b"", fault(text))
+            new = put(here, "new", b"before")
+            want_words(["upgrade", path, new], b"", fault(text))
+            with open(new, "rb") as file:
+                want("the new image's file", file.read(), b"before")
 
 
 add_bad_image("an empty file", b"", b"truncated")
 add_bad_image("an image that ends early", BUILT_IN[:31], b"truncated")
 add_bad_image("another magic", b"S" + BUILT_IN[1:], b"bad magic")
+add_bad_image("a version that there is not", BUILT_IN[:7] + b"3" + BUILT_IN[8:], b"bad magic")
+add_bad_image("a flag that there is not", READ_ONLY[:40] + b"\2" + READ_ONLY[41:], b"bad device")
+add_bad_image("a disk that ends in its flags", READ_ONLY[:43], b"truncated")
 add_bad_image("bytes after the image", BUILT_IN + b"\0", b"trailing bytes")
 add_bad_image("a memory that can't be", BUILT_IN[:16] + (0x1001).to_bytes(8, "little") + BUILT_IN[24:], b"bad memory")
 add_bad_image("a chunk without bytes", BUILT_IN[:24] + b"\1" + bytes(7) + BUILT_IN[8:16] + bytes(4), b"bad chunk")
@@ -92,6 +158,8 @@ def _():
         want_words(["list", none, "u64", "0", "1"], b"", cannot(b"read", none))
         want_words(["asm", none, image], b"", cannot(b"read", none))
         want_words(["asm", source, here], b"", cannot(b"write", here))
+        want_words(["upgrade", none, image], b"", cannot(b"read", none))
+        want_words(["upgrade", image, here], b"", cannot(b"write", here))
         far = os.path.join(none, "image")
         want_words(["asm", source, far], b"", cannot(b"write", far))
 
@@ -149,7 +217,8 @@ def add_word_help(word, parts):
             want("status and standard output", (ended.returncode, ended.stdout.decode()), (0, answers))
 
 
-STATEMENTS = [b"ram BASE SIZE", b"at ADDR", b"u64 VALUE", b"bytes HEX", b"cmd NAME", b"context KEY", b"dir ppn", b"pte ppn", b"fault KEY", b"disk DID SECTORS"]
+STATEMENTS = [b"ram BASE SIZE", b"at ADDR", b"u64 VALUE", b"bytes HEX", b"cmd NAME", b"context KEY", b"dir ppn", b"pte ppn", b"fault KEY", b"disk DID SECTORS", b"rodisk DID SECTORS"]
 add_word_help("asm", [b"<SOURCE>", b"<IMAGE>", *STATEMENTS])
 add_word_help("run", [b"<IMAGE>"])
 add_word_help("list", [b"<IMAGE>", b"<KIND>", b"<ADDR>", b"<COUNT>"])
+add_word_help("upgrade", [b"<IMAGE>", b"<NEW>"])

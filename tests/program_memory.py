@@ -79,6 +79,7 @@ add_refused([])
 add_refused(["asm", "source", "new"])
 add_refused(["run", "image"])
 add_refused(["list", "image", "u64", "0x80000000", "100"])
+add_refused(["upgrade", "image", "new"])
 
 
 def exported(crate):

@@ -46,7 +46,7 @@ def man_page():
 def _():
     page = man_page()
     forms = [form.decode() for form in FORMS + STATEMENTS]
-    wanted = [*commands(), "--help", "--version", "asm SOURCE IMAGE", "run IMAGE", "list IMAGE KIND ADDR COUNT", *forms, *KINDS, *ANSWERS, *TEXTS]
+    wanted = [*commands(), "--help", "--version", "asm SOURCE IMAGE", "run IMAGE", "list IMAGE KIND ADDR COUNT", "upgrade IMAGE NEW", *forms, *KINDS, *ANSWERS, *TEXTS]
     missing = [it for it in wanted if not re.search(r"(?m)(^|[\s,])" + re.escape(it) + r"(?=[\s,.;=]|$)", page)]
     want("what the man page lacks", missing, [])
 
@@ -104,4 +104,5 @@ def add_completed(line, wanted):
 add_completed("rviommu a", ["asm"])
 add_completed("rviommu list image ", KINDS)
 add_completed("rviommu list image c", ["cmd", "context"])
-add_completed("rviommu help ", ["asm", "run", "list"])
+add_completed("rviommu u", ["upgrade"])
+add_completed("rviommu help ", ["asm", "run", "list", "upgrade"])

@@ -69,39 +69,39 @@ first_joined : (before : List (ℕ × Device)) (d : Disk) (read : Read (List Dis
 first_joined before d (Ok x) = ap Ok (sym (append_assoc before (device_of (started d) ∷ []) (devices_of (map started x.0))))
 first_joined before d (Err fault) = refl
 
-pub join_goes_on : (before : List (ℕ × Device)) (ids : List ℕ) (count i : ℕ) (bytes after : List ℕ) (d : Disk) (total : Result (List (ℕ × Device)) LoadFault) →
-    i < count → disk_at ids bytes ≡ Ok (d, after) → joined before (disks_at ids (count - i) bytes) ≡ total →
-    joined (before ++ device_of (started d) ∷ []) (disks_at (ids ++ d.id ∷ []) (count - (i + 1)) after) ≡ total
+pub join_goes_on : (before : List (ℕ × Device)) (has_flags : Bool) (ids : List ℕ) (count i : ℕ) (bytes after : List ℕ) (d : Disk) (total : Result (List (ℕ × Device)) LoadFault) →
+    i < count → disk_at has_flags ids bytes ≡ Ok (d, after) → joined before (disks_at has_flags ids (count - i) bytes) ≡ total →
+    joined (before ++ device_of (started d) ∷ []) (disks_at has_flags (ids ++ d.id ∷ []) (count - (i + 1)) after) ≡ total
 unfolding disks_at
-join_goes_on before ids count i bytes after d total lt h so_far =
+join_goes_on before has_flags ids count i bytes after d total lt h so_far =
     let k : count - i ≡ suc (count - (i + 1)) = omega arith in
-    let one : joined before (disks_at ids (count - i) bytes) ≡ joined (before ++ device_of (started d) ∷ []) (disks_at (ids ++ d.id ∷ []) (count - (i + 1)) after) =
-    rw (k, h) (first_joined before d (disks_at (ids ++ d.id ∷ []) (count - (i + 1)) after)) in
+    let one : joined before (disks_at has_flags ids (count - i) bytes) ≡ joined (before ++ device_of (started d) ∷ []) (disks_at has_flags (ids ++ d.id ∷ []) (count - (i + 1)) after) =
+    rw (k, h) (first_joined before d (disks_at has_flags (ids ++ d.id ∷ []) (count - (i + 1)) after)) in
     sym one ∙ so_far
 
-pub join_fails : (before : List (ℕ × Device)) (ids : List ℕ) (count i : ℕ) (bytes : List ℕ) (fault : LoadFault) (total : Result (List (ℕ × Device)) LoadFault) →
-    i < count → disk_at ids bytes ≡ Err fault → joined before (disks_at ids (count - i) bytes) ≡ total → total ≡ Err fault
+pub join_fails : (before : List (ℕ × Device)) (has_flags : Bool) (ids : List ℕ) (count i : ℕ) (bytes : List ℕ) (fault : LoadFault) (total : Result (List (ℕ × Device)) LoadFault) →
+    i < count → disk_at has_flags ids bytes ≡ Err fault → joined before (disks_at has_flags ids (count - i) bytes) ≡ total → total ≡ Err fault
 unfolding disks_at
-join_fails before ids count i bytes fault total lt h so_far =
+join_fails before has_flags ids count i bytes fault total lt h so_far =
     let k : count - i ≡ suc (count - (i + 1)) = omega arith in
-    let one : joined before (disks_at ids (count - i) bytes) ≡ Err fault = rw (k, h) refl in
+    let one : joined before (disks_at has_flags ids (count - i) bytes) ≡ Err fault = rw (k, h) refl in
     sym so_far ∙ one
 
-pub join_done : (before : List (ℕ × Device)) (ids : List ℕ) (count i : ℕ) (bytes : List ℕ) (total : Result (List (ℕ × Device)) LoadFault) → count ≤ i →
-    joined before (disks_at ids (count - i) bytes) ≡ total → total ≡ Ok before
+pub join_done : (before : List (ℕ × Device)) (has_flags : Bool) (ids : List ℕ) (count i : ℕ) (bytes : List ℕ) (total : Result (List (ℕ × Device)) LoadFault) → count ≤ i →
+    joined before (disks_at has_flags ids (count - i) bytes) ≡ total → total ≡ Ok before
 unfolding disks_at
-join_done before ids count i bytes total le so_far =
+join_done before has_flags ids count i bytes total le so_far =
     let k : count - i ≡ 0 = omega arith in
-    let one : joined before (disks_at ids (count - i) bytes) ≡ Ok before = rw k (ap Ok (append-nil before)) in
+    let one : joined before (disks_at has_flags ids (count - i) bytes) ≡ Ok before = rw k (ap Ok (append-nil before)) in
     sym so_far ∙ one
 
 -- The image that was judged before is built.
-abbrev ends : Head → List Chunk → Read (List Disk) → Result Image LoadFault
+abbrev pub ends : Head → List Chunk → Read (List Disk) → Result Image LoadFault
 ends head chunks read =
     read >>= λ disks. checked (length disks.1 == 0) Trailing
-    (Ok (record { base = head.base; size = head.size; chunks = chunks; disks = disks.0 }))
+    (Ok (record { has_flags = head.has_flags; base = head.base; size = head.size; chunks = chunks; disks = disks.0 }))
 
-ended : {A : Type 0} (b : Bool) (x : A) (f : A → State) (s : State) → IsOk (checked b Trailing (Ok x)) → f x ≡ s →
+pub ended : {A B : Type 0} (b : Bool) (x : A) (f : A → B) (s : B) → IsOk (checked b Trailing (Ok x)) → f x ≡ s →
     mapped f (checked b Trailing (Ok x)) ≡ Ok s
 ended true x f s ok e = ap Ok e
 ended false x f s ok e = absurd cc
@@ -118,24 +118,24 @@ devices_built : (head : Head) (chunks : List Chunk) (read : Read (List Disk)) (d
 unfolding opening_of
 devices_built head chunks (Ok x) devices made ok =
     let is : devices_of (map started x.0) ≡ devices = ok_is (devices_of (map started x.0)) devices made in
-    ended (length x.1 == 0) (record { base = head.base; size = head.size; chunks = chunks; disks = x.0 }) state_from _ ok (rw is refl)
+    ended (length x.1 == 0) (record { has_flags = head.has_flags; base = head.base; size = head.size; chunks = chunks; disks = x.0 }) state_from _ ok (rw is refl)
 devices_built head chunks (Err fault) devices made ok = absurd cc
 
 chunks_built : (head : Head) (read : Read (List Chunk)) (memory : Memory) (rest : List ℕ) (devices : List (ℕ × Device)) →
-    filled (zeroed head.base head.size) read ≡ Ok (memory, rest) → joined [] (disks_at [] head.disks rest) ≡ Ok devices →
-    IsOk (read >>= λ chunks. ends head chunks.0 (disks_at [] head.disks chunks.1)) →
-    mapped state_from (read >>= λ chunks. ends head chunks.0 (disks_at [] head.disks chunks.1)) ≡ Ok (opening memory devices)
+    filled (zeroed head.base head.size) read ≡ Ok (memory, rest) → joined [] (disks_at head.has_flags [] head.disks rest) ≡ Ok devices →
+    IsOk (read >>= λ chunks. ends head chunks.0 (disks_at head.has_flags [] head.disks chunks.1)) →
+    mapped state_from (read >>= λ chunks. ends head chunks.0 (disks_at head.has_flags [] head.disks chunks.1)) ≡ Ok (opening memory devices)
 chunks_built head (Ok x) memory rest devices full made ok =
     let both = ok_is (with_chunks (zeroed head.base head.size) x.0, x.1) (memory, rest) full in
     let put_there : with_chunks (zeroed head.base head.size) x.0 ≡ memory = ap (λ (p : Memory × List ℕ). p.0) both in
     let left : x.1 ≡ rest = ap (λ (p : Memory × List ℕ). p.1) both in
-    rw (← put_there) (devices_built head x.0 (disks_at [] head.disks x.1) devices (rw left made) ok)
+    rw (← put_there) (devices_built head x.0 (disks_at head.has_flags [] head.disks x.1) devices (rw left made) ok)
 chunks_built head (Err fault) memory rest devices full made ok = absurd cc
 
 pub image_built : (bytes : List ℕ) (head : Head) (after : List ℕ) (memory : Memory) (rest : List ℕ) (devices : List (ℕ × Device)) →
     head_at bytes ≡ Ok (head, after) →
     filled (zeroed head.base head.size) (chunks_at head.base head.size 0 head.chunks after) ≡ Ok (memory, rest) →
-    joined [] (disks_at [] head.disks rest) ≡ Ok devices → IsOk (image_of bytes) →
+    joined [] (disks_at head.has_flags [] head.disks rest) ≡ Ok devices → IsOk (image_of bytes) →
     mapped state_from (image_of bytes) ≡ Ok (opening memory devices)
 unfolding image_of
 image_built bytes head after memory rest devices first full made ok =

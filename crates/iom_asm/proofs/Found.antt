@@ -1,21 +1,22 @@
 -- Bytes that are read as an image are its bytes.
-use Rattle.std.proofs.Common.{◌≡◌, ℕ, zero, suc, ◌+◌, ◌*◌, ◌/◌, ◌%◌, ◌≤◌, ◌==◌, Bool, true, false, ◌&&◌, nat_lt, nat_le, List, [], ◌∷◌, ◌++◌, length, take, drop, codes, bytes_eq, Result, Ok, Err, refl, sym, subst, ap, ◌∙◌, append_assoc, append-nil, arith}
+use Rattle.std.proofs.Common.{◌≡◌, ℕ, zero, suc, ◌+◌, ◌*◌, ◌/◌, ◌%◌, ◌≤◌, ◌==◌, Bool, true, false, ◌&&◌, ◌||◌, nat_lt, nat_le, List, [], ◌∷◌, ◌++◌, length, take, drop, bytes_eq, Result, Ok, Err, refl, sym, subst, ap, ◌∙◌, append_assoc, append-nil, arith}
 use Rattle.std.specs.Prelude.{◌↔◌}
 use Rattle.std.proofs.lemmas.Bool.{leb-true, ltb-true, eqb-true, and_parts}
 use Rattle.std.proofs.lemmas.List.{take-append-drop, length-take, nil_from_length}
+use Rattle.iom_bits.specs.Bits.{flag}
 use Rattle.iom_bits.specs.Bytes.{number_of_bytes, bytes_of_number}
 use Rattle.iom_mem.specs.Sizes.{is_paged, is_good_size}
 use Rattle.iom_asm.specs.declared.fault.LoadFault.{LoadFault}
 use Rattle.iom_asm.specs.declared.fault.LoadFault.TheVariants.{BadMagic, Truncated, Trailing, BadRam, BadChunk, BadDevice}
-use Rattle.iom_asm.specs.Image.{Chunk, Disk, Image, IsChunk, AreChunks, IsDisk, AreDisks, IsImageOf, AreBytes, end_of, is_new_id, is_disk_size, chunk_bytes, chunks_bytes, disk_bytes, disks_bytes, head_bytes, image_bytes}
-use Rattle.iom_asm.specs.Reading.{◌>>=◌, checked, Head, part_at, number_at, head_at, chunk_at, chunks_at, disk_at, disks_at, image_of}
+use Rattle.iom_asm.specs.Image.{Chunk, Disk, Image, IsChunk, AreChunks, IsDisk, AreDisks, IsImageOf, AreBytes, end_of, is_new_id, is_disk_size, chunk_bytes, chunks_bytes, flags_bytes, disk_bytes, disks_bytes, magic_of, head_bytes, image_bytes}
+use Rattle.iom_asm.specs.Reading.{◌>>=◌, checked, Head, part_at, number_at, head_at, chunk_at, chunks_at, flags_at, disk_at, disks_at, image_of}
 use Rattle.iom_asm.proofs.Images.{read_again}
 
-bind_ok : {A B : Type 0} (read : Result A LoadFault) (f : A → Result B LoadFault) (y : B) → (read >>= f) ≡ Ok y → (x : A) × (read ≡ Ok x) × (f x ≡ Ok y)
+pub bind_ok : {A B : Type 0} (read : Result A LoadFault) (f : A → Result B LoadFault) (y : B) → (read >>= f) ≡ Ok y → (x : A) × (read ≡ Ok x) × (f x ≡ Ok y)
 bind_ok (Ok x) f y is = (x, refl, is)
 bind_ok (Err fault) f y is = absurd cc
 
-check_ok : {A : Type 0} (b : Bool) (fault : LoadFault) (next : Result A LoadFault) (y : A) → checked b fault next ≡ Ok y → (b ≡ true) × (next ≡ Ok y)
+pub check_ok : {A : Type 0} (b : Bool) (fault : LoadFault) (next : Result A LoadFault) (y : A) → checked b fault next ≡ Ok y → (b ≡ true) × (next ≡ Ok y)
 check_ok true fault next y is = (refl, is)
 check_ok false fault next y is = absurd cc
 
@@ -131,73 +132,98 @@ chunks_take base size end (suc count) bytes x are is =
     subst (λ (x : List Chunk × List ℕ). Takes bytes (chunks_bytes x.0) x.1 × (length x.0 ≡ suc count) × AreChunks base size end x.0) {x = made} (ok_is made x b.2)
     (both, ap suc others.1, (first.1, others.2))
 
-disk_ends : (ids bytes : List ℕ) (id sectors len : ℕ × List ℕ) (text : List ℕ × List ℕ) (x : Disk × List ℕ) →
-    Takes bytes (bytes_of_number 4 id.0) id.1 → Takes id.1 (bytes_of_number 4 sectors.0) sectors.1 → Takes sectors.1 (bytes_of_number 4 len.0) len.1 →
+disk_ends : (has_flags : Bool) (ids bytes : List ℕ) (id sectors : ℕ × List ℕ) (read_only : Bool × List ℕ) (len : ℕ × List ℕ) (text : List ℕ × List ℕ) (x : Disk × List ℕ) →
+    Takes bytes (bytes_of_number 4 id.0) id.1 → Takes id.1 (bytes_of_number 4 sectors.0) sectors.1 →
+    Takes sectors.1 (flags_bytes has_flags read_only.0) read_only.1 → Takes read_only.1 (bytes_of_number 4 len.0) len.1 →
     Takes len.1 text.0 text.1 → length text.0 ≡ len.0 → is_new_id ids id.0 ≡ true → is_disk_size sectors.0 ≡ true →
-    nat_le len.0 (sectors.0 * 512) ≡ true → good (record { id = id.0; sectors = sectors.0; bytes = text.0 }, text.1) ≡ Ok x →
-    Takes bytes (disk_bytes x.0) x.1 × IsDisk ids x.0
-disk_ends ids bytes id sectors len text x t0 t1 t2 t3 same new sized fits is =
-    let inner = then_takes sectors.1 (bytes_of_number 4 len.0) len.1 text.0 text.1 t2 t3 in
-    let outer = then_takes id.1 (bytes_of_number 4 sectors.0) sectors.1 (bytes_of_number 4 len.0 ++ text.0) text.1 t1 inner in
-    let all = then_takes bytes (bytes_of_number 4 id.0) id.1 (bytes_of_number 4 sectors.0 ++ (bytes_of_number 4 len.0 ++ text.0)) text.1 t0 outer in
-    let made : Disk × List ℕ = (record { id = id.0; sectors = sectors.0; bytes = text.0 }, text.1) in
-    subst (λ (y : Disk × List ℕ). Takes bytes (disk_bytes y.0) y.1 × IsDisk ids y.0) {x = made} (ok_is made x is) (
-      subst (λ (n : ℕ). Takes bytes (bytes_of_number 4 id.0 ++ (bytes_of_number 4 sectors.0 ++ (bytes_of_number 4 n ++ text.0))) text.1) (sym same) all,
-      record { id = new; sectors = sized; room = omega (arith, same, leb-true len.0 (sectors.0 * 512) fits) },
+    (has_flags ≡ false → read_only.0 ≡ false) → nat_le len.0 (sectors.0 * 512) ≡ true →
+    good (record { id = id.0; sectors = sectors.0; read_only = read_only.0; bytes = text.0 }, text.1) ≡ Ok x →
+    Takes bytes (disk_bytes has_flags x.0) x.1 × IsDisk has_flags ids x.0
+disk_ends has_flags ids bytes id sectors read_only len text x t0 t1 t2 t3 t4 same new sized writable fits is =
+    let f = flags_bytes has_flags read_only.0 in
+    let inner = then_takes read_only.1 (bytes_of_number 4 len.0) len.1 text.0 text.1 t3 t4 in
+    let middle = then_takes sectors.1 f read_only.1 (bytes_of_number 4 len.0 ++ text.0) text.1 t2 inner in
+    let outer = then_takes id.1 (bytes_of_number 4 sectors.0) sectors.1 (f ++ (bytes_of_number 4 len.0 ++ text.0)) text.1 t1 middle in
+    let all = then_takes bytes (bytes_of_number 4 id.0) id.1 (bytes_of_number 4 sectors.0 ++ (f ++ (bytes_of_number 4 len.0 ++ text.0))) text.1 t0 outer in
+    let made : Disk × List ℕ = (record { id = id.0; sectors = sectors.0; read_only = read_only.0; bytes = text.0 }, text.1) in
+    subst (λ (y : Disk × List ℕ). Takes bytes (disk_bytes has_flags y.0) y.1 × IsDisk has_flags ids y.0) {x = made} (ok_is made x is) (
+      subst (λ (n : ℕ). Takes bytes (bytes_of_number 4 id.0 ++ (bytes_of_number 4 sectors.0 ++ (f ++ (bytes_of_number 4 n ++ text.0)))) text.1) (sym same) all,
+      record { id = new; sectors = sized; room = omega (arith, same, leb-true len.0 (sectors.0 * 512) fits); writable = writable },
     )
 
-disk_takes : (ids bytes : List ℕ) (x : Disk × List ℕ) → AreBytes bytes → disk_at ids bytes ≡ Ok x → Takes bytes (disk_bytes x.0) x.1 × IsDisk ids x.0
+flag_there : (n : ℕ) → nat_le n 1 ≡ true → flag (n == 1) ≡ n
+flag_there zero small = refl
+flag_there (suc zero) small = refl
+flag_there (suc (suc n)) small = let few : suc (suc n) ≤ 1 = leb-true (suc (suc n)) 1 small in absurd (omega (arith, few))
+
+flags_take : (has_flags : Bool) (bytes : List ℕ) (x : Bool × List ℕ) → AreBytes bytes → flags_at has_flags bytes ≡ Ok x →
+    Takes bytes (flags_bytes has_flags x.0) x.1 × (has_flags ≡ false → x.0 ≡ false)
+unfolding flags_at
+flags_take false bytes x are is =
+    subst (λ (x : Bool × List ℕ). Takes bytes [] x.1 × (false ≡ false → x.0 ≡ false)) (ok_is (false, bytes) x is)
+    (record { parts = refl; left = are }, λ _. refl)
+flags_take true bytes x are is =
+    let a = bind_ok (number_at 4 bytes) (λ flags. checked (nat_le flags.0 1) BadDevice (Ok (flags.0 == 1, flags.1))) x is in
+    let small = check_ok (nat_le a.0.0 1) BadDevice (Ok (a.0.0 == 1, a.0.1)) x a.2 in
+    let first = number_takes 4 bytes a.0 are a.1 in
+    subst (λ (x : Bool × List ℕ). Takes bytes (flags_bytes true x.0) x.1 × (true ≡ false → x.0 ≡ false)) (ok_is (a.0.0 == 1, a.0.1) x small.1)
+    (rw (flag_there a.0.0 small.0) first, λ none. absurd cc)
+
+-- the end of a disk, from its flags on, and from its length on
+abbrev behind_length : ℕ × List ℕ → ℕ × List ℕ → Bool × List ℕ → ℕ × List ℕ → Result (Disk × List ℕ) LoadFault
+behind_length id sectors read_only len =
+    checked (nat_le len.0 (sectors.0 * 512)) BadDevice (part_at len.0 len.1 >>= λ text.
+    Ok (record { id = id.0; sectors = sectors.0; read_only = read_only.0; bytes = text.0 }, text.1))
+
+abbrev behind_sectors : Bool → ℕ × List ℕ → ℕ × List ℕ → Result (Disk × List ℕ) LoadFault
+behind_sectors has_flags id sectors =
+    checked (is_disk_size sectors.0) BadDevice (flags_at has_flags sectors.1 >>= λ read_only. number_at 4 read_only.1 >>= λ len.
+    behind_length id sectors read_only len)
+
+disk_takes : (has_flags : Bool) (ids bytes : List ℕ) (x : Disk × List ℕ) → AreBytes bytes → disk_at has_flags ids bytes ≡ Ok x →
+    Takes bytes (disk_bytes has_flags x.0) x.1 × IsDisk has_flags ids x.0
 unfolding disk_at
-disk_takes ids bytes x are is =
-    let a = bind_ok (number_at 4 bytes) (λ id. checked (is_new_id ids id.0) BadDevice (number_at 4 id.1 >>= λ sectors.
-    checked (is_disk_size sectors.0) BadDevice (number_at 4 sectors.1 >>= λ len.
-    checked (nat_le len.0 (sectors.0 * 512)) BadDevice (part_at len.0 len.1 >>= λ text.
-    Ok (record { id = id.0; sectors = sectors.0; bytes = text.0 }, text.1))))) x is in
+disk_takes has_flags ids bytes x are is =
+    let a = bind_ok (number_at 4 bytes) (λ id. checked (is_new_id ids id.0) BadDevice (number_at 4 id.1 >>= λ sectors. behind_sectors has_flags id sectors)) x is in
     let id = a.0 in
-    let new = check_ok (is_new_id ids id.0) BadDevice (number_at 4 id.1 >>= λ sectors.
-    checked (is_disk_size sectors.0) BadDevice (number_at 4 sectors.1 >>= λ len.
-    checked (nat_le len.0 (sectors.0 * 512)) BadDevice (part_at len.0 len.1 >>= λ text.
-    Ok (record { id = id.0; sectors = sectors.0; bytes = text.0 }, text.1)))) x a.2 in
-    let b = bind_ok (number_at 4 id.1) (λ sectors.
-    checked (is_disk_size sectors.0) BadDevice (number_at 4 sectors.1 >>= λ len.
-    checked (nat_le len.0 (sectors.0 * 512)) BadDevice (part_at len.0 len.1 >>= λ text.
-    Ok (record { id = id.0; sectors = sectors.0; bytes = text.0 }, text.1)))) x new.1 in
+    let new = check_ok (is_new_id ids id.0) BadDevice (number_at 4 id.1 >>= λ sectors. behind_sectors has_flags id sectors) x a.2 in
+    let b = bind_ok (number_at 4 id.1) (λ sectors. behind_sectors has_flags id sectors) x new.1 in
     let sectors = b.0 in
-    let sized = check_ok (is_disk_size sectors.0) BadDevice (number_at 4 sectors.1 >>= λ len.
-    checked (nat_le len.0 (sectors.0 * 512)) BadDevice (part_at len.0 len.1 >>= λ text.
-    Ok (record { id = id.0; sectors = sectors.0; bytes = text.0 }, text.1))) x b.2 in
-    let c = bind_ok (number_at 4 sectors.1) (λ len.
-    checked (nat_le len.0 (sectors.0 * 512)) BadDevice (part_at len.0 len.1 >>= λ text.
-    Ok (record { id = id.0; sectors = sectors.0; bytes = text.0 }, text.1))) x sized.1 in
+    let sized = check_ok (is_disk_size sectors.0) BadDevice
+    (flags_at has_flags sectors.1 >>= λ read_only. number_at 4 read_only.1 >>= λ len. behind_length id sectors read_only len) x b.2 in
+    let f = bind_ok (flags_at has_flags sectors.1) (λ read_only. number_at 4 read_only.1 >>= λ len. behind_length id sectors read_only len) x sized.1 in
+    let read_only = f.0 in
+    let c = bind_ok (number_at 4 read_only.1) (λ len. behind_length id sectors read_only len) x f.2 in
     let len = c.0 in
     let fits = check_ok (nat_le len.0 (sectors.0 * 512)) BadDevice (part_at len.0 len.1 >>= λ text.
-    Ok (record { id = id.0; sectors = sectors.0; bytes = text.0 }, text.1)) x c.2 in
-    let d = bind_ok (part_at len.0 len.1) (λ text. Ok (record { id = id.0; sectors = sectors.0; bytes = text.0 }, text.1)) x fits.1 in
+    Ok (record { id = id.0; sectors = sectors.0; read_only = read_only.0; bytes = text.0 }, text.1)) x c.2 in
+    let d = bind_ok (part_at len.0 len.1) (λ text. Ok (record { id = id.0; sectors = sectors.0; read_only = read_only.0; bytes = text.0 }, text.1)) x fits.1 in
     let t0 = number_takes 4 bytes id are a.1 in
     let t1 = number_takes 4 id.1 sectors t0.left b.1 in
-    let t2 = number_takes 4 sectors.1 len t1.left c.1 in
-    let t3 = part_takes len.0 len.1 d.0 t2.left d.1 in
-    disk_ends ids bytes id sectors len d.0 x t0 t1 t2 t3.0 t3.1 new.0 sized.0 fits.0 d.2
+    let t2 = flags_take has_flags sectors.1 read_only t1.left f.1 in
+    let t3 = number_takes 4 read_only.1 len t2.0.left c.1 in
+    let t4 = part_takes len.0 len.1 d.0 t3.left d.1 in
+    disk_ends has_flags ids bytes id sectors read_only len d.0 x t0 t1 t2.0 t3 t4.0 t4.1 new.0 sized.0 t2.1 fits.0 d.2
 
-disks_take : (ids : List ℕ) (count : ℕ) (bytes : List ℕ) (x : List Disk × List ℕ) → AreBytes bytes → disks_at ids count bytes ≡ Ok x →
-    Takes bytes (disks_bytes x.0) x.1 × (length x.0 ≡ count) × AreDisks ids x.0
+disks_take : (has_flags : Bool) (ids : List ℕ) (count : ℕ) (bytes : List ℕ) (x : List Disk × List ℕ) → AreBytes bytes → disks_at has_flags ids count bytes ≡ Ok x →
+    Takes bytes (disks_bytes has_flags x.0) x.1 × (length x.0 ≡ count) × AreDisks has_flags ids x.0
 unfolding disks_at
-disks_take ids zero bytes x are is =
-    subst (λ (x : List Disk × List ℕ). Takes bytes (disks_bytes x.0) x.1 × (length x.0 ≡ 0) × AreDisks ids x.0) (ok_is ([], bytes) x is)
+disks_take has_flags ids zero bytes x are is =
+    subst (λ (x : List Disk × List ℕ). Takes bytes (disks_bytes has_flags x.0) x.1 × (length x.0 ≡ 0) × AreDisks has_flags ids x.0) (ok_is ([], bytes) x is)
     (record { parts = refl; left = are }, refl, tt)
-disks_take ids (suc count) bytes x are is =
-    let a = bind_ok (disk_at ids bytes) (λ first. disks_at (ids ++ first.0.id ∷ []) count first.1 >>= λ others. Ok (first.0 ∷ others.0, others.1)) x is in
-    let b = bind_ok (disks_at (ids ++ a.0.0.id ∷ []) count a.0.1) (λ others. Ok (a.0.0 ∷ others.0, others.1)) x a.2 in
-    let first = disk_takes ids bytes a.0 are a.1 in
-    let others = disks_take (ids ++ a.0.0.id ∷ []) count a.0.1 b.0 first.0.left b.1 in
-    let both = then_takes bytes (disk_bytes a.0.0) a.0.1 (disks_bytes b.0.0) b.0.1 first.0 others.0 in
+disks_take has_flags ids (suc count) bytes x are is =
+    let a = bind_ok (disk_at has_flags ids bytes) (λ first. disks_at has_flags (ids ++ first.0.id ∷ []) count first.1 >>= λ others. Ok (first.0 ∷ others.0, others.1)) x is in
+    let b = bind_ok (disks_at has_flags (ids ++ a.0.0.id ∷ []) count a.0.1) (λ others. Ok (a.0.0 ∷ others.0, others.1)) x a.2 in
+    let first = disk_takes has_flags ids bytes a.0 are a.1 in
+    let others = disks_take has_flags (ids ++ a.0.0.id ∷ []) count a.0.1 b.0 first.0.left b.1 in
+    let both = then_takes bytes (disk_bytes has_flags a.0.0) a.0.1 (disks_bytes has_flags b.0.0) b.0.1 first.0 others.0 in
     let made : List Disk × List ℕ = (a.0.0 ∷ b.0.0, b.0.1) in
-    subst (λ (x : List Disk × List ℕ). Takes bytes (disks_bytes x.0) x.1 × (length x.0 ≡ suc count) × AreDisks ids x.0) {x = made} (ok_is made x b.2)
+    subst (λ (x : List Disk × List ℕ). Takes bytes (disks_bytes has_flags x.0) x.1 × (length x.0 ≡ suc count) × AreDisks has_flags ids x.0) {x = made} (ok_is made x b.2)
     (both, ap suc others.1, (first.1, others.2))
 
 -- what is told by the head
 record HeadTakes (bytes : List ℕ) (x : Head × List ℕ) : Type 0 where
-  takes : Takes bytes (head_bytes x.0.base x.0.size x.0.chunks x.0.disks) x.1
+  takes : Takes bytes (head_bytes x.0.has_flags x.0.base x.0.size x.0.chunks x.0.disks) x.1
   base : is_paged x.0.base ≡ true
   size : is_good_size x.0.base x.0.size ≡ true
   few : x.0.disks ≤ 8
@@ -211,13 +237,19 @@ same_bytes (a ∷ first) (b ∷ second) is =
     let same : a ≡ b = eqb-true a b p.0 in
     rw same (ap (λ rest. b ∷ rest) (same_bytes first second p.1))
 
+-- a magic is that of its version
+magic_is : (magic : List ℕ) (second : Bool) → bytes_eq magic (magic_of true) ≡ second →
+    (bytes_eq magic (magic_of false) || second) ≡ true → magic ≡ magic_of second
+magic_is magic true is either = same_bytes magic (magic_of true) is
+magic_is magic false is either = same_bytes magic (magic_of false) (grind (arith, either))
+
 head_ends : (bytes : List ℕ) (magic : List ℕ × List ℕ) (base size chunks disks : ℕ × List ℕ) (x : Head × List ℕ) →
-    Takes bytes (codes "RVIOMMU1") magic.1 → Takes magic.1 (bytes_of_number 8 base.0) base.1 → Takes base.1 (bytes_of_number 8 size.0) size.1 →
+    Takes bytes (magic_of (bytes_eq magic.0 (magic_of true))) magic.1 → Takes magic.1 (bytes_of_number 8 base.0) base.1 → Takes base.1 (bytes_of_number 8 size.0) size.1 →
     Takes size.1 (bytes_of_number 4 chunks.0) chunks.1 → Takes chunks.1 (bytes_of_number 4 disks.0) disks.1 →
     checked (is_paged base.0 && is_good_size base.0 size.0) BadRam (checked (nat_le disks.0 8) BadDevice
-    (Ok (record { base = base.0; size = size.0; chunks = chunks.0; disks = disks.0 }, disks.1))) ≡ Ok x → HeadTakes bytes x
+    (Ok (record { has_flags = bytes_eq magic.0 (magic_of true); base = base.0; size = size.0; chunks = chunks.0; disks = disks.0 }, disks.1))) ≡ Ok x → HeadTakes bytes x
 head_ends bytes magic base size chunks disks x t0 t1 t2 t3 t4 is =
-    let made : Head × List ℕ = (record { base = base.0; size = size.0; chunks = chunks.0; disks = disks.0 }, disks.1) in
+    let made : Head × List ℕ = (record { has_flags = bytes_eq magic.0 (magic_of true); base = base.0; size = size.0; chunks = chunks.0; disks = disks.0 }, disks.1) in
     let ram = check_ok (is_paged base.0 && is_good_size base.0 size.0) BadRam (checked (nat_le disks.0 8) BadDevice (Ok made)) x is in
     let number = check_ok (nat_le disks.0 8) BadDevice (Ok made) x ram.1 in
     let p = and_parts (is_paged base.0) (is_good_size base.0 size.0) ram.0 in
@@ -228,40 +260,37 @@ head_ends bytes magic base size chunks disks x t0 t1 t2 t3 t4 is =
     let cd = then_takes size.1 c chunks.1 d disks.1 t3 t4 in
     let scd = then_takes base.1 s size.1 (c ++ d) disks.1 t2 cd in
     let bscd = then_takes magic.1 b base.1 (s ++ (c ++ d)) disks.1 t1 scd in
-    let all = then_takes bytes (codes "RVIOMMU1") magic.1 (b ++ (s ++ (c ++ d))) disks.1 t0 bscd in
+    let all = then_takes bytes (magic_of (bytes_eq magic.0 (magic_of true))) magic.1 (b ++ (s ++ (c ++ d))) disks.1 t0 bscd in
     subst (HeadTakes bytes) {x = made} (ok_is made x number.1) (record { takes = all; base = p.0; size = p.1; few = leb-true disks.0 8 number.0 })
+
+abbrev behind_disks : List ℕ → ℕ × List ℕ → ℕ × List ℕ → ℕ × List ℕ → ℕ × List ℕ → Result (Head × List ℕ) LoadFault
+behind_disks magic base size chunks disks =
+    checked (is_paged base.0 && is_good_size base.0 size.0) BadRam (checked (nat_le disks.0 8) BadDevice
+    (Ok (record { has_flags = bytes_eq magic (magic_of true); base = base.0; size = size.0; chunks = chunks.0; disks = disks.0 }, disks.1)))
+
+abbrev behind_magic : List ℕ × List ℕ → Result (Head × List ℕ) LoadFault
+behind_magic magic =
+    number_at 8 magic.1 >>= λ base. number_at 8 base.1 >>= λ size. number_at 4 size.1 >>= λ chunks. number_at 4 chunks.1 >>= λ disks.
+    behind_disks magic.0 base size chunks disks
 
 head_takes : (bytes : List ℕ) (x : Head × List ℕ) → AreBytes bytes → head_at bytes ≡ Ok x → HeadTakes bytes x
 unfolding head_at
 head_takes bytes x are is =
-    let m = bind_ok (part_at 8 bytes) (λ magic. checked (bytes_eq magic.0 (codes "RVIOMMU1")) BadMagic (number_at 8 magic.1 >>= λ base. number_at 8 base.1 >>= λ size.
-    number_at 4 size.1 >>= λ chunks. number_at 4 chunks.1 >>= λ disks.
-    checked (is_paged base.0 && is_good_size base.0 size.0) BadRam (checked (nat_le disks.0 8) BadDevice
-    (Ok (record { base = base.0; size = size.0; chunks = chunks.0; disks = disks.0 }, disks.1))))) x is in
+    let m = bind_ok (part_at 8 bytes) (λ magic. checked (bytes_eq magic.0 (magic_of false) || bytes_eq magic.0 (magic_of true)) BadMagic (behind_magic magic)) x is in
     let magic = m.0 in
-    let right = check_ok (bytes_eq magic.0 (codes "RVIOMMU1")) BadMagic (number_at 8 magic.1 >>= λ base. number_at 8 base.1 >>= λ size.
-    number_at 4 size.1 >>= λ chunks. number_at 4 chunks.1 >>= λ disks.
-    checked (is_paged base.0 && is_good_size base.0 size.0) BadRam (checked (nat_le disks.0 8) BadDevice
-    (Ok (record { base = base.0; size = size.0; chunks = chunks.0; disks = disks.0 }, disks.1)))) x m.2 in
-    let a = bind_ok (number_at 8 magic.1) (λ base. number_at 8 base.1 >>= λ size.
-    number_at 4 size.1 >>= λ chunks. number_at 4 chunks.1 >>= λ disks.
-    checked (is_paged base.0 && is_good_size base.0 size.0) BadRam (checked (nat_le disks.0 8) BadDevice
-    (Ok (record { base = base.0; size = size.0; chunks = chunks.0; disks = disks.0 }, disks.1)))) x right.1 in
+    let right = check_ok (bytes_eq magic.0 (magic_of false) || bytes_eq magic.0 (magic_of true)) BadMagic (behind_magic magic) x m.2 in
+    let a = bind_ok (number_at 8 magic.1) (λ base. number_at 8 base.1 >>= λ size. number_at 4 size.1 >>= λ chunks. number_at 4 chunks.1 >>= λ disks.
+    behind_disks magic.0 base size chunks disks) x right.1 in
     let base = a.0 in
-    let b = bind_ok (number_at 8 base.1) (λ size.
-    number_at 4 size.1 >>= λ chunks. number_at 4 chunks.1 >>= λ disks.
-    checked (is_paged base.0 && is_good_size base.0 size.0) BadRam (checked (nat_le disks.0 8) BadDevice
-    (Ok (record { base = base.0; size = size.0; chunks = chunks.0; disks = disks.0 }, disks.1)))) x a.2 in
+    let b = bind_ok (number_at 8 base.1) (λ size. number_at 4 size.1 >>= λ chunks. number_at 4 chunks.1 >>= λ disks.
+    behind_disks magic.0 base size chunks disks) x a.2 in
     let size = b.0 in
-    let c = bind_ok (number_at 4 size.1) (λ chunks. number_at 4 chunks.1 >>= λ disks.
-    checked (is_paged base.0 && is_good_size base.0 size.0) BadRam (checked (nat_le disks.0 8) BadDevice
-    (Ok (record { base = base.0; size = size.0; chunks = chunks.0; disks = disks.0 }, disks.1)))) x b.2 in
+    let c = bind_ok (number_at 4 size.1) (λ chunks. number_at 4 chunks.1 >>= λ disks. behind_disks magic.0 base size chunks disks) x b.2 in
     let chunks = c.0 in
-    let d = bind_ok (number_at 4 chunks.1) (λ disks.
-    checked (is_paged base.0 && is_good_size base.0 size.0) BadRam (checked (nat_le disks.0 8) BadDevice
-    (Ok (record { base = base.0; size = size.0; chunks = chunks.0; disks = disks.0 }, disks.1)))) x c.2 in
+    let d = bind_ok (number_at 4 chunks.1) (λ disks. behind_disks magic.0 base size chunks disks) x c.2 in
     let t0 = part_takes 8 bytes magic are m.1 in
-    let first : Takes bytes (codes "RVIOMMU1") magic.1 = subst (λ (text : List ℕ). Takes bytes text magic.1) (same_bytes magic.0 (codes "RVIOMMU1") right.0) t0.0 in
+    let first : Takes bytes (magic_of (bytes_eq magic.0 (magic_of true))) magic.1 =
+    subst (λ (text : List ℕ). Takes bytes text magic.1) (magic_is magic.0 (bytes_eq magic.0 (magic_of true)) refl right.0) t0.0 in
     let t1 = number_takes 8 magic.1 base t0.0.left a.1 in
     let t2 = number_takes 8 base.1 size t1.left b.1 in
     let t3 = number_takes 4 size.1 chunks t2.left c.1 in
@@ -271,37 +300,37 @@ head_takes bytes x are is =
 -- all of the bytes
 whole : (bytes : List ℕ) (head : Head × List ℕ) (chunks : List Chunk × List ℕ) (disks : List Disk × List ℕ) → HeadTakes bytes head →
     Takes head.1 (chunks_bytes chunks.0) chunks.1 → length chunks.0 ≡ head.0.chunks → AreChunks head.0.base head.0.size 0 chunks.0 →
-    Takes chunks.1 (disks_bytes disks.0) disks.1 → length disks.0 ≡ head.0.disks → AreDisks [] disks.0 → disks.1 ≡ [] →
-    IsImageOf (record { base = head.0.base; size = head.0.size; chunks = chunks.0; disks = disks.0 }) bytes
+    Takes chunks.1 (disks_bytes head.0.has_flags disks.0) disks.1 → length disks.0 ≡ head.0.disks → AreDisks head.0.has_flags [] disks.0 → disks.1 ≡ [] →
+    IsImageOf (record { has_flags = head.0.has_flags; base = head.0.base; size = head.0.size; chunks = chunks.0; disks = disks.0 }) bytes
 unfolding image_bytes
 whole bytes head chunks disks first second some good third few distinct none =
-    let rest = then_takes head.1 (chunks_bytes chunks.0) chunks.1 (disks_bytes disks.0) disks.1 second third in
-    let all = then_takes bytes (head_bytes head.0.base head.0.size head.0.chunks head.0.disks) head.1 (chunks_bytes chunks.0 ++ disks_bytes disks.0) disks.1 first.takes rest in
+    let rest = then_takes head.1 (chunks_bytes chunks.0) chunks.1 (disks_bytes head.0.has_flags disks.0) disks.1 second third in
+    let all = then_takes bytes (head_bytes head.0.has_flags head.0.base head.0.size head.0.chunks head.0.disks) head.1 (chunks_bytes chunks.0 ++ disks_bytes head.0.has_flags disks.0) disks.1 first.takes rest in
     record {
       good = record { base = first.base; size = first.size; chunks = good; few = omega (arith, few, first.few); disks = distinct };
-      are = all.parts ∙ ap (λ rest. (head_bytes head.0.base head.0.size head.0.chunks head.0.disks ++ (chunks_bytes chunks.0 ++ disks_bytes disks.0)) ++ rest) none
-          ∙ append-nil (head_bytes head.0.base head.0.size head.0.chunks head.0.disks ++ (chunks_bytes chunks.0 ++ disks_bytes disks.0))
-          ∙ ap (λ n. head_bytes head.0.base head.0.size n head.0.disks ++ (chunks_bytes chunks.0 ++ disks_bytes disks.0)) (sym some)
-          ∙ ap (λ n. head_bytes head.0.base head.0.size (length chunks.0) n ++ (chunks_bytes chunks.0 ++ disks_bytes disks.0)) (sym few);
+      are = all.parts ∙ ap (λ rest. (head_bytes head.0.has_flags head.0.base head.0.size head.0.chunks head.0.disks ++ (chunks_bytes chunks.0 ++ disks_bytes head.0.has_flags disks.0)) ++ rest) none
+          ∙ append-nil (head_bytes head.0.has_flags head.0.base head.0.size head.0.chunks head.0.disks ++ (chunks_bytes chunks.0 ++ disks_bytes head.0.has_flags disks.0))
+          ∙ ap (λ n. head_bytes head.0.has_flags head.0.base head.0.size n head.0.disks ++ (chunks_bytes chunks.0 ++ disks_bytes head.0.has_flags disks.0)) (sym some)
+          ∙ ap (λ n. head_bytes head.0.has_flags head.0.base head.0.size (length chunks.0) n ++ (chunks_bytes chunks.0 ++ disks_bytes head.0.has_flags disks.0)) (sym few);
     }
 
 pub read_is : (bytes : List ℕ) (image : Image) → AreBytes bytes → image_of bytes ≡ Ok image → IsImageOf image bytes
 unfolding image_of
 read_is bytes image are is =
-    let a = bind_ok (head_at bytes) (λ head. chunks_at head.0.base head.0.size 0 head.0.chunks head.1 >>= λ chunks. disks_at [] head.0.disks chunks.1 >>= λ disks.
-    checked (length disks.1 == 0) Trailing (Ok (record { base = head.0.base; size = head.0.size; chunks = chunks.0; disks = disks.0 }))) image is in
+    let a = bind_ok (head_at bytes) (λ head. chunks_at head.0.base head.0.size 0 head.0.chunks head.1 >>= λ chunks. disks_at head.0.has_flags [] head.0.disks chunks.1 >>= λ disks.
+    checked (length disks.1 == 0) Trailing (Ok (record { has_flags = head.0.has_flags; base = head.0.base; size = head.0.size; chunks = chunks.0; disks = disks.0 }))) image is in
     let head = a.0 in
-    let b = bind_ok (chunks_at head.0.base head.0.size 0 head.0.chunks head.1) (λ chunks. disks_at [] head.0.disks chunks.1 >>= λ disks.
-    checked (length disks.1 == 0) Trailing (Ok (record { base = head.0.base; size = head.0.size; chunks = chunks.0; disks = disks.0 }))) image a.2 in
+    let b = bind_ok (chunks_at head.0.base head.0.size 0 head.0.chunks head.1) (λ chunks. disks_at head.0.has_flags [] head.0.disks chunks.1 >>= λ disks.
+    checked (length disks.1 == 0) Trailing (Ok (record { has_flags = head.0.has_flags; base = head.0.base; size = head.0.size; chunks = chunks.0; disks = disks.0 }))) image a.2 in
     let chunks = b.0 in
-    let c = bind_ok (disks_at [] head.0.disks chunks.1) (λ disks.
-    checked (length disks.1 == 0) Trailing (Ok (record { base = head.0.base; size = head.0.size; chunks = chunks.0; disks = disks.0 }))) image b.2 in
+    let c = bind_ok (disks_at head.0.has_flags [] head.0.disks chunks.1) (λ disks.
+    checked (length disks.1 == 0) Trailing (Ok (record { has_flags = head.0.has_flags; base = head.0.base; size = head.0.size; chunks = chunks.0; disks = disks.0 }))) image b.2 in
     let disks = c.0 in
-    let made : Image = record { base = head.0.base; size = head.0.size; chunks = chunks.0; disks = disks.0 } in
+    let made : Image = record { has_flags = head.0.has_flags; base = head.0.base; size = head.0.size; chunks = chunks.0; disks = disks.0 } in
     let last = check_ok (length disks.1 == 0) Trailing (Ok made) image c.2 in
     let first = head_takes bytes head are a.1 in
     let second = chunks_take head.0.base head.0.size 0 head.0.chunks head.1 chunks first.takes.left b.1 in
-    let third = disks_take [] head.0.disks chunks.1 disks second.0.left c.1 in
+    let third = disks_take head.0.has_flags [] head.0.disks chunks.1 disks second.0.left c.1 in
     subst (λ (image : Image). IsImageOf image bytes) {x = made} (ok_is made image last.1)
     (whole bytes head chunks disks first second.0 second.1 second.2 third.0 third.1 third.2 (nil_from_length disks.1 (eqb-true (length disks.1) 0 last.0)))
 

@@ -1,11 +1,11 @@
 -- The bytes of an image are read as that image.
-use Rattle.std.proofs.Common.{◌≡◌, ℕ, zero, suc, ◌+◌, ◌*◌, ◌/◌, ◌^◌, ◌≤◌, ◌<◌, true, List, [], ◌∷◌, ◌++◌, length, codes, Ok, refl, sym, ap, ◌∙◌, append_assoc, append-nil, length-append, arith}
+use Rattle.std.proofs.Common.{◌≡◌, ℕ, zero, suc, ◌+◌, ◌*◌, ◌/◌, ◌^◌, ◌≤◌, ◌<◌, ◌||◌, Bool, true, false, List, [], ◌∷◌, ◌++◌, length, bytes_eq, Ok, refl, sym, ap, ◌∙◌, append_assoc, append-nil, length-append, arith}
 use Rattle.std.proofs.lemmas.Bool.{le-leb, lt-ltb}
 use Rattle.std.proofs.lemmas.List.{take_at, drop_at}
 use Rattle.iom_bits.specs.Bytes.{number_of_bytes, bytes_of_number}
 use Rattle.iom_mem.specs.Sizes.{is_paged, is_good_size}
-use Rattle.iom_asm.specs.Image.{Chunk, Disk, Image, IsChunk, AreChunks, IsDisk, AreDisks, IsImage, end_of, chunk_bytes, chunks_bytes, disk_bytes, disks_bytes, head_bytes, image_bytes}
-use Rattle.iom_asm.specs.Reading.{part_at, number_at, head_at, chunk_at, chunks_at, disk_at, disks_at, image_of}
+use Rattle.iom_asm.specs.Image.{Chunk, Disk, Image, IsChunk, AreChunks, IsDisk, AreDisks, IsImage, end_of, chunk_bytes, chunks_bytes, flags_bytes, disk_bytes, disks_bytes, magic_of, head_bytes, image_bytes}
+use Rattle.iom_asm.specs.Reading.{part_at, number_at, head_at, chunk_at, chunks_at, flags_at, disk_at, disks_at, image_of}
 use Rattle.iom_asm.specs.Drafts.{Fits, AllFit, FewBytes}
 use Rattle.iom_asm.proofs.Fitting.{few_bytes, few_chunks, all_fit}
 
@@ -65,39 +65,66 @@ chunks_again base size end (chunk ∷ chunks) rest far good few =
       chunks_again base size (end_of chunk) chunks rest far good.1 few.1,
     ) refl
 
-disk_again : (ids : List ℕ) (disk : Disk) (rest : List ℕ) → IsDisk ids disk → Fits disk → disk_at ids (disk_bytes disk ++ rest) ≡ Ok (disk, rest)
+assoc5 : (a b c d e f : List ℕ) → (a ++ (b ++ (c ++ (d ++ e)))) ++ f ≡ a ++ (b ++ (c ++ (d ++ (e ++ f))))
+assoc5 a b c d e f = append_assoc a (b ++ (c ++ (d ++ e))) f ∙ ap (λ x. a ++ x) (assoc4 b c d e f)
+
+flags_again : (has_flags read_only : Bool) (rest : List ℕ) → (has_flags ≡ false → read_only ≡ false) →
+    flags_at has_flags (flags_bytes has_flags read_only ++ rest) ≡ Ok (read_only, rest)
+unfolding flags_at
+flags_again false read_only rest writable = rw (writable refl) refl
+flags_again true false rest writable = rw (number_again 4 0 rest (omega arith)) refl
+flags_again true true rest writable = rw (number_again 4 1 rest (omega arith)) refl
+
+disk_again : (has_flags : Bool) (ids : List ℕ) (disk : Disk) (rest : List ℕ) → IsDisk has_flags ids disk → Fits disk →
+    disk_at has_flags ids (disk_bytes has_flags disk ++ rest) ≡ Ok (disk, rest)
 unfolding disk_at
-disk_again ids disk rest good fits =
+disk_again has_flags ids disk rest good fits =
     rw (
-      assoc4 (bytes_of_number 4 disk.id) (bytes_of_number 4 disk.sectors) (bytes_of_number 4 (length disk.bytes)) disk.bytes rest,
-      number_again 4 disk.id (bytes_of_number 4 disk.sectors ++ (bytes_of_number 4 (length disk.bytes) ++ (disk.bytes ++ rest))) fits.id,
+      assoc5 (bytes_of_number 4 disk.id) (bytes_of_number 4 disk.sectors) (flags_bytes has_flags disk.read_only) (bytes_of_number 4 (length disk.bytes)) disk.bytes rest,
+      number_again 4 disk.id (bytes_of_number 4 disk.sectors ++ (flags_bytes has_flags disk.read_only ++ (bytes_of_number 4 (length disk.bytes) ++ (disk.bytes ++ rest)))) fits.id,
       good.id,
-      number_again 4 disk.sectors (bytes_of_number 4 (length disk.bytes) ++ (disk.bytes ++ rest)) fits.sectors,
+      number_again 4 disk.sectors (flags_bytes has_flags disk.read_only ++ (bytes_of_number 4 (length disk.bytes) ++ (disk.bytes ++ rest))) fits.sectors,
       good.sectors,
+      flags_again has_flags disk.read_only (bytes_of_number 4 (length disk.bytes) ++ (disk.bytes ++ rest)) good.writable,
       number_again 4 (length disk.bytes) (disk.bytes ++ rest) fits.bytes,
       le-leb (length disk.bytes) (disk.sectors * 512) good.room,
       part_again (length disk.bytes) disk.bytes rest refl,
     ) refl
 
-disks_again : (ids : List ℕ) (disks : List Disk) (rest : List ℕ) → AreDisks ids disks → AllFit disks →
-    disks_at ids (length disks) (disks_bytes disks ++ rest) ≡ Ok (disks, rest)
+disks_again : (has_flags : Bool) (ids : List ℕ) (disks : List Disk) (rest : List ℕ) → AreDisks has_flags ids disks → AllFit disks →
+    disks_at has_flags ids (length disks) (disks_bytes has_flags disks ++ rest) ≡ Ok (disks, rest)
 unfolding disks_at
-disks_again ids [] rest good fits = refl
-disks_again ids (disk ∷ disks) rest good fits =
+disks_again has_flags ids [] rest good fits = refl
+disks_again has_flags ids (disk ∷ disks) rest good fits =
     rw (
-      append_assoc (disk_bytes disk) (disks_bytes disks) rest,
-      disk_again ids disk (disks_bytes disks ++ rest) good.0 fits.0,
-      disks_again (ids ++ disk.id ∷ []) disks rest good.1 fits.1,
+      append_assoc (disk_bytes has_flags disk) (disks_bytes has_flags disks) rest,
+      disk_again has_flags ids disk (disks_bytes has_flags disks ++ rest) good.0 fits.0,
+      disks_again has_flags (ids ++ disk.id ∷ []) disks rest good.1 fits.1,
     ) refl
 
-head_again : (base size chunks disks : ℕ) (rest : List ℕ) → base < 2 ^ 64 → size < 2 ^ 64 → chunks < 2 ^ 32 → disks ≤ 8 →
+magic_length : (has_flags : Bool) → length (magic_of has_flags) ≡ 8
+magic_length false = refl
+magic_length true = refl
+
+is_magic : (has_flags : Bool) → (bytes_eq (magic_of has_flags) (magic_of false) || bytes_eq (magic_of has_flags) (magic_of true)) ≡ true
+is_magic false = refl
+is_magic true = refl
+
+is_version : (has_flags : Bool) → bytes_eq (magic_of has_flags) (magic_of true) ≡ has_flags
+is_version false = refl
+is_version true = refl
+
+head_again : (has_flags : Bool) (base size chunks disks : ℕ) (rest : List ℕ) → base < 2 ^ 64 → size < 2 ^ 64 → chunks < 2 ^ 32 → disks ≤ 8 →
     is_paged base ≡ true → is_good_size base size ≡ true →
-    head_at (head_bytes base size chunks disks ++ rest) ≡ Ok (record { base = base; size = size; chunks = chunks; disks = disks }, rest)
+    head_at (head_bytes has_flags base size chunks disks ++ rest)
+    ≡ Ok (record { has_flags = has_flags; base = base; size = size; chunks = chunks; disks = disks }, rest)
 unfolding head_at
-head_again base size chunks disks rest base_fits size_fits chunks_fit few paged good =
+head_again has_flags base size chunks disks rest base_fits size_fits chunks_fit few paged good =
     rw (
-      append_assoc (codes "RVIOMMU1") (bytes_of_number 8 base ++ (bytes_of_number 8 size ++ (bytes_of_number 4 chunks ++ bytes_of_number 4 disks))) rest,
-      part_again 8 (codes "RVIOMMU1") ((bytes_of_number 8 base ++ (bytes_of_number 8 size ++ (bytes_of_number 4 chunks ++ bytes_of_number 4 disks))) ++ rest) refl,
+      append_assoc (magic_of has_flags) (bytes_of_number 8 base ++ (bytes_of_number 8 size ++ (bytes_of_number 4 chunks ++ bytes_of_number 4 disks))) rest,
+      part_again 8 (magic_of has_flags) ((bytes_of_number 8 base ++ (bytes_of_number 8 size ++ (bytes_of_number 4 chunks ++ bytes_of_number 4 disks))) ++ rest) (magic_length has_flags),
+      is_magic has_flags,
+      is_version has_flags,
       assoc4 (bytes_of_number 8 base) (bytes_of_number 8 size) (bytes_of_number 4 chunks) (bytes_of_number 4 disks) rest,
       number_again 8 base (bytes_of_number 8 size ++ (bytes_of_number 4 chunks ++ (bytes_of_number 4 disks ++ rest))) base_fits,
       number_again 8 size (bytes_of_number 4 chunks ++ (bytes_of_number 4 disks ++ rest)) size_fits,
@@ -116,12 +143,13 @@ pub read_again : (image : Image) → IsImage image → image_of (image_bytes ima
 unfolding image_of image_bytes
 read_again image good =
     let far = far_end image good in
-    let last : disks_at [] (length image.disks) (disks_bytes image.disks) ≡ Ok (image.disks, []) =
-    ap (disks_at [] (length image.disks)) (sym (append-nil (disks_bytes image.disks)))
-    ∙ disks_again [] image.disks [] good.disks (all_fit image good) in
+    let last : disks_at image.has_flags [] (length image.disks) (disks_bytes image.has_flags image.disks) ≡ Ok (image.disks, []) =
+    ap (disks_at image.has_flags [] (length image.disks)) (sym (append-nil (disks_bytes image.has_flags image.disks)))
+    ∙ disks_again image.has_flags [] image.disks [] good.disks (all_fit image good) in
     rw (
-      head_again image.base image.size (length image.chunks) (length image.disks) (chunks_bytes image.chunks ++ disks_bytes image.disks)
+      head_again image.has_flags image.base image.size (length image.chunks) (length image.disks)
+          (chunks_bytes image.chunks ++ disks_bytes image.has_flags image.disks)
           (omega (arith, far)) (omega (arith, far)) (few_chunks image good) good.few good.base good.size,
-      chunks_again image.base image.size 0 image.chunks (disks_bytes image.disks) far good.chunks (few_bytes image good),
+      chunks_again image.base image.size 0 image.chunks (disks_bytes image.has_flags image.disks) far good.chunks (few_bytes image good),
       last,
     ) refl

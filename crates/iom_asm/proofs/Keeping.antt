@@ -1,5 +1,5 @@
 -- What the statements make stays an image.
-use Rattle.std.proofs.Common.{◌≡◌, ℕ, ◌+◌, ◌*◌, ◌≤◌, ◌<◌, true, false, ◌&&◌, nat_lt, nat_le, List, [], ◌∷◌, ◌++◌, length, map, codes, bytes_eq, Option, Some, None, Result, Ok, Err, refl, sym, subst, append_assoc, append-nil, length-append, arith}
+use Rattle.std.proofs.Common.{◌≡◌, ℕ, ◌+◌, ◌*◌, ◌≤◌, ◌<◌, Bool, true, false, ◌&&◌, ◌||◌, nat_lt, nat_le, List, [], ◌∷◌, ◌++◌, length, map, codes, bytes_eq, Option, Some, None, Result, Ok, Err, refl, sym, subst, append_assoc, append-nil, length-append, arith}
 use Rattle.std.specs.Prelude.{IfSome, IfOk}
 use Rattle.std.specs.List.{list_any}
 use Rattle.std.specs.Option.{option_map}
@@ -52,13 +52,27 @@ kept_in_order base size end chunk (first ∷ others) new good none =
     ))
 
 -- disks
-pub one_more : (ids : List ℕ) (disks : List Disk) (disk : Disk) → AreDisks ids disks → IsDisk (ids ++ map (λ other. other.id) disks) disk →
-    AreDisks ids (disks ++ disk ∷ [])
-one_more ids [] disk good new = (subst (λ (ids : List ℕ). IsDisk ids disk) (append-nil ids) new, tt)
-one_more ids (first ∷ others) disk good new = (
+pub one_more : (has_flags : Bool) (ids : List ℕ) (disks : List Disk) (disk : Disk) → AreDisks has_flags ids disks →
+    IsDisk has_flags (ids ++ map (λ other. other.id) disks) disk → AreDisks has_flags ids (disks ++ disk ∷ [])
+one_more has_flags ids [] disk good new = (subst (λ (ids : List ℕ). IsDisk has_flags ids disk) (append-nil ids) new, tt)
+one_more has_flags ids (first ∷ others) disk good new = (
   good.0,
-  one_more (ids ++ first.id ∷ []) others disk good.1
-      (subst (λ (ids : List ℕ). IsDisk ids disk) (sym (append_assoc ids (first.id ∷ []) (map (λ other. other.id) others))) new),
+  one_more has_flags (ids ++ first.id ∷ []) others disk good.1
+      (subst (λ (ids : List ℕ). IsDisk has_flags ids disk) (sym (append_assoc ids (first.id ∷ []) (map (λ other. other.id) others))) new),
+)
+
+-- disks without flags may stand among those that have some
+pub with_flags : (has_flags others : Bool) (ids : List ℕ) (disks : List Disk) → (others ≡ false → has_flags ≡ false) →
+    AreDisks has_flags ids disks → AreDisks others ids disks
+with_flags has_flags others ids [] fewer good = tt
+with_flags has_flags others ids (disk ∷ disks) fewer good = (
+  record {
+    id = good.0.id;
+    sectors = good.0.sectors;
+    room = good.0.room;
+    writable = λ none. good.0.writable (fewer none);
+  },
+  with_flags has_flags others (ids ++ disk.id ∷ []) disks fewer good.1,
 )
 
 -- statements
@@ -111,7 +125,14 @@ with_disk_good draft disk good next =
       size = good.size;
       chunks = good.chunks;
       few = omega (arith, ltb-true (length image.disks) 8 a.0, length-append image.disks (disk ∷ []));
-      disks = one_more [] image.disks disk good.disks (record { id = b.0; sectors = c.0; room = leb-true _ _ c.1 });
+      disks = one_more (image.has_flags || disk.read_only) [] image.disks disk
+          (with_flags image.has_flags (image.has_flags || disk.read_only) [] image.disks (λ none. (or_parts image.has_flags disk.read_only none).0) good.disks)
+          (record {
+            id = b.0;
+            sectors = c.0;
+            room = leb-true _ _ c.1;
+            writable = λ none. (or_parts image.has_flags disk.read_only none).1;
+          });
     }
 
 joined_good : (draft : Draft) (found : Option Disk) → Good draft →
@@ -140,9 +161,11 @@ unfolding stated joined
 stated_good line draft name operands good =
     cond_both (bytes_eq name (codes "at")) _ _ OkGood
     (λ _. or_bad_good line (moved draft operands) (moved_good draft operands good))
-    (λ _. cond_both (bytes_eq name (codes "disk")) (or_bad line (joined draft operands)) (then_so (or_bad line (bytes_for name operands)) (placed line draft)) OkGood
-    (λ _. or_bad_good line (joined draft operands) (joined_good draft (disk_for operands) good))
-    (λ _. bytes_good line draft name operands good (bytes_for name operands) refl))
+    (λ _. cond_both (bytes_eq name (codes "disk")) _ _ OkGood
+    (λ _. or_bad_good line (joined draft false operands) (joined_good draft (disk_for false operands) good))
+    (λ _. cond_both (bytes_eq name (codes "rodisk")) _ _ OkGood
+    (λ _. or_bad_good line (joined draft true operands) (joined_good draft (disk_for true operands) good))
+    (λ _. bytes_good line draft name operands good (bytes_for name operands) refl)))
 
 head_good : (base size : ℕ) → (is_paged base && is_good_size base size) ≡ true → Good (empty_draft base size)
 head_good base size accepted =

@@ -1,5 +1,5 @@
 -- A chunk that was placed stays.
-use Rattle.std.proofs.Common.{ℕ, ◌+◌, nat_lt, List, [], ◌∷◌, length, codes, bytes_eq, Option, Some, None, Result, Ok, Err, refl, inl, inr}
+use Rattle.std.proofs.Common.{ℕ, ◌+◌, true, false, nat_lt, List, [], ◌∷◌, length, codes, bytes_eq, Option, Some, None, Result, Ok, Err, refl, inl, inr}
 use Rattle.std.specs.Prelude.{IfSome, IfOk}
 use Rattle.std.specs.List.{list_any}
 use Rattle.std.specs.Option.{option_map}
@@ -73,9 +73,11 @@ unfolding stated joined
 stated_has chunk line draft name operands has =
     cond_both (bytes_eq name (codes "at")) _ _ (OkHas chunk)
     (λ _. or_bad_has chunk line (moved draft operands) (moved_has chunk draft operands has))
-    (λ _. cond_both (bytes_eq name (codes "disk")) (or_bad line (joined draft operands)) (then_so (or_bad line (bytes_for name operands)) (placed line draft)) (OkHas chunk)
-    (λ _. or_bad_has chunk line (joined draft operands) (joined_has chunk draft (disk_for operands) has))
-    (λ _. bytes_has chunk line draft (bytes_for name operands) has))
+    (λ _. cond_both (bytes_eq name (codes "disk")) _ _ (OkHas chunk)
+    (λ _. or_bad_has chunk line (joined draft false operands) (joined_has chunk draft (disk_for false operands) has))
+    (λ _. cond_both (bytes_eq name (codes "rodisk")) _ _ (OkHas chunk)
+    (λ _. or_bad_has chunk line (joined draft true operands) (joined_has chunk draft (disk_for true operands) has))
+    (λ _. bytes_has chunk line draft (bytes_for name operands) has)))
 
 -- a draft is there, and has the chunk
 abbrev pub There : Chunk → Option Draft → Type 0

@@ -19,3 +19,4 @@ pub mod Found
 pub mod Following
 pub mod Started
 pub mod Warranted
+pub mod Upgraded

@@ -1,5 +1,5 @@
 -- Chunks and disks one after the other, as a loop reads them: what is left, read from here, is what all gives.
-use Rattle.std.proofs.Common.{◌≡◌, ℕ, suc, ◌-◌, ◌+◌, ◌≤◌, ◌<◌, List, [], ◌∷◌, ◌++◌, Result, Ok, Err, refl, sym, ◌∙◌, arith}
+use Rattle.std.proofs.Common.{◌≡◌, ℕ, suc, ◌-◌, ◌+◌, ◌≤◌, ◌<◌, Bool, List, [], ◌∷◌, ◌++◌, Result, Ok, Err, refl, sym, ◌∙◌, arith}
 use Rattle.iom_asm.specs.declared.fault.LoadFault.{LoadFault}
 use Rattle.iom_asm.specs.Image.{Chunk, Disk, end_of}
 use Rattle.iom_asm.specs.Reading.{◌>>=◌, Read, rest_of, chunk_at, chunks_at, disk_at, disks_at}
@@ -35,28 +35,28 @@ chunks_done base size end count i bytes total le so_far =
     let one : rest_of (chunks_at base size end (count - i) bytes) ≡ Ok bytes = rw k refl in
     sym so_far ∙ one
 
-pub disks_go_on : (ids : List ℕ) (count i : ℕ) (bytes after : List ℕ) (d : Disk) (total : Result (List ℕ) LoadFault) →
-    i < count → disk_at ids bytes ≡ Ok (d, after) → rest_of (disks_at ids (count - i) bytes) ≡ total →
-    rest_of (disks_at (ids ++ d.id ∷ []) (count - (i + 1)) after) ≡ total
+pub disks_go_on : (has_flags : Bool) (ids : List ℕ) (count i : ℕ) (bytes after : List ℕ) (d : Disk) (total : Result (List ℕ) LoadFault) →
+    i < count → disk_at has_flags ids bytes ≡ Ok (d, after) → rest_of (disks_at has_flags ids (count - i) bytes) ≡ total →
+    rest_of (disks_at has_flags (ids ++ d.id ∷ []) (count - (i + 1)) after) ≡ total
 unfolding disks_at
-disks_go_on ids count i bytes after d total lt h so_far =
+disks_go_on has_flags ids count i bytes after d total lt h so_far =
     let k : count - i ≡ suc (count - (i + 1)) = omega arith in
-    let one : rest_of (disks_at ids (count - i) bytes) ≡ rest_of (disks_at (ids ++ d.id ∷ []) (count - (i + 1)) after) =
-    rw (k, h) (first_left d (disks_at (ids ++ d.id ∷ []) (count - (i + 1)) after)) in
+    let one : rest_of (disks_at has_flags ids (count - i) bytes) ≡ rest_of (disks_at has_flags (ids ++ d.id ∷ []) (count - (i + 1)) after) =
+    rw (k, h) (first_left d (disks_at has_flags (ids ++ d.id ∷ []) (count - (i + 1)) after)) in
     sym one ∙ so_far
 
-pub disks_fail : (ids : List ℕ) (count i : ℕ) (bytes : List ℕ) (fault : LoadFault) (total : Result (List ℕ) LoadFault) →
-    i < count → disk_at ids bytes ≡ Err fault → rest_of (disks_at ids (count - i) bytes) ≡ total → total ≡ Err fault
+pub disks_fail : (has_flags : Bool) (ids : List ℕ) (count i : ℕ) (bytes : List ℕ) (fault : LoadFault) (total : Result (List ℕ) LoadFault) →
+    i < count → disk_at has_flags ids bytes ≡ Err fault → rest_of (disks_at has_flags ids (count - i) bytes) ≡ total → total ≡ Err fault
 unfolding disks_at
-disks_fail ids count i bytes fault total lt h so_far =
+disks_fail has_flags ids count i bytes fault total lt h so_far =
     let k : count - i ≡ suc (count - (i + 1)) = omega arith in
-    let one : rest_of (disks_at ids (count - i) bytes) ≡ Err fault = rw (k, h) refl in
+    let one : rest_of (disks_at has_flags ids (count - i) bytes) ≡ Err fault = rw (k, h) refl in
     sym so_far ∙ one
 
-pub disks_done : (ids : List ℕ) (count i : ℕ) (bytes : List ℕ) (total : Result (List ℕ) LoadFault) → count ≤ i →
-    rest_of (disks_at ids (count - i) bytes) ≡ total → total ≡ Ok bytes
+pub disks_done : (has_flags : Bool) (ids : List ℕ) (count i : ℕ) (bytes : List ℕ) (total : Result (List ℕ) LoadFault) → count ≤ i →
+    rest_of (disks_at has_flags ids (count - i) bytes) ≡ total → total ≡ Ok bytes
 unfolding disks_at
-disks_done ids count i bytes total le so_far =
+disks_done has_flags ids count i bytes total le so_far =
     let k : count - i ≡ 0 = omega arith in
-    let one : rest_of (disks_at ids (count - i) bytes) ≡ Ok bytes = rw k refl in
+    let one : rest_of (disks_at has_flags ids (count - i) bytes) ≡ Ok bytes = rw k refl in
     sym so_far ∙ one

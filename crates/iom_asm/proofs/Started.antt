@@ -34,40 +34,40 @@ met_last : (id : ℕ) (ids : List ℕ) → is_met id (ids ++ id ∷ []) ≡ true
 met_last id [] = rw (eq-eqb id id refl) refl
 met_last id (first ∷ ids) = met_later (first == id) (is_met id (ids ++ id ∷ [])) (met_last id ids)
 
-others_other : (ids : List ℕ) (disks : List Disk) (id : ℕ) → is_met id ids ≡ true → AreDisks ids disks → EachOther id (devices_from disks)
-others_other ids [] id met good = tt
-others_other ids (disk ∷ disks) id met good =
+others_other : (has_flags : Bool) (ids : List ℕ) (disks : List Disk) (id : ℕ) → is_met id ids ≡ true → AreDisks has_flags ids disks → EachOther id (devices_from disks)
+others_other has_flags ids [] id met good = tt
+others_other has_flags ids (disk ∷ disks) id met good =
     let new = not-true (is_met disk.id ids) (and_parts (nat_lt disk.id (2 ^ 24)) (not (is_met disk.id ids)) good.0.id).1 in (
       λ same. true≢false (sym met ∙ ap (λ id. is_met id ids) (sym same) ∙ new),
-      others_other (ids ++ disk.id ∷ []) disks id (met_more id disk.id ids met) good.1,
+      others_other has_flags (ids ++ disk.id ∷ []) disks id (met_more id disk.id ids met) good.1,
     )
 
-each_fits : (ids : List ℕ) (disks : List Disk) → AreDisks ids disks → EachFits (devices_from disks)
-each_fits ids [] good = tt
-each_fits ids (disk ∷ disks) good = (
+each_fits : (has_flags : Bool) (ids : List ℕ) (disks : List Disk) → AreDisks has_flags ids disks → EachFits (devices_from disks)
+each_fits has_flags ids [] good = tt
+each_fits has_flags ids (disk ∷ disks) good = (
   ltb-true disk.id (2 ^ 24) (and_parts (nat_lt disk.id (2 ^ 24)) _ good.0.id).0,
-  each_fits (ids ++ disk.id ∷ []) disks good.1,
+  each_fits has_flags (ids ++ disk.id ∷ []) disks good.1,
 )
 
-are_distinct : (ids : List ℕ) (disks : List Disk) → AreDisks ids disks → AreDistinct (devices_from disks)
-are_distinct ids [] good = tt
-are_distinct ids (disk ∷ disks) good = (
-  others_other (ids ++ disk.id ∷ []) disks disk.id (met_last disk.id ids) good.1,
-  are_distinct (ids ++ disk.id ∷ []) disks good.1,
+are_distinct : (has_flags : Bool) (ids : List ℕ) (disks : List Disk) → AreDisks has_flags ids disks → AreDistinct (devices_from disks)
+are_distinct has_flags ids [] good = tt
+are_distinct has_flags ids (disk ∷ disks) good = (
+  others_other has_flags (ids ++ disk.id ∷ []) disks disk.id (met_last disk.id ids) good.1,
+  are_distinct has_flags (ids ++ disk.id ∷ []) disks good.1,
 )
 
 as_many : (disks : List Disk) → length (devices_from disks) ≡ length disks
 as_many [] = refl
 as_many (disk ∷ disks) = ap suc (as_many disks)
 
-are_devices : (disks : List Disk) → length disks ≤ 8 → AreDisks [] disks → AreDevices (devices_from disks)
-are_devices disks few good = record {
+are_devices : (has_flags : Bool) (disks : List Disk) → length disks ≤ 8 → AreDisks has_flags [] disks → AreDevices (devices_from disks)
+are_devices has_flags disks few good = record {
   few = subst (λ (n : ℕ). n ≤ 8) (sym (as_many disks)) few;
-  fit = each_fits [] disks good;
-  distinct = are_distinct [] disks good;
+  fit = each_fits has_flags [] disks good;
+  distinct = are_distinct has_flags [] disks good;
 }
 
-are_bytes : (bytes : List ℕ) → ((i : ℕ) → get_or bytes i 0 < 256) → AreBytes bytes
+pub are_bytes : (bytes : List ℕ) → ((i : ℕ) → get_or bytes i 0 < 256) → AreBytes bytes
 are_bytes [] fits = tt
 are_bytes (b ∷ bytes) fits = (fits 0, are_bytes bytes (λ i. fits (suc i)))
 
@@ -84,7 +84,7 @@ image_started bytes (Err fault) state are is made = absurd cc
 image_started bytes (Ok image) state are is made =
     let good = (read_is bytes image are is).good in
     let devices : devices_from image.disks ≡ state.devices = ap (λ (state : State). state.devices) (ok_is (state_from image) state made) in
-    subst AreDevices devices (are_devices image.disks good.few good.disks)
+    subst AreDevices devices (are_devices image.has_flags image.disks good.few good.disks)
 
 pub devices_started : (bytes : List ℕ) (state : State) → ((i : ℕ) → get_or bytes i 0 < 256) →
     mapped state_from (image_of bytes) ≡ Ok state → AreDevices state.devices

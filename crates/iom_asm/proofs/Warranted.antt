@@ -29,7 +29,7 @@ by_found start steps fresh n request asked led (Some warrant) (other, is, grants
 warranted : (start : State) (steps : List Step) → ((n : ℕ) → IsExplained start steps n) → UpToDate start steps → AreWarranted start steps
 warranted start steps explained fresh n request asked led = by_found start steps fresh n request asked led (explained n).0 (explained n).1
 
-read_as : {A B : Type 0} (f : A → B) (read : Result A LoadFault) (y : B) → mapped f read ≡ Ok y → (x : A) × (read ≡ Ok x) × (y ≡ f x)
+pub read_as : {A B : Type 0} (f : A → B) (read : Result A LoadFault) (y : B) → mapped f read ≡ Ok y → (x : A) × (read ≡ Ok x) × (y ≡ f x)
 read_as f (Ok x) y is = (x, refl, search is)
 read_as f (Err fault) y is = absurd cc
 

@@ -1,5 +1,5 @@
 -- Texts: what the statements on the lines of a text make, one after the other, and the image of it.
-use Rattle.std.specs.Prelude.{ℕ, ◌≡◌, ◌≢◌, ◌+◌, ◌*◌, ◌==◌, ◌&&◌, ◌++◌, Bool, List, [], ◌∷◌, length, codes, bytes_eq, map, nat_lt, nat_le, Option, Some, None, Result, Ok, Err, if◌then◌else◌}
+use Rattle.std.specs.Prelude.{ℕ, ◌≡◌, ◌≢◌, ◌+◌, ◌*◌, ◌==◌, ◌&&◌, ◌||◌, ◌++◌, Bool, true, false, List, [], ◌∷◌, length, codes, bytes_eq, map, nat_lt, nat_le, Option, Some, None, Result, Ok, Err, if◌then◌else◌}
 use Rattle.std.specs.List.{list_any}
 use Rattle.std.specs.Option.{option_map}
 use Rattle.std.specs.Result.{result_ok}
@@ -53,7 +53,7 @@ bytes_for name operands =
 
 -- `ram BASE SIZE`: the place is the base
 abbrev pub empty_draft : ℕ → ℕ → Draft
-empty_draft base size = record { image = record { base = base; size = size; chunks = []; disks = [] }; place = base }
+empty_draft base size = record { image = record { has_flags = false; base = base; size = size; chunks = []; disks = [] }; place = base }
 
 unfoldable pub ram_draft : List ℕ → List ℕ → Option Draft
 ram_draft base size = do
@@ -76,34 +76,40 @@ moved draft [] = None
 moved draft (place ∷ []) = option_map (moved_to draft) (number place)
 moved draft (place ∷ more ∷ others) = None
 
--- `disk DID SECTORS [HEX]`
+-- `disk DID SECTORS [HEX]`, or `rodisk DID SECTORS [HEX]` for a disk that may only be read
 abbrev pub first_bytes : List (List ℕ) → Option (List ℕ)
 first_bytes [] = Some []
 first_bytes (word ∷ words) = one_hex (word ∷ words)
 
-unfoldable pub disk_of : List ℕ → List ℕ → List (List ℕ) → Option Disk
-disk_of id sectors words = do
+unfoldable pub disk_of : Bool → List ℕ → List ℕ → List (List ℕ) → Option Disk
+disk_of read_only id sectors words = do
   id ← number id
   sectors ← number sectors
   bytes ← first_bytes words
-  Some (record { id = id; sectors = sectors; bytes = bytes })
+  Some (record { id = id; sectors = sectors; read_only = read_only; bytes = bytes })
 
-unfoldable pub disk_for : List (List ℕ) → Option Disk
-disk_for [] = None
-disk_for (id ∷ []) = None
-disk_for (id ∷ sectors ∷ words) = disk_of id sectors words
+unfoldable pub disk_for : Bool → List (List ℕ) → Option Disk
+disk_for read_only [] = None
+disk_for read_only (id ∷ []) = None
+disk_for read_only (id ∷ sectors ∷ words) = disk_of read_only id sectors words
 
 -- whether a disk may follow these
 abbrev pub is_next_disk : List Disk → Disk → Bool
 is_next_disk disks disk =
     nat_lt (length disks) 8 && (is_new_id (map (λ other. other.id) disks) disk.id && (is_disk_size disk.sectors && nat_le (length disk.bytes) (disk.sectors * 512)))
 
+-- an image with a read-only disk is of version 2, any other of version 1
 abbrev pub with_disk : Draft → Disk → Draft
-with_disk draft disk = record draft { image = record draft.image { disks = draft.image.disks ++ disk ∷ [] } }
+with_disk draft disk = record draft {
+  image = record draft.image {
+    has_flags = draft.image.has_flags || disk.read_only;
+    disks = draft.image.disks ++ disk ∷ [];
+  };
+}
 
-unfoldable pub joined : Draft → List (List ℕ) → Option Draft
-joined draft words = do
-  disk ← disk_for words
+unfoldable pub joined : Draft → Bool → List (List ℕ) → Option Draft
+joined draft read_only words = do
+  disk ← disk_for read_only words
   where_so (is_next_disk draft.image.disks disk) (Some (with_disk draft disk))
 
 -- Bytes at the place. They are a chunk of their own, and the place moves past them.
@@ -136,7 +142,8 @@ placed line draft bytes =
 unfoldable pub stated : ℕ → Draft → List ℕ → List (List ℕ) → Result Draft AsmFault
 stated line draft name operands =
     if bytes_eq name (codes "at") then or_bad line (moved draft operands)
-    else if bytes_eq name (codes "disk") then or_bad line (joined draft operands)
+    else if bytes_eq name (codes "disk") then or_bad line (joined draft false operands)
+    else if bytes_eq name (codes "rodisk") then or_bad line (joined draft true operands)
     else then_so (or_bad line (bytes_for name operands)) (placed line draft)
 
 -- the first statement

@@ -11,11 +11,12 @@ abbrev pub chunk_seen : ℕ × Vec ℕ → Chunk
 chunk_seen entry = record { addr = entry.0; bytes = entry.1.items }
 
 abbrev pub disk_seen : OwnDisk → Disk
-disk_seen disk = record { id = disk.id; sectors = disk.sectors; bytes = disk.bytes.items }
+disk_seen disk = record { id = disk.id; sectors = disk.sectors; read_only = disk.read_only; bytes = disk.bytes.items }
 
 abbrev pub draft_seen : kept.Draft → Draft
 draft_seen draft = record {
   image = record {
+    has_flags = draft.has_flags;
     base = draft.base;
     size = draft.size;
     chunks = map chunk_seen draft.chunks.entries;

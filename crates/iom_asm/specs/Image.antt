@@ -1,6 +1,7 @@
 -- Images: which bytes are an image, and of what.
-use Rattle.std.specs.Prelude.{ℕ, ◌≡◌, ◌+◌, ◌*◌, ◌^◌, ◌<◌, ◌≤◌, ◌==◌, ◌&&◌, ◌++◌, Bool, true, not, List, [], ◌∷◌, length, codes, nat_lt, nat_le}
+use Rattle.std.specs.Prelude.{ℕ, ◌≡◌, ◌+◌, ◌*◌, ◌^◌, ◌<◌, ◌≤◌, ◌==◌, ◌&&◌, ◌++◌, Bool, true, false, not, List, [], ◌∷◌, length, codes, nat_lt, nat_le}
 use Rattle.std.specs.List.{list_any}
+use Rattle.iom_bits.specs.Bits.{flag}
 use Rattle.iom_bits.specs.Bytes.{bytes_of_number}
 use Rattle.iom_mem.specs.Memory.{Memory, put}
 use Rattle.iom_mem.specs.Sizes.{is_paged, is_good_size}
@@ -10,13 +11,16 @@ pub record Chunk : Type 0 where
   pub addr : ℕ
   pub bytes : List ℕ
 
--- a block device: its device id, how many sectors of 512 bytes its disk has, and the first bytes of the disk
+-- a block device: its device id, how many sectors of 512 bytes its disk has, whether the disk may only be read, and its first bytes
 pub record Disk : Type 0 where
   pub id : ℕ
   pub sectors : ℕ
+  pub read_only : Bool
   pub bytes : List ℕ
 
 pub record Image : Type 0 where
+  -- whether its disks have flags: version 2, else version 1
+  pub has_flags : Bool
   pub base : ℕ
   pub size : ℕ
   pub chunks : List Chunk
@@ -50,16 +54,17 @@ abbrev pub AreChunks : ℕ → ℕ → ℕ → List Chunk → Type 0
 AreChunks base size end [] = Unit {0}
 AreChunks base size end (chunk ∷ chunks) = IsChunk base size end chunk × AreChunks base size (end_of chunk) chunks
 
--- a disk whose id is not among `ids`, with room for its first bytes
-pub record IsDisk (ids : List ℕ) (disk : Disk) : Type 0 where
+-- a disk whose id is not among `ids`, with room for its first bytes, and writable where it has no flags
+pub record IsDisk (has_flags : Bool) (ids : List ℕ) (disk : Disk) : Type 0 where
   pub id : is_new_id ids disk.id ≡ true
   pub sectors : is_disk_size disk.sectors ≡ true
   pub room : length disk.bytes ≤ disk.sectors * 512
+  pub writable : has_flags ≡ false → disk.read_only ≡ false
 
 -- disks of which no two have the same id, nor one that is among `ids`
-abbrev pub AreDisks : List ℕ → List Disk → Type 0
-AreDisks ids [] = Unit {0}
-AreDisks ids (disk ∷ disks) = IsDisk ids disk × AreDisks (ids ++ disk.id ∷ []) disks
+abbrev pub AreDisks : Bool → List ℕ → List Disk → Type 0
+AreDisks has_flags ids [] = Unit {0}
+AreDisks has_flags ids (disk ∷ disks) = IsDisk has_flags ids disk × AreDisks has_flags (ids ++ disk.id ∷ []) disks
 
 -- what has an image
 pub record IsImage (image : Image) : Type 0 where
@@ -67,7 +72,7 @@ pub record IsImage (image : Image) : Type 0 where
   pub size : is_good_size image.base image.size ≡ true
   pub chunks : AreChunks image.base image.size 0 image.chunks
   pub few : length image.disks ≤ 8
-  pub disks : AreDisks [] image.disks
+  pub disks : AreDisks image.has_flags [] image.disks
 
 -- its bytes
 abbrev pub chunk_bytes : Chunk → List ℕ
@@ -77,22 +82,32 @@ abbrev pub chunks_bytes : List Chunk → List ℕ
 chunks_bytes [] = []
 chunks_bytes (chunk ∷ chunks) = chunk_bytes chunk ++ chunks_bytes chunks
 
-abbrev pub disk_bytes : Disk → List ℕ
-disk_bytes disk =
-    bytes_of_number 4 disk.id ++ (bytes_of_number 4 disk.sectors ++ (bytes_of_number 4 (length disk.bytes) ++ disk.bytes))
+-- bit 0 of the flags: the disk may only be read; no other bit is set
+abbrev pub flags_bytes : Bool → Bool → List ℕ
+flags_bytes false read_only = []
+flags_bytes true read_only = bytes_of_number 4 (flag read_only)
 
-abbrev pub disks_bytes : List Disk → List ℕ
-disks_bytes [] = []
-disks_bytes (disk ∷ disks) = disk_bytes disk ++ disks_bytes disks
+abbrev pub disk_bytes : Bool → Disk → List ℕ
+disk_bytes has_flags disk =
+    bytes_of_number 4 disk.id ++ (bytes_of_number 4 disk.sectors ++ (flags_bytes has_flags disk.read_only
+    ++ (bytes_of_number 4 (length disk.bytes) ++ disk.bytes)))
 
-abbrev pub head_bytes : ℕ → ℕ → ℕ → ℕ → List ℕ
-head_bytes base size chunks disks =
-    codes "RVIOMMU1" ++ (bytes_of_number 8 base ++ (bytes_of_number 8 size ++ (bytes_of_number 4 chunks ++ bytes_of_number 4 disks)))
+abbrev pub disks_bytes : Bool → List Disk → List ℕ
+disks_bytes has_flags [] = []
+disks_bytes has_flags (disk ∷ disks) = disk_bytes has_flags disk ++ disks_bytes has_flags disks
+
+abbrev pub magic_of : Bool → List ℕ
+magic_of false = codes "RVIOMMU1"
+magic_of true = codes "RVIOMMU2"
+
+abbrev pub head_bytes : Bool → ℕ → ℕ → ℕ → ℕ → List ℕ
+head_bytes has_flags base size chunks disks =
+    magic_of has_flags ++ (bytes_of_number 8 base ++ (bytes_of_number 8 size ++ (bytes_of_number 4 chunks ++ bytes_of_number 4 disks)))
 
 unfoldable pub image_bytes : Image → List ℕ
 image_bytes image =
-    head_bytes image.base image.size (length image.chunks) (length image.disks)
-    ++ (chunks_bytes image.chunks ++ disks_bytes image.disks)
+    head_bytes image.has_flags image.base image.size (length image.chunks) (length image.disks)
+    ++ (chunks_bytes image.chunks ++ disks_bytes image.has_flags image.disks)
 
 -- these bytes are an image, of this memory with these chunks and these disks
 pub record IsImageOf (image : Image) (bytes : List ℕ) : Type 0 where

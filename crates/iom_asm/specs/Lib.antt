@@ -10,3 +10,4 @@ pub mod Listing
 pub mod Retelling
 pub mod Loading
 pub mod Theorem
+pub mod Upgrading

@@ -1,5 +1,5 @@
 -- The platform that an image starts.
-use Rattle.std.specs.Prelude.{ℕ, ◌++◌, List, [], map, Result, Ok}
+use Rattle.std.specs.Prelude.{ℕ, ◌++◌, Bool, false, List, [], map, Result, Ok}
 use Rattle.iom_blk.specs.Device.{Device, at_reset}
 use Rattle.iom_core.specs.State.{State, opening}
 use Rattle.iom_asm.specs.declared.fault.LoadFault.{LoadFault}
@@ -7,10 +7,10 @@ use Rattle.iom_asm.specs.Image.{Disk, Image}
 use Rattle.iom_asm.specs.Reading.{◌>>=◌, Read, Start, started, opening_of}
 
 -- each disk in a block device that was not touched yet
-abbrev pub device_of : ℕ × List ℕ → ℕ × Device
-device_of disk = (disk.0, at_reset disk.1)
+abbrev pub device_of : ℕ × List ℕ × Bool → ℕ × Device
+device_of disk = (disk.0, at_reset disk.1 disk.2)
 
-abbrev pub devices_of : List (ℕ × List ℕ) → List (ℕ × Device)
+abbrev pub devices_of : List (ℕ × List ℕ × Bool) → List (ℕ × Device)
 devices_of disks = map device_of disks
 
 -- nothing has happened yet: registers at reset, and nothing cached
@@ -26,4 +26,4 @@ joined before read = read >>= λ x. Ok (before ++ devices_of (map started x.0))
 
 -- 1 MiB of memory at 0x80000000, all 0, and no block device
 abbrev pub built_in : Image
-built_in = record { base = 2147483648; size = 1048576; chunks = []; disks = [] }
+built_in = record { has_flags = false; base = 2147483648; size = 1048576; chunks = []; disks = [] }

@@ -9,7 +9,7 @@ use thiserror::Error;
 /// Why bytes are refused as an image: the first check that fails, from the first byte on, each field judged once it is whole.
 #[derive(Clone, Copy, Debug, PartialEq, Error)]
 pub enum LoadFault {
-    /// The first eight bytes are not `RVIOMMU1`.
+    /// The first eight bytes are neither `RVIOMMU1` nor `RVIOMMU2`.
     #[error("bad magic")]
     BadMagic,
     /// The bytes end within the image.
@@ -24,8 +24,8 @@ pub enum LoadFault {
     /// A chunk lies below the end of the one before, has no bytes, or has one outside memory.
     #[error("bad chunk")]
     BadChunk,
-    /// There are more than eight disks, an id is met twice or above 24 bits, a disk has no sector or more than 65,536, or
-    /// less room than bytes.
+    /// There are more than eight disks, an id is met twice or above 24 bits, a disk has no sector or more than 65,536, flags other
+    /// than bit 0, or less room than bytes.
     #[error("bad device")]
     BadDevice,
     /// An allocation was refused. The image would be accepted.

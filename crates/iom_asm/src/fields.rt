@@ -1,9 +1,9 @@
 //! The fields of an image, read from the front.
 
-ghost use Rattle.std.specs.Prelude.{◌≡◌, ◌+◌, ◌*◌, ◌≤◌, ◌<◌, ◌^◌, ◌&&◌, IfOk, length, nat_le};
+ghost use Rattle.std.specs.Prelude.{◌≡◌, ◌+◌, ◌*◌, ◌≤◌, ◌<◌, ◌^◌, ◌&&◌, ◌||◌, true, false, bytes_eq, IfOk, length, nat_le};
 ghost use Rattle.iom_mem.specs.Sizes.{is_paged, is_good_size};
-ghost use Rattle.iom_asm.specs.Image.{Chunk, Disk, end_of, is_new_id, is_disk_size};
-ghost use Rattle.iom_asm.specs.Reading.{Reads, part_at, number_at, Head, head_at, chunk_at, disk_at};
+ghost use Rattle.iom_asm.specs.Image.{Chunk, Disk, end_of, is_new_id, is_disk_size, magic_of};
+ghost use Rattle.iom_asm.specs.Reading.{Reads, part_at, number_at, Head, head_at, chunk_at, flags_at, disk_at};
 
 use crate::fault::LoadFault;
 use crate::words::word_of;
@@ -12,6 +12,8 @@ use iom_bits::le_u32;
 /// What stands before the chunks.
 #[derive(Clone, Copy)]
 pub struct Header {
+    /// Whether disks have flags: version 2, else version 1.
+    pub has_flags: bool,
     pub base: u64,
     pub size: u64,
     pub chunks: u32,
@@ -30,6 +32,7 @@ pub struct ChunkPart<'a> {
 pub struct DiskPart<'a> {
     pub id: u32,
     pub sectors: u32,
+    pub read_only: bool,
     pub bytes: &'a [u8],
 }
 
@@ -72,13 +75,14 @@ pub fn is_ram(base: u64, size: u64) -> bool
 #[tactic(auto, unfolding(crate::specs::Reading::head_at))]
 pub fn header_of(bytes: &[u8]) -> Result<(Header, &[u8]), LoadFault>
     ensures read { Reads
-        (λ x. (record { base = x.0.base; size = x.0.size; chunks = x.0.chunks; disks = x.0.disks }, x.1.now))
+        (λ x. (record { has_flags = x.0.has_flags; base = x.0.base; size = x.0.size; chunks = x.0.chunks; disks = x.0.disks }, x.1.now))
         result (head_at bytes.now) }
     ensures end { IfOk result (λ x. x.0.base + x.0.size ≤ 2 ^ 56) }
     ensures few { IfOk result (λ x. x.0.disks ≤ 8) }
 {
     let (magic, rest) = front(8, bytes)?;
-    if magic != b"RVIOMMU1".as_slice() {
+    let has_flags = magic == b"RVIOMMU2".as_slice();
+    if magic != b"RVIOMMU1".as_slice() && !has_flags {
         return Err(LoadFault::BadMagic);
     }
     let (base, rest) = u64_of(rest)?;
@@ -92,6 +96,7 @@ pub fn header_of(bytes: &[u8]) -> Result<(Header, &[u8]), LoadFault>
         return Err(LoadFault::BadDevice);
     }
     let header = Header {
+        has_flags,
         base,
         size,
         chunks,
@@ -122,6 +127,7 @@ pub fn chunk<'a>(
     ensures read { Reads (λ x. (record { addr = x.0.addr; bytes = x.0.bytes.now }, x.1.now)) result
         (chunk_at header.now.base header.now.size end bytes.now) }
     ensures above { IfOk result (λ x. header.now.base ≤ x.0.addr) }
+    ensures few { IfOk result (λ x. length x.0.bytes.now < 2 ^ 32) }
     ensures below { IfOk result
         (λ x. x.0.addr + length x.0.bytes.now ≤ header.now.base + header.now.size) }
 {
@@ -143,12 +149,31 @@ fn is_new_id(ids: &[u32], id: u32) -> bool
     id < 1 << 24 && !ids.contains(&id)
 }
 
-/// A disk whose id is not among `ids`.
+// Whether a disk may only be read: what its flags say, where it has any.
+#[tactic(auto, unfolding(crate::specs::Reading::flags_at))]
+fn read_only(has_flags: bool, bytes: &[u8]) -> Result<(bool, &[u8]), LoadFault>
+    ensures { Reads (λ x. (x.0, x.1.now)) result (flags_at has_flags bytes.now) }
+{
+    if !has_flags {
+        return Ok((false, bytes));
+    }
+    let (flags, rest) = u32_of(bytes)?;
+    if flags > 1 {
+        return Err(LoadFault::BadDevice);
+    }
+    Ok((flags == 1, rest))
+}
+
+/// A disk whose id is not among `ids`, with flags or without.
 #[tactic(auto, unfolding(crate::specs::Reading::disk_at))]
-pub fn disk<'a>(ids: &[u32], bytes: &'a [u8]) -> Result<(DiskPart<'a>, &'a [u8]), LoadFault>
+pub fn disk<'a>(
+    has_flags: bool,
+    ids: &[u32],
+    bytes: &'a [u8],
+) -> Result<(DiskPart<'a>, &'a [u8]), LoadFault>
     ensures read { Reads
-        (λ x. (record { id = x.0.id; sectors = x.0.sectors; bytes = x.0.bytes.now }, x.1.now)) result
-        (disk_at ids.now bytes.now) }
+        (λ x. (record { id = x.0.id; sectors = x.0.sectors; read_only = x.0.read_only; bytes = x.0.bytes.now }, x.1.now)) result
+        (disk_at has_flags ids.now bytes.now) }
     ensures room { IfOk result (λ x. length x.0.bytes.now ≤ x.0.sectors * 512) }
     ensures some { IfOk result (λ x. 1 ≤ x.0.sectors) }
     ensures most { IfOk result (λ x. x.0.sectors ≤ 65536) }
@@ -161,10 +186,17 @@ pub fn disk<'a>(ids: &[u32], bytes: &'a [u8]) -> Result<(DiskPart<'a>, &'a [u8])
     if sectors == 0 || sectors > 65_536 {
         return Err(LoadFault::BadDevice);
     }
+    let (read_only, rest) = read_only(has_flags, rest)?;
     let (len, rest) = u32_of(rest)?;
     if len > sectors * 512 {
         return Err(LoadFault::BadDevice);
     }
     let (bytes, rest) = front(len as usize, rest)?;
-    Ok((DiskPart { id, sectors, bytes }, rest))
+    let part = DiskPart {
+        id,
+        sectors,
+        read_only,
+        bytes,
+    };
+    Ok((part, rest))
 }

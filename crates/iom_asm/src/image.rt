@@ -2,7 +2,7 @@ ghost use Rattle.std.specs.Prelude.{◌≡◌};
 ghost use Rattle.iom_asm.specs.Image.{image_bytes};
 ghost use Rattle.iom_asm.specs.Loading.{built_in};
 
-/// The image of 1 MiB of memory at physical address 0x80000000, all 0, with no block device.
+/// The image, of version 1, of 1 MiB of memory at physical address 0x80000000, all 0, with no block device.
 pub fn built_in() -> [u8; 32]
     ensures { result ≡ image_bytes built_in }
 {

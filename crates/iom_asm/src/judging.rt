@@ -23,15 +23,15 @@ fn chunks<'a>(header: &Header, bytes: &'a [u8]) -> Result<&'a [u8], LoadFault>
     Ok(rest)
 }
 
-// The bytes after so many disks.
-fn disks(count: u32, bytes: &[u8]) -> Result<&[u8], LoadFault>
+// The bytes after so many disks, with flags or without.
+fn disks(has_flags: bool, count: u32, bytes: &[u8]) -> Result<&[u8], LoadFault>
     requires { count ≤ 8 }
-    ensures { Reads (λ rest. rest.now) result (rest_of (disks_at [] count bytes.now)) }
+    ensures { Reads (λ rest. rest.now) result (rest_of (disks_at has_flags [] count bytes.now)) }
 {
     let mut rest = bytes;
     let mut ids: ArrayVec<u32, 8> = ArrayVec::new();
     for _ in 0..count {
-        let (part, after) = disk(ids.as_slice(), rest)?;
+        let (part, after) = disk(has_flags, ids.as_slice(), rest)?;
         ids.push(part.id);
         rest = after;
     }
@@ -45,7 +45,7 @@ pub fn judge(bytes: &[u8]) -> Result<(), LoadFault>
 {
     let (header, rest) = header_of(bytes)?;
     let rest = chunks(&header, rest)?;
-    let rest = disks(header.disks, rest)?;
+    let rest = disks(header.has_flags, header.disks, rest)?;
     if rest.is_empty() {
         Ok(())
     } else {

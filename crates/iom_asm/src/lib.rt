@@ -14,6 +14,7 @@ pub use listing::list;
 pub use loading::load;
 pub use playing::play;
 pub use retelling::{images_are_what_is_read, texts_are_told_again};
+pub use upgrading::upgrade;
 
 mod asm_fault;
 mod assembling;
@@ -34,5 +35,6 @@ mod placing;
 mod playing;
 mod retelling;
 mod statements;
+mod upgrading;
 mod words;
 mod writing;

@@ -61,22 +61,31 @@ fn make_device(alloc: Global, part: &DiskPart) -> Result<Blk, AllocError>
     requires most { part.now.sectors ≤ 65536 }
     requires room { length part.now.bytes.now ≤ part.now.sectors * 512 }
     ensures { IfOk result (λ device. device
-        ≡ at_reset (part.now.bytes.now ++ replicate (part.now.sectors * 512 - length part.now.bytes.now) 0)) }
+        ≡ at_reset (part.now.bytes.now ++ replicate (part.now.sectors * 512 - length part.now.bytes.now) 0) part.now.read_only) }
 {
     let disk = make_disk(alloc, part.bytes, part.sectors as usize * 512)?;
-    Ok(Blk::new(disk))
+    Ok(if part.read_only {
+        Blk::new_read_only(disk)
+    } else {
+        Blk::new(disk)
+    })
 }
 
-/// The block devices that so many disks are read to make, with their ids.
-pub fn make_devices(alloc: Global, count: u32, bytes: &[u8]) -> Result<Vec<(u32, Blk)>, LoadFault>
+/// The block devices that so many disks, with flags or without, are read to make, with their ids.
+pub fn make_devices(
+    alloc: Global,
+    has_flags: bool,
+    count: u32,
+    bytes: &[u8],
+) -> Result<Vec<(u32, Blk)>, LoadFault>
     requires { count ≤ 8 }
-    ensures { Gives (λ devices. devices.items) result (joined [] (disks_at [] count bytes.now)) }
+    ensures { Gives (λ devices. devices.items) result (joined [] (disks_at has_flags [] count bytes.now)) }
 {
     let mut rest = bytes;
     let mut ids: ArrayVec<u32, 8> = ArrayVec::new();
     let mut devices = Vec::with_capacity(alloc, count as usize)?;
     for _ in 0..count {
-        let (part, after) = disk(ids.as_slice(), rest)?;
+        let (part, after) = disk(has_flags, ids.as_slice(), rest)?;
         let device = make_device(alloc, &part)?;
         ids.push(part.id);
         devices.push((part.id, device))?;

@@ -20,6 +20,7 @@ impl Draft {
         ensures { draft_seen result ≡ empty_draft base size }
     {
         Draft {
+            has_flags: false,
             base,
             size,
             place: base,
@@ -88,8 +89,12 @@ impl Draft {
         if !self.takes(&disk) {
             return Ok(false);
         }
+        let read_only = disk.read_only;
         match self.disks.push(disk) {
-            Ok(()) => Ok(true),
+            Ok(()) => {
+                self.has_flags = self.has_flags || read_only;
+                Ok(true)
+            }
             Err(_) => Err(AllocError),
         }
     }

@@ -119,11 +119,12 @@ fn first_bytes(alloc: Global, words: &[&[u8]]) -> Result<Option<Vec<u8>>, AllocE
 #[tactic(auto, unfolding(crate::specs::Assembly::disk_of))]
 fn disk_of(
     alloc: Global,
+    read_only: bool,
     id: &[u8],
     sectors: &[u8],
     words: &[&[u8]],
 ) -> Result<Option<OwnDisk>, AllocError>
-    ensures { IfOk result (λ found. option_map disk_seen found ≡ disk_of id.now sectors.now (map (λ word. word.now) words.now)) }
+    ensures { IfOk result (λ found. option_map disk_seen found ≡ disk_of read_only id.now sectors.now (map (λ word. word.now) words.now)) }
 {
     let Some(id) = number(id) else {
         return Ok(None);
@@ -132,28 +133,43 @@ fn disk_of(
         return Ok(None);
     };
     match first_bytes(alloc, words)? {
-        Some(bytes) => Ok(Some(OwnDisk { id, sectors, bytes })),
+        Some(bytes) => Ok(Some(OwnDisk {
+            id,
+            sectors,
+            read_only,
+            bytes,
+        })),
         None => Ok(None),
     }
 }
 
 #[tactic(auto, unfolding(crate::specs::Assembly::disk_for))]
-fn disk_for(alloc: Global, operands: &[&[u8]]) -> Result<Option<OwnDisk>, AllocError>
-    ensures { IfOk result (λ found. option_map disk_seen found ≡ disk_for (map (λ word. word.now) operands.now)) }
+fn disk_for(
+    alloc: Global,
+    read_only: bool,
+    operands: &[&[u8]],
+) -> Result<Option<OwnDisk>, AllocError>
+    ensures { IfOk result (λ found. option_map disk_seen found ≡ disk_for read_only (map (λ word. word.now) operands.now)) }
 {
     match operands {
-        [id, sectors, words @ ..] => disk_of(alloc, id, sectors, words),
+        [id, sectors, words @ ..] => disk_of(alloc, read_only, id, sectors, words),
         _ => Ok(None),
     }
 }
 
 impl Draft {
     #[tactic(auto, unfolding(crate::specs::Assembly::joined))]
-    fn state_disk(&mut self, alloc: Global, line: u64, operands: &[&[u8]]) -> Result<(), AsmFault>
+    fn state_disk(
+        &mut self,
+        alloc: Global,
+        line: u64,
+        read_only: bool,
+        operands: &[&[u8]],
+    ) -> Result<(), AsmFault>
         ensures { Makes (λ _. draft_seen self.new) result
-            (or_bad line (joined (draft_seen self.old) (map (λ word. word.now) operands.now))) }
+            (or_bad line (joined (draft_seen self.old) read_only (map (λ word. word.now) operands.now))) }
     {
-        let Some(disk) = disk_for(alloc, operands)? else {
+        let Some(disk) = disk_for(alloc, read_only, operands)? else {
             return Err(AsmFault::BadLine(line));
         };
         if self.join(disk)? {
@@ -183,7 +199,9 @@ impl Draft {
             self.place = place;
             Ok(())
         } else if name == b"disk".as_slice() {
-            self.state_disk(alloc, line, operands)
+            self.state_disk(alloc, line, false, operands)
+        } else if name == b"rodisk".as_slice() {
+            self.state_disk(alloc, line, true, operands)
         } else {
             match bytes_for(alloc, name, operands)? {
                 Some(bytes) => self.put(line, bytes),

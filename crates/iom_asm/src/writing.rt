@@ -1,11 +1,12 @@
 //! The bytes of an image.
 
-ghost use Rattle.std.specs.Prelude.{◌≡◌, ◌++◌, ◌^◌, ◌<◌, map, length, codes, OnOk, IfOk};
+ghost use Rattle.std.specs.Prelude.{◌≡◌, ◌++◌, ◌^◌, ◌<◌, true, false, map, length, codes, OnOk, IfOk};
 ghost use Rattle.iom_bits.specs.Bytes.{bytes_of_number};
-ghost use Rattle.iom_asm.specs.Image.{IsImage, chunk_bytes, chunks_bytes, disk_bytes, disks_bytes, head_bytes, image_bytes};
+ghost use Rattle.iom_asm.specs.Image.{IsImage, magic_of, chunk_bytes, chunks_bytes, flags_bytes, disk_bytes, disks_bytes, head_bytes, image_bytes};
 ghost use Rattle.iom_asm.specs.Drafts.{chunk_seen, disk_seen, draft_seen, Fits, AllFit, FewBytes};
 
 use crate::draft::{Draft, OwnDisk};
+use iom_bits::flag;
 use std::alloc::{AllocError, Global};
 use std::collections::BTreeMap;
 
@@ -23,8 +24,20 @@ fn push_eight(out: &mut Vec<u8>, number: u64) -> Result<(), AllocError>
     out.extend_from_slice(&number.to_le_bytes())
 }
 
-fn push_head(
+fn push_magic(out: &mut Vec<u8>, has_flags: bool) -> Result<(), AllocError>
+    ensures { OnOk result (out.new.items ≡ out.old.items ++ magic_of has_flags) }
+{
+    if has_flags {
+        out.extend_from_slice(b"RVIOMMU2")
+    } else {
+        out.extend_from_slice(b"RVIOMMU1")
+    }
+}
+
+/// Writes the first 32 bytes.
+pub fn push_head(
     out: &mut Vec<u8>,
+    has_flags: bool,
     base: u64,
     size: u64,
     chunks: u64,
@@ -32,9 +45,9 @@ fn push_head(
 ) -> Result<(), AllocError>
     requires chunks { chunks < 2 ^ 32 }
     requires disks { disks < 2 ^ 32 }
-    ensures { OnOk result (out.new.items ≡ out.old.items ++ head_bytes base size chunks disks) }
+    ensures { OnOk result (out.new.items ≡ out.old.items ++ head_bytes has_flags base size chunks disks) }
 {
-    out.extend_from_slice(b"RVIOMMU1")?;
+    push_magic(out, has_flags)?;
     push_eight(out, base)?;
     push_eight(out, size)?;
     push_four(out, chunks)?;
@@ -42,7 +55,8 @@ fn push_head(
     Ok(())
 }
 
-fn push_chunk(out: &mut Vec<u8>, addr: u64, bytes: &[u8]) -> Result<(), AllocError>
+/// Writes a chunk.
+pub fn push_chunk(out: &mut Vec<u8>, addr: u64, bytes: &[u8]) -> Result<(), AllocError>
     requires { length bytes.now < 2 ^ 32 }
     ensures { OnOk result (out.new.items ≡ out.old.items ++ chunk_bytes (record { addr = addr; bytes = bytes.now })) }
 {
@@ -62,33 +76,68 @@ fn push_chunks(out: &mut Vec<u8>, chunks: &BTreeMap<u64, Vec<u8>>) -> Result<(),
     Ok(())
 }
 
-fn push_disk(out: &mut Vec<u8>, disk: &OwnDisk) -> Result<(), AllocError>
-    requires { Fits (disk_seen disk.now) }
-    ensures { OnOk result (out.new.items ≡ out.old.items ++ disk_bytes (disk_seen disk.now)) }
+fn push_flags(out: &mut Vec<u8>, has_flags: bool, read_only: bool) -> Result<(), AllocError>
+    ensures { OnOk result (out.new.items ≡ out.old.items ++ flags_bytes has_flags read_only) }
 {
-    push_four(out, disk.id)?;
-    push_four(out, disk.sectors)?;
-    push_four(out, disk.bytes.len() as u64)?;
-    out.extend_from_slice(&disk.bytes)?;
+    if has_flags {
+        push_four(out, flag(read_only))
+    } else {
+        Ok(())
+    }
+}
+
+/// Writes a disk, with flags or without.
+pub fn push_disk(
+    out: &mut Vec<u8>,
+    has_flags: bool,
+    id: u64,
+    sectors: u64,
+    read_only: bool,
+    bytes: &[u8],
+) -> Result<(), AllocError>
+    requires id { id < 2 ^ 32 }
+    requires sectors { sectors < 2 ^ 32 }
+    requires bytes { length bytes.now < 2 ^ 32 }
+    ensures { OnOk result (out.new.items ≡ out.old.items
+        ++ disk_bytes has_flags (record { id = id; sectors = sectors; read_only = read_only; bytes = bytes.now })) }
+{
+    push_four(out, id)?;
+    push_four(out, sectors)?;
+    push_flags(out, has_flags, read_only)?;
+    push_four(out, bytes.len() as u64)?;
+    out.extend_from_slice(bytes)?;
     Ok(())
 }
 
-fn push_disks(out: &mut Vec<u8>, disks: &[OwnDisk]) -> Result<(), AllocError>
+fn push_own_disk(out: &mut Vec<u8>, has_flags: bool, disk: &OwnDisk) -> Result<(), AllocError>
+    requires { Fits (disk_seen disk.now) }
+    ensures { OnOk result (out.new.items ≡ out.old.items ++ disk_bytes has_flags (disk_seen disk.now)) }
+{
+    push_disk(
+        out,
+        has_flags,
+        disk.id,
+        disk.sectors,
+        disk.read_only,
+        &disk.bytes,
+    )
+}
+
+fn push_disks(out: &mut Vec<u8>, has_flags: bool, disks: &[OwnDisk]) -> Result<(), AllocError>
     requires { AllFit (map disk_seen disks.now) }
-    ensures { OnOk result (out.new.items ≡ out.old.items ++ disks_bytes (map disk_seen disks.now)) }
+    ensures { OnOk result (out.new.items ≡ out.old.items ++ disks_bytes has_flags (map disk_seen disks.now)) }
 {
     match disks {
         [] => Ok(()),
         [first, rest @ ..] => {
-            push_disk(out, first)?;
-            push_disks(out, rest)?;
+            push_own_disk(out, has_flags, first)?;
+            push_disks(out, has_flags, rest)?;
             Ok(())
         }
     }
 }
 
 /// The bytes of the image that a text describes.
-
 pub fn image_bytes(alloc: Global, draft: &Draft) -> Result<Vec<u8>, AllocError>
     requires { IsImage (draft_seen draft.now).image }
     ensures { IfOk result (λ bytes. bytes.items ≡ image_bytes (draft_seen draft.now).image) }
@@ -96,12 +145,13 @@ pub fn image_bytes(alloc: Global, draft: &Draft) -> Result<Vec<u8>, AllocError>
     let mut out = Vec::new(alloc);
     push_head(
         &mut out,
+        draft.has_flags,
         draft.base,
         draft.size,
         draft.chunks.len() as u64,
         draft.disks.len() as u64,
     )?;
     push_chunks(&mut out, &draft.chunks)?;
-    push_disks(&mut out, &draft.disks)?;
+    push_disks(&mut out, draft.has_flags, &draft.disks)?;
     Ok(out)
 }

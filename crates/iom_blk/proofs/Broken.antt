@@ -33,9 +33,9 @@ of_both P true x y of_true of_false = of_true refl
 of_both P false x y of_true of_false = of_false refl
 
 -- Status keeps bit 6
-status_stays : (status features value : ℕ) → has_bit status 6 ≡ true → has_bit (status_after status features value) 6 ≡ true
+status_stays : (read_only : Bool) (status features value : ℕ) → has_bit status 6 ≡ true → has_bit (status_after read_only status features value) 6 ≡ true
 unfolding has_bit status_after
-status_stays status features value broke = grind (arith, broke)
+status_stays read_only status features value broke = grind (arith, broke)
 
 accepting_stays : (d : Device) (value : ℕ) → is_broken d ≡ true → is_broken (accepting d value) ≡ true
 unfolding accepting
@@ -65,7 +65,7 @@ with_status_stays : (d : Device) (value : ℕ) → 0 < value → is_broken d ≡
 unfolding with_status
 with_status_stays d value some broke =
     of_both (λ (e : Device). is_broken e ≡ true) (value == 0) _ _ (λ none. absurd (not_zero value some none))
-    (λ _. status_stays d.status d.features value broke)
+    (λ _. status_stays d.read_only d.status d.features value broke)
 
 at_status : (off : ℕ) → (off == 0x70) ≡ true → off ≡ 0x70
 at_status off is = grind (arith, is)

@@ -8,6 +8,8 @@ use Rattle.iom_blk.specs.declared.phase.Phase.TheVariants.{Index}
 -- A device between two steps. Addresses are IOVAs. Of a request that is not under way `head` to `used_length` are what was left.
 pub record Device : Type 0 where
   pub disk : List ℕ
+  -- whether the disk may only be read
+  pub read_only : Bool
   -- what the driver wrote: DeviceFeaturesSel, DriverFeaturesSel, the features that it accepts, QueueSel
   pub features_sel : ℕ
   pub driver_sel : ℕ
@@ -39,10 +41,11 @@ pub record Device : Type 0 where
 abbrev pub sectors : List ℕ → ℕ
 sectors disk = length disk / 512
 
--- a device that was not touched yet
-unfoldable pub at_reset : List ℕ → Device
-at_reset disk = record {
+-- a device with this disk that was not touched yet
+unfoldable pub at_reset : List ℕ → Bool → Device
+at_reset disk read_only = record {
   disk = disk;
+  read_only = read_only;
   features_sel = 0;
   driver_sel = 0;
   features = 0;

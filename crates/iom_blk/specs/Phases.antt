@@ -93,11 +93,11 @@ after_descriptor d addr len flags next = after_add d addr len flags (add_result 
 -- a request whose header is whole is judged, once
 unfoldable pub judged : Device → Device
 judged d =
-    let answer = status_of d.header d.chain (sectors d.disk) d.features in
+    let answer = status_of d.header d.chain (sectors d.disk) d.read_only d.features in
     record d {
       answer = answer;
       used_length = used_length d.header d.chain answer;
-      phase = if moves_data d.header d.chain (sectors d.disk) then phase.Data 0 else phase.Status;
+      phase = if moves_data d.header d.chain (sectors d.disk) d.read_only then phase.Data 0 else phase.Status;
     }
 
 unfoldable pub after_header : Device → List ℕ → Device

@@ -5,13 +5,16 @@ use Rattle.iom_bits.specs.Bits.{has_bit, field_of, with_field_of}
 use Rattle.iom_blk.specs.declared.phase.Phase.TheVariants as phase
 use Rattle.iom_blk.specs.Device.{Device, at_reset, sectors}
 
--- "Feature bits": VIRTIO_BLK_F_FLUSH, bit 9; "Reserved Feature Bits": VIRTIO_F_VERSION_1, bit 32, VIRTIO_F_ACCESS_PLATFORM, bit 33
-abbrev pub offered : ℕ → ℕ
-offered sel = if sel == 0 then 0x200 else if sel == 1 then 3 else 0
+-- "Feature bits": VIRTIO_BLK_F_FLUSH, bit 9, and of a read-only disk VIRTIO_BLK_F_RO, bit 5; "Reserved Feature Bits":
+-- VIRTIO_F_VERSION_1, bit 32, VIRTIO_F_ACCESS_PLATFORM, bit 33
+abbrev pub offered : Bool → ℕ → ℕ
+offered read_only sel = if sel == 0 then (if read_only then 0x220 else 0x200) else if sel == 1 then 3 else 0
 
 -- whether bits 32 and 33 are accepted, and no bit that is not offered
-unfoldable pub is_accepted : ℕ → Bool
-is_accepted features = field_of features 0 9 == 0 && field_of features 10 22 == 0 && field_of features 32 32 == 3
+unfoldable pub is_accepted : Bool → ℕ → Bool
+is_accepted read_only features =
+    field_of features 0 5 == 0 && (read_only || not (has_bit features 5)) && field_of features 6 3 == 0
+    && field_of features 10 22 == 0 && field_of features 32 32 == 3
 
 -- what a read of four bytes below 0x100 shows
 unfoldable pub shown : Device → ℕ → ℕ
@@ -19,7 +22,7 @@ shown d off =
     if off == 0x00 then 0x74726976  -- MagicValue
     else if off == 0x04 then 2  -- Version
     else if off == 0x08 then 2  -- DeviceID: block device
-    else if off == 0x10 then offered d.features_sel  -- DeviceFeatures
+    else if off == 0x10 then offered d.read_only d.features_sel  -- DeviceFeatures
     else if off == 0x34 then (if d.queue_sel == 0 then 64 else 0)  -- QueueNumMax
     else if off == 0x44 then (if d.queue_sel == 0 && d.ready then 1 else 0)  -- QueueReady
     else if off == 0x60 then d.interrupts  -- InterruptStatus
@@ -73,14 +76,16 @@ accepting d value =
 
 -- "Device Status Field": ACKNOWLEDGE, DRIVER and DRIVER_OK, bits 2:0, and FAILED, bit 7, as written; FEATURES_OK, bit 3, where
 -- the features are accepted; DEVICE_NEEDS_RESET, bit 6, stays
-unfoldable pub status_after : ℕ → ℕ → ℕ → ℕ
-status_after status features value =
-    field_of value 0 3 + (if has_bit value 3 && is_accepted features then 8 else 0) + 64 * field_of status 6 1
+unfoldable pub status_after : Bool → ℕ → ℕ → ℕ → ℕ
+status_after read_only status features value =
+    field_of value 0 3 + (if has_bit value 3 && is_accepted read_only features then 8 else 0) + 64 * field_of status 6 1
     + 128 * field_of value 7 1
 
 -- the value 0 resets all but the disk
 unfoldable pub with_status : Device → ℕ → Device
-with_status d value = if value == 0 then at_reset d.disk else record d { status = status_after d.status d.features value }
+with_status d value =
+    if value == 0 then at_reset d.disk d.read_only
+    else record d { status = status_after d.read_only d.status d.features value }
 
 -- InterruptACK: a written 1 clears a bit; no bit but 0 and 1 is ever set
 unfoldable pub acknowledged : ℕ → ℕ → ℕ

@@ -1,6 +1,6 @@
 -- What a request means: VIRTIO 1.2, "Block Device", "Device Operation". Its header is struct virtio_blk_req's first 16 bytes; its
 -- last writable byte is the status.
-use Rattle.std.specs.Prelude.{ℕ, ◌+◌, ◌-◌, ◌*◌, ◌/◌, ◌%◌, ◌==◌, ◌&&◌, ◌||◌, Bool, List, length, take, drop, min, nat_le, nat_lt, if◌then◌else◌}
+use Rattle.std.specs.Prelude.{ℕ, ◌+◌, ◌-◌, ◌*◌, ◌/◌, ◌%◌, ◌==◌, ◌&&◌, ◌||◌, Bool, not, List, length, take, drop, min, nat_le, nat_lt, if◌then◌else◌}
 use Rattle.iom_bits.specs.Bits.{has_bit}
 use Rattle.iom_bits.specs.Bytes.{number_of_bytes}
 use Rattle.iom_virtq.specs.declared.parts.Side.TheVariants.{Readable, Writable}
@@ -42,21 +42,22 @@ data_length header chain =
 abbrev pub moves : List ℕ → Bool
 moves header = is_in header || is_out header
 
--- whether data may be moved: whole sectors, all of them on the disk
-unfoldable pub is_served : List ℕ → Linked → ℕ → Bool
-is_served header chain sectors =
+-- whether data may be moved: whole sectors, all of them on the disk, and no OUT where the disk is read-only
+unfoldable pub is_served : List ℕ → Linked → ℕ → Bool → Bool
+is_served header chain sectors read_only =
     data_length header chain % 512 == 0 && nat_le (sector_of header + data_length header chain / 512) sectors
+    && not (read_only && is_out header)
 
 -- whether there are data to move
-unfoldable pub moves_data : List ℕ → Linked → ℕ → Bool
-moves_data header chain sectors =
-    moves header && is_served header chain sectors && nat_lt 0 (data_length header chain)
+unfoldable pub moves_data : List ℕ → Linked → ℕ → Bool → Bool
+moves_data header chain sectors read_only =
+    moves header && is_served header chain sectors read_only && nat_lt 0 (data_length header chain)
 
 -- the status byte: VIRTIO_BLK_S_OK 0, VIRTIO_BLK_S_IOERR 1, VIRTIO_BLK_S_UNSUPP 2. A FLUSH is served where VIRTIO_BLK_F_FLUSH,
 -- bit 9, was accepted
-unfoldable pub status_of : List ℕ → Linked → ℕ → ℕ → ℕ
-status_of header chain sectors features =
-    if moves header then (if is_served header chain sectors then 0 else 1)
+unfoldable pub status_of : List ℕ → Linked → ℕ → Bool → ℕ → ℕ
+status_of header chain sectors read_only features =
+    if moves header then (if is_served header chain sectors read_only then 0 else 1)
     else if is_flush header && has_bit features 9 then 0
     else 2
 

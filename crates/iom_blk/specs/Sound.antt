@@ -18,20 +18,20 @@ pub record IsGoodQueue (size desc avail ring : ℕ) : Type 0 where
   pub ring_fits : ring + (4 + 8 * size) ≤ 2 ^ 64
 
 -- what is so where a request stands in a phase
-abbrev pub HoldsIn : Bool → ℕ → Linked → List ℕ → ℕ → Phase → Type 0
-HoldsIn ready size chain header sectors Index = Unit {0}
-HoldsIn ready size chain header sectors Ring = ready ≡ true
-HoldsIn ready size chain header sectors (Descriptor i) =
+abbrev pub HoldsIn : Bool → ℕ → Linked → List ℕ → ℕ → Bool → Phase → Type 0
+HoldsIn ready size chain header sectors read_only Index = Unit {0}
+HoldsIn ready size chain header sectors read_only Ring = ready ≡ true
+HoldsIn ready size chain header sectors read_only (Descriptor i) =
     (ready ≡ true) × (i < size) × (chain.limit ≡ size) × (length header ≡ 0)
-HoldsIn ready size chain header sectors Header =
+HoldsIn ready size chain header sectors read_only Header =
     (ready ≡ true) × (length header < 16) × (16 ≤ readable chain) × (1 ≤ writable chain)
-HoldsIn ready size chain header sectors (Data position) =
+HoldsIn ready size chain header sectors read_only (Data position) =
     (ready ≡ true) × (length header ≡ 16) × (16 ≤ readable chain) × (1 ≤ writable chain)
-    × (moves_data header chain sectors ≡ true) × (position < data_length header chain)
-HoldsIn ready size chain header sectors Status = (ready ≡ true) × (1 ≤ writable chain)
-HoldsIn ready size chain header sectors UsedId = ready ≡ true
-HoldsIn ready size chain header sectors UsedLen = ready ≡ true
-HoldsIn ready size chain header sectors UsedIdx = ready ≡ true
+    × (moves_data header chain sectors read_only ≡ true) × (position < data_length header chain)
+HoldsIn ready size chain header sectors read_only Status = (ready ≡ true) × (1 ≤ writable chain)
+HoldsIn ready size chain header sectors read_only UsedId = ready ≡ true
+HoldsIn ready size chain header sectors read_only UsedLen = ready ≡ true
+HoldsIn ready size chain header sectors read_only UsedIdx = ready ≡ true
 
 -- a disk: 1 to 65,536 whole sectors
 pub record IsDisk (disk : List ℕ) : Type 0 where
@@ -42,4 +42,4 @@ pub record IsDisk (disk : List ℕ) : Type 0 where
 pub record IsSound (d : Device) : Type 0 where
   pub disk : IsDisk d.disk
   pub queue : d.ready ≡ true → IsGoodQueue d.size d.desc d.avail d.ring
-  pub phase : HoldsIn d.ready d.size d.chain d.header (sectors d.disk) d.phase
+  pub phase : HoldsIn d.ready d.size d.chain d.header (sectors d.disk) d.read_only d.phase

@@ -1,6 +1,6 @@
 //! The device.
 
-ghost use Rattle.std.specs.Prelude.{◌≡◌, ◌+◌, ◌%◌, ◌≤◌, ◌^◌, true, Some, None, IfNone, IfSome, IfOk};
+ghost use Rattle.std.specs.Prelude.{◌≡◌, ◌+◌, ◌%◌, ◌≤◌, ◌^◌, true, false, Some, None, IfNone, IfSome, IfOk};
 ghost use Rattle.std.specs.Bool.{OnTrue};
 
 use crate::bytes::{bytes_of_u16, bytes_of_u32};
@@ -17,6 +17,7 @@ use std::marker::Model;
 #[derive(Drop)]
 pub struct Blk {
     pub(crate) disk: Vec<u8>,
+    pub(crate) read_only: bool,
     pub(crate) features_sel: u64,
     pub(crate) driver_sel: u64,
     pub(crate) features: u64,
@@ -43,6 +44,7 @@ impl Model for Blk {
 
     ghost view = { λ b. record {
       disk = b.disk.items;
+      read_only = b.read_only;
       features_sel = b.features_sel;
       driver_sel = b.driver_sel;
       features = b.features;
@@ -67,6 +69,7 @@ impl Model for Blk {
 
     ghost invariant = { λ b. IsSound (record {
       disk = b.disk.items;
+      read_only = b.read_only;
       features_sel = b.features_sel;
       driver_sel = b.driver_sel;
       features = b.features;
@@ -99,13 +102,30 @@ impl Blk {
     ghost use Rattle.iom_blk.specs.declared.want.Moved.TheVariants as moved;
 
     /// A device that was not touched yet, with this disk of 1 to 65,536 whole sectors of 512 bytes.
-    #[tactic(auto, unfolding(crate::specs::Device::at_reset))]
     pub fn new(disk: Vec<u8>) -> Blk
         requires { IsDisk disk.items }
-        ensures { result ≡ at_reset disk.items }
+        ensures { result ≡ at_reset disk.items false }
+    {
+        Blk::at_reset(disk, false)
+    }
+
+    /// The same with a disk that may only be read: it offers VIRTIO_BLK_F_RO, and answers each OUT with VIRTIO_BLK_S_IOERR.
+    pub fn new_read_only(disk: Vec<u8>) -> Blk
+        requires { IsDisk disk.items }
+        ensures { result ≡ at_reset disk.items true }
+    {
+        Blk::at_reset(disk, true)
+    }
+
+    // A device that was not touched yet, with a disk that is read-only or not.
+    #[tactic(auto, unfolding(crate::specs::Device::at_reset))]
+    fn at_reset(disk: Vec<u8>, read_only: bool) -> Blk
+        requires { IsDisk disk.items }
+        ensures { result ≡ at_reset disk.items read_only }
     {
         Blk {
             disk,
+            read_only,
             features_sel: 0,
             driver_sel: 0,
             features: 0,
@@ -176,6 +196,7 @@ impl Blk {
     {
         Ok(Blk {
             disk: Vec::from_slice(alloc, &self.disk)?,
+            read_only: self.read_only,
             features_sel: self.features_sel,
             driver_sel: self.driver_sel,
             features: self.features,
@@ -255,7 +276,7 @@ impl Blk {
     {
         let (iova, len) = self.request.data_piece(position);
         if self.request.is_in() {
-            let at = self.request.place(position, self.sectors()) as usize;
+            let at = self.request.place(position, self.sectors(), self.read_only) as usize;
             Want::write(iova, &self.disk[at..at + len as usize])
         } else {
             Want::Read { iova, len }

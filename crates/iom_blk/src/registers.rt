@@ -13,6 +13,9 @@ use iom_bits::{field, has_bit, with_field};
 /// Where the configuration begins.
 const CONFIG: u64 = 0x100;
 
+/// The feature VIRTIO_BLK_F_RO, by its bit.
+const READ_ONLY_FEATURE: u32 = 5;
+
 /// QueueNumMax.
 const LARGEST_QUEUE: u64 = 64;
 
@@ -62,7 +65,7 @@ impl Blk {
         match off {
             0x00 => 0x7472_6976,
             0x04 | 0x08 => 2,
-            0x10 => offered(self.features_sel),
+            0x10 => offered(self.read_only, self.features_sel),
             0x34 if self.queue_sel == 0 => LARGEST_QUEUE,
             0x44 if self.queue_sel == 0 && self.ready => 1,
             0x60 => self.interrupts,
@@ -194,7 +197,7 @@ impl Blk {
         ensures { self.new ≡ with_status self.old value }
     {
         if value != 0 {
-            self.status = status_after(self.status, self.features, value);
+            self.status = status_after(self.read_only, self.status, self.features, value);
             return;
         }
         self.phase = Phase::Index;
@@ -226,11 +229,12 @@ fn is_legal(off: u64, size: u64) -> bool
     (size == 4 || ((size == 1 || size == 2) && off >= CONFIG)) && off % size == 0 && off < 0x1000
 }
 
-// The half of the features that is offered under a selector.
-fn offered(sel: u64) -> u64
-    ensures { result ≡ offered sel }
+// The half of the features that is offered under a selector, with a disk that is read-only or not.
+fn offered(read_only: bool, sel: u64) -> u64
+    ensures { result ≡ offered read_only sel }
 {
     match sel {
+        0 if read_only => 0x220,
         0 => 0x200,
         1 => 3,
         _ => 0,
@@ -239,18 +243,22 @@ fn offered(sel: u64) -> u64
 
 // Whether features that a driver accepts are enough, and were offered.
 #[tactic(auto, unfolding(crate::specs::Registers::is_accepted))]
-fn is_accepted(features: u64) -> bool
-    ensures { result ≡ is_accepted features }
+fn is_accepted(read_only: bool, features: u64) -> bool
+    ensures { result ≡ is_accepted read_only features }
 {
-    field(features, 0, 9) == 0 && field(features, 10, 22) == 0 && field(features, 32, 32) == 3
+    field(features, 0, 5) == 0
+        && (read_only || !has_bit(features, READ_ONLY_FEATURE))
+        && field(features, 6, 3) == 0
+        && field(features, 10, 22) == 0
+        && field(features, 32, 32) == 3
 }
 
 // What a written number, not 0, makes of Status.
 #[tactic(auto, unfolding(crate::specs::Registers::status_after))]
-fn status_after(status: u64, features: u64, value: u64) -> u64
-    ensures { result ≡ status_after status features value }
+fn status_after(read_only: bool, status: u64, features: u64, value: u64) -> u64
+    ensures { result ≡ status_after read_only status features value }
 {
-    let accepted = if has_bit(value, FEATURES_OK) && is_accepted(features) {
+    let accepted = if has_bit(value, FEATURES_OK) && is_accepted(read_only, features) {
         8
     } else {
         0

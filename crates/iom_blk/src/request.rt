@@ -162,39 +162,45 @@ impl Request {
         }
     }
 
-    // Whether its data may be moved, on a disk of so many sectors.
+    // Whether its data may be moved, on a disk of so many sectors that is read-only or not.
     #[tactic(auto, unfolding(crate::specs::Requests::is_served))]
-    fn is_served(&self, sectors: u64) -> bool
+    fn is_served(&self, sectors: u64, read_only: bool) -> bool
         requires whole { length self.now.header.items ≡ 16 }
         requires header { HEADER ≤ readable self.now.chain }
         requires status { 1 ≤ writable self.now.chain }
-        ensures { result ≡ is_served self.now.header.items self.now.chain sectors }
+        ensures { result ≡ is_served self.now.header.items self.now.chain sectors read_only }
     {
         let data = self.data_length();
-        data % SECTOR == 0 && self.sector() as u128 + (data / SECTOR) as u128 <= sectors as u128
+        data % SECTOR == 0
+            && self.sector() as u128 + (data / SECTOR) as u128 <= sectors as u128
+            && !(read_only && self.is_out())
     }
 
-    /// Whether there are data to move, on a disk of so many sectors.
+    /// Whether there are data to move, on a disk of so many sectors that is read-only or not.
     #[tactic(auto, unfolding(crate::specs::Requests::moves_data))]
-    fn moves_data(&self, sectors: u64) -> bool
+    fn moves_data(&self, sectors: u64, read_only: bool) -> bool
         requires whole { length self.now.header.items ≡ 16 }
         requires header { HEADER ≤ readable self.now.chain }
         requires status { 1 ≤ writable self.now.chain }
-        ensures { result ≡ moves_data self.now.header.items self.now.chain sectors }
+        ensures { result ≡ moves_data self.now.header.items self.now.chain sectors read_only }
     {
-        self.moves() && self.is_served(sectors) && self.data_length() > 0
+        self.moves() && self.is_served(sectors, read_only) && self.data_length() > 0
     }
 
-    /// The status that it is answered, on a disk of so many sectors and with these features accepted.
+    /// The status that it is answered, on a disk of so many sectors that is read-only or not, and with these features accepted.
     #[tactic(auto, unfolding(crate::specs::Requests::status_of))]
-    fn status(&self, sectors: u64, features: u64) -> u8
+    fn status(&self, sectors: u64, read_only: bool, features: u64) -> u8
         requires whole { length self.now.header.items ≡ 16 }
         requires header { HEADER ≤ readable self.now.chain }
         requires status { 1 ≤ writable self.now.chain }
-        ensures { result ≡ status_of self.now.header.items self.now.chain sectors features }
+        ensures { result ≡ status_of self.now.header.items self.now.chain sectors read_only features }
     {
         if self.moves() {
-            return if self.is_served(sectors) { OK } else { FAILED };
+            return if self.is_served(sectors, read_only) {
+                OK
+            } else {
+                FAILED
+            };
         }
         if self.kind() == FLUSH && has_bit(features, FLUSH_FEATURE) {
             OK
@@ -203,40 +209,40 @@ impl Request {
         }
     }
 
-    /// Judges the request, whose header is whole, on a disk of so many sectors and with these features accepted: its status
-    /// byte, the length for the used ring, and the phase that comes next.
-    pub fn judge(&mut self, sectors: u64, features: u64) -> Phase
+    /// Judges the request, whose header is whole, on a disk of so many sectors that is read-only or not, and with these features
+    /// accepted: its status byte, the length for the used ring, and the phase that comes next.
+    pub fn judge(&mut self, sectors: u64, read_only: bool, features: u64) -> Phase
         requires whole { length self.old.header.items ≡ 16 }
         requires header { HEADER ≤ readable self.old.chain }
         requires status { 1 ≤ writable self.old.chain }
         requires disk { sectors ≤ 65536 }
         ensures answer { self.new.answer
-            ≡ status_of self.old.header.items self.old.chain sectors features }
+            ≡ status_of self.old.header.items self.old.chain sectors read_only features }
         ensures used_length { self.new.used_length
             ≡ used_length self.old.header.items self.old.chain self.new.answer }
         ensures head { self.new.head ≡ self.old.head }
         ensures chain { self.new.chain ≡ self.old.chain }
         ensures same_header { self.new.header.items ≡ self.old.header.items }
         ensures phase { result
-            ≡ (if moves_data self.old.header.items self.old.chain sectors then Phase.Data 0 else Phase.Status) }
+            ≡ (if moves_data self.old.header.items self.old.chain sectors read_only then Phase.Data 0 else Phase.Status) }
     {
-        self.answer = self.status(sectors, features);
-        self.used_length = self.told_length(self.answer, sectors, features);
-        if self.moves_data(sectors) {
+        self.answer = self.status(sectors, read_only, features);
+        self.used_length = self.told_length(self.answer, sectors, read_only, features);
+        if self.moves_data(sectors, read_only) {
             Phase::Data(0)
         } else {
             Phase::Status
         }
     }
 
-    /// The length that the used ring tells of a request that was answered `answer`, on a disk of so many sectors and with
-    /// these features accepted.
+    /// The length that the used ring tells of a request that was answered `answer`, on a disk of so many sectors that is
+    /// read-only or not, and with these features accepted.
     #[tactic(auto, unfolding(crate::specs::Requests::used_length), using(crate::proofs::Served::written_fits))]
-    fn told_length(&self, answer: u8, sectors: u64, features: u64) -> u32
+    fn told_length(&self, answer: u8, sectors: u64, read_only: bool, features: u64) -> u32
         requires whole { length self.now.header.items ≡ 16 }
         requires status { 1 ≤ writable self.now.chain }
         requires disk { sectors ≤ 65536 }
-        requires judged { answer ≡ status_of self.now.header.items self.now.chain sectors features }
+        requires judged { answer ≡ status_of self.now.header.items self.now.chain sectors read_only features }
         ensures { result ≡ used_length self.now.header.items self.now.chain answer }
     {
         let all = self.writable();
@@ -293,13 +299,13 @@ impl Request {
         iova
     }
 
-    /// Where on a disk of so many sectors the data behind `position` bytes stand.
+    /// Where on a disk of so many sectors, read-only or not, the data behind `position` bytes stand.
     #[tactic(auto, using(crate::proofs::Served::moved_within, crate::proofs::Served::place_within))]
-    pub fn place(&self, position: u64, sectors: u64) -> u64
+    pub fn place(&self, position: u64, sectors: u64, read_only: bool) -> u64
         requires whole { length self.now.header.items ≡ 16 }
         requires disk { sectors ≤ 65536 }
         requires within { position < data_length self.now.header.items self.now.chain }
-        requires moved { moves_data self.now.header.items self.now.chain sectors ≡ true }
+        requires moved { moves_data self.now.header.items self.now.chain sectors read_only ≡ true }
         ensures place { result ≡ place self.now.header.items position }
         ensures within { result + data_count self.now.header.items self.now.chain position ≤ sectors * 512 }
     {

@@ -150,7 +150,7 @@ impl Blk {
         if (self.request.header.len() as u64) < HEADER {
             return;
         }
-        self.phase = self.request.judge(sectors, self.features);
+        self.phase = self.request.judge(sectors, self.read_only, self.features);
     }
 
     // A piece of the data.
@@ -165,7 +165,7 @@ impl Blk {
         if self.request.is_in() {
             return self.pass_data(position, count);
         }
-        let at = self.request.place(position, self.sectors()) as usize;
+        let at = self.request.place(position, self.sectors(), self.read_only) as usize;
         self.disk[at..at + bytes.len()].copy_from_slice(bytes);
         self.pass_data(position, count);
     }

@@ -47,6 +47,7 @@ after 0x.
   pte ppn=NUMBER flags=NUMBER   an entry of a page table
   fault KEY=NUMBER ..           a fault record
   disk DID SECTORS [HEX]        a block device and the first bytes of its disk
+  rodisk DID SECTORS [HEX]      the same with a disk that is only read
 
 An example:
 
@@ -70,3 +71,12 @@ listed as u64. An example:
   $ rviommu list seven.image u64 0x80000000 2
   u64 0x7
   u64 0x0";
+
+/// What stands at the end of the help of `upgrade`.
+pub const UPGRADE: &str = "\
+The new image starts the same platform. One of version 2 comes back as it is.
+An example:
+
+  $ rviommu upgrade seven.image new.image
+  $ rviommu list new.image u64 0x80000000 1
+  u64 0x7";

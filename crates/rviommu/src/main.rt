@@ -1,4 +1,4 @@
-//! The program `rviommu`: scripts on images, the assembler and listings.
+//! The program `rviommu`: scripts on images, the assembler, listings and upgrades.
 #![tactic(auto)]
 
 use fault::Fault;
@@ -56,6 +56,18 @@ fn assemble<'a>(
     files::write(rt, image, bytes.as_slice())
 }
 
+// The new image is written only where the whole image is accepted.
+fn upgrade<'a>(
+    rt: &impl Files,
+    alloc: Global,
+    image: &'a str,
+    new: &'a str,
+) -> Result<(), Fault<'a>> {
+    let image = files::read(rt, alloc, image)?;
+    let bytes = iom_asm::upgrade(alloc, image.as_slice())?;
+    files::write(rt, new, bytes.as_slice())
+}
+
 fn list<'a>(
     alloc: Global,
     image: &[u8],
@@ -87,6 +99,7 @@ fn carry_out<'a>(
             run(alloc, image.as_slice(), input, output)
         }
         Task::Assemble { source, image } => assemble(rt, alloc, source, image),
+        Task::Upgrade { image, new } => upgrade(rt, alloc, image, new),
         Task::List {
             image,
             item,

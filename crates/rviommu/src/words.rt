@@ -22,6 +22,11 @@ pub enum Task<'a> {
         source: &'a str,
         image: &'a str,
     },
+    /// The image in a file written to a file in version 2.
+    Upgrade {
+        image: &'a str,
+        new: &'a str,
+    },
     /// Items in the memory that the image in a file starts, from physical address `addr` on.
     List {
         image: &'a str,
@@ -60,6 +65,14 @@ fn list<'a>(alloc: Global) -> Result<Command<'a>, AllocError> {
         .arg(file(alloc, "COUNT", "How many there are"))
 }
 
+fn upgrade<'a>(alloc: Global) -> Result<Command<'a>, AllocError> {
+    Command::new(alloc, "upgrade")
+        .about("Writes an image again in version 2")
+        .after_help(help::UPGRADE)
+        .arg(file(alloc, "IMAGE", "The file of the image"))?
+        .arg(file(alloc, "NEW", "The file to write the new image to"))
+}
+
 fn command<'a>(alloc: Global) -> Result<Command<'a>, AllocError> {
     Command::new(alloc, "rviommu")
         .version("0.1.0")
@@ -67,7 +80,8 @@ fn command<'a>(alloc: Global) -> Result<Command<'a>, AllocError> {
         .after_help(help::SCRIPT)
         .subcommand(asm(alloc)?)?
         .subcommand(run(alloc)?)?
-        .subcommand(list(alloc)?)
+        .subcommand(list(alloc)?)?
+        .subcommand(upgrade(alloc)?)
 }
 
 // The value of an operand that has to be there.
@@ -98,6 +112,10 @@ fn task_in<'a>(matches: &ArgMatches<'a>) -> Result<Task<'a>, Fault<'a>> {
         }),
         Some(("run", found)) => Ok(Task::Run {
             image: value(found, "IMAGE"),
+        }),
+        Some(("upgrade", found)) => Ok(Task::Upgrade {
+            image: value(found, "IMAGE"),
+            new: value(found, "NEW"),
         }),
         Some((_, found)) => listing(found),
         None => Ok(Task::RunBuiltIn),

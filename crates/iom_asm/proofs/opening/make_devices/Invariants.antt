@@ -5,6 +5,6 @@ use Rattle.iom_asm.proofs.opening.make_devices.Given as goal
 
 abbrev pub invariant-loop : goal.invariant-loop
 invariant-loop l = record {
-  so_far : joined l.devices.items (disks_at l.ids.items (l.count - l.counter) l.rest) ≡ joined [] (disks_at [] l.count l.bytes);
+  so_far : joined l.devices.items (disks_at l.has_flags l.ids.items (l.count - l.counter) l.rest) ≡ joined [] (disks_at l.has_flags [] l.count l.bytes);
   ids : length l.ids.items ≡ l.counter;
 }

@@ -6,5 +6,5 @@ pub invariant_of-self-then-is_queue : goal.invariant_of-self-then-is_queue
 invariant_of-self-then-is_queue c = record {
   disk = c.self.invariant.disk;
   queue = λ _. search rules;
-  phase = still _ _ _ _ _ _ c.self.invariant.phase;
+  phase = still _ _ _ _ _ _ _ c.self.invariant.phase;
 }

@@ -10,6 +10,6 @@ invariant_of-self-2 c =
     rw (c.judge-self-inside.ensures.chain, c.judge-self-inside.ensures.same_header) record {
       disk = c.self.invariant.disk;
       queue = c.self.invariant.queue;
-      phase = judged_holds _ _ _ _ _ _ _ _ c.self.invariant.phase (ap (λ (d : Device). d.phase) c.self.view_is ∙ c.requires.phase)
+      phase = judged_holds _ _ _ _ _ _ _ _ _ c.self.invariant.phase (ap (λ (d : Device). d.phase) c.self.view_is ∙ c.requires.phase)
           (omega (arith, c.len.ensures.value, c.len.ensures.fits)) (rw (← size) c.judge-self-inside.ensures.phase);
     }
