@@ -14,9 +14,10 @@ use Rattle.iom_queue.specs.declared.command.Command.TheVariants.{Fence}
 use Rattle.iom_queue.specs.declared.record.Record.{Record}
 use Rattle.iom_queue.specs.Commands.{command_words}
 use Rattle.iom_queue.specs.Records.{record_words}
+use Rattle.iom_mem.specs.Words.{bytes_of_words}
 use Rattle.iom_asm.specs.declared.item.Item.{Item}
 use Rattle.iom_asm.specs.declared.item.Item.TheVariants as item
-use Rattle.iom_asm.specs.Items.{name_of, Entry, dir_word, pte_word, bytes_of_words}
+use Rattle.iom_asm.specs.Items.{name_of, Entry, dir_word, pte_word}
 use Rattle.iom_asm.specs.Operands.{◌>>=◌, limited, flag_for, value_of, below}
 use Rattle.iom_asm.specs.Forms.{where_so, vma, gvma, fence, iodir, command, fault, context, dir, pte, each_number, numbers, words_for}
 use Rattle.iom_asm.proofs.Images.{length_of_number}
@@ -163,5 +164,6 @@ words_fine item.Pte operands =
 words_fine item.Word operands = where_ AreWords _ (each_number operands) (each_fine operands)
 
 pub length_of_words : (words : List ℕ) → length (bytes_of_words words) ≡ 8 * length words
+unfolding bytes_of_words
 length_of_words [] = omega arith
 length_of_words (word ∷ words) = let others = length_of_words words in omega (arith, others)

@@ -4,13 +4,14 @@ use Rattle.std.specs.List.{list_any}
 use Rattle.std.specs.Option.{option_map}
 use Rattle.iom_bits.specs.Bytes.{bytes_of_number}
 use Rattle.iom_mem.specs.Memory.{Memory, bytes_at, words_at}
+use Rattle.iom_mem.specs.Words.{bytes_of_words}
 use Rattle.iom_text.specs.Words.{words_of}
 use Rattle.iom_asm.specs.declared.asm_fault.AsmFault.{AsmFault}
 use Rattle.iom_asm.specs.declared.asm_fault.AsmFault.TheVariants.{BadLine, Outside, Overlap}
 use Rattle.iom_asm.specs.declared.item.Item.{Item}
 use Rattle.iom_asm.specs.declared.item.Item.TheVariants as item
 use Rattle.iom_asm.specs.Image.{Chunk, Image, IsImage, image_bytes}
-use Rattle.iom_asm.specs.Items.{name_of, words_in, bytes_of_words}
+use Rattle.iom_asm.specs.Items.{name_of, words_in}
 use Rattle.iom_asm.specs.Forms.{words_for}
 use Rattle.iom_asm.specs.Lines.{line_of, item_line}
 use Rattle.iom_asm.specs.Listing.{listed}
@@ -91,6 +92,7 @@ goes_past kind line draft last words text operands others parts are made =
 
 -- words among others, and their bytes
 bytes_join : (words more : List ℕ) → bytes_of_words (words ++ more) ≡ bytes_of_words words ++ bytes_of_words more
+unfolding bytes_of_words
 bytes_join [] more = refl
 bytes_join (word ∷ words) more =
     ap (λ rest. bytes_of_number 8 word ++ rest) (bytes_join words more)

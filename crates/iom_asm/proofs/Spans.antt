@@ -4,11 +4,12 @@ use Rattle.std.specs.Option.{is_some, option_map}
 use Rattle.std.proofs.lemmas.Bool.{cases_lt, le-leb, lt-leb}
 use Rattle.iom_bits.specs.Bytes.{number_of_bytes, bytes_of_number}
 use Rattle.iom_mem.specs.Memory.{Memory, size_of, before, bytes_at, word, words_at}
+use Rattle.iom_mem.specs.Words.{bytes_of_words}
 use Rattle.iom_mem.proofs.Bytes.{bytes_at_inside}
 use Rattle.iom_mem.proofs.Several.{words_at_outside}
 use Rattle.iom_asm.specs.declared.item.Item.{Item}
 use Rattle.iom_asm.specs.declared.item.Item.TheVariants as item
-use Rattle.iom_asm.specs.Items.{words_in, bytes_of_words}
+use Rattle.iom_asm.specs.Items.{words_in}
 use Rattle.iom_asm.specs.Lines.{item_line, line_of}
 use Rattle.iom_asm.specs.Operands.{◌>>=◌}
 use Rattle.iom_asm.specs.Listing.{listed}
@@ -53,6 +54,7 @@ words_there memory addr at (suc count) e room =
 -- words stand where their bytes do
 pub words_stand : (memory : Memory) (words : List ℕ) (addr : ℕ) → AreWords words →
     bytes_at memory addr (length (bytes_of_words words)) ≡ Some (bytes_of_words words) → words_at memory addr (length words) ≡ Some words
+unfolding bytes_of_words
 words_stand memory [] addr fine stand = refl
 words_stand memory (word ∷ words) addr fine stand =
     let own : List ℕ = bytes_of_number 8 word in

@@ -1,7 +1,6 @@
 -- The words of items, and items of one word.
-use Rattle.std.specs.Prelude.{ℕ, ◌+◌, ◌*◌, ◌^◌, ◌==◌, ◌&&◌, ◌++◌, List, [], ◌∷◌, codes, bytes_eq, Option, Some, None, if◌then◌else◌}
+use Rattle.std.specs.Prelude.{ℕ, ◌+◌, ◌*◌, ◌^◌, ◌==◌, ◌&&◌, List, codes, bytes_eq, Option, Some, None, if◌then◌else◌}
 use Rattle.iom_bits.specs.Bits.{field_of}
-use Rattle.iom_bits.specs.Bytes.{bytes_of_number}
 use Rattle.iom_asm.specs.declared.item.Item.{Item}
 use Rattle.iom_asm.specs.declared.item.Item.TheVariants as item
 
@@ -32,11 +31,6 @@ words_in item.Context = 4
 words_in item.Dir = 1
 words_in item.Pte = 1
 words_in item.Word = 1
-
--- the bytes that words are
-abbrev pub bytes_of_words : List ℕ → List ℕ
-bytes_of_words [] = []
-bytes_of_words (word ∷ words) = bytes_of_number 8 word ++ bytes_of_words words
 
 -- An entry of a device directory that is no leaf: V 0, PPN 53:10, all other bits 0 (RISC-V IOMMU Architecture 1.0, "Non-leaf
 -- DDT entry"). Its PPN, where a word is one.
