@@ -154,22 +154,33 @@ fn put_word(out: &mut [u8], at: usize, word: u64)
     out[at..at + 8].copy_from_slice(&word.to_le_bytes());
 }
 
-// Replaces all of `out` by the lowest bytes of a number.
+// Replaces all of `out` by the lowest bytes of a number. Tests in the place of a `match`, whose table of
+// places to jump to costs more than the bytes.
 fn put_few(out: &mut [u8], number: u64)
-    requires { length out.old ≤ 8 }
+    requires some { 1 ≤ length out.old }
+    requires few { length out.old < 8 }
     ensures { out.new ≡ bytes_of_number (length out.old) number }
 {
-    let [a, b, c, d, e, f, g, h] = number.to_le_bytes();
-    match out.len() {
-        0 => {}
-        1 => out.copy_from_slice(&[a]),
-        2 => out.copy_from_slice(&[a, b]),
-        3 => out.copy_from_slice(&[a, b, c]),
-        4 => out.copy_from_slice(&[a, b, c, d]),
-        5 => out.copy_from_slice(&[a, b, c, d, e]),
-        6 => out.copy_from_slice(&[a, b, c, d, e, f]),
-        7 => out.copy_from_slice(&[a, b, c, d, e, f, g]),
-        _ => out.copy_from_slice(&[a, b, c, d, e, f, g, h]),
+    let [a, b, c, d, e, f, g, _] = number.to_le_bytes();
+    let count = out.len();
+    if count < 4 {
+        if count == 1 {
+            out.copy_from_slice(&[a]);
+        } else if count < 3 {
+            out.copy_from_slice(&[a, b]);
+        } else {
+            out.copy_from_slice(&[a, b, c]);
+        }
+    } else if count < 6 {
+        if count < 5 {
+            out.copy_from_slice(&[a, b, c, d]);
+        } else {
+            out.copy_from_slice(&[a, b, c, d, e]);
+        }
+    } else if count < 7 {
+        out.copy_from_slice(&[a, b, c, d, e, f]);
+    } else {
+        out.copy_from_slice(&[a, b, c, d, e, f, g]);
     }
 }
 
