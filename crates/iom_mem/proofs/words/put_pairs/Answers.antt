@@ -1,4 +1,4 @@
-use Rattle.std.proofs.Common.{◌≡◌, ◌<◌, ◌≤◌, ◌+◌, ◌*◌, ◌/◌, ℕ, List, length, take, drop, ap, ◌∙◌, arith}
+use Rattle.std.proofs.Common.{◌<◌, ◌≤◌, ◌+◌, ◌*◌, ◌/◌, ℕ, List, length, take, drop, ap, ◌∙◌, arith}
 use Rattle.std.proofs.Math.Seq.{paste}
 use Rattle.std.proofs.lemmas.List.Edits.{length-paste}
 use Rattle.iom_mem.specs.Words.{bytes_of_words}
