@@ -4,7 +4,6 @@ use Rattle.std.specs.Prelude.{IfSome}
 use Rattle.std.specs.Option.{option_map}
 use Rattle.std.specs.Str.Parse.{digits_value}
 use Rattle.std.proofs.lemmas.Bool.{cond_both, and_parts, ltb-true}
-use Rattle.std.proofs.lemmas.List.{take_at, drop_at}
 use Rattle.iom_bits.specs.Bits.{flag}
 use Rattle.iom_bits.specs.Bytes.{number_of_bytes, bytes_of_number}
 use Rattle.iom_text.specs.Words.{number, number_in}
@@ -15,12 +14,13 @@ use Rattle.iom_queue.specs.declared.command.Command.TheVariants.{Fence}
 use Rattle.iom_queue.specs.declared.record.Record.{Record}
 use Rattle.iom_queue.specs.Commands.{command_words}
 use Rattle.iom_queue.specs.Records.{record_words}
+use Rattle.iom_mem.specs.Words.{bytes_of_words}
 use Rattle.iom_asm.specs.declared.item.Item.{Item}
 use Rattle.iom_asm.specs.declared.item.Item.TheVariants as item
-use Rattle.iom_asm.specs.Items.{name_of, Entry, dir_word, pte_word, words_of_bytes, bytes_of_words}
+use Rattle.iom_asm.specs.Items.{name_of, Entry, dir_word, pte_word}
 use Rattle.iom_asm.specs.Operands.{◌>>=◌, limited, flag_for, value_of, below}
 use Rattle.iom_asm.specs.Forms.{where_so, vma, gvma, fence, iodir, command, fault, context, dir, pte, each_number, numbers, words_for}
-use Rattle.iom_asm.proofs.Images.{length_of_number, number_back}
+use Rattle.iom_asm.proofs.Images.{length_of_number}
 
 abbrev pub AreWords : List ℕ → Type 0
 AreWords [] = Unit {0}
@@ -163,19 +163,7 @@ words_fine item.Pte operands =
     op (λ (entry : Entry). AreWords (pte_word entry.ppn entry.flags ∷ [])) (codes "flags") (2 ^ 10) operands _ (λ flags b. (omega (arith, a, b), tt)))))
 words_fine item.Word operands = where_ AreWords _ (each_number operands) (each_fine operands)
 
--- words, as bytes, are these words again
-pub words_again : (count : ℕ) (words : List ℕ) → length words ≡ count → AreWords words → words_of_bytes count (bytes_of_words words) ≡ words
-words_again zero [] len fine = refl
-words_again zero (word ∷ words) len fine = absurd (omega (arith, len))
-words_again (suc count) [] len fine = absurd (omega (arith, len))
-words_again (suc count) (word ∷ words) len fine =
-    let bytes = bytes_of_number 8 word ++ bytes_of_words words in
-    let first : number_of_bytes (take 8 bytes) ≡ word =
-    ap number_of_bytes (take_at (bytes_of_number 8 word) (bytes_of_words words) 8 (length_of_number 8 word)) ∙ number_back 8 word fine.0 in
-    let others : words_of_bytes count (drop 8 bytes) ≡ words =
-    ap (words_of_bytes count) (drop_at (bytes_of_number 8 word) (bytes_of_words words) 8 (length_of_number 8 word)) ∙ words_again count words (omega (arith, len)) fine.1 in
-    ap (λ n. n ∷ words_of_bytes count (drop 8 bytes)) first ∙ ap (λ ns. word ∷ ns) others
-
 pub length_of_words : (words : List ℕ) → length (bytes_of_words words) ≡ 8 * length words
+unfolding bytes_of_words
 length_of_words [] = omega arith
 length_of_words (word ∷ words) = let others = length_of_words words in omega (arith, others)

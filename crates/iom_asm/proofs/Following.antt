@@ -5,10 +5,11 @@ use Rattle.iom_text.specs.Words.{words_of}
 use Rattle.iom_ddt.specs.Words as context
 use Rattle.iom_queue.specs.Commands.{command_words}
 use Rattle.iom_queue.specs.Records.{record_words}
+use Rattle.iom_mem.specs.Words.{bytes_of_words}
 use Rattle.iom_asm.specs.declared.item.Item.{Item}
 use Rattle.iom_asm.specs.declared.item.Item.TheVariants as item
 use Rattle.iom_asm.specs.Image.{Image}
-use Rattle.iom_asm.specs.Items.{Entry, name_of, words_in, bytes_of_words, dir_word, pte_word}
+use Rattle.iom_asm.specs.Items.{Entry, name_of, words_in, dir_word, pte_word}
 use Rattle.iom_asm.specs.Forms as forms
 use Rattle.iom_asm.specs.Forms.{where_so, words_for}
 use Rattle.iom_asm.specs.Operands.{◌>>=◌}

@@ -12,7 +12,8 @@ use Rattle.iom_ddt.specs.Words.{words_of}
 use Rattle.iom_queue.specs.declared.command.Command.{Command}
 use Rattle.iom_queue.specs.Commands.{command_words}
 use Rattle.iom_queue.specs.Records.{record_words}
-use Rattle.iom_asm.specs.Items.{bytes_of_words, dir_word, pte_word}
+use Rattle.iom_mem.specs.Words.{bytes_of_words}
+use Rattle.iom_asm.specs.Items.{dir_word, pte_word}
 use Rattle.iom_asm.specs.Forms.{words_for, numbers, each_number, command, fault, context, dir, pte}
 use Rattle.iom_asm.specs.Operands as maybe
 use Rattle.iom_asm.specs.Assembly.{hex, one_hex, bytes_for}
@@ -54,6 +55,7 @@ words_full name operands =
 
 -- bytes
 bytes_full : (found : Option (List ℕ)) → Full found → Full (option_map bytes_of_words found)
+unfolding bytes_of_words
 bytes_full None full = tt
 bytes_full (Some []) full = absurd (omega (arith, full))
 bytes_full (Some (word ∷ words)) full = omega arith

@@ -12,7 +12,7 @@ use Rattle.std.proofs.lemmas.Int.Digits.{all_below_base_digits_of}
 use Rattle.std.proofs.lemmas.Str.Ascii.{IsAscii-nil, IsAscii-cons}
 use Rattle.iom_bits.specs.Bits.{flag}
 use Rattle.iom_text.specs.Texts.{hexed, numeral, digits_in}
-use Rattle.iom_mem.specs.Memory.{Memory}
+use Rattle.iom_mem.specs.Memory.{Memory, words_at}
 use Rattle.iom_ddt.specs.declared.context.Context.{Context}
 use Rattle.iom_ddt.specs.Words.{context_in}
 use Rattle.iom_queue.specs.declared.command.Command.{Command}
@@ -22,7 +22,7 @@ use Rattle.iom_queue.specs.Commands.{command_of}
 use Rattle.iom_queue.specs.Records.{record_of}
 use Rattle.iom_asm.specs.declared.item.Item.{Item}
 use Rattle.iom_asm.specs.declared.item.Item.TheVariants as item
-use Rattle.iom_asm.specs.Items.{words_in, words_at, dir_of, pte_of}
+use Rattle.iom_asm.specs.Items.{words_in, dir_of, pte_of}
 use Rattle.iom_asm.specs.Lines.{operand, command_text, record_text, context_text, pte_text, numbers_text, words_text, or_words, line_of, item_line}
 
 abbrev is_plain : List ℕ → Bool

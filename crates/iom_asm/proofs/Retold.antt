@@ -3,14 +3,15 @@ use Rattle.std.proofs.Common.{◌≡◌, ℕ, suc, ◌+◌, ◌*◌, Bool, true,
 use Rattle.std.specs.List.{list_any}
 use Rattle.std.specs.Option.{option_map}
 use Rattle.iom_bits.specs.Bytes.{bytes_of_number}
-use Rattle.iom_mem.specs.Memory.{Memory, bytes_at}
+use Rattle.iom_mem.specs.Memory.{Memory, bytes_at, words_at}
+use Rattle.iom_mem.specs.Words.{bytes_of_words}
 use Rattle.iom_text.specs.Words.{words_of}
 use Rattle.iom_asm.specs.declared.asm_fault.AsmFault.{AsmFault}
 use Rattle.iom_asm.specs.declared.asm_fault.AsmFault.TheVariants.{BadLine, Outside, Overlap}
 use Rattle.iom_asm.specs.declared.item.Item.{Item}
 use Rattle.iom_asm.specs.declared.item.Item.TheVariants as item
 use Rattle.iom_asm.specs.Image.{Chunk, Image, IsImage, image_bytes}
-use Rattle.iom_asm.specs.Items.{name_of, words_in, words_at, bytes_of_words}
+use Rattle.iom_asm.specs.Items.{name_of, words_in}
 use Rattle.iom_asm.specs.Forms.{words_for}
 use Rattle.iom_asm.specs.Lines.{line_of, item_line}
 use Rattle.iom_asm.specs.Listing.{listed}
@@ -20,8 +21,9 @@ use Rattle.iom_asm.specs.Retelling.{StandsIn, IsStated, AreStated, lines_told}
 use Rattle.iom_asm.proofs.Keeping.{Good, lines_good}
 use Rattle.iom_asm.proofs.Images.{read_again}
 use Rattle.iom_asm.proofs.Standing.{IsIn, stands, front_at, behind_at}
-use Rattle.iom_asm.proofs.Bounds.{AreWords, words_fine, words_again, length_of_words}
+use Rattle.iom_asm.proofs.Bounds.{AreWords, words_fine, length_of_words}
 use Rattle.iom_asm.proofs.Lasting.{now_in, lines_has}
+use Rattle.iom_asm.proofs.Spans.{words_stand}
 
 -- a step that gave a value
 pub step_ok : {A B : Type 0} (made : Result A AsmFault) (f : A → Result B AsmFault) (y : B) → then_so made f ≡ Ok y → (x : A) × (made ≡ Ok x) × (f x ≡ Ok y)
@@ -90,6 +92,7 @@ goes_past kind line draft last words text operands others parts are made =
 
 -- words among others, and their bytes
 bytes_join : (words more : List ℕ) → bytes_of_words (words ++ more) ≡ bytes_of_words words ++ bytes_of_words more
+unfolding bytes_of_words
 bytes_join [] more = refl
 bytes_join (word ∷ words) more =
     ap (λ rest. bytes_of_number 8 word ++ rest) (bytes_join words more)
@@ -106,10 +109,9 @@ words_front (word ∷ words) after fine = (fine.0, words_front words after fine.
 -- the words of an item, as they stand in memory
 told_words : (memory : Memory) (kind : Item) (words : List ℕ) (addr : ℕ) → length words ≡ words_in kind → AreWords words →
     bytes_at memory addr (length (bytes_of_words words)) ≡ Some (bytes_of_words words) → item_line memory kind addr ≡ Some (line_of kind words)
-unfolding item_line words_at
+unfolding item_line
 told_words memory kind words addr one fine there =
-    let size : length (bytes_of_words words) ≡ 8 * words_in kind = length_of_words words ∙ ap (λ n. 8 * n) one in
-    rw (← size, there, words_again (words_in kind) words one fine) refl
+    ap (option_map (line_of kind)) (ap (words_at memory addr) (sym one) ∙ words_stand memory words addr fine there)
 
 -- a part of what a chunk has stands in memory too
 part_told : (memory : Memory) (kind : Item) (before words after : List ℕ) (place : ℕ) → length words ≡ words_in kind →

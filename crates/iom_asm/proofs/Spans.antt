@@ -1,15 +1,21 @@
 -- Items one after the other: which are in memory, and their lines.
-use Rattle.std.proofs.Common.{◌≡◌, ℕ, zero, suc, ◌+◌, ◌-◌, ◌*◌, ◌≤◌, ◌<◌, ◌^◌, true, false, ◌&&◌, nat_le, List, [], ◌∷◌, ◌++◌, Option, Some, None, refl, sym, ap, ◌∙◌, inl, inr, append_assoc, append-nil, arith}
+use Rattle.std.proofs.Common.{◌≡◌, ℕ, zero, suc, ◌+◌, ◌-◌, ◌*◌, ◌≤◌, ◌<◌, ◌^◌, true, false, ◌&&◌, nat_le, nat_eq, length, List, [], ◌∷◌, ◌++◌, Option, Some, None, refl, sym, ap, ◌∙◌, inl, inr, append_assoc, append-nil, arith}
 use Rattle.std.specs.Option.{is_some, option_map}
 use Rattle.std.proofs.lemmas.Bool.{cases_lt, le-leb, lt-leb}
-use Rattle.iom_mem.specs.Memory.{Memory, size_of, bytes_at}
-use Rattle.iom_mem.proofs.Bytes.{bytes_at_inside, bytes_at_below, bytes_at_past}
+use Rattle.iom_bits.specs.Bytes.{number_of_bytes, bytes_of_number}
+use Rattle.iom_mem.specs.Memory.{Memory, size_of, before, bytes_at, word, words_at}
+use Rattle.iom_mem.specs.Words.{bytes_of_words}
+use Rattle.iom_mem.proofs.Bytes.{bytes_at_inside}
+use Rattle.iom_mem.proofs.Several.{words_at_outside}
 use Rattle.iom_asm.specs.declared.item.Item.{Item}
 use Rattle.iom_asm.specs.declared.item.Item.TheVariants as item
-use Rattle.iom_asm.specs.Items.{words_in, words_at, words_of_bytes}
+use Rattle.iom_asm.specs.Items.{words_in}
 use Rattle.iom_asm.specs.Lines.{item_line, line_of}
 use Rattle.iom_asm.specs.Operands.{◌>>=◌}
 use Rattle.iom_asm.specs.Listing.{listed}
+use Rattle.iom_asm.proofs.Images.{length_of_number, number_back}
+use Rattle.iom_asm.proofs.Standing.{front_at, behind_at}
+use Rattle.iom_asm.proofs.Bounds.{AreWords}
 
 some_word : (kind : Item) → 0 < words_in kind
 some_word item.Cmd = omega arith
@@ -19,22 +25,71 @@ some_word item.Dir = omega arith
 some_word item.Pte = omega arith
 some_word item.Word = omega arith
 
+some_words : (kind : Item) → false ≡ nat_eq (words_in kind) 0
+some_words item.Cmd = refl
+some_words item.Fault = refl
+some_words item.Context = refl
+some_words item.Dir = refl
+some_words item.Pte = refl
+some_words item.Word = refl
+
+-- a word read alone is one of one
+pub one_word : (found : Option ℕ) → option_map (λ word. word ∷ []) found ≡ before found (Some [])
+one_word (Some word) = refl
+one_word None = refl
+
+some_before : (first : Option ℕ) (rest : Option (List ℕ)) → is_some first ≡ true → is_some rest ≡ true → is_some (before first rest) ≡ true
+some_before None rest one two = absurd cc
+some_before (Some first) None one two = absurd cc
+some_before (Some first) (Some rest) one two = refl
+
+words_there : (memory : Memory) (addr at count : ℕ) → memory.base + at ≡ addr → at + 8 * count ≤ size_of memory →
+    is_some (words_at memory addr count) ≡ true
+words_there memory addr at zero e room = refl
+words_there memory addr at (suc count) e room =
+    some_before (word memory addr) (words_at memory (addr + 8) count)
+    (ap (λ found. is_some (option_map number_of_bytes found)) (bytes_at_inside memory addr at 8 e (omega arith)))
+    (words_there memory (addr + 8) (at + 8) count (omega arith) (omega arith))
+
+-- words stand where their bytes do
+pub words_stand : (memory : Memory) (words : List ℕ) (addr : ℕ) → AreWords words →
+    bytes_at memory addr (length (bytes_of_words words)) ≡ Some (bytes_of_words words) → words_at memory addr (length words) ≡ Some words
+unfolding bytes_of_words
+words_stand memory [] addr fine stand = refl
+words_stand memory (word ∷ words) addr fine stand =
+    let own : List ℕ = bytes_of_number 8 word in
+    let size : length own ≡ 8 = length_of_number 8 word in
+    let first : bytes_at memory addr 8 ≡ Some own =
+    ap (bytes_at memory addr) (sym size) ∙ front_at memory addr own (bytes_of_words words) stand in
+    let behind : bytes_at memory (addr + 8) (length (bytes_of_words words)) ≡ Some (bytes_of_words words) =
+    ap (λ n. bytes_at memory (addr + n) (length (bytes_of_words words))) (sym size) ∙ behind_at memory addr own (bytes_of_words words) stand in
+    let one : option_map number_of_bytes (bytes_at memory addr 8) ≡ Some word =
+    ap (option_map number_of_bytes) first ∙ ap (λ n. Some n) (number_back 8 word fine.0) in
+    ap (λ found. before found (words_at memory (addr + 8) (length words))) one
+    ∙ ap (before (Some word)) (words_stand memory words (addr + 8) fine.1 behind)
+
+some_line : (kind : Item) (found : Option (List ℕ)) → is_some found ≡ true → is_some (option_map (line_of kind) found) ≡ true
+some_line kind None some = absurd cc
+some_line kind (Some words) some = refl
+
 there : (memory : Memory) (kind : Item) (addr : ℕ) → memory.base ≤ addr → addr + 8 * words_in kind ≤ memory.base + size_of memory →
     is_some (item_line memory kind addr) ≡ true
-unfolding item_line words_at
+unfolding item_line
 there memory kind addr above below =
-    ap (λ found. is_some (option_map (line_of kind) (option_map (words_of_bytes (words_in kind)) found)))
-    (bytes_at_inside memory addr (addr - memory.base) (8 * words_in kind) (omega (arith, above)) (omega (arith, above, below)))
+    some_line kind (words_at memory addr (words_in kind))
+    (words_there memory addr (addr - memory.base) (words_in kind) (omega (arith, above)) (omega (arith, above, below)))
 
-nothing : (memory : Memory) (kind : Item) (addr : ℕ) → bytes_at memory addr (8 * words_in kind) ≡ None → item_line memory kind addr ≡ None
-unfolding item_line words_at
-nothing memory kind addr none = ap (λ found. option_map (line_of kind) (option_map (words_of_bytes (words_in kind)) found)) none
+nothing : (memory : Memory) (kind : Item) (addr : ℕ) → words_at memory addr (words_in kind) ≡ None → item_line memory kind addr ≡ None
+unfolding item_line
+nothing memory kind addr none = ap (option_map (line_of kind)) none
 
 not_below : (memory : Memory) (kind : Item) (addr : ℕ) → addr < memory.base → item_line memory kind addr ≡ None
-not_below memory kind addr lt = nothing memory kind addr (bytes_at_below memory addr (8 * words_in kind) lt (omega (arith, some_word kind)))
+not_below memory kind addr lt =
+    nothing memory kind addr (words_at_outside memory addr (words_in kind) false (some_words kind) (inl lt))
 
 not_past : (memory : Memory) (kind : Item) (addr : ℕ) → memory.base + size_of memory < addr + 8 * words_in kind → item_line memory kind addr ≡ None
-not_past memory kind addr lt = nothing memory kind addr (bytes_at_past memory addr (8 * words_in kind) lt (omega (arith, some_word kind)))
+not_past memory kind addr lt =
+    nothing memory kind addr (words_at_outside memory addr (words_in kind) false (some_words kind) (inr lt))
 
 -- a line and the others
 abbrev both : Option (List ℕ) → Option (List ℕ) → Option (List ℕ)

@@ -1,9 +1,6 @@
--- The words of items in memory, and items of one word.
-use Rattle.std.specs.Prelude.{ℕ, zero, suc, ◌+◌, ◌*◌, ◌^◌, ◌==◌, ◌&&◌, ◌++◌, List, [], ◌∷◌, take, drop, codes, bytes_eq, Option, Some, None, if◌then◌else◌}
-use Rattle.std.specs.Option.{option_map}
+-- The words of items, and items of one word.
+use Rattle.std.specs.Prelude.{ℕ, ◌+◌, ◌*◌, ◌^◌, ◌==◌, ◌&&◌, List, codes, bytes_eq, Option, Some, None, if◌then◌else◌}
 use Rattle.iom_bits.specs.Bits.{field_of}
-use Rattle.iom_bits.specs.Bytes.{number_of_bytes, bytes_of_number}
-use Rattle.iom_mem.specs.Memory.{Memory, bytes_at}
 use Rattle.iom_asm.specs.declared.item.Item.{Item}
 use Rattle.iom_asm.specs.declared.item.Item.TheVariants as item
 
@@ -34,20 +31,6 @@ words_in item.Context = 4
 words_in item.Dir = 1
 words_in item.Pte = 1
 words_in item.Word = 1
-
--- the words that bytes are, the lowest byte of each first
-abbrev pub words_of_bytes : ℕ → List ℕ → List ℕ
-words_of_bytes zero bytes = []
-words_of_bytes (suc count) bytes = number_of_bytes (take 8 bytes) ∷ words_of_bytes count (drop 8 bytes)
-
--- the bytes that words are
-abbrev pub bytes_of_words : List ℕ → List ℕ
-bytes_of_words [] = []
-bytes_of_words (word ∷ words) = bytes_of_number 8 word ++ bytes_of_words words
-
--- `count` words from a physical address on, of any alignment; None: a byte of them is outside
-unfoldable pub words_at : Memory → ℕ → ℕ → Option (List ℕ)
-words_at memory addr count = option_map (words_of_bytes count) (bytes_at memory addr (8 * count))
 
 -- An entry of a device directory that is no leaf: V 0, PPN 53:10, all other bits 0 (RISC-V IOMMU Architecture 1.0, "Non-leaf
 -- DDT entry"). Its PPN, where a word is one.

@@ -5,7 +5,7 @@ use Rattle.std.specs.Option.{option_map}
 use Rattle.std.specs.Result.{result_ok}
 use Rattle.iom_bits.specs.Bits.{flag}
 use Rattle.iom_text.specs.Texts.{hexed}
-use Rattle.iom_mem.specs.Memory.{Memory}
+use Rattle.iom_mem.specs.Memory.{Memory, words_at}
 use Rattle.iom_ddt.specs.declared.context.Context.{Context}
 use Rattle.iom_ddt.specs.Words.{context_in}
 use Rattle.iom_queue.specs.declared.command.Command.{Command}
@@ -15,7 +15,7 @@ use Rattle.iom_queue.specs.Commands.{command_of}
 use Rattle.iom_queue.specs.Records.{record_of}
 use Rattle.iom_asm.specs.declared.item.Item.{Item}
 use Rattle.iom_asm.specs.declared.item.Item.TheVariants as item
-use Rattle.iom_asm.specs.Items.{words_in, words_at, dir_of, pte_of, Entry}
+use Rattle.iom_asm.specs.Items.{words_in, dir_of, pte_of, Entry}
 
 abbrev pub operand : List ℕ → ℕ → List ℕ
 operand key value = codes " " ++ key ++ codes "=" ++ hexed value

@@ -5,7 +5,7 @@ ghost use Rattle.std.specs.Option.{option_map};
 ghost use Rattle.iom_asm.specs.Assembly.{Draft as AsmDraft, moved_to, hex, one_hex, bytes_for, ram_draft, opened, moved, disk_of, disk_for, first_bytes, joined, stated, started, after_words, after_line, or_bad, Makes};
 ghost use Rattle.iom_text.specs.Words.{words_of};
 ghost use Rattle.iom_asm.specs.Image.{IsImage};
-ghost use Rattle.iom_asm.specs.Items.{bytes_of_words};
+ghost use Rattle.iom_mem.specs.Words.{bytes_of_words};
 ghost use Rattle.iom_asm.specs.Drafts.{disk_seen, draft_seen, found_seen};
 
 use crate::asm_fault::AsmFault;
@@ -40,6 +40,7 @@ fn one_hex(alloc: Global, words: &[&[u8]]) -> Result<Option<Vec<u8>>, AllocError
     }
 }
 
+#[tactic(auto, unfolding(iom_mem::specs::Words::bytes_of_words))]
 fn push_words(out: &mut Vec<u8>, words: &[u64]) -> Result<(), AllocError>
     ensures { OnOk result (out.new.items ≡ out.old.items ++ bytes_of_words words.now) }
 {

@@ -3,7 +3,7 @@
 ghost use Rattle.std.specs.Prelude.{◌≡◌, [], ◌∷◌, length};
 ghost use Rattle.std.specs.Option.{option_map};
 ghost use Rattle.iom_bits.specs.Bytes.{number_of_bytes};
-ghost use Rattle.iom_asm.specs.Items.{words_at};
+ghost use Rattle.iom_mem.specs.Memory.{words_at};
 
 use iom_bits::le_u64;
 use iom_mem::Ram;
@@ -20,49 +20,33 @@ pub fn word_of(bytes: &[u8]) -> u64
 }
 
 /// The word from a physical address on; None where a byte of it is outside.
-#[tactic(auto, unfolding(crate::specs::Items::words_at))]
+#[tactic(auto, using(crate::proofs::Spans::one_word))]
 pub fn word_at(ram: &Ram, addr: u64) -> Option<u64>
     ensures { option_map (λ word. word ∷ []) result ≡ words_at ram.now addr 1 }
 {
-    let mut bytes = [0; 8];
-    if !ram.read(addr, &mut bytes) {
-        return None;
-    }
-    let (first, _) = bytes.split_at(8);
-    Some(word_of(first))
+    ram.word(addr)
 }
 
 /// The two words from a physical address on; None where a byte of them is outside.
-#[tactic(auto, unfolding(crate::specs::Items::words_at))]
 pub fn pair_at(ram: &Ram, addr: u64) -> Option<[u64; 2]>
     ensures { result ≡ words_at ram.now addr 2 }
 {
-    let mut bytes = [0; 16];
-    if !ram.read(addr, &mut bytes) {
-        return None;
+    let mut words = [0; 2];
+    if ram.words(addr, &mut words) {
+        Some(words)
+    } else {
+        None
     }
-    let (first, rest) = bytes.split_at(8);
-    let (second, _) = rest.split_at(8);
-    Some([word_of(first), word_of(second)])
 }
 
 /// The four words from a physical address on; None where a byte of them is outside.
-#[tactic(auto, unfolding(crate::specs::Items::words_at))]
 pub fn four_at(ram: &Ram, addr: u64) -> Option<[u64; 4]>
     ensures { result ≡ words_at ram.now addr 4 }
 {
-    let mut bytes = [0; 32];
-    if !ram.read(addr, &mut bytes) {
-        return None;
+    let mut words = [0; 4];
+    if ram.words(addr, &mut words) {
+        Some(words)
+    } else {
+        None
     }
-    let (first, rest) = bytes.split_at(8);
-    let (second, rest) = rest.split_at(8);
-    let (third, rest) = rest.split_at(8);
-    let (fourth, _) = rest.split_at(8);
-    Some([
-        word_of(first),
-        word_of(second),
-        word_of(third),
-        word_of(fourth),
-    ])
 }

@@ -1,6 +1,6 @@
 -- The bytes of a number: byte j of n is n / 2 ^ (8 * j) % 256.
 use Rattle.std.proofs.Common.{◌≡◌, ◌+◌, ◌-◌, ◌*◌, ◌/◌, ◌%◌, ◌^◌, ◌<◌, ◌≤◌, ℕ, zero, suc, List, [], ◌∷◌, length, get_or, take, drop, inl, inr, length-take, get_or-take, get_or-drop, sym, ◌∙◌, ap, refl, arith, mul_assoc, add-zero, bit_or}
-use Rattle.std.proofs.lemmas.Nat.{pow_pos, pow-add, shr-shr, shr_split, shr_high, mod_below, mod_low, field_of, mod-pow-add, shr_below, or_shifted, shl-shr}
+use Rattle.std.proofs.lemmas.Nat.{pow_pos, pow-add, shr-shr, shr_split, shr_high, mod_below, mod_low, field_of, mod-pow-add, shr_below, or_shifted, shl-shr, one_shl, shl_whole}
 use Rattle.std.proofs.lemmas.List.{get_or_past}
 use Rattle.std.proofs.lemmas.Bool.{cases_lt}
 use Rattle.iom_bits.specs.Bits.{with_field_of}
@@ -100,6 +100,38 @@ joined_by_shifts first second skipped wide some few =
     ∙ rw (shl-shr second k, nothing, add-zero) refl in
     let small : first / 2 ^ (8 * skipped) < 2 ^ (8 * (8 - skipped)) = shifted_fits first skipped wide few in
     ap (λ n. bit_or n (first / 2 ^ (8 * skipped))) kept ∙ or_shifted (second % 2 ^ (8 * skipped)) (8 * (8 - skipped)) (first / 2 ^ (8 * skipped)) small
+
+-- some bytes of a word kept, and a number above them
+pub above_by_shifts : (word number kept : ℕ) → kept < 8 →
+    bit_or (number * 2 ^ (8 * kept) % 18446744073709551616) (word % (1 * 2 ^ (8 * kept) % 18446744073709551616))
+    ≡ number % 2 ^ (8 * (8 - kept)) * 2 ^ (8 * kept) + word % 2 ^ (8 * kept)
+above_by_shifts word number kept few =
+    let width : 8 * (8 - kept) + 8 * kept ≡ 64 = omega arith in
+    let k : ℕ = 8 * kept in
+    let one : 1 * 2 ^ (8 * kept) % 2 ^ 64 ≡ 2 ^ (8 * kept) = one_shl (8 * kept) 64 (omega arith) in
+    let nothing : number * 2 ^ k % 2 ^ k ≡ 0 = ap (λ n. n % 2 ^ k) (sym (add-zero (number * 2 ^ k))) ∙ mod_low number k 0 (pow_pos k) in
+    let shifted : number * 2 ^ (8 * kept) % 2 ^ 64 ≡ number % 2 ^ (8 * (8 - kept)) * 2 ^ (8 * kept) =
+    ap (λ j. number * 2 ^ (8 * kept) % 2 ^ j) (sym width)
+    ∙ mod-pow-add (number * 2 ^ (8 * kept)) (8 * (8 - kept)) (8 * kept)
+    ∙ rw (shl-shr number k, nothing, add-zero) refl in
+    ap (λ n. bit_or n (word % (1 * 2 ^ (8 * kept) % 2 ^ 64))) shifted
+    ∙ ap (λ m. bit_or (number % 2 ^ (8 * (8 - kept)) * 2 ^ (8 * kept)) (word % m)) one
+    ∙ or_shifted (number % 2 ^ (8 * (8 - kept))) (8 * kept) (word % 2 ^ (8 * kept)) (mod_below word (2 ^ (8 * kept)) (pow_pos (8 * kept)))
+
+pub highest_fits : (number count : ℕ) → number < 2 ^ 64 → count < 8 → number / 2 ^ (8 * (8 - count)) < 2 ^ (8 * count)
+highest_fits number count wide few =
+    let width : 8 * count + 8 * (8 - count) ≡ 64 = omega arith in
+    shr_below number (8 * count) (8 * (8 - count)) (rw width wide)
+
+-- the highest bytes of a number, and a word above them
+pub below_by_shifts : (word number count : ℕ) → word < 2 ^ 64 → number < 2 ^ 64 → 1 ≤ count → count < 8 →
+    bit_or (word / 2 ^ (8 * count) * 2 ^ (8 * count) % 18446744073709551616) (number / 2 ^ (8 * (8 - count)))
+    ≡ word / 2 ^ (8 * count) * 2 ^ (8 * count) + number / 2 ^ (8 * (8 - count))
+below_by_shifts word number count wide number_wide some few =
+    let whole : word / 2 ^ (8 * count) * 2 ^ (8 * count) % 2 ^ 64 ≡ word / 2 ^ (8 * count) * 2 ^ (8 * count) =
+    shl_whole (word / 2 ^ (8 * count)) (8 * (8 - count)) (8 * count) 64 (shifted_fits word count wide few) (omega arith) in
+    ap (λ n. bit_or n (number / 2 ^ (8 * (8 - count)))) whole
+    ∙ or_shifted (word / 2 ^ (8 * count)) (8 * count) (number / 2 ^ (8 * (8 - count))) (highest_fits number count number_wide few)
 
 -- the bytes of a word with some of them replaced
 pub field_below : (word low count value j : ℕ) → j < low → digit (with_field_of word (8 * low) (8 * count) value) j ≡ digit word j

@@ -1,8 +1,8 @@
 -- Lists with a part replaced, place by place.
-use Rattle.std.proofs.Common.{◌≡◌, ◌+◌, ◌-◌, ◌<◌, ◌≤◌, ℕ, List, ◌++◌, length, get_or, take, drop, sym, ◌∙◌, ap, inl, inr, arith, length-append, length-take, length-drop, get_or-take, get_or-drop, take-add, take-take, drop-drop}
+use Rattle.std.proofs.Common.{◌≡◌, ◌+◌, ◌-◌, ◌<◌, ◌≤◌, ℕ, List, ◌++◌, length, get_or, take, drop, sym, ◌∙◌, ap, inl, inr, arith, length-append, length-take, length-drop, get_or-take, get_or-drop, take-take, drop-drop}
 use Rattle.std.proofs.Math.Seq.{paste}
 use Rattle.std.proofs.lemmas.List.{ext_get_or, get_or_append_left, get_or-append_right}
-use Rattle.std.proofs.lemmas.List.Edits.{paste-paste}
+use Rattle.std.proofs.lemmas.List.Edits.{length-paste}
 use Rattle.std.proofs.lemmas.Bool.{cases_lt}
 use Rattle.iom_bits.specs.Bytes.{bytes_of_number}
 use Rattle.iom_mem.specs.Words.{StartsWith}
@@ -44,20 +44,76 @@ more_read out bytes at done covered n read from within size e k h =
           ∙ get_or-drop (at + done) bytes (k - done) 0 ∙ ap (λ p. get_or bytes p 0) place
     ]
 
--- a part replaced, and then the next
-pub paste_twice : (d : List ℕ) (at : ℕ) (s : List ℕ) (n m : ℕ) → at ≤ length d → n + m ≤ length s →
-    paste (paste d at s n) (at + n) (take m (drop n s)) m ≡ paste d at s (n + m)
-paste_twice d at s n m within some =
-    let next : List ℕ = take m (drop n s) in
-    let one : length (take n s) ≡ n = omega (arith, length-take n s) in
-    let two : length next ≡ m = omega (arith, length-take m (drop n s), length-drop n s) in
-    let joined : take (n + m) s ≡ take n s ++ next = take-add n m s in
-    let again : take (n + m) (take (n + m) s) ≡ take (n + m) s = take-take (n + m) (n + m) s (omega arith) in
-    let first : paste d at (take n s) n ≡ paste d at s n = ap (λ t. take at d ++ t ++ drop (at + n) d) (take-take n n s (omega arith)) in
-    ap (λ e. paste e (at + n) next m) (sym first)
-    ∙ paste-paste d at (take n s) next n m (sym one) (sym two) within
-    ∙ ap (λ t. paste d at t (n + m)) (sym joined)
-    ∙ ap (λ t. take at d ++ t ++ drop (at + (n + m)) d) again
+-- a part replaced, and then one that begins in it or where it ends
+pub paste_over : (d : List ℕ) (at : ℕ) (s : List ℕ) (n c m : ℕ) → c ≤ n → n ≤ c + m → c + m ≤ length s → at + (c + m) ≤ length d →
+    paste (paste d at s n) (at + c) (take m (drop c s)) m ≡ paste d at s (c + m)
+paste_over d at s n c m from reach some within =
+    let once : List ℕ = paste d at s n in
+    let next : List ℕ = take m (drop c s) in
+    let both : List ℕ = paste d at s (c + m) in
+    let size : length once ≡ length d = length-paste d at s n (omega arith) (omega arith) in
+    let own : length next ≡ m = omega (arith, length-take m (drop c s), length-drop c s) in
+    let room : at + c + m ≤ length once = omega (arith, size) in
+    let full : m ≤ length next = omega (arith, own) in
+    let twice : length (paste once (at + c) next m) ≡ length d = length-paste once (at + c) next m room full ∙ size in
+    ext_get_or 0 (paste once (at + c) next m) both (twice ∙ sym (length-paste d at s (c + m) within some)) (λ k h.
+    elim (cases_lt k (at + c)) as (λ _. get_or (paste once (at + c) next m) k 0 ≡ get_or both k 0) [
+      | inl before ↦
+          paste_below once (at + c) next m k room full before
+          ∙ elim (cases_lt k at) as (λ _. get_or once k 0 ≡ get_or both k 0) [
+            | inl under ↦ paste_below d at s n k (omega arith) (omega arith) under ∙ sym (paste_below d at s (c + m) k within some under)
+            | inr there ↦
+                paste_inside d at s n k (omega arith) (omega arith) there (omega arith)
+                ∙ sym (paste_inside d at s (c + m) k within some there (omega arith))
+          ]
+      | inr behind ↦ elim (cases_lt k (at + (c + m))) as (λ _. get_or (paste once (at + c) next m) k 0 ≡ get_or both k 0) [
+        | inl there ↦
+            let back : c + (k - (at + c)) ≡ k - at = omega arith in
+            paste_inside once (at + c) next m k room full behind (omega arith)
+            ∙ get_or-take m (drop c s) (k - (at + c)) 0 (omega arith) ∙ get_or-drop c s (k - (at + c)) 0
+            ∙ ap (λ p. get_or s p 0) back ∙ sym (paste_inside d at s (c + m) k within some (omega arith) there)
+        | inr past ↦
+            paste_above once (at + c) next m k room full (omega arith) ∙ paste_above d at s n k (omega arith) (omega arith) (omega arith)
+            ∙ sym (paste_above d at s (c + m) k within some past)
+      ]
+    ])
+
+pub paste_first : (d : List ℕ) (at : ℕ) (s : List ℕ) (n : ℕ) → paste d at (take n s) n ≡ paste d at s n
+paste_first d at s n = ap (λ t. take at d ++ t ++ drop (at + n) d) (take-take n n s (omega arith))
+
+-- the first `m` of `s`, and then `m` of it from `c` on, where that reaches up to `count`
+pub paste_both : (d : List ℕ) (at : ℕ) (s : List ℕ) (m none c start end count : ℕ) → none ≡ 0 → start ≡ at → end ≡ at + c → c ≤ m →
+    c + m ≡ count → count ≤ length s → at + count ≤ length d →
+    paste (paste d start (take m (drop none s)) m) end (take m (drop c s)) m ≡ paste d at s count
+paste_both d at s m none c start end count is_none is_start is_end few sum some within =
+    let first : paste d start (take m (drop none s)) m ≡ paste d at s m =
+    ap (λ p. paste d p (take m (drop none s)) m) is_start ∙ ap (λ n. paste d at (take m (drop n s)) m) is_none ∙ paste_first d at s m in
+    ap (λ e. paste e end (take m (drop c s)) m) first
+    ∙ ap (λ p. paste (paste d at s m) p (take m (drop c s)) m) is_end
+    ∙ paste_over d at s m c m few (omega arith) (omega (arith, sum)) (omega (arith, sum))
+    ∙ ap (paste d at s) sum
+
+-- the first `n` of `s`, and then `m` of it up to `count`
+pub paste_more_of : (d : List ℕ) (at : ℕ) (s : List ℕ) (n c m end count : ℕ) → end ≡ at + c → c ≤ n → n ≤ count →
+    c + m ≡ count → count ≤ length s → at + count ≤ length d →
+    paste (paste d at s n) end (take m (drop c s)) m ≡ paste d at s count
+paste_more_of d at s n c m end count is_end from reach sum some within =
+    ap (λ p. paste (paste d at s n) p (take m (drop c s)) m) is_end
+    ∙ paste_over d at s n c m from (omega (arith, sum)) (omega (arith, sum)) (omega (arith, sum))
+    ∙ ap (paste d at s) sum
+
+-- one part of `s` behind another: both
+pub paste_next : (d : List ℕ) (at : ℕ) (s : List ℕ) (c n m second then both : ℕ) → second ≡ at + n → then ≡ c + n → both ≡ n + m →
+    c + both ≤ length s → at + both ≤ length d →
+    paste (paste d at (take n (drop c s)) n) second (take m (drop then s)) m ≡ paste d at (take both (drop c s)) both
+paste_next d at s c n m second then both is_second is_then is_both some within =
+    let t : List ℕ = drop c s in
+    let rest : drop then s ≡ drop n t = ap (λ k. drop k s) (is_then ∙ omega arith) ∙ sym (drop-drop n c s) in
+    let size : length t ≡ length s - c = length-drop c s in
+    ap (λ e. paste e second (take m (drop then s)) m) (paste_first d at t n)
+    ∙ ap (λ r. paste (paste d at t n) second (take m r) m) rest
+    ∙ paste_more_of d at t n n m second both is_second (omega arith) (omega (arith, is_both)) (omega (arith, is_both)) (omega (arith, size)) within
+    ∙ sym (paste_first d at t both)
 
 -- all is read
 pub all_read : (out bytes : List ℕ) (at count : ℕ) → length out ≡ count → at + count ≤ length bytes → StartsWith out bytes at count →
@@ -67,36 +123,39 @@ all_read out bytes at count size within read =
     let below : k < count = omega (arith, size) in
     read k below ∙ sym (get_or-take count (drop at bytes) k 0 below ∙ get_or-drop at bytes k 0))
 
-paste_first : (d : List ℕ) (at : ℕ) (s : List ℕ) (n : ℕ) → paste d at (take n s) n ≡ paste d at s n
-paste_first d at s n = ap (λ t. take at d ++ t ++ drop (at + n) d) (take-take n n s (omega arith))
-
 -- all that is left of `s` after its first n
-paste_rest : (d : List ℕ) (at : ℕ) (s : List ℕ) (n : ℕ) → at ≤ length d → n ≤ length s →
+pub paste_rest : (d : List ℕ) (at : ℕ) (s : List ℕ) (n : ℕ) → n ≤ length s → at + length s ≤ length d →
     paste (paste d at s n) (at + n) (drop n s) (length (drop n s)) ≡ paste d at s (length s)
-paste_rest d at s n within some =
+paste_rest d at s n some within =
     let m : ℕ = length (drop n s) in
     let size : m ≡ length s - n = length-drop n s in
     let sum : n + m ≡ length s = omega (arith, size) in
     sym (paste_first (paste d at s n) (at + n) (drop n s) m)
-    ∙ paste_twice d at s n m within (omega (arith, sum))
+    ∙ paste_over d at s n n m (omega arith) (omega arith) (omega (arith, sum)) (omega (arith, sum))
     ∙ ap (paste d at s) sum
 
--- `s` in three parts, of which the second begins at `second` and the third at `third`
-pub paste_parts : (d : List ℕ) (at : ℕ) (s : List ℕ) (n m second count third : ℕ) (start rest middle end : List ℕ) →
-    at ≤ length d → n + m ≤ length s → start ≡ take n s → rest ≡ drop n s → middle ≡ take m rest → end ≡ drop m rest →
-    second ≡ at + n → count ≡ m → third ≡ at + n + m →
-    paste (paste (paste d at start (length start)) second middle count) third end (length end) ≡ paste d at s (length s)
-paste_parts d at s n m second count third start rest middle end within some is_start is_rest is_middle is_end is_second is_count is_third =
+-- `s` in two parts
+pub paste_split : (d : List ℕ) (at : ℕ) (s : List ℕ) (n : ℕ) (start end : List ℕ) → start ≡ take n s → end ≡ drop n s → n ≤ length s →
+    at + length s ≤ length d → paste (paste d at start (length start)) (at + n) end (length end) ≡ paste d at s (length s)
+paste_split d at s n start end is_start is_end some within =
     let size : length start ≡ n = ap length is_start ∙ length-take n s ∙ omega arith in
-    let one : paste d at start (length start) ≡ paste d at s n =
+    let first : paste d at start (length start) ≡ paste d at s n =
     ap (paste d at start) size ∙ ap (λ t. paste d at t n) is_start ∙ paste_first d at s n in
-    let two : paste (paste d at s n) second middle count ≡ paste d at s (n + m) =
-    ap (λ p. paste (paste d at s n) p middle count) is_second ∙ ap (paste (paste d at s n) (at + n) middle) is_count
-    ∙ ap (λ t. paste (paste d at s n) (at + n) t m) (is_middle ∙ ap (take m) is_rest) ∙ paste_twice d at s n m within some in
-    let last : end ≡ drop (n + m) s = is_end ∙ ap (drop m) is_rest ∙ drop-drop m n s in
-    let place : third ≡ at + (n + m) = is_third ∙ omega arith in
-    ap (λ e. paste (paste e second middle count) third end (length end)) one
-    ∙ ap (λ e. paste e third end (length end)) two
-    ∙ ap (λ p. paste (paste d at s (n + m)) p end (length end)) place
-    ∙ ap (λ t. paste (paste d at s (n + m)) (at + (n + m)) t (length t)) last
-    ∙ paste_rest d at s (n + m) within some
+    ap (λ e. paste e (at + n) end (length end)) first
+    ∙ ap (λ t. paste (paste d at s n) (at + n) t (length t)) is_end ∙ paste_rest d at s n some within
+
+-- `s` in three parts, of which the second begins at `second` and the third at `third`
+pub paste_parts : (d : List ℕ) (at : ℕ) (s : List ℕ) (n m e second count third from left : ℕ) → n + m + e ≡ length s → at + length s ≤ length d →
+    second ≡ at + n → count ≡ m → third ≡ at + (n + m) → from ≡ n + m → left ≡ e →
+    paste (paste (paste d at s n) second (drop n s) count) third (drop from s) left ≡ paste d at s (length s)
+paste_parts d at s n m e second count third from left sum within is_second is_count is_third is_from is_left =
+    let two : paste (paste d at s n) second (drop n s) count ≡ paste d at s (n + m) =
+    ap (λ p. paste (paste d at s n) p (drop n s) count) is_second ∙ ap (paste (paste d at s n) (at + n) (drop n s)) is_count
+    ∙ sym (paste_first (paste d at s n) (at + n) (drop n s) m)
+    ∙ paste_over d at s n n m (omega arith) (omega arith) (omega (arith, sum)) (omega (arith, sum)) in
+    let size : length (drop (n + m) s) ≡ e = omega (arith, length-drop (n + m) s, sum) in
+    ap (λ d. paste d third (drop from s) left) two
+    ∙ ap (λ p. paste (paste d at s (n + m)) p (drop from s) left) is_third
+    ∙ ap (λ f. paste (paste d at s (n + m)) (at + (n + m)) (drop f s) left) is_from
+    ∙ ap (paste (paste d at s (n + m)) (at + (n + m)) (drop (n + m) s)) (is_left ∙ sym size)
+    ∙ paste_rest d at s (n + m) (omega (arith, sum)) within

@@ -70,31 +70,80 @@ pub fn read_bytes(words: &[u64], at: usize, out: &mut [u8])
     ensures { out.new ≡ take (length out.old) (drop at (bytes_of_words words.now)) }
 {
     let len = out.len();
-    if len >= 8 {
+    if len > 16 {
+        read_many(words, at, out);
+    } else if len >= 8 {
         put_word(out, 0, word_at(words, at));
-        read_whole(words, at, out);
         put_word(out, len - 8, word_at(words, at + (len - 8)));
     } else if len > 0 {
         put_few(out, few_at(words, at, len));
     }
 }
 
-// Fills in all but the last eight bytes of what is read, where the first eight are there.
-fn read_whole(words: &[u64], at: usize, out: &mut [u8])
+// Fills `out`, more than sixteen bytes: the last word and the first one shifted, and then the words
+// between them as they stand, over what is not theirs.
+fn read_many(words: &[u64], at: usize, out: &mut [u8])
     requires within { at + length out.old ≤ 8 * length words.now }
-    requires some { 8 ≤ length out.old }
-    requires start { StartsWith out.old (bytes_of_words words.now) at 8 }
-    ensures read { StartsWith out.new (bytes_of_words words.now) at (length out.old - 8) }
-    ensures length { length out.new ≡ length out.old }
+    requires many { 16 < length out.old }
+    ensures { out.new ≡ take (length out.old) (drop at (bytes_of_words words.now)) }
 {
-    if out.len() <= 16 {
-        return;
+    let len = out.len();
+    let last = at + len - 1;
+    put_word(out, len - 8, words[last / 8] << (8 * (7 - last % 8)));
+    put_word(out, 0, words[at / 8] >> (8 * (at % 8)));
+    put_words(out, 8 - at % 8, &words[at / 8 + 1..last / 8]);
+}
+
+// Replaces the bytes of `out` from `to` on by those of words; the last steps overlap earlier ones.
+fn put_words(out: &mut [u8], to: usize, words: &[u64])
+    requires { to + 8 * length words.now ≤ length out.old }
+    ensures { out.new ≡ paste out.old to (bytes_of_words words.now) (8 * length words.now) }
+{
+    let count = words.len();
+    if count > 8 {
+        put_pairs(out, to, words);
+        put_two(out, to, words, count - 2);
+    } else if count >= 4 {
+        put_four(out, to, words, 0);
+        put_four(out, to, words, count - 4);
+    } else if count >= 2 {
+        put_two(out, to, words, 0);
+        put_two(out, to, words, count - 2);
+    } else if count == 1 {
+        put_word(out, to, words[0]);
     }
-    let skipped = 8 - at % 8;
-    let first = at / 8 + 1;
-    for i in 0..(out.len() - skipped) / 8 {
-        put_word(out, skipped + 8 * i, words[first + i]);
+}
+
+// The words two at a time; one that is left over is not put.
+fn put_pairs(out: &mut [u8], to: usize, words: &[u64])
+    requires { to + 8 * length words.now ≤ length out.old }
+    ensures { out.new ≡ paste out.old to (bytes_of_words words.now) (16 * (length words.now / 2)) }
+{
+    for i in 0..words.len() / 2 {
+        put_two(out, to, words, 2 * i);
     }
+}
+
+// Four words, from `first` on.
+fn put_four(out: &mut [u8], to: usize, words: &[u64], first: usize)
+    requires there { first + 4 ≤ length words.now }
+    requires room { to + 8 * length words.now ≤ length out.old }
+    ensures { out.new ≡ paste out.old (to + 8 * first) (take 32 (drop (8 * first) (bytes_of_words words.now))) 32 }
+{
+    put_two(out, to, words, first);
+    put_two(out, to, words, first + 2);
+}
+
+// Two words, from `first` on.
+fn put_two(out: &mut [u8], to: usize, words: &[u64], first: usize)
+    requires there { first + 2 ≤ length words.now }
+    requires room { to + 8 * length words.now ≤ length out.old }
+    ensures { out.new ≡ paste out.old (to + 8 * first) (take 16 (drop (8 * first) (bytes_of_words words.now))) 16 }
+{
+    let low = words[first];
+    let high = words[first + 1];
+    put_word(out, to + 8 * first, low);
+    put_word(out, to + 8 * first + 8, high);
 }
 
 // Replaces eight bytes of `out` by those of a word.
@@ -105,22 +154,33 @@ fn put_word(out: &mut [u8], at: usize, word: u64)
     out[at..at + 8].copy_from_slice(&word.to_le_bytes());
 }
 
-// Replaces all of `out` by the lowest bytes of a number.
+// Replaces all of `out` by the lowest bytes of a number. Tests in the place of a `match`, whose table of
+// places to jump to costs more than the bytes.
 fn put_few(out: &mut [u8], number: u64)
-    requires { length out.old ≤ 8 }
+    requires some { 1 ≤ length out.old }
+    requires few { length out.old < 8 }
     ensures { out.new ≡ bytes_of_number (length out.old) number }
 {
-    let [a, b, c, d, e, f, g, h] = number.to_le_bytes();
-    match out.len() {
-        0 => {}
-        1 => out.copy_from_slice(&[a]),
-        2 => out.copy_from_slice(&[a, b]),
-        3 => out.copy_from_slice(&[a, b, c]),
-        4 => out.copy_from_slice(&[a, b, c, d]),
-        5 => out.copy_from_slice(&[a, b, c, d, e]),
-        6 => out.copy_from_slice(&[a, b, c, d, e, f]),
-        7 => out.copy_from_slice(&[a, b, c, d, e, f, g]),
-        _ => out.copy_from_slice(&[a, b, c, d, e, f, g, h]),
+    let [a, b, c, d, e, f, g, _] = number.to_le_bytes();
+    let count = out.len();
+    if count < 4 {
+        if count == 1 {
+            out.copy_from_slice(&[a]);
+        } else if count < 3 {
+            out.copy_from_slice(&[a, b]);
+        } else {
+            out.copy_from_slice(&[a, b, c]);
+        }
+    } else if count < 6 {
+        if count < 5 {
+            out.copy_from_slice(&[a, b, c, d]);
+        } else {
+            out.copy_from_slice(&[a, b, c, d, e]);
+        }
+    } else if count < 7 {
+        out.copy_from_slice(&[a, b, c, d, e, f]);
+    } else {
+        out.copy_from_slice(&[a, b, c, d, e, f, g]);
     }
 }
 
@@ -130,19 +190,67 @@ pub fn write_bytes(words: &mut [u64], at: usize, bytes: &[u8])
     ensures bytes { bytes_of_words words.new ≡ paste (bytes_of_words words.old) at bytes.now (length bytes.now) }
     ensures size { length words.new ≡ length words.old }
 {
-    let head = ((8 - at % 8) % 8).min(bytes.len());
-    let (start, rest) = bytes.split_at(head);
-    put_piece(words, at, start, first_number(bytes, head));
-    if !rest.is_empty() {
-        let (whole, end) = rest.split_at(rest.len() / 8 * 8);
-        write_whole(words, (at + head) / 8, whole);
-        put_piece(
-            words,
-            at + head + whole.len(),
-            end,
-            last_number(bytes, end.len()),
-        );
+    if bytes.len() < 8 {
+        write_few(words, at, bytes);
+    } else {
+        write_start(words, at, bytes);
+        write_whole(words, at / 8 + 1, &bytes[8 - at % 8..]);
+        write_end(words, at + bytes.len(), bytes);
     }
+}
+
+// Fewer than eight bytes, which stand in one word or in two.
+fn write_few(words: &mut [u64], at: usize, bytes: &[u8])
+    requires within { at + length bytes.now ≤ 8 * length words.old }
+    requires few { length bytes.now < 8 }
+    ensures bytes { bytes_of_words words.new ≡ paste (bytes_of_words words.old) at bytes.now (length bytes.now) }
+    ensures size { length words.new ≡ length words.old }
+{
+    let head = (8 - at % 8).min(bytes.len());
+    let (start, end) = bytes.split_at(head);
+    put_piece(words, at, start, first_number(bytes, head));
+    put_piece(words, at + head, end, last_number(bytes, end.len()));
+}
+
+// The first of the bytes, up to the end of the word that they begin in.
+fn write_start(words: &mut [u64], at: usize, bytes: &[u8])
+    requires within { at + length bytes.now ≤ 8 * length words.old }
+    requires some { 8 ≤ length bytes.now }
+    ensures bytes { bytes_of_words words.new ≡ paste (bytes_of_words words.old) at bytes.now (8 - at % 8) }
+    ensures size { length words.new ≡ length words.old }
+{
+    words[at / 8] = above(words[at / 8], number(&bytes[..8]), at % 8);
+}
+
+// The last of the bytes, those in the word that `end`, the place behind them, is in.
+fn write_end(words: &mut [u64], end: usize, bytes: &[u8])
+    requires within { end ≤ 8 * length words.old }
+    requires some { 8 ≤ length bytes.now }
+    ensures bytes { bytes_of_words words.new
+        ≡ paste (bytes_of_words words.old) (end - end % 8) (drop (length bytes.now - end % 8) bytes.now) (end % 8) }
+    ensures size { length words.new ≡ length words.old }
+{
+    if end % 8 > 0 {
+        words[end / 8] = below(words[end / 8], number(&bytes[bytes.len() - 8..]), end % 8);
+    }
+}
+
+// The low bytes of a word that are kept, and above them the low ones of `number`.
+fn above(word: u64, number: u64, kept: usize) -> u64
+    requires { kept < 8 }
+    ensures { result ≡ number % 2 ^ (8 * (8 - kept)) * 2 ^ (8 * kept) + word % 2 ^ (8 * kept) }
+{
+    (number << (8 * kept)) | (word % (1 << (8 * kept)))
+}
+
+// The highest `count` bytes of `number`, and above them those of a word.
+fn below(word: u64, number: u64, count: usize) -> u64
+    requires some { 1 ≤ count }
+    requires few { count < 8 }
+    ensures value { result ≡ word / 2 ^ (8 * count) * 2 ^ (8 * count) + number / 2 ^ (8 * (8 - count)) }
+    ensures low { number / 2 ^ (8 * (8 - count)) < 2 ^ (8 * count) }
+{
+    (word >> (8 * count) << (8 * count)) | (number >> (8 * (8 - count)))
 }
 
 // The number of the first bytes, fewer than eight.
@@ -176,15 +284,64 @@ fn last_number(bytes: &[u8], count: usize) -> u64
     }
 }
 
-// Replaces whole words by the bytes, eight for each; those that are left over are not written.
+// Replaces whole words by the bytes, eight for each; those that are left over are not written. The
+// last steps overlap earlier ones.
 fn write_whole(words: &mut [u64], first: usize, bytes: &[u8])
     requires { 8 * first + length bytes.now ≤ 8 * length words.old }
     ensures bytes { bytes_of_words words.new ≡ paste (bytes_of_words words.old) (8 * first) bytes.now (8 * (length bytes.now / 8)) }
     ensures size { length words.new ≡ length words.old }
 {
-    for i in 0..bytes.len() / 8 {
-        words[first + i] = number(&bytes[8 * i..8 * i + 8]);
+    let count = bytes.len() / 8;
+    if count > 8 {
+        write_pairs(words, first, bytes);
+        write_two(words, first, bytes, count - 2);
+    } else if count >= 4 {
+        write_four(words, first, bytes, 0);
+        write_four(words, first, bytes, count - 4);
+    } else if count >= 2 {
+        write_two(words, first, bytes, 0);
+        write_two(words, first, bytes, count - 2);
+    } else if count == 1 {
+        words[first] = number(&bytes[..8]);
     }
+}
+
+// The words two at a time; one that is left over is not written.
+fn write_pairs(words: &mut [u64], first: usize, bytes: &[u8])
+    requires { 8 * first + length bytes.now ≤ 8 * length words.old }
+    ensures bytes { bytes_of_words words.new ≡ paste (bytes_of_words words.old) (8 * first) bytes.now (16 * (length bytes.now / 16)) }
+    ensures size { length words.new ≡ length words.old }
+{
+    for i in 0..bytes.len() / 16 {
+        write_two(words, first, bytes, 2 * i);
+    }
+}
+
+// Four words, from the bytes at 8 * `skipped` on.
+fn write_four(words: &mut [u64], first: usize, bytes: &[u8], skipped: usize)
+    requires there { 8 * skipped + 32 ≤ length bytes.now }
+    requires room { 8 * first + length bytes.now ≤ 8 * length words.old }
+    ensures bytes { bytes_of_words words.new
+        ≡ paste (bytes_of_words words.old) (8 * first + 8 * skipped) (take 32 (drop (8 * skipped) bytes.now)) 32 }
+    ensures size { length words.new ≡ length words.old }
+{
+    write_two(words, first, bytes, skipped);
+    write_two(words, first, bytes, skipped + 2);
+}
+
+// Two words, from the bytes at 8 * `skipped` on.
+fn write_two(words: &mut [u64], first: usize, bytes: &[u8], skipped: usize)
+    requires there { 8 * skipped + 16 ≤ length bytes.now }
+    requires room { 8 * first + length bytes.now ≤ 8 * length words.old }
+    ensures bytes { bytes_of_words words.new
+        ≡ paste (bytes_of_words words.old) (8 * first + 8 * skipped) (take 16 (drop (8 * skipped) bytes.now)) 16 }
+    ensures size { length words.new ≡ length words.old }
+{
+    let at = 8 * skipped;
+    let low = number(&bytes[at..at + 8]);
+    let high = number(&bytes[at + 8..at + 16]);
+    words[first + skipped] = low;
+    words[first + skipped + 1] = high;
 }
 
 // Replaces the bytes from place `at` on by `bytes`, all in one word, whose number is `number`.

@@ -8,29 +8,25 @@ use Rattle.iom_mem.proofs.WordBytes.{words_hold}
 use Rattle.iom_mem.proofs.Pasting.{more_read, all_read}
 use Rattle.iom_mem.proofs.words.read_bytes.Goals as goal
 
-pub read_whole-requires-clause-start : goal.read_whole-requires-clause-start
-read_whole-requires-clause-start c =
-    let word : ℕ = c.word_at.result in
-    rw c.put_word.ensures (more_read c.args.out.now (bytes_of_words c.args.words.now) c.args.at 0 0 word (λ k h. absurd (omega arith)) (omega arith)
-    (omega arith) (length-bytes_of_number 8 word) (rw add-zero c.word_at.ensures.bytes))
-
 pub returns-then-len-ge8 : goal.returns-then-len-ge8
 returns-then-len-ge8 c =
     let at : ℕ = c.args.at in
     let bytes : List ℕ = bytes_of_words c.args.words.now in
-    let count : ℕ = length c.args.out.now in
-    let out : List ℕ = c.read_whole.new.out in
-    let word : ℕ = c.word_at-then-len-ge8.result in
-    let own : length (bytes_of_number 8 word) ≡ 8 = length-bytes_of_number 8 word in
-    let first : length c.put_word.new.out ≡ count =
-    rw c.put_word.ensures (length-paste c.args.out.now 0 (bytes_of_number 8 c.word_at.result) 8 c.if-len-ge8.true (omega (arith, length-bytes_of_number 8 c.word_at.result))) in
-    let size : length out ≡ count = c.read_whole.ensures.length ∙ first in
-    let covered : StartsWith out bytes at (count - 8) = subst (λ n. StartsWith out bytes at (n - 8)) first c.read_whole.ensures.read in
+    let out : List ℕ = c.args.out.now in
+    let count : ℕ = length out in
+    let low : ℕ = c.word_at.result in
+    let high : ℕ = c.word_at-then-len-ge8.result in
+    let low_size : length (bytes_of_number 8 low) ≡ 8 = length-bytes_of_number 8 low in
+    let high_size : length (bytes_of_number 8 high) ≡ 8 = length-bytes_of_number 8 high in
+    let once : List ℕ = paste out 0 (bytes_of_number 8 low) 8 in
+    let twice : List ℕ = paste once (count - 8) (bytes_of_number 8 high) 8 in
+    let first : StartsWith once bytes at 8 =
+    more_read out bytes at 0 0 low (λ k h. absurd (omega arith)) (omega arith) (omega arith) low_size (rw add-zero c.word_at.ensures.bytes) in
+    let once_size : length once ≡ count = length-paste out 0 (bytes_of_number 8 low) 8 c.if-len-ge8.true (omega (arith, low_size)) in
+    let more : StartsWith twice bytes at (count - 8 + 8) =
+    more_read once bytes at (count - 8) 8 high first (omega arith) (omega (arith, once_size)) high_size c.word_at-then-len-ge8.ensures.bytes in
+    let twice_size : length twice ≡ count =
+    length-paste once (count - 8) (bytes_of_number 8 high) 8 (omega (arith, once_size)) (omega (arith, high_size)) ∙ once_size in
     let end : count - 8 + 8 ≡ count = omega arith in
-    let more : StartsWith (paste out (count - 8) (bytes_of_number 8 word) 8) bytes at (count - 8 + 8) =
-    more_read out bytes at (count - 8) (count - 8) word covered (omega arith) (omega (arith, size)) own c.word_at-then-len-ge8.ensures.bytes in
-    let whole : length (paste out (count - 8) (bytes_of_number 8 word) 8) ≡ count =
-    length-paste out (count - 8) (bytes_of_number 8 word) 8 (omega (arith, size)) (omega (arith, own)) ∙ size in
-    rw c.put_word-then-len-ge8.ensures (all_read (paste out (count - 8) (bytes_of_number 8 word) 8) bytes at count whole
-    (omega (arith, c.requires, words_hold c.args.words.now))
-    (subst (StartsWith (paste out (count - 8) (bytes_of_number 8 word) 8) bytes at) end more))
+    rw (c.put_word-then-len-ge8.ensures, c.put_word.ensures) (all_read twice bytes at count twice_size
+    (omega (arith, c.requires, words_hold c.args.words.now)) (subst (StartsWith twice bytes at) end more))

@@ -1,45 +1,51 @@
-use Rattle.std.proofs.Common.{◌≡◌, ◌<◌, ◌+◌, ◌-◌, ◌*◌, ◌/◌, ◌%◌, ℕ, List, length, set, take, drop, sym, ap, ◌∙◌, arith, length-take, length-drop, length-set}
+use Rattle.std.proofs.Common.{◌≡◌, ◌+◌, ◌-◌, ◌*◌, ◌/◌, ℕ, List, length, take, drop, ap, ◌∙◌, arith}
 use Rattle.std.proofs.Math.Seq.{paste}
-use Rattle.iom_bits.specs.Bytes.{number_of_bytes}
 use Rattle.iom_mem.specs.Words.{bytes_of_words}
-use Rattle.iom_mem.proofs.Digits.{digit, digit_of_bytes, small_part}
-use Rattle.iom_mem.proofs.Pasting.{paste_twice}
 use Rattle.iom_mem.proofs.WordBytes.{words_hold}
-use Rattle.iom_mem.proofs.WordEdits.{word_set}
+use Rattle.iom_mem.proofs.Pasting.{paste_first, paste_both, paste_more_of}
+use Rattle.iom_mem.proofs.Ends.{whole_set}
 use Rattle.iom_mem.proofs.words.write_whole.Goals as goal
 
-pub loop-i-preserved : goal.loop-i-preserved
-loop-i-preserved c =
-    let l = c.loop-i in
-    let word : ℕ = c.number.result in
-    let bytes : List ℕ = c.args.bytes.now in
-    let done : ℕ = 8 * l.i in
-    let piece : List ℕ = take 8 (drop done bytes) in
-    let at : ℕ = 8 * (c.args.first + l.i) in
+pub returns-then-count-gt8-clause-bytes : goal.returns-then-count-gt8-clause-bytes
+returns-then-count-gt8-clause-bytes c =
     let d : List ℕ = bytes_of_words c.args.words.now in
-    let inside : l.i < length bytes / 8 = c.loop-i-test.true in
-    let size : length piece ≡ 8 = omega (arith, length-take 8 (drop done bytes), length-drop done bytes, inside) in
-    let eight : done + 8 - done ≡ 8 = omega arith in
-    let value : word ≡ number_of_bytes piece = c.number.ensures.value ∙ ap (λ k. number_of_bytes (take k (drop done bytes))) eight in
-    let kept : length l.words ≡ length c.args.words.now = l.invariant.1 in
-    let place : at / 8 ≡ c.args.first + l.i = omega arith in
-    let start : at % 8 ≡ 0 = omega arith in
-    let whole : length d ≡ 8 * length c.args.words.now = words_hold c.args.words.now in
-    let same : at ≡ 8 * c.args.first + done = omega arith in
-    let next : done + 8 ≡ 8 * (l.i + 1) = omega arith in
-    let now : bytes_of_words (set l.words (at / 8) word) ≡ paste (bytes_of_words l.words) at piece (length piece) =
-    word_set l.words at word piece (omega (arith, size, kept, inside, c.requires)) (omega (arith, kept, inside, c.requires)) (omega (arith, size, start)) record {
-      below = λ j h. absurd (omega (arith, start));
-      inside = λ j h.
-          let part : at % 8 + j ≡ j = omega (arith, start) in
-          ap (digit word) part ∙ ap (λ w. digit w j) value ∙ digit_of_bytes piece j (small_part bytes done 8 (λ i. (c.type_inv.bytes i).fits)) h;
-      above = λ j h few. absurd (omega (arith, size, start));
-    } in (
-      ap (λ p. bytes_of_words (set l.words p word)) (sym place) ∙ now
-          ∙ ap (λ n. paste (bytes_of_words l.words) at piece n) size
-          ∙ ap (λ e. paste e at piece 8) l.invariant.0
-          ∙ ap (λ p. paste (paste d (8 * c.args.first) bytes done) p piece 8) same
-          ∙ paste_twice d (8 * c.args.first) bytes done 8 (omega (arith, whole, c.requires)) (omega (arith, inside))
-          ∙ ap (paste d (8 * c.args.first) bytes) next,
-      length-set l.words (c.args.first + l.i) word ∙ kept,
-    )
+    let bytes : List ℕ = c.args.bytes.now in
+    let count : ℕ = length bytes / 8 in
+    let at : ℕ = 8 * c.args.first in
+    let from : ℕ = 8 * (count - 2) in
+    c.write_two.ensures.bytes
+    ∙ ap (λ e. paste e (at + from) (take 16 (drop from bytes)) 16) c.write_pairs.ensures.bytes
+    ∙ paste_more_of d at bytes (16 * (length bytes / 16)) from 16 (at + from) (8 * count) (omega arith) (omega arith) (omega arith)
+    (omega arith) (omega arith) (omega (arith, c.requires, words_hold c.args.words.now))
+
+pub returns-then-count-ge4-clause-bytes : goal.returns-then-count-ge4-clause-bytes
+returns-then-count-ge4-clause-bytes c =
+    let d : List ℕ = bytes_of_words c.args.words.now in
+    let bytes : List ℕ = c.args.bytes.now in
+    let count : ℕ = length bytes / 8 in
+    let at : ℕ = 8 * c.args.first in
+    let from : ℕ = 8 * (count - 4) in
+    c.write_four-then-count-ge4.ensures.bytes
+    ∙ ap (λ e. paste e (at + from) (take 32 (drop from bytes)) 32) c.write_four.ensures.bytes
+    ∙ paste_both d at bytes 32 (8 * 0) from (at + 8 * 0) (at + from) (8 * count) (omega arith) (omega arith) (omega arith) (omega arith)
+    (omega arith) (omega arith) (omega (arith, c.requires, words_hold c.args.words.now))
+
+pub returns-then-count-ge2-clause-bytes : goal.returns-then-count-ge2-clause-bytes
+returns-then-count-ge2-clause-bytes c =
+    let d : List ℕ = bytes_of_words c.args.words.now in
+    let bytes : List ℕ = c.args.bytes.now in
+    let count : ℕ = length bytes / 8 in
+    let at : ℕ = 8 * c.args.first in
+    let from : ℕ = 8 * (count - 2) in
+    c.write_two-then-count-ge2-2.ensures.bytes
+    ∙ ap (λ e. paste e (at + from) (take 16 (drop from bytes)) 16) c.write_two-then-count-ge2.ensures.bytes
+    ∙ paste_both d at bytes 16 (8 * 0) from (at + 8 * 0) (at + from) (8 * count) (omega arith) (omega arith) (omega arith) (omega arith)
+    (omega arith) (omega arith) (omega (arith, c.requires, words_hold c.args.words.now))
+
+pub returns-then-count-eq1-clause-bytes : goal.returns-then-count-eq1-clause-bytes
+returns-then-count-eq1-clause-bytes c =
+    let d : List ℕ = bytes_of_words c.args.words.now in
+    let bytes : List ℕ = c.args.bytes.now in
+    let one : 8 ≡ 8 * (length bytes / 8) = omega arith in
+    whole_set c.args.words.now c.args.first bytes 0 c.number.result (omega (arith, c.requires)) (omega arith) (λ i. (c.type_inv.bytes i).fits) c.number.ensures.value
+    ∙ paste_first d (8 * c.args.first) bytes 8 ∙ ap (paste d (8 * c.args.first) bytes) one
