@@ -10,7 +10,7 @@ use Rattle.iom_asm.specs.declared.fault.LoadFault.{LoadFault}
 use Rattle.iom_asm.specs.declared.fault.LoadFault.TheVariants.{Trailing}
 use Rattle.iom_asm.specs.Image.{Chunk, Disk, Image, end_of, with_chunks}
 use Rattle.iom_blk.specs.Device.{Device}
-use Rattle.iom_core.specs.State.{State, opening}
+use Rattle.iom_core.specs.State.{opening}
 use Rattle.iom_asm.specs.Loading.{device_of, devices_of, joined, state_from}
 use Rattle.iom_asm.specs.Reading.{◌>>=◌, Read, Head, checked, mapped, filled, started, opening_of, head_at, chunk_at, chunks_at, disk_at, disks_at, image_of}
 

@@ -1,6 +1,6 @@
 -- Reading an image from its first byte on: each field is judged once it is whole, and the first check that fails names the
 -- refusal.
-use Rattle.std.specs.Prelude.{ℕ, zero, suc, ◌≡◌, ◌≢◌, ◌+◌, ◌*◌, ◌==◌, ◌&&◌, ◌||◌, ◌++◌, Bool, true, false, List, [], ◌∷◌, length, take, drop, codes, bytes_eq, map, replicate, ◌-◌, nat_lt, nat_le, Result, Ok, Err, IsOk, if◌then◌else◌}
+use Rattle.std.specs.Prelude.{ℕ, zero, suc, ◌≡◌, ◌≢◌, ◌+◌, ◌*◌, ◌==◌, ◌&&◌, ◌||◌, ◌++◌, Bool, true, false, List, [], ◌∷◌, length, take, drop, bytes_eq, map, replicate, ◌-◌, nat_lt, nat_le, Result, Ok, Err, IsOk, if◌then◌else◌}
 use Rattle.iom_bits.specs.Bytes.{number_of_bytes}
 use Rattle.iom_mem.specs.Memory.{Memory}
 use Rattle.iom_mem.specs.Sizes.{is_paged, is_good_size, zeroed}

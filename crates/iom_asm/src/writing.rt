@@ -1,6 +1,6 @@
 //! The bytes of an image.
 
-ghost use Rattle.std.specs.Prelude.{◌≡◌, ◌++◌, ◌^◌, ◌<◌, true, false, map, length, codes, OnOk, IfOk};
+ghost use Rattle.std.specs.Prelude.{◌≡◌, ◌++◌, ◌^◌, ◌<◌, map, length, OnOk, IfOk};
 ghost use Rattle.iom_bits.specs.Bytes.{bytes_of_number};
 ghost use Rattle.iom_asm.specs.Image.{IsImage, magic_of, chunk_bytes, chunks_bytes, flags_bytes, disk_bytes, disks_bytes, head_bytes, image_bytes};
 ghost use Rattle.iom_asm.specs.Drafts.{chunk_seen, disk_seen, draft_seen, Fits, AllFit, FewBytes};

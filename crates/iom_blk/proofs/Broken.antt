@@ -28,7 +28,7 @@ unfolding broken
 broken_is_broken d = bit_is_set d.status
 
 -- a fact of both branches is one of the choice
-of_both : (P : Device → Type 0) (b : Bool) (x y : Device) → (b ≡ true → P x) → (b ≡ false → P y) → P (if b then x else y)
+pub of_both : (P : Device → Type 0) (b : Bool) (x y : Device) → (b ≡ true → P x) → (b ≡ false → P y) → P (if b then x else y)
 of_both P true x y of_true of_false = of_true refl
 of_both P false x y of_true of_false = of_false refl
 

@@ -1,4 +1,5 @@
 pub mod Asking
 pub mod Broken
+pub mod Kept
 pub mod Ready
 pub mod Served

@@ -174,6 +174,7 @@ impl Blk {
         ensures moved { IfSome (asks self.old)
             (λ ask. (reply : Reply) × B.answers bus.old ask reply bus.new
             × (self.new ≡ took self.old reply) × (result ≡ moved_of reply.access)) }
+        ensures disk { OnTrue self.old.read_only (self.new.disk ≡ self.old.disk) }
     {
         match self.want() {
             Want::Nothing => Moved::Idle,

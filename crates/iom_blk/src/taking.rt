@@ -20,14 +20,16 @@ impl Blk {
 
     /// Goes on with the bus's answer to what `want` said, which isn't Nothing. `bytes` are those of a read that was granted, as
     /// many as were asked for; else they aren't looked at.
-    #[tactic(auto, unfolding(crate::specs::Phases::asks, crate::specs::Phases::took), using(crate::proofs::Asking::asked_is_ready, crate::proofs::Broken::broken_is_broken))]
+    #[tactic(auto, unfolding(crate::specs::Phases::asks, crate::specs::Phases::took), using(crate::proofs::Asking::asked_is_ready, crate::proofs::Broken::broken_is_broken, crate::proofs::Kept::broken_keeps))]
     pub fn take(&mut self, answer: Access, bytes: &[u8]) -> Moved
         requires asked { IsSome (asks self.old) }
         requires answered { OnTrue (is_granted answer) (IfSome (asks self.old) (Answers bytes.now)) }
         ensures device { self.new ≡ took self.old (reply_of answer bytes.now) }
         ensures moved { result ≡ moved_of answer }
         ensures refused { OnFalse (is_granted answer) (is_broken self.new ≡ true) }
+        ensures disk { OnTrue self.old.read_only (self.new.disk ≡ self.old.disk) }
     {
+        let _ = &self.disk;
         match answer {
             Access::Ok => {
                 self.go_on(bytes);

@@ -151,7 +151,7 @@ disk 1 1\ndisk 2 1\ndisk 3 1\ndisk 4 1\ndisk 5 1\ndisk 6 1\ndisk 7 1\ndisk 8 1\n
 }
 
 // The length of the first proper front of an image that isn't told to be cut.
-fn not_cut(image: &[u8]) -> Option<usize> {
+pub fn not_cut(image: &[u8]) -> Option<usize> {
     for count in 0..image.len() {
         if judge(&image[..count]) != Err(LoadFault::Truncated) {
             return Some(count);
@@ -161,7 +161,12 @@ fn not_cut(image: &[u8]) -> Option<usize> {
 }
 
 // Why an image with another byte at a place is refused.
-fn changed(alloc: Global, image: &[u8], at: usize, byte: u8) -> Result<Option<LoadFault>, Fail> {
+pub fn changed(
+    alloc: Global,
+    image: &[u8],
+    at: usize,
+    byte: u8,
+) -> Result<Option<LoadFault>, Fail> {
     let mut other = Vec::from_slice(alloc, image)?;
     if let Some(place) = other.get_mut(at) {
         *place = byte;

@@ -109,7 +109,7 @@ fn wrote(off: u64, value: u64) -> Step {
 }
 
 // The driver's writes, for a queue in one page or in three.
-fn notified(platform: &mut Platform, desc: u64, avail: u64, used: u64) {
+pub fn notified(platform: &mut Platform, desc: u64, avail: u64, used: u64) {
     for (off, value) in &BEFORE_QUEUE {
         platform.step(&wrote(*off, *value));
     }
@@ -122,7 +122,7 @@ fn notified(platform: &mut Platform, desc: u64, avail: u64, used: u64) {
 }
 
 // How many of so many steps of the device are done before one that is answered otherwise.
-fn moved(platform: &mut Platform, count: usize) -> usize {
+pub fn moved(platform: &mut Platform, count: usize) -> usize {
     for n in 0..count {
         if platform.step(&Step::Device { dev: 0 }) != Answer::Done {
             return n;

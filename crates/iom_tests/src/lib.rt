@@ -36,6 +36,8 @@ mod tape;
 #[cfg(test)]
 mod tool;
 #[cfg(test)]
+mod versions;
+#[cfg(test)]
 mod walk;
 #[cfg(test)]
 mod warrants;

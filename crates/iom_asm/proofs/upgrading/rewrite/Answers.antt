@@ -1,4 +1,3 @@
-use Rattle.std.proofs.Common.{ap, ◌++◌, ◌∙◌}
 use Rattle.iom_asm.proofs.Upgraded.{image_rewritten}
 use Rattle.iom_asm.proofs.upgrading.rewrite.Goals as goal
 

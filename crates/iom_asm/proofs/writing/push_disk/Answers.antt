@@ -1,4 +1,3 @@
-use Rattle.std.proofs.Common.{◌≡◌, length, ◌∙◌}
 use Rattle.iom_asm.proofs.Pushes.{five}
 use Rattle.iom_asm.proofs.writing.push_disk.Goals as goal
 

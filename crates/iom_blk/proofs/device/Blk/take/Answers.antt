@@ -1,0 +1,10 @@
+use Rattle.std.proofs.Common.{◌≡◌, subst}
+use Rattle.std.proofs.lemmas.Bool.{OnTrue_from}
+use Rattle.iom_blk.specs.Sound.{IsSound}
+use Rattle.iom_blk.proofs.Kept.{goes_on}
+use Rattle.iom_blk.proofs.device.Blk.take.Goals as goal
+
+pub returns-in-Ok-clause-disk : goal.returns-in-Ok-clause-disk
+returns-in-Ok-clause-disk c =
+    OnTrue_from c.args.self.now.read_only (c.go_on.new.self.disk ≡ c.args.self.now.disk)
+    (λ only. rw c.go_on.ensures (goes_on c.args.self.now c.args.bytes.now (subst IsSound c.self.view_is c.self.invariant) only))
