@@ -34,6 +34,7 @@ image_is_played OutOfMemory
 caches_are_made_for_a_played_image OutOfMemory
 text_is_read OutOfMemory
 image_is_written OutOfMemory
+image_is_upgraded OutOfMemory
 items_are_listed OutOfMemory
 parts_are_copied AllocError
 END

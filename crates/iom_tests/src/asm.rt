@@ -95,7 +95,7 @@ fn misjudged(alloc: Global, statements: &[(&[u8], bool)]) -> Result<Option<usize
 
 #[test]
 fn statements(rt: HostRuntime) -> Result<(), Fail> {
-    let statements: [(&[u8], bool); 34] = [
+    let statements: [(&[u8], bool); 37] = [
         (b"u64 1 2 3 4 5 6 7 8", true),
         (b"u64 1 2 3 4 5 6 7 8 9", false),
         (b"u64", false),
@@ -128,6 +128,9 @@ fn statements(rt: HostRuntime) -> Result<(), Fail> {
         (b"disk 5 65537", false),
         (b"disk 0x1000000 1", false),
         (b"disk 5", false),
+        (b"rodisk 5 2 c0ffee", true),
+        (b"rodisk 5 0", false),
+        (b"rodisk 5 1 c0f", false),
         (
             b"disk 5 1\ndisk 6 1\ndisk 7 1\ndisk 8 1\ndisk 9 1\ndisk 10 1\ndisk 11 1\ndisk 12 1",
             true,
@@ -135,7 +138,11 @@ fn statements(rt: HostRuntime) -> Result<(), Fail> {
         (b"at 1 2", false),
     ];
     assert_eq!(rt; misjudged(rt.alloc(), &statements)?, None);
-    let disks: [Text<'_>; 2] = [
+    let disks: [Text<'_>; 3] = [
+        (
+            b"ram 0x80000000 0x1000\ndisk 5 1\nrodisk 5 1",
+            Some(AsmFault::BadLine(3)),
+        ),
         (
             b"ram 0x80000000 0x1000\ndisk 5 1\ndisk 5 1",
             Some(AsmFault::BadLine(3)),

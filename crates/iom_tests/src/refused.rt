@@ -6,7 +6,7 @@ use crate::blk_requests::with_disk;
 use crate::devices::devices;
 use crate::first_wrong;
 use crate::warrants::{MAPPED, memory, otherwise, read, stored, walked, written};
-use iom_asm::{Item, assemble, list, load, play};
+use iom_asm::{Item, assemble, list, load, play, upgrade};
 use iom_cache::{ContextCache, Place, TransCache};
 use iom_core::{Answer, Platform, Step};
 use iom_mem::Ram;
@@ -191,6 +191,10 @@ fn platform_with_a_device_is_copied(rt: HostRuntime) -> Result<(), Fail> {
 const IMAGE: &[u8] =
     b"RVIOMMU1\x00\x00\x00\x80\x00\x00\x00\x00\x00\x00\x10\x00\x00\x00\x00\x00\x00\x00\x00\x00\x01\x00\x00\x00\x05\x00\x00\x00\x02\x00\x00\x00\x03\x00\x00\x00\xc0\xff\xee";
 
+// The same in version 2.
+const UPGRADED: &[u8] =
+    b"RVIOMMU2\x00\x00\x00\x80\x00\x00\x00\x00\x00\x00\x10\x00\x00\x00\x00\x00\x00\x00\x00\x00\x01\x00\x00\x00\x05\x00\x00\x00\x02\x00\x00\x00\x00\x00\x00\x00\x03\x00\x00\x00\xc0\xff\xee";
+
 fn is_loaded_after(alloc: Global, spent: usize) -> Result<bool, Fail> {
     spend(alloc, spent)?;
     let platform = load(alloc, IMAGE)?;
@@ -246,6 +250,15 @@ fn text_is_read(rt: HostRuntime) -> Result<(), Fail> {
 #[test]
 fn image_is_written(rt: HostRuntime) -> Result<(), Fail> {
     assert!(rt; is_assembled_after(rt.alloc(), 9)?);
+    Ok(())
+}
+
+// An upgrade takes one, for all of the new image.
+#[test]
+fn image_is_upgraded(rt: HostRuntime) -> Result<(), Fail> {
+    spend(rt.alloc(), 12)?;
+    let new = upgrade(rt.alloc(), IMAGE)?;
+    assert!(rt; new.as_slice() == UPGRADED);
     Ok(())
 }
 
