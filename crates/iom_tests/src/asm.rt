@@ -95,7 +95,7 @@ fn misjudged(alloc: Global, statements: &[(&[u8], bool)]) -> Result<Option<usize
 
 #[test]
 fn statements(rt: HostRuntime) -> Result<(), Fail> {
-    let statements: [(&[u8], bool); 37] = [
+    let statements: [(&[u8], bool); 41] = [
         (b"u64 1 2 3 4 5 6 7 8", true),
         (b"u64 1 2 3 4 5 6 7 8 9", false),
         (b"u64", false),
@@ -118,7 +118,11 @@ fn statements(rt: HostRuntime) -> Result<(), Fail> {
         (b"CMD iodir", false),
         (b"context mode=8 ppn=1", true),
         (b"context mode=1", false),
+        (b"context mode=9 ppn=1", true),
+        (b"context mode=10", false),
         (b"context gmode=8 gppn=1", false),
+        (b"context gmode=9 gppn=4", true),
+        (b"context gmode=9 gppn=1", false),
         (b"pte flags=0x3ff", true),
         (b"pte flags=0x400", false),
         (b"dir ppn=1 flags=1", false),

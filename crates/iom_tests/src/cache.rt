@@ -24,6 +24,12 @@ const SUPERPAGE: Hit = Hit {
     global: false,
 };
 
+const LARGEST: Hit = Hit {
+    frame: 0x80010,
+    level: 3,
+    global: false,
+};
+
 const CONTEXT: Context = Context {
     dtf: false,
     custom: 0,
@@ -197,6 +203,9 @@ fn drops_by_the_table(rt: HostRuntime) -> Result<(), Fail> {
         (vma(true, 0x403ff, false), host, SUPERPAGE, true),
         (vma(true, 0x403ff, false), host, HIT, false),
         (vma(true, 0x40400, false), host, SUPERPAGE, false),
+        // Of 2^27 pages.
+        (vma(true, 0x7ff_ffff, false), host, LARGEST, true),
+        (vma(true, 0x800_0000, false), host, LARGEST, false),
         (gvma(false, 0), guest, HIT, true),
         (gvma(false, 0), host, HIT, false),
         (gvma(true, 6), guest, HIT, false),

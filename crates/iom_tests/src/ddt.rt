@@ -24,11 +24,27 @@ const FULL_WORDS: [u64; 4] = [
     0x8000_0000_0000_0030,
 ];
 
+// The same with four levels in both stages.
+const FOUR_LEVELS: Context = Context {
+    gmode: 9,
+    mode: 9,
+    ..FULL
+};
+
+const FOUR_LEVELS_WORDS: [u64; 4] = [
+    0xa500_0011,
+    0x9000_7000_0008_0020,
+    0x3001,
+    0x9000_0000_0000_0030,
+];
+
 #[test]
 fn encodes_and_decodes(rt: HostRuntime) {
     let facts = [
         encode_context(&FULL) == FULL_WORDS,
         context_of(FULL_WORDS) == Ok(FULL),
+        encode_context(&FOUR_LEVELS) == FOUR_LEVELS_WORDS,
+        context_of(FOUR_LEVELS_WORDS) == Ok(FOUR_LEVELS),
     ];
     assert_eq!(rt; first_wrong(&facts), None);
 }
@@ -53,9 +69,13 @@ fn refuses_words(rt: HostRuntime) {
         ([1, 0, 2, 0], Some(Cause::DirBad)),
         ([1, 0, 0, 1 << 44], Some(Cause::DirBad)),
         // A mode that there is not.
-        ([1, 0, 0, 9 << 60], Some(Cause::DirBad)),
+        ([1, 0, 0, 10 << 60], Some(Cause::DirBad)),
+        ([1, 10 << 60, 0, 0], Some(Cause::DirBad)),
+        ([1, 0, 0, 9 << 60], None),
+        ([1, 9 << 60, 0, 8 << 60], None),
         // A root of the second stage that isn't aligned, with the stage on and off.
         ([1, 0x8000_0000_0000_0002, 0, 0], Some(Cause::DirBad)),
+        ([1, 0x9000_0000_0000_0002, 0, 0], Some(Cause::DirBad)),
         ([1, 2, 0, 0], None),
     ];
     assert_eq!(rt; otherwise(&cases), None);

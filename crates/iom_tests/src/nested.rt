@@ -185,6 +185,65 @@ fn hits(rt: HostRuntime) -> Result<(), Fail> {
     Ok(())
 }
 
+// Both stages of four levels: first-stage tables at the guest's pages 0x30 to 0x33, the second stage a table and a page of 1 GiB.
+const FOUR_LEVELS: &[(u64, u64)] = &[
+    (0x8002_0000, 0x80024 << 10 | 1),
+    (0x8002_4000, 0x2000_00d7),
+    (0x8003_0008, 0xc401),
+    (0x8003_1008, 0xc801),
+    (0x8003_2008, 0xcc01),
+];
+
+#[test]
+fn each_stage_has_its_own_levels(rt: HostRuntime) -> Result<(), Fail> {
+    let four = Context {
+        gmode: 9,
+        mode: 9,
+        ..BOTH
+    };
+    let first_of_three = Context { mode: 8, ..four };
+    let second_of_three = Context { gmode: 8, ..four };
+    let bare_first = Context { mode: 0, ..four };
+    let bare_first_of_three = Context {
+        mode: 0,
+        ..second_of_three
+    };
+    let cases = [
+        (four, 0x80_4020_1abc, Kind::Write, hit(0x80040, 0, false)),
+        // In three levels the third table is the last, and a pointer in it is a fault.
+        (
+            first_of_three,
+            0x4020_1abc,
+            Kind::Read,
+            fault(Cause::Page(Kind::Read), 0),
+        ),
+        (
+            second_of_three,
+            0x80_4020_1abc,
+            Kind::Write,
+            hit(0x80040, 0, false),
+        ),
+        // In three levels the second table's entry maps 2 MiB, and not 1 GiB.
+        (bare_first, 0x20_0abc, Kind::Read, hit(0x80200, 0, false)),
+        (
+            bare_first_of_three,
+            0x20_0abc,
+            Kind::Read,
+            fault(Cause::Guest(Kind::Read), 0x20_0abc),
+        ),
+        // Beyond the width of four levels.
+        (
+            bare_first,
+            0x4_0000_0000_0003,
+            Kind::Read,
+            fault(Cause::Guest(Kind::Read), 0x4_0000_0000_0000),
+        ),
+    ];
+    let found = otherwise_with(rt.alloc(), FOUR_LEVELS, (0x8003_3008, 0x1_00d7), &cases)?;
+    assert_eq!(rt; found, None);
+    Ok(())
+}
+
 // What the guest has at an address, under a context that has a second stage.
 fn guest_word(ram: &Ram, addr: u64) -> Option<Got> {
     if BOTH.is_well_formed() {

@@ -8,12 +8,13 @@ struct Entry {
     word: u64,
 }
 
-// Three entries, and an address that can't be read; all else is outside memory.
+// Four entries, and an address that can't be read; all else is outside memory.
 #[derive(Clone, Copy)]
 struct Tables {
     first: Entry,
     second: Entry,
     third: Entry,
+    fourth: Entry,
     refused: u64,
 }
 
@@ -26,6 +27,7 @@ impl Words for Tables {
         else if addr == s.first.place then Word s.first.word
         else if addr == s.second.place then Word s.second.word
         else if addr == s.third.place then Word s.third.word
+        else if addr == s.fourth.place then Word s.fourth.word
         else Outside };
 
     fn word(&self, addr: u64) -> Got {
@@ -37,6 +39,8 @@ impl Words for Tables {
             Got::Word(self.second.word)
         } else if addr == self.third.place {
             Got::Word(self.third.word)
+        } else if addr == self.fourth.place {
+            Got::Word(self.fourth.word)
         } else {
             Got::Outside
         }
@@ -52,8 +56,14 @@ fn holding(first: Entry, second: Entry, third: Entry) -> Tables {
         first,
         second,
         third,
+        fourth: NONE,
         refused: NOWHERE,
     }
+}
+
+// The same below an entry of the root of four levels.
+fn below(fourth: Entry, tables: Tables) -> Tables {
+    Tables { fourth, ..tables }
 }
 
 fn refusing(refused: u64) -> Tables {
@@ -206,6 +216,40 @@ fn divides_addresses_by_shape(rt: HostRuntime) {
         read_at(Shape::Sv39x4, 0x40_0000_0000, none, Outcome::Outside),
         read_at(Shape::Sv39x4, 0x1ff_ffff_ffff, none, Outcome::Outside),
         read_at(Shape::Sv39x4, 0x200_0000_0000, none, Outcome::Fault),
+    ];
+    assert_eq!(rt; otherwise(&cases), None);
+}
+
+#[test]
+fn walks_four_levels(rt: HostRuntime) {
+    let three = holding(ROOT, MIDDLE, LAST);
+    let none = holding(NONE, NONE, NONE);
+    // the root's entries 1 and 0x403 point to the root itself
+    let narrow = below(word_at(0x8000_0008, 0x2000_0001), three);
+    let wide = below(word_at(0x8000_2018, 0x2000_0001), three);
+    // leaves of 2^27 pages
+    let aligned = below(word_at(0x8000_0008, 0x20_0000_00d7), none);
+    let misaligned = below(word_at(0x8000_0008, 0x10_0000_00d7), none);
+    let circle = below(word_at(0x8000_0000, 0x2000_0001), none);
+    let found = leaf(0x80010, 0, false);
+    let cases = [
+        read_at(Shape::Sv48, 0x80_c0a0_7abc, narrow, found),
+        read_at(Shape::Sv48x4, 0x2_0180_c0a0_7abc, wide, found),
+        read_at(
+            Shape::Sv48,
+            0x80_c0a0_7abc,
+            aligned,
+            leaf(0x80c_0a07, 3, false),
+        ),
+        read_at(Shape::Sv48x4, 0x80_c0a0_7abc, misaligned, Outcome::Fault),
+        read_at(Shape::Sv48, 0, circle, Outcome::Fault),
+        read_at(Shape::Sv48, 0x7fff_ffff_ffff, none, Outcome::Outside),
+        read_at(Shape::Sv48, 0x8000_0000_0000, none, Outcome::Fault),
+        read_at(Shape::Sv48, 0xffff_8000_0000_0000, none, Outcome::Outside),
+        read_at(Shape::Sv48, 0x7fff_8000_0000_0000, none, Outcome::Fault),
+        read_at(Shape::Sv48x4, 0x8000_0000_0000, none, Outcome::Outside),
+        read_at(Shape::Sv48x4, 0x3_ffff_ffff_ffff, none, Outcome::Outside),
+        read_at(Shape::Sv48x4, 0x4_0000_0000_0000, none, Outcome::Fault),
     ];
     assert_eq!(rt; otherwise(&cases), None);
 }
