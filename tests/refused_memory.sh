@@ -1,7 +1,7 @@
 #!/bin/sh
 # With an allocation refused, the call that takes it answers its own fault for want of memory, and a test that makes the call
 # ends in this fault. Each test of crates/iom_tests/src/refused.rt takes so many allocations before that those of its calls are
-# the thirteenth to the fifteenth.
+# the thirteenth to the fifteenth; where a call takes fewer, the list below has the last of them as a third word.
 top=$(cd "$(dirname "$0")/.." && pwd) || exit 1
 
 for number in 13 14 15; do
@@ -12,7 +12,8 @@ for number in 13 14 15; do
     13) made=OutOfMemory ;;
     *) made=AllocError ;;
     esac
-    while read -r test fault; do
+    while read -r test fault last; do
+        [ "$number" -le "${last:-15}" ] || continue
         if ! printf '%s\n' "$told" | grep -qxF "refused::$test $fault"; then
             printf '%s\n' "$seen"
             echo "refused memory: FAILED, of $test at allocation $number"
@@ -34,7 +35,7 @@ image_is_played OutOfMemory
 caches_are_made_for_a_played_image OutOfMemory
 text_is_read OutOfMemory
 image_is_written OutOfMemory
-image_is_upgraded OutOfMemory
+image_is_upgraded OutOfMemory 13
 items_are_listed OutOfMemory
 parts_are_copied AllocError
 END
