@@ -2,6 +2,7 @@
 #![tactic(auto)]
 
 pub use device::Blk;
+pub use phase::Phase;
 pub use want::{Moved, Want};
 
 mod bytes;
