@@ -1,11 +1,10 @@
 -- The words of a statement are numbers of 64 bits.
-use Rattle.std.proofs.Common.{◌≡◌, ℕ, zero, suc, ◌*◌, ◌%◌, ◌≤◌, ◌<◌, ◌^◌, ◌==◌, Bool, true, false, nat_lt, List, [], ◌∷◌, ◌++◌, length, take, drop, codes, bytes_eq, Option, Some, None, refl, ap, ◌∙◌, arith}
+use Rattle.std.proofs.Common.{◌≡◌, ℕ, ◌*◌, ◌%◌, ◌≤◌, ◌<◌, ◌^◌, ◌==◌, Bool, true, false, nat_lt, List, [], ◌∷◌, length, take, drop, codes, bytes_eq, Option, Some, None, arith}
 use Rattle.std.specs.Prelude.{IfSome}
 use Rattle.std.specs.Option.{option_map}
 use Rattle.std.specs.Str.Parse.{digits_value}
 use Rattle.std.proofs.lemmas.Bool.{cond_both, and_parts, ltb-true}
 use Rattle.iom_bits.specs.Bits.{flag}
-use Rattle.iom_bits.specs.Bytes.{number_of_bytes, bytes_of_number}
 use Rattle.iom_text.specs.Words.{number, number_in}
 use Rattle.iom_ddt.specs.declared.context.Context.{Context}
 use Rattle.iom_ddt.specs.Words.{words_of, is_well_formed}
@@ -20,7 +19,6 @@ use Rattle.iom_asm.specs.declared.item.Item.TheVariants as item
 use Rattle.iom_asm.specs.Items.{name_of, Entry, dir_word, pte_word}
 use Rattle.iom_asm.specs.Operands.{◌>>=◌, limited, flag_for, value_of, below}
 use Rattle.iom_asm.specs.Forms.{where_so, vma, gvma, fence, iodir, command, fault, context, dir, pte, each_number, numbers, words_for}
-use Rattle.iom_asm.proofs.Images.{length_of_number}
 
 abbrev pub AreWords : List ℕ → Type 0
 AreWords [] = Unit {0}

@@ -1,6 +1,6 @@
 //! The assembler.
 
-ghost use Rattle.std.specs.Prelude.{◌≡◌, ◌≢◌, ◌∷◌, ◌<◌, ◌==◌, [], length, IfOk, IfSome};
+ghost use Rattle.std.specs.Prelude.{◌≡◌, ◌≢◌, ◌∷◌, ◌<◌, ◌==◌, [], length, IfOk};
 ghost use Rattle.std.specs.List.{position};
 ghost use Rattle.iom_asm.specs.Image.{IsImage};
 ghost use Rattle.iom_asm.specs.Assembly.{lines_of, described, assembled, Makes};

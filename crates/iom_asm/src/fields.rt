@@ -2,8 +2,8 @@
 
 ghost use Rattle.std.specs.Prelude.{◌≡◌, ◌+◌, ◌*◌, ◌≤◌, ◌<◌, ◌^◌, ◌&&◌, IfOk, length, nat_le};
 ghost use Rattle.iom_mem.specs.Sizes.{is_paged, is_good_size};
-ghost use Rattle.iom_asm.specs.Image.{Chunk, Disk, end_of, is_new_id, is_disk_size};
-ghost use Rattle.iom_asm.specs.Reading.{Reads, part_at, number_at, Head, head_at, chunk_at, flags_at, disk_at};
+ghost use Rattle.iom_asm.specs.Image.{is_new_id};
+ghost use Rattle.iom_asm.specs.Reading.{Reads, part_at, number_at, head_at, chunk_at, flags_at, disk_at};
 
 use crate::fault::LoadFault;
 use crate::words::word_of;

@@ -5,7 +5,6 @@ ghost use Rattle.std.specs.Option.{option_map};
 ghost use Rattle.iom_ddt.specs.Contexts.{IsWellFormed};
 ghost use Rattle.iom_queue.specs.Commands.{CommandFits};
 ghost use Rattle.iom_queue.specs.Records.{RecordFits};
-ghost use Rattle.iom_asm.specs.Items.{Entry};
 ghost use Rattle.iom_asm.specs.Forms.{vma, gvma, fence, iodir, command, fault, context, dir, pte, each_number, numbers, words_for};
 
 use crate::operands::{any_number, are_operands, flag_for, limited};

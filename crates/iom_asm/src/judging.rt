@@ -1,6 +1,6 @@
 //! The first pass over an image: it judges, and takes no memory.
 
-ghost use Rattle.std.specs.Prelude.{◌≡◌, ◌+◌, ◌≤◌, ◌^◌, []};
+ghost use Rattle.std.specs.Prelude.{◌+◌, ◌≤◌, ◌^◌, []};
 ghost use Rattle.iom_asm.specs.Reading.{Reads, Judges, rest_of, chunks_at, disks_at, image_of};
 
 use crate::fault::LoadFault;

@@ -1,9 +1,8 @@
-ghost use Rattle.std.specs.Prelude.{◌≡◌, ◌+◌, ◌*◌, ◌++◌, ◌<◌, ◌≤◌, [], ◌∷◌, length, codes};
+ghost use Rattle.std.specs.Prelude.{◌≡◌, ◌+◌, ◌*◌, ◌++◌, ◌<◌, ◌≤◌, [], ◌∷◌, length};
 ghost use Rattle.std.specs.Option.{option_map};
 ghost use Rattle.iom_text.specs.Texts.{hexed};
-ghost use Rattle.iom_ddt.specs.Words.{context_in};
 ghost use Rattle.iom_asm.specs.declared.item.Item.TheVariants as item;
-ghost use Rattle.iom_asm.specs.Lines.{operand, command_text, record_text, context_text, dir_text, pte_text, numbers_text, words_text, line_of, item_line};
+ghost use Rattle.iom_asm.specs.Lines.{operand, command_text, record_text, context_text, numbers_text, words_text, line_of, item_line};
 
 use crate::item::Item;
 use crate::words::{four_at, pair_at, word_at};

@@ -1,12 +1,11 @@
 //! Listings of memory.
 
-ghost use Rattle.std.specs.Prelude.{◌≡◌, ◌++◌, ◌∷◌, ◌+◌, ◌*◌, ◌^◌, ◌≤◌, ◌==◌, ◌&&◌, ◌||◌, [], nat_le, OnOk, IfSome, IfNone, MatchResult, Err};
+ghost use Rattle.std.specs.Prelude.{◌≡◌, ◌++◌, ◌∷◌, ◌+◌, ◌^◌, ◌≤◌, ◌==◌, ◌&&◌, [], nat_le, OnOk, IfSome, IfNone, Err};
 ghost use Rattle.std.specs.Option.{is_some};
 ghost use Rattle.std.specs.String.{string_bytes};
 ghost use Rattle.std.specs.Str.{IsAscii};
 ghost use Rattle.iom_mem.specs.Memory.{size_of};
 ghost use Rattle.iom_asm.specs.declared.list_fault.ListFault.TheVariants as listing;
-ghost use Rattle.iom_asm.specs.Items.{words_in};
 ghost use Rattle.iom_asm.specs.Listing.{listed, Lists};
 
 use crate::item::Item;

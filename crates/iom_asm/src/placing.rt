@@ -2,10 +2,8 @@
 
 ghost use Rattle.std.specs.Prelude.{◌≡◌, ◌+◌, ◌<◌, ◌≤◌, ◌==◌, ◌&&◌, ◌^◌, map, length, false, Some, None, IfOk, if◌then◌else◌};
 ghost use Rattle.std.specs.List.{list_any};
-ghost use Rattle.std.specs.Option.{option_map};
-ghost use Rattle.iom_mem.specs.Sizes.{is_paged, is_good_size};
-ghost use Rattle.iom_asm.specs.Image.{IsImage, is_new_id};
-ghost use Rattle.iom_asm.specs.Assembly.{empty_draft, moved_to, is_next_disk, with_disk, is_inside, meets, placed, Makes};
+ghost use Rattle.iom_asm.specs.Image.{IsImage};
+ghost use Rattle.iom_asm.specs.Assembly.{empty_draft, is_next_disk, with_disk, is_inside, meets, placed, Makes};
 ghost use Rattle.iom_asm.specs.Forms.{where_so};
 ghost use Rattle.iom_asm.specs.Drafts.{disk_seen, draft_seen};
 

@@ -1,6 +1,6 @@
 //! What a statement on a line of a text says.
 
-ghost use Rattle.std.specs.Prelude.{◌≡◌, ◌∷◌, ◌++◌, ◌<◌, ◌+◌, ◌≤◌, ◌^◌, map, length, IfOk, IfSome, OnOk};
+ghost use Rattle.std.specs.Prelude.{◌≡◌, ◌++◌, ◌<◌, ◌+◌, map, IfOk, IfSome, OnOk};
 ghost use Rattle.std.specs.Option.{option_map};
 ghost use Rattle.iom_asm.specs.Assembly.{Draft as AsmDraft, moved_to, hex, one_hex, bytes_for, ram_draft, opened, moved, disk_of, disk_for, first_bytes, joined, stated, started, after_words, after_line, or_bad, Makes};
 ghost use Rattle.iom_text.specs.Words.{words_of};

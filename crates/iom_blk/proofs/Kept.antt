@@ -1,5 +1,5 @@
 -- A disk that may only be read stays as it is.
-use Rattle.std.proofs.Common.{◌≡◌, ◌+◌, ◌++◌, ◌-◌, ◌%◌, ◌^◌, ◌==◌, ◌&&◌, ◌||◌, not, ℕ, Bool, true, false, List, Result, Ok, Err, length, refl, sym, subst, ap, ◌∙◌, arith, nat_le, nat_lt, if◌then◌else◌}
+use Rattle.std.proofs.Common.{◌≡◌, ◌+◌, ◌++◌, ◌-◌, ◌%◌, ◌^◌, ◌==◌, ◌&&◌, ℕ, Bool, true, false, List, Result, Ok, Err, length, refl, arith, nat_le, nat_lt}
 use Rattle.iom_virtq.specs.Bus.{Reply, is_granted}
 use Rattle.iom_virtq.specs.Chains.{Linked}
 use Rattle.iom_virtq.specs.Adding.{add_result}

@@ -9,7 +9,7 @@ use crate::phase::Phase;
 use crate::request::{Request, SECTOR};
 use crate::want::{Moved, Want};
 use iom_bits::has_bit;
-use iom_virtq::{Access, Bus};
+use iom_virtq::Bus;
 use std::alloc::{AllocError, Global};
 use std::marker::Model;
 

@@ -1,6 +1,6 @@
 //! A request, and what it means.
 
-ghost use Rattle.std.specs.Prelude.{◌≡◌, ◌+◌, ◌*◌, ◌<◌, ◌≤◌, ◌^◌, [], length, true, if◌then◌else◌};
+ghost use Rattle.std.specs.Prelude.{◌≡◌, ◌+◌, ◌*◌, ◌<◌, ◌≤◌, [], length, true, if◌then◌else◌};
 ghost use Rattle.iom_virtq.specs.Bus.{IsShort};
 ghost use Rattle.iom_blk.specs.Requests.{kind_of, sector_of, is_in, is_out, readable, writable, data_length, moves, is_served, moves_data, status_of, used_length, header_address, header_count, data_address, data_count, status_address, place};
 

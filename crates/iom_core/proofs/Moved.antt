@@ -1,5 +1,5 @@
 -- What a step of a block device, and an access to its registers, change, take and refuse.
-use Rattle.std.proofs.Common.{◌≡◌, ◌∙◌, ◌&&◌, ℕ, List, length, Bool, true, false, not, Option, Some, None, Result, Ok, Err, if◌then◌else◌, refl, sym, ap, subst}
+use Rattle.std.proofs.Common.{◌≡◌, ◌&&◌, ℕ, List, length, Bool, true, false, not, Option, Some, None, Result, Ok, Err, if◌then◌else◌, refl, sym, ap, subst}
 use Rattle.std.specs.Prelude.{is_some, slice_get, slice_set}
 use Rattle.std.specs.Option.{option_map}
 use Rattle.iom_mem.specs.Memory.{bytes_at}
@@ -7,7 +7,7 @@ use Rattle.iom_virtq.specs.Bus.{Ask, Read, Write, Reply}
 use Rattle.iom_virtq.specs.declared.access.Access.{Access}
 use Rattle.iom_virtq.specs.declared.access.Access.TheVariants as access
 use Rattle.iom_blk.specs.Device.{Device}
-use Rattle.iom_blk.specs.Phases.{asks, broken, is_broken, moved_of, took}
+use Rattle.iom_blk.specs.Phases.{asks, moved_of, took}
 use Rattle.iom_blk.specs.Registers.{is_legal, read, written}
 use Rattle.iom_blk.proofs.Broken.{broken_is_broken}
 use Rattle.iom_core.specs.State.{State, Machine, with_device}

@@ -1,23 +1,18 @@
 -- What a step changes, takes and refuses, row by row of the step table.
-use Rattle.std.proofs.Common.{◌≡◌, ◌&&◌, ◌/◌, ℕ, zero, suc, List, [], length, Bool, true, false, not, Option, Some, None, Result, Ok, Err, if◌then◌else◌, refl, sym, ap, subst}
+use Rattle.std.proofs.Common.{◌≡◌, ◌&&◌, ◌/◌, ℕ, zero, suc, length, Bool, true, false, not, Option, Some, None, if◌then◌else◌, refl, sym, ap, subst}
 use Rattle.std.specs.Prelude.{is_some, slice_get}
 use Rattle.iom_bits.specs.Bytes.{bytes_of_number}
 use Rattle.iom_mem.specs.Memory.{Memory, bytes_at, put}
-use Rattle.iom_regs.specs.Table.{Registers, after_write, is_legal, read, with_pending}
-use Rattle.iom_regs.specs.Queues.{record_passed, with_fqmf, with_fqof}
-use Rattle.iom_queue.specs.Denials.{denial_record}
-use Rattle.iom_queue.specs.Delivery.{Delivery, KeepsOtherRegisters, delivered, is_full, is_in_memory, is_stopped, record_addr, record_bytes}
-use Rattle.iom_queue.specs.declared.record.Record.{Record}
+use Rattle.iom_regs.specs.Table.{after_write, is_legal, read}
 use Rattle.iom_queue.specs.declared.command.Command.TheVariants.{Vma, Gvma, Fence, Iodir}
 use Rattle.iom_queue.specs.declared.fetch.Fetch.{Fetch}
 use Rattle.iom_queue.specs.declared.fetch.Fetch.TheVariants as fetch
-use Rattle.iom_virtq.specs.Bus.{Ask, Read, Write, reply_of}
 use Rattle.iom_virtq.specs.declared.access.Access.TheVariants as access
 use Rattle.iom_core.specs.State.{State, Machine, with_machine}
-use Rattle.iom_core.specs.Access.{Denial, Effect, Request, effect, effect_at, granted, outside, read_there, record_left, served}
+use Rattle.iom_core.specs.Access.{effect, served}
 use Rattle.iom_core.specs.Commands.{after_command, executed_by, executed_of, fetched, is_taken, memory_left}
-use Rattle.iom_core.specs.Table.{Asking, Stored, Written, answer_by_reply, asked, executed, fits, idle_or_done, is_aligned, is_size, load, next, probed, put_inside, reg_read, reg_write, request_in, store, value_of, value_or_bad, with_memory, with_registers}
-use Rattle.iom_core.specs.Reach.{Breaks, ChangesOnly, DeviceGoesOn, KeepsDevices, Reaches, Refuses, Span, Takes, TakesBy, address_in, nothing, span_of, span_of_access, span_of_command, span_to}
+use Rattle.iom_core.specs.Table.{Asking, Stored, Written, asked, executed, fits, idle_or_done, is_aligned, is_size, load, next, probed, put_inside, reg_read, reg_write, request_in, store, value_of, value_or_bad, with_memory, with_registers}
+use Rattle.iom_core.specs.Reach.{Breaks, ChangesOnly, DeviceGoesOn, KeepsDevices, Reaches, Refuses, Span, Takes, address_in, nothing, span_of, span_of_access, span_of_command}
 use Rattle.iom_core.specs.declared.step.Step.{Step}
 use Rattle.iom_core.specs.declared.step.Step.TheVariants as step
 use Rattle.iom_core.specs.declared.step.Answer.TheVariants.{Done, BusError, BadAccess, Misuse}

@@ -1,6 +1,6 @@
 //! The block devices, and what the hart and they themselves do with them.
 
-ghost use Rattle.std.specs.Prelude.{◌≡◌, ◌<◌, ◌^◌, length, slice_get, IfOk};
+ghost use Rattle.std.specs.Prelude.{◌≡◌, ◌<◌, ◌^◌, slice_get, IfOk};
 ghost use Rattle.iom_blk.specs.Phases.{asks};
 ghost use Rattle.iom_core.specs.Table.{answer_of, dev_read, dev_write, dev_written, device_step, moving};
 

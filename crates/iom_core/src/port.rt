@@ -1,6 +1,4 @@
-ghost use Rattle.std.specs.Prelude.{◌≡◌, ◌<◌, ◌^◌, [], length};
-ghost use Rattle.std.specs.Bool.{OnFalse};
-ghost use Rattle.iom_virtq.specs.Bus.{Ask, Reply, Read, Write, is_granted, reply_of};
+ghost use Rattle.std.specs.Prelude.{◌≡◌, ◌<◌, ◌^◌};
 
 use crate::machine::Machine;
 use iom_virtq::{Access, Bus};

@@ -1,6 +1,5 @@
 //! How a bus answers.
 
-ghost use Rattle.std.specs.Prelude.{◌≡◌};
 
 use iom_bits::Cause;
 

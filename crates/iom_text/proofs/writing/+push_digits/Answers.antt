@@ -1,4 +1,4 @@
-use Rattle.std.proofs.Common.{◌≡◌, ◌/◌, ◌++◌, ◌∙◌, false, length, lit<, ap, arith}
+use Rattle.std.proofs.Common.{◌++◌, ◌∙◌, false, length, lit<, ap, arith}
 use Rattle.std.proofs.Math.Nat.{div-lt_self}
 use Rattle.std.specs.Fmt.{digit_glyph}
 use Rattle.std.specs.Int.Digits.{digits_of}
