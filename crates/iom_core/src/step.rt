@@ -1,7 +1,7 @@
 use arrayvec::ArrayVec;
 
 /// One event of the platform. Every number is 64 bits wide; one that doesn't fit is answered `Misuse`.
-#[derive(Clone, Debug, Drop, PartialEq)]
+#[derive(Drop)]
 pub enum Step {
     /// The hart reads `size` bytes at physical address `addr`.
     Load {
@@ -59,7 +59,7 @@ pub enum Step {
 }
 
 /// What a step answers.
-#[derive(Clone, Debug, Drop, PartialEq)]
+#[derive(Debug, Drop, PartialEq)]
 pub enum Answer {
     /// The number that was read, the lowest byte first.
     Value(u64),
