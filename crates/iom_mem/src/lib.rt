@@ -187,8 +187,9 @@ impl Ram {
         ensures outside { IfNone result (0 < len → bytes_at self.now addr len ≡ None) }
     {
         let at = addr.checked_sub(self.base)?;
-        let end = at.checked_add(len as u64)?;
-        if end <= self.size() {
+        // How many places so many bytes can begin at.
+        let places = (self.size() + 1).saturating_sub(len as u64);
+        if at < places {
             Some(at as usize)
         } else {
             None
