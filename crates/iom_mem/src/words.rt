@@ -200,7 +200,7 @@ fn write_from(words: &mut [u64], kept: usize, bytes: &[u8])
     ensures bytes { bytes_of_words words.new ≡ paste (bytes_of_words words.old) kept bytes.now (length bytes.now) }
     ensures size { length words.new ≡ length words.old }
 {
-    if bytes.len() > 64 {
+    if bytes.len() > 72 {
         write_many(words, kept, bytes);
     } else if bytes.len() >= 8 {
         write_some(words, kept, bytes);
@@ -230,12 +230,12 @@ fn write_few(words: &mut [u64], kept: usize, bytes: &[u8])
     }
 }
 
-// From 8 to 64 bytes: straight on, with no loop.
+// From 8 to 72 bytes, straight on with no loop.
 fn write_some(words: &mut [u64], kept: usize, bytes: &[u8])
     requires part { kept < 8 }
     requires within { kept + length bytes.now ≤ 8 * length words.old }
     requires some { 8 ≤ length bytes.now }
-    requires few { length bytes.now ≤ 64 }
+    requires few { length bytes.now ≤ 72 }
     ensures bytes { bytes_of_words words.new ≡ paste (bytes_of_words words.old) kept bytes.now (length bytes.now) }
     ensures size { length words.new ≡ length words.old }
 {
@@ -245,12 +245,12 @@ fn write_some(words: &mut [u64], kept: usize, bytes: &[u8])
     write_end(words, rest.len(), bytes);
 }
 
-// More than 64 bytes. They are kept apart from the code for fewer, which a caller's loop can then hold.
+// More than 72 bytes. A function of its own keeps the code for fewer short.
 #[inline(never)]
 fn write_many(words: &mut [u64], kept: usize, bytes: &[u8])
     requires part { kept < 8 }
     requires within { kept + length bytes.now ≤ 8 * length words.old }
-    requires many { 64 < length bytes.now }
+    requires many { 72 < length bytes.now }
     ensures bytes { bytes_of_words words.new ≡ paste (bytes_of_words words.old) kept bytes.now (length bytes.now) }
     ensures size { length words.new ≡ length words.old }
 {
