@@ -8,7 +8,7 @@ ghost use Rattle.std.specs.Option.{is_some};
 use std::alloc::{AllocError, Global};
 use std::marker::Model;
 use thiserror::Error;
-use words::{all_words, read_bytes, read_words, word_at, write_bytes};
+use words::{all_words, read_bytes, read_words, word_from, write_bytes};
 
 mod words;
 
@@ -149,7 +149,8 @@ impl Ram {
         ensures { result ≡ word self.now addr }
     {
         let at = self.place(addr, 8)?;
-        Some(word_at(&self.words, at))
+        // The base is a multiple of 8, so the address tells how far into a word this is.
+        Some(word_from(&self.words, at / 8, addr as usize % 8))
     }
 
     /// Reads the words from physical address `addr` on into `out`, word i from `addr + 8 * i`, and

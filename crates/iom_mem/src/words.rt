@@ -21,10 +21,20 @@ pub fn word_at(words: &[u64], at: usize) -> u64
     ensures bytes { bytes_of_number 8 result ≡ take 8 (drop at (bytes_of_words words.now)) }
     ensures value { result ≡ number_of_bytes (take 8 (drop at (bytes_of_words words.now))) }
 {
-    if at % 8 == 0 {
-        words[at / 8]
+    word_from(words, at / 8, at % 8)
+}
+
+/// The eight bytes that begin `skipped` bytes into word `first`, as a number.
+pub fn word_from(words: &[u64], first: usize, skipped: usize) -> u64
+    requires part { skipped < 8 }
+    requires within { 8 * first + skipped + 8 ≤ 8 * length words.now }
+    ensures bytes { bytes_of_number 8 result ≡ take 8 (drop (8 * first + skipped) (bytes_of_words words.now)) }
+    ensures value { result ≡ number_of_bytes (take 8 (drop (8 * first + skipped) (bytes_of_words words.now))) }
+{
+    if skipped == 0 {
+        words[first]
     } else {
-        joined(words[at / 8], words[at / 8 + 1], at % 8)
+        joined(words[first], words[first + 1], skipped)
     }
 }
 
