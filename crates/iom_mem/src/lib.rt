@@ -190,10 +190,6 @@ impl Ram {
         let at = addr.checked_sub(self.base)?;
         // How many places so many bytes can begin at.
         let places = (self.size() + 1).saturating_sub(len as u64);
-        if at < places {
-            Some(at as usize)
-        } else {
-            None
-        }
+        if at < places { Some(at as usize) } else { None }
     }
 }
