@@ -1,6 +1,6 @@
 -- The bytes of a number: byte j of n is n / 2 ^ (8 * j) % 256.
-use Rattle.std.proofs.Common.{◌≡◌, ◌+◌, ◌-◌, ◌*◌, ◌/◌, ◌%◌, ◌^◌, ◌<◌, ◌≤◌, ℕ, zero, suc, List, [], ◌∷◌, length, get_or, take, drop, inl, inr, length-take, get_or-take, get_or-drop, sym, ◌∙◌, ap, refl, arith, mul_assoc, add-zero, bit_or}
-use Rattle.std.proofs.lemmas.Nat.{pow_pos, pow-add, shr-shr, shr_split, shr_high, mod_below, mod_low, field_of, mod-pow-add, shr_below, or_shifted, shl-shr, one_shl, shl_whole}
+use Rattle.std.proofs.Common.{◌≡◌, ◌+◌, ◌-◌, ◌*◌, ◌/◌, ◌%◌, ◌^◌, ◌<◌, ◌≤◌, ℕ, zero, suc, List, [], ◌∷◌, length, get_or, take, drop, inl, inr, length-take, length-drop, get_or-take, get_or-drop, sym, ◌∙◌, ap, refl, arith, mul_assoc, add-zero, bit_or}
+use Rattle.std.proofs.lemmas.Nat.{pow_pos, pow-add, shr-shr, shr_split, shr_high, mod_below, mod_low, field_of, mod-pow-add, shr_below, or_shifted, shl-shr, one_shl}
 use Rattle.std.proofs.lemmas.List.{get_or_past}
 use Rattle.std.proofs.lemmas.Bool.{cases_lt}
 use Rattle.iom_bits.specs.Bits.{with_field_of}
@@ -118,20 +118,21 @@ above_by_shifts word number kept few =
     ∙ ap (λ m. bit_or (number % 2 ^ (8 * (8 - kept)) * 2 ^ (8 * kept)) (word % m)) one
     ∙ or_shifted (number % 2 ^ (8 * (8 - kept))) (8 * kept) (word % 2 ^ (8 * kept)) (mod_below word (2 ^ (8 * kept)) (pow_pos (8 * kept)))
 
-pub highest_fits : (number count : ℕ) → number < 2 ^ 64 → count < 8 → number / 2 ^ (8 * (8 - count)) < 2 ^ (8 * count)
-highest_fits number count wide few =
-    let width : 8 * count + 8 * (8 - count) ≡ 64 = omega arith in
-    shr_below number (8 * count) (8 * (8 - count)) (rw width wide)
+-- what is left of `all` bytes without the lowest ones
+pub highest_fits : (number count skipped all : ℕ) → number < 2 ^ (8 * all) → count + skipped ≡ all → number / 2 ^ (8 * skipped) < 2 ^ (8 * count)
+highest_fits number count skipped all wide sum =
+    let width : 8 * count + 8 * skipped ≡ 8 * all = omega (arith, sum) in
+    shr_below number (8 * count) (8 * skipped) (rw width wide)
 
--- the highest bytes of a number, and a word above them
-pub below_by_shifts : (word number count : ℕ) → word < 2 ^ 64 → number < 2 ^ 64 → 1 ≤ count → count < 8 →
-    bit_or (word / 2 ^ (8 * count) * 2 ^ (8 * count) % 18446744073709551616) (number / 2 ^ (8 * (8 - count)))
-    ≡ word / 2 ^ (8 * count) * 2 ^ (8 * count) + number / 2 ^ (8 * (8 - count))
-below_by_shifts word number count wide number_wide some few =
-    let whole : word / 2 ^ (8 * count) * 2 ^ (8 * count) % 2 ^ 64 ≡ word / 2 ^ (8 * count) * 2 ^ (8 * count) =
-    shl_whole (word / 2 ^ (8 * count)) (8 * (8 - count)) (8 * count) 64 (shifted_fits word count wide few) (omega arith) in
-    ap (λ n. bit_or n (number / 2 ^ (8 * (8 - count)))) whole
-    ∙ or_shifted (word / 2 ^ (8 * count)) (8 * count) (number / 2 ^ (8 * (8 - count))) (highest_fits number count number_wide few)
+-- a number of some bytes, and a word above it
+pub below_by_shifts : (word low count : ℕ) → count < 8 → low < 2 ^ (8 * count) →
+    bit_or (word - word % (1 * 2 ^ (8 * count) % 18446744073709551616)) low ≡ word / 2 ^ (8 * count) * 2 ^ (8 * count) + low
+below_by_shifts word low count few fits =
+    let k : ℕ = 8 * count in
+    let one : 1 * 2 ^ (8 * count) % 2 ^ 64 ≡ 2 ^ (8 * count) = one_shl (8 * count) 64 (omega arith) in
+    let parts : word / 2 ^ k * 2 ^ k + word % 2 ^ k ≡ word = shr_split word k in
+    let high : word - word % 2 ^ k ≡ word / 2 ^ k * 2 ^ k = omega (arith, parts) in
+    ap (λ m. bit_or (word - word % m) low) one ∙ ap (λ n. bit_or n low) high ∙ or_shifted (word / 2 ^ k) k low fits
 
 -- the bytes of a word with some of them replaced
 pub field_below : (word low count value j : ℕ) → j < low → digit (with_field_of word (8 * low) (8 * count) value) j ≡ digit word j
@@ -164,6 +165,17 @@ field_above word low count value j small from =
 pub digit_of_bytes : (bytes : List ℕ) (j : ℕ) → ((i : ℕ) → get_or bytes i 0 < 256) → j < length bytes → digit (number_of_bytes bytes) j ≡ get_or bytes j 0
 digit_of_bytes bytes j small h =
     sym (digit_of_number (length bytes) (number_of_bytes bytes) j h) ∙ ap (λ xs. get_or xs j 0) (own_of_number bytes small)
+
+-- the last bytes of those from place `from` on, whose number is shifted down to them
+pub last_digits : (bytes : List ℕ) (from skipped count number : ℕ) → ((i : ℕ) → get_or bytes i 0 < 256) → number ≡ number_of_bytes (drop from bytes) →
+    from + skipped + count ≡ length bytes → (j : ℕ) → j < count → digit (number / 2 ^ (8 * skipped)) j ≡ get_or bytes (length bytes - count + j) 0
+last_digits bytes from skipped count number small is_number sum j h =
+    let tail : List ℕ = drop from bytes in
+    let small_tail : (i : ℕ) → get_or tail i 0 < 256 = λ i. rw (get_or-drop from bytes i 0) (small (from + i)) in
+    let place : from + (skipped + j) ≡ length bytes - count + j = omega (arith, sum) in
+    digit_shifted number skipped j ∙ ap (λ n. digit n (skipped + j)) is_number
+    ∙ digit_of_bytes tail (skipped + j) small_tail (omega (arith, sum, h, length-drop from bytes))
+    ∙ get_or-drop from bytes (skipped + j) 0 ∙ ap (λ p. get_or bytes p 0) place
 
 pub eight_bytes : (bytes : List ℕ) → length bytes ≡ 8 →
     number_of_bytes (get_or bytes 0 0 ∷ get_or bytes 1 0 ∷ get_or bytes 2 0 ∷ get_or bytes 3 0 ∷ get_or bytes 4 0 ∷ get_or bytes 5 0 ∷ get_or bytes 6 0 ∷ get_or bytes 7 0 ∷ [])

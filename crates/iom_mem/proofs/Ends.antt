@@ -5,11 +5,12 @@ use Rattle.std.proofs.lemmas.List.{ext_get_or}
 use Rattle.std.proofs.lemmas.List.Edits.{length-paste}
 use Rattle.std.proofs.lemmas.Nat.{pow_pos, mod_below}
 use Rattle.std.proofs.lemmas.Bool.{cases_lt}
+use Rattle.iom_bits.specs.Bits.{with_field_of}
 use Rattle.iom_bits.specs.Bytes.{number_of_bytes, bytes_of_number}
 use Rattle.iom_mem.specs.Words.{bytes_of_words}
-use Rattle.iom_mem.proofs.Digits.{digit, digit_of_number, digit_shifted, digit_below, digit_above, digit_low, digit_of_bytes, length-bytes_of_number, small_part}
+use Rattle.iom_mem.proofs.Digits.{digit, digit_of_number, digit_shifted, digit_below, digit_above, digit_low, digit_of_bytes, field_below, field_inside, field_above, length-bytes_of_number, number_fits, small_part}
 use Rattle.iom_mem.proofs.WordBytes.{words_hold, byte_of_words}
-use Rattle.iom_mem.proofs.WordEdits.{word_set}
+use Rattle.iom_mem.proofs.WordEdits.{ReplacesDigits, word_set}
 use Rattle.iom_mem.proofs.Pasting.{paste_below, paste_inside, paste_above, paste_first, paste_next}
 
 -- a byte of the word that is read first
@@ -94,17 +95,18 @@ many_read words out middle at last low high within many is_last is_high is_low i
     ] ∙ sym (get_or-take n (drop at bytes) k 0 below ∙ get_or-drop at bytes k 0))
 
 -- the word that is written first
-pub first_set : (words : List ℕ) (at : ℕ) (bytes : List ℕ) (word number : ℕ) → at + length bytes ≤ 8 * length words → 8 ≤ length bytes →
-    ((i : ℕ) → get_or bytes i 0 < 256) → number ≡ number_of_bytes (take 8 bytes) →
-    word ≡ number % 2 ^ (8 * (8 - at % 8)) * 2 ^ (8 * (at % 8)) + get_or words (at / 8) 0 % 2 ^ (8 * (at % 8)) →
-    bytes_of_words (set words (at / 8) word) ≡ paste (bytes_of_words words) at bytes (8 - at % 8)
-first_set words at bytes word number within some small is_number is_word =
-    let old : ℕ = get_or words (at / 8) 0 in
-    let kept : ℕ = at % 8 in
+pub first_set : (words : List ℕ) (kept : ℕ) (bytes : List ℕ) (word number : ℕ) → kept < 8 → kept + length bytes ≤ 8 * length words →
+    8 ≤ kept + length bytes → ((i : ℕ) → get_or bytes i 0 < 256) → number ≡ number_of_bytes (take 8 bytes) →
+    word ≡ number % 2 ^ (8 * (8 - kept)) * 2 ^ (8 * kept) + get_or words 0 0 % 2 ^ (8 * kept) →
+    bytes_of_words (set words 0 word) ≡ paste (bytes_of_words words) kept bytes (8 - kept)
+first_set words kept bytes word number part within some small is_number is_word =
+    let old : ℕ = get_or words 0 0 in
     let piece : List ℕ = take (8 - kept) bytes in
     let size : length piece ≡ 8 - kept = omega (arith, length-take (8 - kept) bytes) in
     let fits : old % 2 ^ (8 * kept) < 2 ^ (8 * kept) = mod_below old (2 ^ (8 * kept)) (pow_pos (8 * kept)) in
-    word_set words at word piece (omega (arith, size)) (omega arith) (omega (arith, size)) record {
+    let place : kept / 8 ≡ 0 = omega arith in
+    let same : kept % 8 ≡ kept = omega arith in
+    let new : ReplacesDigits old kept piece word = record {
       below = λ j h. ap (λ w. digit w j) is_word ∙ digit_below (number % 2 ^ (8 * (8 - kept))) (old % 2 ^ (8 * kept)) kept j h ∙ digit_low old kept j h;
       inside = λ j h.
           let few : j < 8 - kept = omega (arith, size) in
@@ -113,49 +115,60 @@ first_set words at bytes word number within some small is_number is_word =
           ∙ digit_above (number % 2 ^ (8 * (8 - kept))) (old % 2 ^ (8 * kept)) kept (kept + j) fits (omega arith)
           ∙ ap (digit (number % 2 ^ (8 * (8 - kept)))) back ∙ digit_low number (8 - kept) j few
           ∙ ap (λ n. digit n j) is_number
-          ∙ digit_of_bytes (take 8 bytes) j (small_part bytes 0 8 small) (omega (arith, few, length-take 8 bytes))
+          ∙ digit_of_bytes (take 8 bytes) j (small_part bytes 0 8 small) (omega (arith, few, some, length-take 8 bytes))
           ∙ get_or-take 8 bytes j 0 (omega arith) ∙ sym (get_or-take (8 - kept) bytes j 0 few);
       above = λ j h few. absurd (omega (arith, size));
-    }
-    ∙ ap (paste (bytes_of_words words) at piece) size ∙ paste_first (bytes_of_words words) at bytes (8 - kept)
+    } in
+    ap (λ p. bytes_of_words (set words p word)) (sym place)
+    ∙ word_set words kept word piece (omega (arith, size)) (omega (arith, place)) (omega (arith, size)) (rw (place, same) new)
+    ∙ ap (paste (bytes_of_words words) kept piece) size ∙ paste_first (bytes_of_words words) kept bytes (8 - kept)
 
 -- the word that is written last
-pub last_set : (words : List ℕ) (end : ℕ) (bytes : List ℕ) (word number : ℕ) → end ≤ 8 * length words → 8 ≤ length bytes → 0 < end % 8 →
-    ((i : ℕ) → get_or bytes i 0 < 256) → number ≡ number_of_bytes (drop (length bytes - 8) bytes) →
-    word ≡ get_or words (end / 8) 0 / 2 ^ (8 * (end % 8)) * 2 ^ (8 * (end % 8)) + number / 2 ^ (8 * (8 - end % 8)) →
-    number / 2 ^ (8 * (8 - end % 8)) < 2 ^ (8 * (end % 8)) →
-    bytes_of_words (set words (end / 8) word) ≡ paste (bytes_of_words words) (end - end % 8) (drop (length bytes - end % 8) bytes) (end % 8)
-last_set words end bytes word number within some part small is_number is_word fits =
-    let old : ℕ = get_or words (end / 8) 0 in
-    let count : ℕ = end % 8 in
-    let at : ℕ = end - count in
-    let low : ℕ = number / 2 ^ (8 * (8 - count)) in
+pub last_set : (words : List ℕ) (i count : ℕ) (bytes : List ℕ) (word low : ℕ) → 8 * i + count ≤ 8 * length words → count < 8 → 0 < count →
+    count ≤ length bytes → ((j : ℕ) → j < count → digit low j ≡ get_or bytes (length bytes - count + j) 0) →
+    word ≡ get_or words i 0 / 2 ^ (8 * count) * 2 ^ (8 * count) + low → low < 2 ^ (8 * count) →
+    bytes_of_words (set words i word) ≡ paste (bytes_of_words words) (8 * i) (drop (length bytes - count) bytes) count
+last_set words i count bytes word low within few some enough each is_word fits =
+    let old : ℕ = get_or words i 0 in
     let high : ℕ = old / 2 ^ (8 * count) in
     let piece : List ℕ = drop (length bytes - count) bytes in
     let size : length piece ≡ count = omega (arith, length-drop (length bytes - count) bytes) in
-    let place : at / 8 ≡ end / 8 = omega arith in
-    let start : at % 8 ≡ 0 = omega arith in
-    let tail : List ℕ = drop (length bytes - 8) bytes in
-    let small_tail : (i : ℕ) → get_or tail i 0 < 256 = λ i. rw (get_or-drop (length bytes - 8) bytes i 0) (small (length bytes - 8 + i)) in
-    ap (λ p. bytes_of_words (set words p word)) (sym place)
-    ∙ word_set words at word piece (omega (arith, size)) (omega (arith, place)) (omega (arith, size, start)) record {
-      below = λ j h. absurd (omega (arith, start));
+    let place : 8 * i / 8 ≡ i = omega arith in
+    let start : 8 * i % 8 ≡ 0 = omega arith in
+    let new : ReplacesDigits old 0 piece word = record {
+      below = λ j h. absurd (omega arith);
       inside = λ j h.
-          let few : j < count = omega (arith, size) in
-          let same : at % 8 + j ≡ j = omega (arith, start) in
-          let there : length bytes - 8 + (8 - count + j) ≡ length bytes - count + j = omega arith in
-          ap (digit word) same ∙ ap (λ w. digit w j) is_word ∙ digit_below high low count j few ∙ digit_shifted number (8 - count) j
-          ∙ ap (λ n. digit n (8 - count + j)) is_number
-          ∙ digit_of_bytes tail (8 - count + j) small_tail (omega (arith, few, length-drop (length bytes - 8) bytes))
-          ∙ get_or-drop (length bytes - 8) bytes (8 - count + j) 0 ∙ ap (λ p. get_or bytes p 0) there
-          ∙ sym (get_or-drop (length bytes - count) bytes j 0);
-      above = λ j h few.
-          let from : count ≤ j = omega (arith, size, start) in
+          let inside : j < count = omega (arith, size) in
+          let same : 0 + j ≡ j = omega arith in
+          ap (digit word) same ∙ ap (λ w. digit w j) is_word ∙ digit_below high low count j inside ∙ each j inside ∙ sym (get_or-drop (length bytes - count) bytes j 0);
+      above = λ j h below.
+          let from : count ≤ j = omega (arith, size) in
           let back : count + (j - count) ≡ j = omega (arith, from) in
-          ap (λ w. digit w j) is_word ∙ digit_above high low count j fits from ∙ digit_shifted old count (j - count) ∙ ap (digit old) back
-          ∙ ap (λ p. digit (get_or words p 0) j) (sym place);
-    }
-    ∙ ap (paste (bytes_of_words words) at piece) size
+          ap (λ w. digit w j) is_word ∙ digit_above high low count j fits from ∙ digit_shifted old count (j - count) ∙ ap (digit old) back;
+    } in
+    ap (λ p. bytes_of_words (set words p word)) (sym place)
+    ∙ word_set words (8 * i) word piece (omega (arith, size)) (omega (arith, place)) (omega (arith, size, start)) (rw (place, start) new)
+    ∙ ap (paste (bytes_of_words words) (8 * i) piece) size
+
+-- a word in which some bytes are written
+pub field_set : (words : List ℕ) (kept : ℕ) (bytes : List ℕ) (word number : ℕ) → kept < 8 → 1 ≤ length bytes → kept + length bytes ≤ 8 →
+    kept + length bytes ≤ 8 * length words → ((i : ℕ) → get_or bytes i 0 < 256) → number ≡ number_of_bytes bytes →
+    word ≡ with_field_of (get_or words 0 0) (8 * kept) (8 * length bytes) number →
+    bytes_of_words (set words 0 word) ≡ paste (bytes_of_words words) kept bytes (length bytes)
+field_set words kept bytes word number part some together within small is_number is_word =
+    let old : ℕ = get_or words 0 0 in
+    let count : ℕ = length bytes in
+    let value : ℕ = number_of_bytes bytes in
+    let place : kept / 8 ≡ 0 = omega arith in
+    let same : kept % 8 ≡ kept = omega arith in
+    let is_field : word ≡ with_field_of old (8 * kept) (8 * count) value = is_word ∙ ap (with_field_of old (8 * kept) (8 * count)) is_number in
+    let new : ReplacesDigits old kept bytes word = record {
+      below = λ j h. ap (λ w. digit w j) is_field ∙ field_below old kept count value j h;
+      inside = λ j h. ap (λ w. digit w (kept + j)) is_field ∙ field_inside old kept count value j h ∙ digit_of_bytes bytes j small h;
+      above = λ j h few. ap (λ w. digit w j) is_field ∙ field_above old kept count value j (number_fits bytes small) h;
+    } in
+    ap (λ p. bytes_of_words (set words p word)) (sym place)
+    ∙ word_set words kept word bytes within (omega (arith, place, some)) (rw same together) (rw (place, same) new)
 
 -- a whole word that is written
 pub whole_set : (words : List ℕ) (i : ℕ) (bytes : List ℕ) (from number : ℕ) → i < length words → from + 8 ≤ length bytes →

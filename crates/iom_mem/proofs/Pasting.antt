@@ -1,6 +1,6 @@
 -- Lists with a part replaced, place by place.
-use Rattle.std.proofs.Common.{◌≡◌, ◌+◌, ◌-◌, ◌<◌, ◌≤◌, ℕ, List, ◌++◌, length, get_or, take, drop, sym, ◌∙◌, ap, inl, inr, arith, length-append, length-take, length-drop, get_or-take, get_or-drop, take-take, drop-drop}
-use Rattle.std.proofs.Math.Seq.{paste}
+use Rattle.std.proofs.Common.{◌≡◌, ◌+◌, ◌-◌, ◌*◌, ◌/◌, ◌%◌, ◌<◌, ◌≤◌, ℕ, List, ◌++◌, length, get_or, take, drop, sym, ◌∙◌, ap, inl, inr, arith, length-append, length-take, length-drop, get_or-take, get_or-drop, take-take, drop-drop, append_assoc}
+use Rattle.std.proofs.Math.Seq.{paste, take-append-add, drop-append-add}
 use Rattle.std.proofs.lemmas.List.{ext_get_or, get_or_append_left, get_or-append_right}
 use Rattle.std.proofs.lemmas.List.Edits.{length-paste}
 use Rattle.std.proofs.lemmas.Bool.{cases_lt}
@@ -134,16 +134,6 @@ paste_rest d at s n some within =
     ∙ paste_over d at s n n m (omega arith) (omega arith) (omega (arith, sum)) (omega (arith, sum))
     ∙ ap (paste d at s) sum
 
--- `s` in two parts
-pub paste_split : (d : List ℕ) (at : ℕ) (s : List ℕ) (n : ℕ) (start end : List ℕ) → start ≡ take n s → end ≡ drop n s → n ≤ length s →
-    at + length s ≤ length d → paste (paste d at start (length start)) (at + n) end (length end) ≡ paste d at s (length s)
-paste_split d at s n start end is_start is_end some within =
-    let size : length start ≡ n = ap length is_start ∙ length-take n s ∙ omega arith in
-    let first : paste d at start (length start) ≡ paste d at s n =
-    ap (paste d at start) size ∙ ap (λ t. paste d at t n) is_start ∙ paste_first d at s n in
-    ap (λ e. paste e (at + n) end (length end)) first
-    ∙ ap (λ t. paste (paste d at s n) (at + n) t (length t)) is_end ∙ paste_rest d at s n some within
-
 -- `s` in three parts, of which the second begins at `second` and the third at `third`
 pub paste_parts : (d : List ℕ) (at : ℕ) (s : List ℕ) (n m e second count third from left : ℕ) → n + m + e ≡ length s → at + length s ≤ length d →
     second ≡ at + n → count ≡ m → third ≡ at + (n + m) → from ≡ n + m → left ≡ e →
@@ -159,3 +149,27 @@ paste_parts d at s n m e second count third from left sum within is_second is_co
     ∙ ap (λ f. paste (paste d at s (n + m)) (at + (n + m)) (drop f s) left) is_from
     ∙ ap (paste (paste d at s (n + m)) (at + (n + m)) (drop (n + m) s)) (is_left ∙ sym size)
     ∙ paste_rest d at s (n + m) (omega (arith, sum)) within
+
+-- bytes up to the end of a word, whole words, and what is left
+pub paste_words : (d : List ℕ) (kept : ℕ) (s rest : List ℕ) → kept < 8 → 8 ≤ length s → kept + length s ≤ length d → rest ≡ drop (8 - kept) s →
+    paste (paste (paste d kept s (8 - kept)) (8 * 1) rest (8 * (length rest / 8))) (8 * (length rest / 8 + 1)) (drop (length s - length rest % 8) s) (length rest % 8)
+    ≡ paste d kept s (length s)
+paste_words d kept s rest part some within is_rest =
+    let n : ℕ = 8 - kept in
+    let t : List ℕ = drop n s in
+    let size : length t ≡ length s - n = length-drop n s in
+    ap (λ r. paste (paste (paste d kept s n) (8 * 1) r (8 * (length r / 8))) (8 * (length r / 8 + 1)) (drop (length s - length r % 8) s) (length r % 8)) is_rest
+    ∙ paste_parts d kept s n (8 * ((length s - n) / 8)) ((length s - n) % 8) (8 * 1) (8 * (length t / 8)) (8 * (length t / 8 + 1)) (length s - length t % 8) (length t % 8)
+    (omega arith) within (omega arith) (ap (λ k. 8 * (k / 8)) size) (omega (arith, size)) (omega (arith, size)) (ap (λ k. k % 8) size)
+
+-- a part replaced behind the first bytes
+pub paste_behind : (a d : List ℕ) (k : ℕ) (s : List ℕ) (n at : ℕ) → at ≡ length a + k → a ++ paste d k s n ≡ paste (a ++ d) at s n
+paste_behind a d k s n at is_at =
+    let sum : length a + k + n ≡ length a + (k + n) = omega arith in
+    let head : take (length a + k) (a ++ d) ≡ a ++ take k d = take-append-add a d k in
+    let tail : drop (length a + k + n) (a ++ d) ≡ drop (k + n) d = ap (λ m. drop m (a ++ d)) sum ∙ drop-append-add a d (k + n) in
+    sym (ap (λ m. take m (a ++ d) ++ take n s ++ drop (m + n) (a ++ d)) is_at
+    ∙ ap (λ h. h ++ take n s ++ drop (length a + k + n) (a ++ d)) head
+    ∙ ap (λ t. (a ++ take k d) ++ take n s ++ t) tail
+    ∙ ap (λ h. h ++ drop (k + n) d) (append_assoc a (take k d) (take n s))
+    ∙ append_assoc a (take k d ++ take n s) (drop (k + n) d))

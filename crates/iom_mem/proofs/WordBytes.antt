@@ -1,18 +1,23 @@
 -- The bytes of words, place by place.
-use Rattle.std.proofs.Common.{◌≡◌, ◌+◌, ◌-◌, ◌*◌, ◌/◌, ◌%◌, ◌^◌, ◌<◌, ◌≤◌, ℕ, zero, suc, List, [], ◌∷◌, ◌++◌, length, get_or, take, drop, replicate, sym, ◌∙◌, ap, refl, inl, inr, arith, length-append, length-take, length-drop, get_or-take, get_or-drop}
+use Rattle.std.proofs.Common.{◌≡◌, ◌+◌, ◌-◌, ◌*◌, ◌/◌, ◌%◌, ◌^◌, ◌<◌, ◌≤◌, ℕ, zero, suc, List, [], ◌∷◌, ◌++◌, length, get_or, take, drop, replicate, sym, ◌∙◌, ap, refl, inl, inr, arith, append_assoc, length-append, length-take, length-drop, get_or-take, get_or-drop}
 use Rattle.std.proofs.lemmas.List.{ext_get_or, get_or_append_left, get_or-append_right}
 use Rattle.std.proofs.lemmas.Bool.{cases_lt}
-use Rattle.std.proofs.lemmas.Nat.{pow_pos, mod_below}
-use Rattle.iom_bits.specs.Bits.{field_of}
-use Rattle.iom_bits.specs.Bytes.{number_of_bytes, bytes_of_number}
+use Rattle.iom_bits.specs.Bytes.{bytes_of_number}
 use Rattle.iom_mem.specs.Words.{bytes_of_words}
-use Rattle.iom_mem.proofs.Digits.{digit, digit_of_number, digit-none, digit_shifted, digit_below, digit_above, digit_low, digit_of_bytes, number_of_own, length-bytes_of_number}
+use Rattle.iom_mem.proofs.Digits.{digit, digit_of_number, digit-none, digit_shifted, digit_below, digit_above, digit_low, length-bytes_of_number}
 
 pub words_hold : (words : List ℕ) → length (bytes_of_words words) ≡ 8 * length words
 unfolding bytes_of_words
 words_hold [] = refl
 words_hold (word ∷ words) =
     length-append (bytes_of_number 8 word) (bytes_of_words words) ∙ omega (arith, length-bytes_of_number 8 word, words_hold words)
+
+pub bytes_of_append : (front back : List ℕ) → bytes_of_words (front ++ back) ≡ bytes_of_words front ++ bytes_of_words back
+unfolding bytes_of_words
+bytes_of_append [] back = refl
+bytes_of_append (word ∷ words) back =
+    ap (λ bytes. bytes_of_number 8 word ++ bytes) (bytes_of_append words back)
+    ∙ sym (append_assoc (bytes_of_number 8 word) (bytes_of_words words) (bytes_of_words back))
 
 pub bytes_of_zeros : (count : ℕ) → bytes_of_words (replicate count 0) ≡ replicate (8 * count) 0
 unfolding bytes_of_words
@@ -95,13 +100,3 @@ pub zeros_hold : (size : ℕ) → size % 4096 ≡ 0 → bytes_of_words (replicat
 zeros_hold size paged =
     let whole : 8 * (size / 8) ≡ size = omega arith in
     bytes_of_zeros (size / 8) ∙ ap (λ n. replicate n 0) whole
-
--- the number of some of the bytes of a number
-pub number_of_part : (bytes : List ℕ) (from count : ℕ) → ((i : ℕ) → get_or bytes i 0 < 256) → from + count ≤ length bytes →
-    field_of (number_of_bytes bytes) (8 * from) (8 * count) ≡ number_of_bytes (take count (drop from bytes))
-number_of_part bytes from count small within =
-    let whole : ℕ = number_of_bytes bytes in
-    let part : ℕ = field_of whole (8 * from) (8 * count) in
-    let fits : part < 2 ^ (8 * count) = mod_below (whole / 2 ^ (8 * from)) (2 ^ (8 * count)) (pow_pos (8 * count)) in
-    sym (number_of_own count part fits) ∙ ap number_of_bytes (run_is bytes from count part within (λ j h.
-    digit_low (whole / 2 ^ (8 * from)) count j h ∙ digit_shifted whole from j ∙ digit_of_bytes bytes (from + j) small (omega arith)))

@@ -8,7 +8,7 @@ ghost use Rattle.std.specs.Option.{is_some};
 use std::alloc::{AllocError, Global};
 use std::marker::Model;
 use thiserror::Error;
-use words::{all_words, read_bytes, read_words, word_at, write_bytes};
+use words::{all_words, read_bytes, read_words, word_from, write_bytes};
 
 mod words;
 
@@ -149,7 +149,8 @@ impl Ram {
         ensures { result ≡ word self.now addr }
     {
         let at = self.place(addr, 8)?;
-        Some(word_at(&self.words, at))
+        // The base is a multiple of 8, so the address tells how far into a word this is.
+        Some(word_from(&self.words, at / 8, addr as usize % 8))
     }
 
     /// Reads the words from physical address `addr` on into `out`, word i from `addr + 8 * i`, and
@@ -187,11 +188,8 @@ impl Ram {
         ensures outside { IfNone result (0 < len → bytes_at self.now addr len ≡ None) }
     {
         let at = addr.checked_sub(self.base)?;
-        let end = at.checked_add(len as u64)?;
-        if end <= self.size() {
-            Some(at as usize)
-        } else {
-            None
-        }
+        // How many places so many bytes can begin at.
+        let places = (self.size() + 1).saturating_sub(len as u64);
+        if at < places { Some(at as usize) } else { None }
     }
 }

@@ -3,7 +3,7 @@ ghost use Rattle.std.proofs.Math.Seq.{paste};
 ghost use Rattle.iom_bits.specs.Bytes.{number_of_bytes, bytes_of_number};
 ghost use Rattle.iom_mem.specs.Words.{bytes_of_words, AreWords, StartsWith};
 
-use iom_bits::{field, le_u64, with_field};
+use iom_bits::{le_u64, with_field};
 
 // The places of bytes count from the first byte of the first word.
 
@@ -21,10 +21,20 @@ pub fn word_at(words: &[u64], at: usize) -> u64
     ensures bytes { bytes_of_number 8 result ≡ take 8 (drop at (bytes_of_words words.now)) }
     ensures value { result ≡ number_of_bytes (take 8 (drop at (bytes_of_words words.now))) }
 {
-    if at % 8 == 0 {
-        words[at / 8]
+    word_from(words, at / 8, at % 8)
+}
+
+/// The eight bytes that begin `skipped` bytes into word `first`, as a number.
+pub fn word_from(words: &[u64], first: usize, skipped: usize) -> u64
+    requires part { skipped < 8 }
+    requires within { 8 * first + skipped + 8 ≤ 8 * length words.now }
+    ensures bytes { bytes_of_number 8 result ≡ take 8 (drop (8 * first + skipped) (bytes_of_words words.now)) }
+    ensures value { result ≡ number_of_bytes (take 8 (drop (8 * first + skipped) (bytes_of_words words.now))) }
+{
+    if skipped == 0 {
+        words[first]
     } else {
-        joined(words[at / 8], words[at / 8 + 1], at % 8)
+        joined(words[first], words[first + 1], skipped)
     }
 }
 
@@ -190,48 +200,99 @@ pub fn write_bytes(words: &mut [u64], at: usize, bytes: &[u8])
     ensures bytes { bytes_of_words words.new ≡ paste (bytes_of_words words.old) at bytes.now (length bytes.now) }
     ensures size { length words.new ≡ length words.old }
 {
-    if bytes.len() < 8 {
-        write_few(words, at, bytes);
-    } else {
-        write_start(words, at, bytes);
-        write_whole(words, at / 8 + 1, &bytes[8 - at % 8..]);
-        write_end(words, at + bytes.len(), bytes);
+    write_from(&mut words[at / 8..], at % 8, bytes);
+}
+
+// Bytes that begin in the first word, behind `kept` bytes of it.
+fn write_from(words: &mut [u64], kept: usize, bytes: &[u8])
+    requires part { kept < 8 }
+    requires within { kept + length bytes.now ≤ 8 * length words.old }
+    ensures bytes { bytes_of_words words.new ≡ paste (bytes_of_words words.old) kept bytes.now (length bytes.now) }
+    ensures size { length words.new ≡ length words.old }
+{
+    if bytes.len() > 72 {
+        write_many(words, kept, bytes);
+    } else if bytes.len() >= 8 {
+        write_some(words, kept, bytes);
+    } else if !bytes.is_empty() {
+        write_few(words, kept, bytes);
     }
 }
 
 // Fewer than eight bytes, which stand in one word or in two.
-fn write_few(words: &mut [u64], at: usize, bytes: &[u8])
-    requires within { at + length bytes.now ≤ 8 * length words.old }
+fn write_few(words: &mut [u64], kept: usize, bytes: &[u8])
+    requires part { kept < 8 }
+    requires within { kept + length bytes.now ≤ 8 * length words.old }
+    requires some { 1 ≤ length bytes.now }
     requires few { length bytes.now < 8 }
-    ensures bytes { bytes_of_words words.new ≡ paste (bytes_of_words words.old) at bytes.now (length bytes.now) }
+    ensures bytes { bytes_of_words words.new ≡ paste (bytes_of_words words.old) kept bytes.now (length bytes.now) }
     ensures size { length words.new ≡ length words.old }
 {
-    let head = (8 - at % 8).min(bytes.len());
-    let (start, end) = bytes.split_at(head);
-    put_piece(words, at, start, first_number(bytes, head));
-    put_piece(words, at + head, end, last_number(bytes, end.len()));
+    let number = number(bytes);
+    let end = kept + bytes.len();
+    if end > 8 {
+        words[0] = above(words[0], number, kept);
+        words[1] = below(words[1], number >> (8 * (8 - kept)), end - 8);
+    } else {
+        let low = 8 * kept as u32;
+        let width = 8 * bytes.len() as u32;
+        words[0] = with_field(words[0], low, width, number);
+    }
 }
 
-// The first of the bytes, up to the end of the word that they begin in.
-fn write_start(words: &mut [u64], at: usize, bytes: &[u8])
-    requires within { at + length bytes.now ≤ 8 * length words.old }
+// From 8 to 72 bytes, straight on with no loop.
+fn write_some(words: &mut [u64], kept: usize, bytes: &[u8])
+    requires part { kept < 8 }
+    requires within { kept + length bytes.now ≤ 8 * length words.old }
     requires some { 8 ≤ length bytes.now }
-    ensures bytes { bytes_of_words words.new ≡ paste (bytes_of_words words.old) at bytes.now (8 - at % 8) }
+    requires few { length bytes.now ≤ 72 }
+    ensures bytes { bytes_of_words words.new ≡ paste (bytes_of_words words.old) kept bytes.now (length bytes.now) }
     ensures size { length words.new ≡ length words.old }
 {
-    words[at / 8] = above(words[at / 8], number(&bytes[..8]), at % 8);
+    let rest = &bytes[8 - kept..];
+    write_start(words, kept, bytes);
+    write_whole(words, 1, rest);
+    write_end(words, rest.len(), bytes);
 }
 
-// The last of the bytes, those in the word that `end`, the place behind them, is in.
-fn write_end(words: &mut [u64], end: usize, bytes: &[u8])
-    requires within { end ≤ 8 * length words.old }
+// More than 72 bytes. A function of its own keeps the code for fewer short.
+#[inline(never)]
+fn write_many(words: &mut [u64], kept: usize, bytes: &[u8])
+    requires part { kept < 8 }
+    requires within { kept + length bytes.now ≤ 8 * length words.old }
+    requires many { 72 < length bytes.now }
+    ensures bytes { bytes_of_words words.new ≡ paste (bytes_of_words words.old) kept bytes.now (length bytes.now) }
+    ensures size { length words.new ≡ length words.old }
+{
+    let rest = &bytes[8 - kept..];
+    write_start(words, kept, bytes);
+    write_row(words, 1, rest);
+    write_end(words, rest.len(), bytes);
+}
+
+// The first of the bytes, up to the end of the first word.
+fn write_start(words: &mut [u64], kept: usize, bytes: &[u8])
+    requires part { kept < 8 }
+    requires within { kept + length bytes.now ≤ 8 * length words.old }
+    requires some { 8 ≤ length bytes.now }
+    ensures bytes { bytes_of_words words.new ≡ paste (bytes_of_words words.old) kept bytes.now (8 - kept) }
+    ensures size { length words.new ≡ length words.old }
+{
+    words[0] = above(words[0], number(&bytes[..8]), kept);
+}
+
+// The last of the bytes, where `behind` of them stand behind the first word: those that don't fill a word.
+fn write_end(words: &mut [u64], behind: usize, bytes: &[u8])
+    requires within { 8 + behind ≤ 8 * length words.old }
     requires some { 8 ≤ length bytes.now }
     ensures bytes { bytes_of_words words.new
-        ≡ paste (bytes_of_words words.old) (end - end % 8) (drop (length bytes.now - end % 8) bytes.now) (end % 8) }
+        ≡ paste (bytes_of_words words.old) (8 * (behind / 8 + 1)) (drop (length bytes.now - behind % 8) bytes.now) (behind % 8) }
     ensures size { length words.new ≡ length words.old }
 {
-    if end % 8 > 0 {
-        words[end / 8] = below(words[end / 8], number(&bytes[bytes.len() - 8..]), end % 8);
+    let count = behind % 8;
+    if count > 0 {
+        let low = number(&bytes[bytes.len() - 8..]) >> (8 * (8 - count));
+        words[behind / 8 + 1] = below(words[behind / 8 + 1], low, count);
     }
 }
 
@@ -243,59 +304,25 @@ fn above(word: u64, number: u64, kept: usize) -> u64
     (number << (8 * kept)) | (word % (1 << (8 * kept)))
 }
 
-// The highest `count` bytes of `number`, and above them those of a word.
-fn below(word: u64, number: u64, count: usize) -> u64
-    requires some { 1 ≤ count }
+// The number `low` of `count` bytes, and above it the other bytes of a word.
+fn below(word: u64, low: u64, count: usize) -> u64
     requires few { count < 8 }
-    ensures value { result ≡ word / 2 ^ (8 * count) * 2 ^ (8 * count) + number / 2 ^ (8 * (8 - count)) }
-    ensures low { number / 2 ^ (8 * (8 - count)) < 2 ^ (8 * count) }
+    requires fits { low < 2 ^ (8 * count) }
+    ensures { result ≡ word / 2 ^ (8 * count) * 2 ^ (8 * count) + low }
 {
-    (word >> (8 * count) << (8 * count)) | (number >> (8 * (8 - count)))
+    (word - word % (1 << (8 * count))) | low
 }
 
-// The number of the first bytes, fewer than eight.
-fn first_number(bytes: &[u8], count: usize) -> u64
-    requires within { count ≤ length bytes.now }
-    requires few { count < 8 }
-    ensures { result ≡ number_of_bytes (take count bytes.now) }
-{
-    if count == 0 {
-        0
-    } else {
-        field(number(&bytes[..bytes.len().min(8)]), 0, 8 * count as u32)
-    }
-}
-
-// The number of the last bytes, fewer than eight.
-fn last_number(bytes: &[u8], count: usize) -> u64
-    requires within { count ≤ length bytes.now }
-    requires few { count < 8 }
-    ensures { result ≡ number_of_bytes (drop (length bytes.now - count) bytes.now) }
-{
-    if count == 0 {
-        0
-    } else {
-        let last = bytes.len().min(8);
-        field(
-            number(&bytes[bytes.len() - last..]),
-            8 * (last - count) as u32,
-            8 * count as u32,
-        )
-    }
-}
-
-// Replaces whole words by the bytes, eight for each; those that are left over are not written. The
-// last steps overlap earlier ones.
+// Replaces whole words by the bytes, eight for each, at most eight of them; bytes that are left over
+// are not written. The last step overlaps the first.
 fn write_whole(words: &mut [u64], first: usize, bytes: &[u8])
-    requires { 8 * first + length bytes.now ≤ 8 * length words.old }
+    requires room { 8 * first + length bytes.now ≤ 8 * length words.old }
+    requires few { length bytes.now < 72 }
     ensures bytes { bytes_of_words words.new ≡ paste (bytes_of_words words.old) (8 * first) bytes.now (8 * (length bytes.now / 8)) }
     ensures size { length words.new ≡ length words.old }
 {
     let count = bytes.len() / 8;
-    if count > 8 {
-        write_pairs(words, first, bytes);
-        write_two(words, first, bytes, count - 2);
-    } else if count >= 4 {
+    if count >= 4 {
         write_four(words, first, bytes, 0);
         write_four(words, first, bytes, count - 4);
     } else if count >= 2 {
@@ -304,6 +331,17 @@ fn write_whole(words: &mut [u64], first: usize, bytes: &[u8])
     } else if count == 1 {
         words[first] = number(&bytes[..8]);
     }
+}
+
+// The same for any number of words from two on.
+fn write_row(words: &mut [u64], first: usize, bytes: &[u8])
+    requires room { 8 * first + length bytes.now ≤ 8 * length words.old }
+    requires some { 16 ≤ length bytes.now }
+    ensures bytes { bytes_of_words words.new ≡ paste (bytes_of_words words.old) (8 * first) bytes.now (8 * (length bytes.now / 8)) }
+    ensures size { length words.new ≡ length words.old }
+{
+    write_pairs(words, first, bytes);
+    write_two(words, first, bytes, bytes.len() / 8 - 2);
 }
 
 // The words two at a time; one that is left over is not written.
@@ -342,22 +380,6 @@ fn write_two(words: &mut [u64], first: usize, bytes: &[u8], skipped: usize)
     let high = number(&bytes[at + 8..at + 16]);
     words[first + skipped] = low;
     words[first + skipped + 1] = high;
-}
-
-// Replaces the bytes from place `at` on by `bytes`, all in one word, whose number is `number`.
-fn put_piece(words: &mut [u64], at: usize, bytes: &[u8], number: u64)
-    requires value { number ≡ number_of_bytes bytes.now }
-    requires together { at % 8 + length bytes.now ≤ 8 }
-    requires within { at + length bytes.now ≤ 8 * length words.old }
-    ensures bytes { bytes_of_words words.new ≡ paste (bytes_of_words words.old) at bytes.now (length bytes.now) }
-    ensures size { length words.new ≡ length words.old }
-{
-    if bytes.is_empty() {
-        return;
-    }
-    let low = 8 * (at % 8) as u32;
-    let width = 8 * bytes.len() as u32;
-    words[at / 8] = with_field(words[at / 8], low, width, number);
 }
 
 // The number of at most eight bytes.
