@@ -133,3 +133,11 @@ pub all_written : (bytes digits : List ℕ) (i : ℕ) → length digits ≡ 2 * 
     take (2 * i) digits ≡ encode_lower (take i bytes) → digits ≡ encode_lower bytes
 all_written bytes digits i twice past so_far =
     sym (take_all (2 * i) digits (omega arith)) ∙ so_far ∙ ap encode_lower (take_all i bytes past)
+
+-- where a pair isn't two digits, nothing is written
+pub pair_fails : (word bytes : List ℕ) (i : ℕ) (all : Option (List ℕ)) → 2 * i + 1 < length word →
+    (is_some (hex_digit_value (get_or word (2 * i) 0)) && is_some (hex_digit_value (get_or word (2 * i + 1) 0)) ≡ false) →
+    all ≡ option_map (λ more. take i bytes ++ more) (result_ok (decode_pairs (2 * i) (drop (2 * i) word))) → all ≡ None
+pair_fails word bytes i all inside none so_far =
+    so_far ∙ ap (λ s. option_map (λ more. take i bytes ++ more) (result_ok (decode_pairs (2 * i) s))) (two_more word i inside)
+    ∙ ap (option_map (λ more. take i bytes ++ more)) (no_pair (2 * i) (get_or word (2 * i) 0) (get_or word (2 * i + 1) 0) (drop (2 * (i + 1)) word) _ _ refl refl none)

@@ -1,0 +1,101 @@
+//! An answer's text while it is put together.
+
+ghost use Rattle.std.specs.Prelude.{◌≡◌, ◌+◌, ◌*◌, slice_index, ◌++◌, ◌<◌, ◌≤◌, length, [], ◌∷◌};
+ghost use Rattle.hex.specs.Hex.{encode_lower, lower_digits};
+
+use std::marker::Model;
+
+/// Room for any answer. To empty it writes nothing but its length.
+#[derive(Drop)]
+pub struct Draft {
+    bytes: [u8; 320],
+    len: usize,
+}
+
+impl Model for Draft {
+    ghost use Rattle.std.specs.Prelude.{ℕ, ◌≤◌, List, take};
+
+    ghost Value = { List ℕ };
+
+    ghost view = { λ draft. take draft.len draft.bytes };
+
+    ghost invariant = { λ draft. draft.len ≤ 320 };
+}
+
+impl Draft {
+    pub fn new() -> Draft
+        ensures { result ≡ [] }
+    {
+        Draft {
+            bytes: [0; 320],
+            len: 0,
+        }
+    }
+
+    pub fn clear(&mut self)
+        ensures { self.new ≡ [] }
+    {
+        self.len = 0;
+    }
+
+    #[inline(always)]
+    pub fn as_slice(&self) -> &[u8]
+        ensures { result.now ≡ self.now }
+    {
+        &self.bytes[..self.len]
+    }
+
+    #[inline(always)]
+    pub fn push(&mut self, byte: u8)
+        requires { length self.old < 320 }
+        ensures { self.new ≡ self.old ++ byte ∷ [] }
+    {
+        self.bytes[self.len] = byte;
+        self.len += 1;
+    }
+
+    /// Appends bytes.
+    #[inline(always)]
+    pub fn append(&mut self, text: &[u8])
+        requires { length self.old + length text.now ≤ 320 }
+        ensures { self.new ≡ self.old ++ text.now }
+    {
+        let end = self.len + text.len();
+        self.bytes[self.len..end].copy_from_slice(text);
+        self.len = end;
+    }
+
+    /// Appends bytes as hex digits in lower case, two a byte.
+    pub fn append_hex(&mut self, bytes: &[u8])
+        requires { length self.old + 2 * length bytes.now ≤ 320 }
+        ensures text { self.new ≡ self.old ++ encode_lower bytes.now }
+        ensures room { length self.new ≡ length self.old + 2 * length bytes.now }
+    {
+        let end = self.len + 2 * bytes.len();
+        encode(bytes, &mut self.bytes[self.len..end]);
+        self.len = end;
+    }
+}
+
+// The digits; a table has no branch, and keeps a loop from work that its last bytes don't share.
+static DIGITS: [u8; 16] = *b"0123456789abcdef";
+
+// The hex digit of a number below 16.
+#[inline(always)]
+fn glyph(digit: u8) -> u8
+    requires { digit < 16 }
+    ensures { result ≡ slice_index lower_digits digit }
+{
+    DIGITS[usize::from(digit)]
+}
+
+// Puts bytes as hex digits in lower case, two a byte.
+fn encode(bytes: &[u8], digits: &mut [u8])
+    requires { length digits.old ≡ 2 * length bytes.now }
+    ensures { digits.new ≡ encode_lower bytes.now }
+{
+    for i in 0..bytes.len() {
+        digits[2 * i] = glyph(bytes[i] / 16);
+        digits[2 * i + 1] = glyph(bytes[i] % 16);
+    }
+}
