@@ -1,6 +1,6 @@
 //! An answer's text while it is put together.
 
-ghost use Rattle.std.specs.Prelude.{◌≡◌, ◌+◌, ◌*◌, slice_index, ◌++◌, ◌<◌, ◌≤◌, length, [], ◌∷◌};
+ghost use Rattle.std.specs.Prelude.{◌≡◌, ◌+◌, ◌*◌, slice_index, ◌++◌, ◌<◌, ◌≤◌, length, take, [], ◌∷◌};
 ghost use Rattle.hex.specs.Hex.{encode_lower, lower_digits};
 
 use std::marker::Model;
@@ -67,29 +67,27 @@ impl Draft {
 
     /// Appends bytes as hex digits in lower case, two a byte.
     pub fn append_hex(&mut self, bytes: &[u8])
-        requires { length self.old + 2 * length bytes.now ≤ 320 }
+        requires few { length bytes.now ≤ 64 }
+        requires room { length self.old + 128 ≤ 320 }
         ensures text { self.new ≡ self.old ++ encode_lower bytes.now }
-        ensures room { length self.new ≡ length self.old + 2 * length bytes.now }
+        ensures room { length self.new ≤ length self.old + 128 }
     {
-        let end = self.len + 2 * bytes.len();
-        encode(bytes, &mut self.bytes[self.len..end]);
-        self.len = end;
+        put_digits(bytes, &mut self.bytes[self.len..self.len + 128]);
+        self.len += 2 * bytes.len();
     }
 }
 
-// The digits; a table has no branch, and keeps a loop from work that its last bytes don't share.
-static DIGITS: [u8; 16] = *b"0123456789abcdef";
-
-// The hex digit of a number below 16.
+// The hex digit of a number below 16, told without a branch.
 #[inline(always)]
 fn glyph(digit: u8) -> u8
     requires { digit < 16 }
     ensures { result ≡ slice_index lower_digits digit }
 {
-    DIGITS[usize::from(digit)]
+    b'0' + digit + 39 * u8::from(digit > 9)
 }
 
 // Puts bytes as hex digits in lower case, two a byte.
+#[inline(always)]
 fn encode(bytes: &[u8], digits: &mut [u8])
     requires { length digits.old ≡ 2 * length bytes.now }
     ensures { digits.new ≡ encode_lower bytes.now }
@@ -98,4 +96,26 @@ fn encode(bytes: &[u8], digits: &mut [u8])
         digits[2 * i] = glyph(bytes[i] / 16);
         digits[2 * i + 1] = glyph(bytes[i] % 16);
     }
+}
+
+// Bytes with zeros behind them.
+#[inline(always)]
+fn padded(bytes: &[u8]) -> [u8; 64]
+    requires { length bytes.now ≤ 64 }
+    ensures { take (length bytes.now) result ≡ bytes.now }
+{
+    let mut all = [0; 64];
+    all[..bytes.len()].copy_from_slice(bytes);
+    all
+}
+
+// Puts bytes as hex digits at the front of 128 places. All are written, since a loop over so many has no branch.
+#[inline(always)]
+fn put_digits(bytes: &[u8], places: &mut [u8])
+    requires few { length bytes.now ≤ 64 }
+    requires room { length places.old ≡ 128 }
+    ensures front { take (2 * length bytes.now) places.new ≡ encode_lower bytes.now }
+{
+    let all = padded(bytes);
+    encode(&all, places);
 }

@@ -212,7 +212,7 @@ fn trace(text: &[u8]) -> Option<Question>
 }
 
 /// The step that a line is, by its first word and what follows it.
-#[inline(always)]
+#[inline(never)]
 #[tactic(auto, unfolding(crate::specs::Script::step_of))]
 pub fn step_of(verb: &[u8], text: &[u8]) -> Option<Step>
     ensures { result ≡ step_of verb.now (words_of text.now) }

@@ -37,7 +37,7 @@ fn value_of(c: u8) -> u8
 }
 
 // Puts the bytes that pairs of hex digits write; whether all are digits.
-#[inline(always)]
+#[inline(never)]
 fn decode(word: &[u8], bytes: &mut [u8]) -> bool
     requires { length word.now ≡ 2 * length bytes.old }
     ensures all { result ≡ true → Some bytes.new ≡ result_ok (decode_pairs 0 word.now) }
