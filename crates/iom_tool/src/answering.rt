@@ -8,7 +8,7 @@ ghost use Rattle.iom_tool.specs.Output.{reply, steps_in, steps_of};
 
 use crate::debugger::push_answer_in;
 use crate::draft::Draft;
-use crate::script::{MOST_BYTES_OF_A_LINE, question_of, step_of};
+use crate::script::{MOST_BYTES_OF_A_LINE, put_step_of, question_of};
 use crate::text::{push_answer, push_text};
 use crate::trace::Trace;
 use iom_core::{Platform, Step};
@@ -55,13 +55,11 @@ pub fn answer_to_cut(
     let Some((verb, rest)) = take_word(text) else {
         return false;
     };
-    let parsed = step_of(verb, rest);
-    if let Some(step) = &parsed {
-        let answer = platform.step(step);
+    let mut step = Step::Command;
+    if put_step_of(verb, rest, &mut step) {
+        let answer = platform.step(&step);
         push_answer(out, &answer);
-        if let Some(step) = parsed {
-            trace.keep(step, answer);
-        }
+        trace.keep(step, answer);
         return true;
     }
     match question_of(verb, rest) {
