@@ -17,6 +17,7 @@ use Rattle.iom_text.proofs.Leading.{the_word}
 use Rattle.iom_tool.specs.Script.{◌>>=◌, load, store, reg_read, reg_write, dma_read, dma_write, dev_read, dev_write, dev_step, place_page, place_context, shown, trace}
 use Rattle.iom_tool.specs.Operands.{one, with_first, data_in}
 use Rattle.iom_tool.specs.Words.{bytes_of}
+use Rattle.iom_tool.proofs.Pairs.{no_bytes}
 
 pub one_none : (words : List (List ℕ)) → first_number words ≡ None → one words ≡ None
 one_none [] is = refl
@@ -287,12 +288,19 @@ by_end c true end digit = cc (digit, no_hex c (small c end))
 by_end c false end digit = refl
 
 -- hex digits to the end of the line are one word
-pub data_left : (text : List ℕ) → list_all is_hex_digit (past text) ≡ true → bytes_of (past text) ≡ data_in (words_of text)
+one_word : (text : List ℕ) → list_all is_hex_digit (past text) ≡ true → bytes_of (past text) ≡ data_in (words_of text)
 unfolding bytes_of
-data_left text digits =
+one_word text digits =
     elim (cases_lt 0 (length (past text))) as (λ _. bytes_of (past text) ≡ data_in (words_of text)) [
       | inl some ↦ sym (ap data_in (one_word_left text (λ k below. by_end (get_or (past text) k 0) _ refl (AllPass-from_list_all is_hex_digit (past text) digits k 0 below)) some))
       | inr none ↦
           let empty : past text ≡ [] = nil_from_length (past text) (omega arith) in
           ap bytes_of empty ∙ sym (ap data_in (none_of text (ap (λ l. length (the_word l)) empty)))
     ]
+
+-- what they write is the line's data
+pub data_left : (text bytes : List ℕ) → bytes_of (past text) ≡ Some bytes → data_in (words_of text) ≡ Some bytes
+data_left text bytes is = by_digits (list_all is_hex_digit (past text)) refl where
+  by_digits : (all : Bool) → list_all is_hex_digit (past text) ≡ all → data_in (words_of text) ≡ Some bytes
+  by_digits true digits = sym (one_word text digits) ∙ is
+  by_digits false other = absurd (cc (no_bytes (past text) other, is))

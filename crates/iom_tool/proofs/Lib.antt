@@ -2,6 +2,7 @@ pub mod Forms
 pub mod Pairs
 pub mod Searches
 pub mod Splits
+pub mod Values
 pub mod Outputs
 pub mod Feeding
 pub mod Runs

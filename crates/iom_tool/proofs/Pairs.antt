@@ -1,10 +1,13 @@
 -- What pairs of hex digits write.
-use Rattle.std.proofs.Common.{◌≡◌, ◌==◌, ◌%◌, ◌/◌, slice_index, ◌+◌, ◌*◌, ◌<◌, ◌≤◌, ◌&&◌, nat_le, ◌++◌, ℕ, List, [], ◌∷◌, Bool, true, if◌then◌else◌, length, take, drop, get_or, false, Option, Some, None, Result, Ok, Err, is_some, sym, ◌∙◌, ap, refl, arith, append_assoc, append-nil, ◌⊎◌, inl, inr, ⊎_elim}
+use Rattle.std.proofs.Common.{◌≡◌, zero, suc, ◌==◌, ◌%◌, ◌/◌, slice_index, ◌+◌, ◌*◌, ◌<◌, ◌≤◌, ◌&&◌, nat_le, ◌++◌, ℕ, List, [], ◌∷◌, Bool, true, if◌then◌else◌, length, take, drop, get_or, false, Option, Some, None, Result, Ok, Err, is_some, sym, ◌∙◌, ap, refl, arith, append_assoc, append-nil, ◌⊎◌, inl, inr, ⊎_elim}
 use Rattle.std.specs.List.{list_all}
 use Rattle.std.specs.Option.{option_map}
 use Rattle.std.specs.Result.{result_ok}
-use Rattle.std.proofs.lemmas.List.{drop_more, take_more, take_more_set, take_all, drop_all, length-set}
+use Rattle.std.proofs.lemmas.List.{drop_more, length-take-le, take-take, take_more, take_more_set, take_all, drop_all, length-set}
 use Rattle.std.proofs.Math.ListN.{set}
+use Rattle.std.proofs.Math.Seq.{take-nil, take-append-add}
+use Rattle.std.proofs.lemmas.Slice.{take-put_mid}
+use borrow.Rule.Slice.PartMut.{put_mid}
 use Rattle.hex.specs.Hex.{encode_with, encode_lower, lower_digits, hex_digit_value, is_hex_digit, pair_value, decode_pairs, decode_of, ◌>>=◌}
 use Rattle.hex.specs.declared.error.FromHexError.{FromHexError}
 use Rattle.hex.specs.declared.error.FromHexError.TheVariants.{OddLength}
@@ -133,3 +136,29 @@ pub all_written : (bytes digits : List ℕ) (i : ℕ) → length digits ≡ 2 * 
     take (2 * i) digits ≡ encode_lower (take i bytes) → digits ≡ encode_lower bytes
 all_written bytes digits i twice past so_far =
     sym (take_all (2 * i) digits (omega arith)) ∙ so_far ∙ ap encode_lower (take_all i bytes past)
+
+-- where a pair isn't two digits, nothing is written
+pub pair_fails : (word bytes : List ℕ) (i : ℕ) (all : Option (List ℕ)) → 2 * i + 1 < length word →
+    (is_some (hex_digit_value (get_or word (2 * i) 0)) && is_some (hex_digit_value (get_or word (2 * i + 1) 0)) ≡ false) →
+    all ≡ option_map (λ more. take i bytes ++ more) (result_ok (decode_pairs (2 * i) (drop (2 * i) word))) → all ≡ None
+pair_fails word bytes i all inside none so_far =
+    so_far ∙ ap (λ s. option_map (λ more. take i bytes ++ more) (result_ok (decode_pairs (2 * i) s))) (two_more word i inside)
+    ∙ ap (option_map (λ more. take i bytes ++ more)) (no_pair (2 * i) (get_or word (2 * i) 0) (get_or word (2 * i + 1) 0) (drop (2 * (i + 1)) word) _ _ refl refl none)
+
+-- the digits of the first bytes are the first digits
+pub front_encoded : (bytes : List ℕ) (n : ℕ) → take (2 * n) (encode_lower bytes) ≡ encode_lower (take n bytes)
+unfolding encode_with
+front_encoded [] n = take-nil (2 * n) ∙ sym (ap encode_lower (take-nil n))
+front_encoded (byte ∷ bytes) zero = refl
+front_encoded (byte ∷ bytes) (suc n) =
+    let twice : 2 * suc n ≡ suc (suc (2 * n)) = omega arith in
+    ap (λ k. take k (encode_lower (byte ∷ bytes))) twice
+    ∙ ap (λ l. slice_index lower_digits (byte / 16) ∷ slice_index lower_digits (byte % 16) ∷ l) (front_encoded bytes n)
+
+-- the front of a part that was written into a list
+pub front_put : (xs ys : List ℕ) (a k m : ℕ) → a ≤ length xs → m ≤ length ys → take (a + m) (put_mid a k xs ys) ≡ take a xs ++ take m ys
+front_put xs ys a k m before within =
+    sym (take-take (a + m) (a + length ys) (put_mid a k xs ys) (omega (arith, within)))
+    ∙ ap (take (a + m)) (take-put_mid a k xs ys (a + length ys) refl before)
+    ∙ ap (λ n. take (n + m) (take a xs ++ ys)) (sym (length-take-le a xs before))
+    ∙ take-append-add (take a xs) ys m

@@ -7,32 +7,20 @@ ghost use Rattle.iom_tool.specs.Console.{console, trace_after};
 ghost use Rattle.iom_tool.specs.Output.{reply, steps_in, steps_of};
 
 use crate::debugger::push_answer_in;
-use crate::script::{MOST_BYTES_OF_A_LINE, question_of, step_of};
-use crate::text::{Reply, push_answer, push_text};
+use crate::draft::Draft;
+use crate::script::{MOST_BYTES_OF_A_LINE, put_step_of, question_of};
+use crate::text::{push_answer, push_text};
 use crate::trace::Trace;
 use iom_core::{Platform, Step};
 use iom_text::take_word;
 
-// Carries out a step, keeps it in the trace, and puts the text of its answer.
-fn carry_out(platform: &mut Platform, trace: &mut Trace, step: Step, out: &mut Reply)
-    requires { length out.old.items ≡ 0 }
-    ensures reply { out.new.items ≡ unwrap_or (reply (console platform.old trace.old) (Does step)) [] }
-    ensures room { length out.new.items < 320 }
-    ensures state { platform.new ≡ end_of platform.old (steps_in (Does step)) }
-    ensures trace { trace.new ≡ trace_after trace.old platform.old (steps_in (Does step)) }
-{
-    let answer = platform.step(&step);
-    push_answer(out, &answer);
-    trace.keep(step, answer);
-}
-
 /// Carries out the line of this text, and puts its answer in place of what `out` holds. Whether there is one; to a
 /// blank line there is none.
 #[tactic(auto, unfolding(crate::specs::Script::line_of))]
-pub fn answer_to(platform: &mut Platform, trace: &mut Trace, text: &[u8], out: &mut Reply) -> bool
-    ensures reply { out.new.items ≡ unwrap_or (reply (console platform.old trace.old) (line_of text.now)) [] }
+pub fn answer_to(platform: &mut Platform, trace: &mut Trace, text: &[u8], out: &mut Draft) -> bool
+    ensures reply { out.new ≡ unwrap_or (reply (console platform.old trace.old) (line_of text.now)) [] }
     ensures said { result ≡ is_some (reply (console platform.old trace.old) (line_of text.now)) }
-    ensures room { length out.new.items < 320 }
+    ensures room { length out.new < 320 }
     ensures state { platform.new ≡ end_of platform.old (steps_of text.now) }
     ensures trace { trace.new ≡ trace_after trace.old platform.old (steps_of text.now) }
 {
@@ -50,12 +38,12 @@ pub fn answer_to_cut(
     platform: &mut Platform,
     trace: &mut Trace,
     text: &[u8],
-    out: &mut Reply,
+    out: &mut Draft,
 ) -> bool
     requires { list_any (λ c. c == 10) text.now ≡ false }
-    ensures reply { out.new.items ≡ unwrap_or (reply (console platform.old trace.old) (line_of text.now)) [] }
+    ensures reply { out.new ≡ unwrap_or (reply (console platform.old trace.old) (line_of text.now)) [] }
     ensures said { result ≡ is_some (reply (console platform.old trace.old) (line_of text.now)) }
-    ensures room { length out.new.items < 320 }
+    ensures room { length out.new < 320 }
     ensures state { platform.new ≡ end_of platform.old (steps_of text.now) }
     ensures trace { trace.new ≡ trace_after trace.old platform.old (steps_of text.now) }
 {
@@ -67,8 +55,11 @@ pub fn answer_to_cut(
     let Some((verb, rest)) = take_word(text) else {
         return false;
     };
-    if let Some(step) = step_of(verb, rest) {
-        carry_out(platform, trace, step, out);
+    let mut step = Step::Command;
+    if put_step_of(verb, rest, &mut step) {
+        let answer = platform.step(&step);
+        push_answer(out, &answer);
+        trace.keep(step, answer);
         return true;
     }
     match question_of(verb, rest) {

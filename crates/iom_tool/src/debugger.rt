@@ -3,8 +3,9 @@ ghost use Rattle.iom_text.specs.Texts.{hexed};
 ghost use Rattle.iom_tool.specs.Console.{console};
 ghost use Rattle.iom_tool.specs.Debugger.{answer_in, context_place_text, id_text, item_text, kind_text, named, page_text, place_text};
 
+use crate::draft::Draft;
 use crate::script::Question;
-use crate::text::{Reply, push_entry, push_hexed, push_text};
+use crate::text::{push_entry, push_hexed, push_text};
 use crate::trace::Trace;
 use iom_asm::{Item, context_line, item_line};
 use iom_bits::Kind;
@@ -15,10 +16,10 @@ use iom_mem::Ram;
 use iom_nested::Hit;
 
 /// Puts the text of the answer to a question, without a line end.
-pub fn push_answer_in(out: &mut Reply, platform: &Platform, trace: &Trace, question: Question)
-    requires { length out.old.items ≡ 0 }
-    ensures text { out.new.items ≡ out.old.items ++ answer_in (console platform.now trace.now) question }
-    ensures room { length out.new.items < 320 }
+pub fn push_answer_in(out: &mut Draft, platform: &Platform, trace: &Trace, question: Question)
+    requires { length out.old ≡ 0 }
+    ensures text { out.new ≡ out.old ++ answer_in (console platform.now trace.now) question }
+    ensures room { length out.new < 320 }
 {
     match question {
         Question::Page(i) => push_place(out, platform.trans().place(i)),
@@ -29,10 +30,10 @@ pub fn push_answer_in(out: &mut Reply, platform: &Platform, trace: &Trace, quest
 }
 
 #[tactic(auto, unfolding(crate::specs::Debugger::place_text))]
-fn push_place(out: &mut Reply, place: Place<Key, Hit>)
-    requires { length out.old.items ≡ 0 }
-    ensures text { out.new.items ≡ out.old.items ++ place_text place }
-    ensures room { length out.new.items < 320 }
+fn push_place(out: &mut Draft, place: Place<Key, Hit>)
+    requires { length out.old ≡ 0 }
+    ensures text { out.new ≡ out.old ++ place_text place }
+    ensures room { length out.new < 320 }
 {
     match place {
         Place::Beyond => push_text(out, b"none"),
@@ -42,10 +43,10 @@ fn push_place(out: &mut Reply, place: Place<Key, Hit>)
 }
 
 #[tactic(auto, unfolding(crate::specs::Debugger::context_place_text))]
-fn push_context_place(out: &mut Reply, place: Place<u32, Context>)
-    requires { length out.old.items ≡ 0 }
-    ensures text { out.new.items ≡ out.old.items ++ context_place_text place }
-    ensures room { length out.new.items < 320 }
+fn push_context_place(out: &mut Draft, place: Place<u32, Context>)
+    requires { length out.old ≡ 0 }
+    ensures text { out.new ≡ out.old ++ context_place_text place }
+    ensures room { length out.new < 320 }
 {
     let (did, context) = match place {
         Place::Beyond => return push_text(out, b"none"),
@@ -58,10 +59,10 @@ fn push_context_place(out: &mut Reply, place: Place<u32, Context>)
     push_text(out, context_line(&context).as_slice());
 }
 
-fn push_item(out: &mut Reply, ram: &Ram, kind: Item, addr: u64)
-    requires { length out.old.items ≡ 0 }
-    ensures text { out.new.items ≡ out.old.items ++ item_text ram.now kind addr }
-    ensures room { length out.new.items < 320 }
+fn push_item(out: &mut Draft, ram: &Ram, kind: Item, addr: u64)
+    requires { length out.old ≡ 0 }
+    ensures text { out.new ≡ out.old ++ item_text ram.now kind addr }
+    ensures room { length out.new < 320 }
 {
     match item_line(ram, kind, addr) {
         Some(line) => push_text(out, line.as_slice()),
@@ -69,10 +70,10 @@ fn push_item(out: &mut Reply, ram: &Ram, kind: Item, addr: u64)
     }
 }
 
-fn push_page(out: &mut Reply, key: Key, hit: Hit)
-    requires { length out.old.items ≡ 0 }
-    ensures text { out.new.items ≡ out.old.items ++ page_text key hit }
-    ensures room { length out.new.items < 320 }
+fn push_page(out: &mut Draft, key: Key, hit: Hit)
+    requires { length out.old ≡ 0 }
+    ensures text { out.new ≡ out.old ++ page_text key hit }
+    ensures room { length out.new < 320 }
 {
     push_text(out, b"page");
     push_named(out, b"did", key.did as u64);
@@ -85,10 +86,10 @@ fn push_page(out: &mut Reply, key: Key, hit: Hit)
     push_named(out, b"global", hit.global as u64);
 }
 
-fn push_named(out: &mut Reply, name: &[u8], number: u64)
-    requires { length out.old.items + length name.now + 20 < 320 }
-    ensures text { out.new.items ≡ out.old.items ++ named name.now (hexed number) }
-    ensures room { length out.new.items ≤ length out.old.items + length name.now + 20 }
+fn push_named(out: &mut Draft, name: &[u8], number: u64)
+    requires { length out.old + length name.now + 20 < 320 }
+    ensures text { out.new ≡ out.old ++ named name.now (hexed number) }
+    ensures room { length out.new ≤ length out.old + length name.now + 20 }
 {
     push_text(out, b" ");
     push_text(out, name);
@@ -96,10 +97,10 @@ fn push_named(out: &mut Reply, name: &[u8], number: u64)
     push_hexed(out, number);
 }
 
-fn push_id(out: &mut Reply, name: &[u8], id: Option<u32>)
-    requires { length out.old.items + length name.now + 20 < 320 }
-    ensures text { out.new.items ≡ out.old.items ++ named name.now (id_text id) }
-    ensures room { length out.new.items ≤ length out.old.items + length name.now + 20 }
+fn push_id(out: &mut Draft, name: &[u8], id: Option<u32>)
+    requires { length out.old + length name.now + 20 < 320 }
+    ensures text { out.new ≡ out.old ++ named name.now (id_text id) }
+    ensures room { length out.new ≤ length out.old + length name.now + 20 }
 {
     match id {
         Some(id) => push_named(out, name, id as u64),
@@ -111,10 +112,10 @@ fn push_id(out: &mut Reply, name: &[u8], id: Option<u32>)
     }
 }
 
-fn push_kind(out: &mut Reply, kind: Kind)
-    requires { length out.old.items + 11 < 320 }
-    ensures text { out.new.items ≡ out.old.items ++ named (codes "kind") (kind_text kind) }
-    ensures room { length out.new.items ≤ length out.old.items + 11 }
+fn push_kind(out: &mut Draft, kind: Kind)
+    requires { length out.old + 11 < 320 }
+    ensures text { out.new ≡ out.old ++ named (codes "kind") (kind_text kind) }
+    ensures room { length out.new ≤ length out.old + 11 }
 {
     match kind {
         Kind::Read => push_text(out, b" kind=read"),

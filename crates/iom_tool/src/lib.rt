@@ -5,12 +5,12 @@ pub use fault::RunFault;
 pub use feeder::Feeder;
 pub use rest::Rest;
 pub use running::run;
-pub use session::Session;
-pub use text::Reply;
+pub use session::{Reply, Session};
 pub use trace::{Entry, Trace};
 
 mod answering;
 mod debugger;
+mod draft;
 mod fault;
 mod feeder;
 mod operands;

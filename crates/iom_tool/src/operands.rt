@@ -5,7 +5,7 @@ ghost use Rattle.std.specs.Option.{option_map};
 ghost use Rattle.iom_text.specs.Words.{words_of};
 ghost use Rattle.iom_tool.specs.Operands.{one, with_first, data_in};
 
-use crate::words::{are_digits, bytes_of, bytes_of_digits};
+use crate::words::bytes_of;
 use arrayvec::ArrayVec;
 use iom_text::{is_over, past_blanks, take_number, take_word};
 
@@ -45,18 +45,25 @@ pub fn four(text: &[u8]) -> Option<(u64, (u64, (u64, u64)))>
     Some((first, three(rest)?))
 }
 
+#[inline(never)]
+#[tactic(auto, using(crate::proofs::Forms::data_none, crate::proofs::Forms::data_some, crate::proofs::Forms::data_more))]
+fn word_of_data(text: &[u8]) -> Option<ArrayVec<u8, 64>>
+    ensures { option_map (λ bytes. bytes.items) result ≡ data_in (words_of text.now) }
+{
+    let (word, rest) = take_word(text)?;
+    if is_over(rest) { bytes_of(word) } else { None }
+}
+
 // Data that is all of the line's rest needs no search for the end of the word.
 #[inline(always)]
-#[tactic(auto, using(crate::proofs::Forms::data_none, crate::proofs::Forms::data_some, crate::proofs::Forms::data_more, crate::proofs::Forms::data_left))]
+#[tactic(auto, using(crate::proofs::Forms::data_left))]
 fn data_in(text: &[u8]) -> Option<ArrayVec<u8, 64>>
     ensures { option_map (λ bytes. bytes.items) result ≡ data_in (words_of text.now) }
 {
-    let left = past_blanks(text);
-    if are_digits(left) {
-        return bytes_of_digits(left);
+    match bytes_of(past_blanks(text)) {
+        Some(bytes) => Some(bytes),
+        None => word_of_data(text),
     }
-    let (word, rest) = take_word(text)?;
-    if is_over(rest) { bytes_of(word) } else { None }
 }
 
 #[inline(always)]

@@ -6,8 +6,8 @@ ghost use Rattle.iom_tool.specs.Output.{steps_of, output_to, after, output_of, l
 ghost use Rattle.iom_tool.specs.Running.{Progress, progress, WritesFront, Fed, AfterLines, AfterPiece, AfterEnd, is_write};
 
 use crate::answering::{answer_to, answer_to_cut};
+use crate::draft::Draft;
 use crate::fault::RunFault;
-use crate::text::Reply;
 use crate::trace::Trace;
 use crate::watched::WatchedWriter;
 use arrayvec::ArrayVec;
@@ -41,15 +41,15 @@ fn write_out<W: Write>(writer: &mut WatchedWriter<'_, W>, text: &[u8]) -> Result
 
 // Writes an answer with its line end, by one call where the writer takes it whole.
 fn write_answer<W: Write>(
-    out: &mut Reply,
+    out: &mut Draft,
     writer: &mut WatchedWriter<'_, W>,
 ) -> Result<(), RunFault>
     requires can { writer.old.failed ≡ false }
-    requires room { length out.old.items < 320 }
+    requires room { length out.old < 320 }
     ensures ok { OnOk result (Appends (W.contents writer.old.inner.now) (W.contents writer.new.inner.now)
-        (out.old.items ++ 10 ∷ [])) }
+        (out.old ++ 10 ∷ [])) }
     ensures front { WritesFront (W.contents writer.old.inner.now) (W.contents writer.new.inner.now)
-        (out.old.items ++ 10 ∷ []) }
+        (out.old ++ 10 ∷ []) }
     ensures fault { IfErr result (λ fault. fault ≡ RunFault.Write) }
     ensures told { writer.new.failed ≡ is_err result }
     ensures same_writer { writer.new.inner.ghost_name ≡ writer.old.inner.ghost_name }
@@ -63,7 +63,7 @@ fn answer<W: Write>(
     platform: &mut Platform,
     trace: &mut Trace,
     line: &[u8],
-    out: &mut Reply,
+    out: &mut Draft,
     writer: &mut WatchedWriter<'_, W>,
 ) -> Result<(), RunFault>
     requires { writer.old.failed ≡ false }
@@ -88,7 +88,7 @@ fn answer_cut<W: Write>(
     platform: &mut Platform,
     trace: &mut Trace,
     line: &[u8],
-    out: &mut Reply,
+    out: &mut Draft,
     writer: &mut WatchedWriter<'_, W>,
 ) -> Result<(), RunFault>
     requires can { writer.old.failed ≡ false }
@@ -114,7 +114,7 @@ fn answer_last<W: Write>(
     platform: &mut Platform,
     trace: &mut Trace,
     line: &[u8],
-    out: &mut Reply,
+    out: &mut Draft,
     writer: &mut WatchedWriter<'_, W>,
 ) -> Result<(), RunFault>
     requires { writer.old.failed ≡ false }
@@ -167,7 +167,7 @@ pub struct Rest {
     /// The bytes of all pieces.
     pub bytes: u64,
     // where an answer is put together
-    reply: Reply,
+    draft: Draft,
 }
 
 impl Rest {
@@ -180,7 +180,7 @@ impl Rest {
             line: ArrayVec::new(),
             lines: 0,
             bytes: 0,
-            reply: Reply::new(),
+            draft: Draft::new(),
         }
     }
 
@@ -218,14 +218,14 @@ impl Rest {
     {
         self.lines += 1;
         if self.line.is_empty() {
-            return answer_cut(platform, trace, part, &mut self.reply, writer);
+            return answer_cut(platform, trace, part, &mut self.draft, writer);
         }
         self.keep(part);
         answer(
             platform,
             trace,
             self.line.as_slice(),
-            &mut self.reply,
+            &mut self.draft,
             writer,
         )?;
         self.line.clear();
@@ -315,7 +315,7 @@ impl Rest {
             platform,
             trace,
             self.line.as_slice(),
-            &mut self.reply,
+            &mut self.draft,
             writer,
         )?;
         flush(writer)

@@ -1,4 +1,4 @@
-ghost use Rattle.std.specs.Prelude.{◌≡◌};
+ghost use Rattle.std.specs.Prelude.{◌≡◌, Some, None, true, false};
 ghost use Rattle.iom_text.specs.Words.{words_of};
 ghost use Rattle.iom_tool.specs.Script.{load, store, reg_read, reg_write, reg, cmd, dma_read, dma_write, dma, dev_read, dev_write, dev_step, dev, place_page, place_context, place, shown, show, trace, step_of, question_of};
 
@@ -102,16 +102,33 @@ fn dma_write(text: &[u8]) -> Option<Step>
     Some(Step::DmaWrite { did, iova, bytes })
 }
 
+// Puts a step that a form gave. Each form does so for itself: a move of all forms' steps by one code waits for what was just
+// written.
+#[inline(always)]
+fn put(parsed: Option<Step>, place: &mut Step) -> bool
+    ensures some { result ≡ true → parsed ≡ Some place.new }
+    ensures none { result ≡ false → parsed ≡ None }
+{
+    let Some(step) = parsed else {
+        return false;
+    };
+    *place = step;
+    true
+}
+
 #[inline(always)]
 #[tactic(auto, unfolding(crate::specs::Script::dma))]
-fn dma(text: &[u8]) -> Option<Step>
-    ensures { result ≡ dma (words_of text.now) }
+fn put_dma(text: &[u8], place: &mut Step) -> bool
+    ensures some { result ≡ true → dma (words_of text.now) ≡ Some place.new }
+    ensures none { result ≡ false → dma (words_of text.now) ≡ None }
 {
-    let (way, text) = take_word(text)?;
+    let Some((way, text)) = take_word(text) else {
+        return false;
+    };
     match way {
-        b"read" => dma_read(text),
-        b"write" => dma_write(text),
-        _ => None,
+        b"read" => put(dma_read(text), place),
+        b"write" => put(dma_write(text), place),
+        _ => false,
     }
 }
 
@@ -211,20 +228,21 @@ fn trace(text: &[u8]) -> Option<Question>
     Some(Question::Trace(one(text)?))
 }
 
-/// The step that a line is, by its first word and what follows it.
-#[inline(always)]
+/// Puts the step that a line is, by its first word and what follows it; whether it is one.
+#[inline(never)]
 #[tactic(auto, unfolding(crate::specs::Script::step_of))]
-pub fn step_of(verb: &[u8], text: &[u8]) -> Option<Step>
-    ensures { result ≡ step_of verb.now (words_of text.now) }
+pub fn put_step_of(verb: &[u8], text: &[u8], place: &mut Step) -> bool
+    ensures some { result ≡ true → step_of verb.now (words_of text.now) ≡ Some place.new }
+    ensures none { result ≡ false → step_of verb.now (words_of text.now) ≡ None }
 {
     match verb {
-        b"load" => load(text),
-        b"store" => store(text),
-        b"reg" => reg(text),
-        b"cmd" => cmd(text),
-        b"dma" => dma(text),
-        b"dev" => dev(text),
-        _ => None,
+        b"load" => put(load(text), place),
+        b"store" => put(store(text), place),
+        b"reg" => put(reg(text), place),
+        b"cmd" => put(cmd(text), place),
+        b"dma" => put_dma(text, place),
+        b"dev" => put(dev(text), place),
+        _ => false,
     }
 }
 

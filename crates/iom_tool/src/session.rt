@@ -6,9 +6,13 @@ ghost use Rattle.iom_tool.specs.Console.{console, trace_after};
 ghost use Rattle.iom_tool.specs.Output.{reply, steps_of};
 
 use crate::answering::answer_to;
-use crate::text::Reply;
+use crate::draft::Draft;
 use crate::trace::Trace;
+use arrayvec::ArrayVec;
 use iom_core::Platform;
+
+/// The text of one answer, without a line end.
+pub type Reply = ArrayVec<u8, 320>;
 
 /// A script given a line at a time.
 #[derive(Drop)]
@@ -40,8 +44,10 @@ impl<'a> Session<'a> {
         ensures same_platform { self.new.platform.ghost_name ≡ self.old.platform.ghost_name }
         ensures same_trace { self.new.trace.ghost_name ≡ self.old.trace.ghost_name }
     {
+        let mut draft = Draft::new();
+        let _said = answer_to(self.platform, self.trace, text, &mut draft);
         let mut reply = Reply::new();
-        let _said = answer_to(self.platform, self.trace, text, &mut reply);
+        let _fits = reply.try_extend_from_slice(draft.as_slice());
         reply
     }
 }

@@ -1,71 +1,45 @@
-ghost use Rattle.std.specs.Prelude.{◌≡◌, ◌+◌, ◌*◌, slice_index, ◌++◌, ◌<◌, ◌≤◌, length, [], ◌∷◌, codes};
+ghost use Rattle.std.specs.Prelude.{◌≡◌, ◌+◌, ◌*◌, ◌++◌, ◌<◌, ◌≤◌, length, [], ◌∷◌, codes};
 ghost use Rattle.std.specs.Option.{option_copied};
-ghost use Rattle.hex.specs.Hex.{encode_lower, lower_digits};
+ghost use Rattle.hex.specs.Hex.{encode_lower};
 ghost use Rattle.iom_text.specs.Texts.{numeral, hexed};
 ghost use Rattle.iom_tool.specs.Texts.{text_of, operands, step_text, entry_text};
 
+use crate::draft::Draft;
 use crate::trace::Entry;
-use arrayvec::ArrayVec;
 use iom_core::{Answer, Step};
 
-/// The text of one answer, without a line end.
-pub type Reply = ArrayVec<u8, 320>;
-
 /// Appends bytes.
-pub fn push_text(out: &mut Reply, text: &[u8])
-    requires { length out.old.items + length text.now ≤ 320 }
-    ensures text { out.new.items ≡ out.old.items ++ text.now }
-    ensures room { length out.new.items ≡ length out.old.items + length text.now }
+pub fn push_text(out: &mut Draft, text: &[u8])
+    requires { length out.old + length text.now ≤ 320 }
+    ensures text { out.new ≡ out.old ++ text.now }
+    ensures room { length out.new ≡ length out.old + length text.now }
 {
-    let _fits = out.try_extend_from_slice(text);
-}
-
-// The hex digit of a number below 16, told without a branch.
-#[inline(always)]
-fn glyph(digit: u8) -> u8
-    requires { digit < 16 }
-    ensures { result ≡ slice_index lower_digits digit }
-{
-    b'0' + digit + 39 * u8::from(digit > 9)
-}
-
-// Puts bytes as hex digits in lower case, two a byte.
-fn encode(bytes: &[u8], digits: &mut [u8])
-    requires { length digits.old ≡ 2 * length bytes.now }
-    ensures { digits.new ≡ encode_lower bytes.now }
-{
-    for i in 0..bytes.len() {
-        digits[2 * i] = glyph(bytes[i] / 16);
-        digits[2 * i + 1] = glyph(bytes[i] % 16);
-    }
+    out.append(text);
 }
 
 // Appends bytes as hex digits in lower case.
-fn push_bytes(out: &mut Reply, bytes: &[u8])
+fn push_bytes(out: &mut Draft, bytes: &[u8])
     requires few { length bytes.now ≤ 64 }
-    requires room { length out.old.items + 128 < 320 }
-    ensures text { out.new.items ≡ out.old.items ++ encode_lower bytes.now }
-    ensures room { length out.new.items ≤ length out.old.items + 128 }
+    requires room { length out.old + 128 < 320 }
+    ensures text { out.new ≡ out.old ++ encode_lower bytes.now }
+    ensures room { length out.new ≤ length out.old + 128 }
 {
-    let mut digits = [0; 128];
-    let digits = &mut digits[..2 * bytes.len()];
-    encode(bytes, digits);
-    push_text(out, digits);
+    out.append_hex(bytes);
 }
 
 /// Appends a number as `0x` and hex digits in lower case.
-pub fn push_hexed(out: &mut Reply, number: u64)
-    requires { length out.old.items + 18 < 320 }
-    ensures text { out.new.items ≡ out.old.items ++ hexed number }
-    ensures room { length out.new.items ≤ length out.old.items + 18 }
+pub fn push_hexed(out: &mut Draft, number: u64)
+    requires { length out.old + 18 < 320 }
+    ensures text { out.new ≡ out.old ++ hexed number }
+    ensures room { length out.new ≤ length out.old + 18 }
 {
     push_text(out, iom_text::hexed(number).as_slice());
 }
 
-fn push_denied(out: &mut Reply, cause: u16)
-    requires { length out.old.items + 27 < 320 }
-    ensures text { out.new.items ≡ out.old.items ++ codes "denied " ++ numeral 10 cause }
-    ensures room { length out.new.items ≤ length out.old.items + 27 }
+fn push_denied(out: &mut Draft, cause: u16)
+    requires { length out.old + 27 < 320 }
+    ensures text { out.new ≡ out.old ++ codes "denied " ++ numeral 10 cause }
+    ensures room { length out.new ≤ length out.old + 27 }
 {
     push_text(out, b"denied ");
     push_text(out, iom_text::decimal(u64::from(cause)).as_slice());
@@ -73,10 +47,10 @@ fn push_denied(out: &mut Reply, cause: u16)
 
 /// Appends the text of an answer.
 #[tactic(auto, unfolding(crate::specs::Texts::text_of))]
-pub fn push_answer(out: &mut Reply, answer: &Answer)
-    requires { length out.old.items + 128 < 320 }
-    ensures text { out.new.items ≡ out.old.items ++ text_of answer.now }
-    ensures room { length out.new.items ≤ length out.old.items + 128 }
+pub fn push_answer(out: &mut Draft, answer: &Answer)
+    requires { length out.old + 128 < 320 }
+    ensures text { out.new ≡ out.old ++ text_of answer.now }
+    ensures room { length out.new ≤ length out.old + 128 }
 {
     match answer {
         Answer::Value(value) => push_hexed(out, *value),
@@ -92,10 +66,10 @@ pub fn push_answer(out: &mut Reply, answer: &Answer)
 }
 
 // Appends the first words of a step's line, and its numbers after them.
-fn push_form(out: &mut Reply, words: &[u8], numbers: &[u64])
-    requires room { length out.old.items + length words.now + 19 * length numbers.now < 320 }
-    ensures text { out.new.items ≡ out.old.items ++ words.now ++ operands numbers.now }
-    ensures room { length out.new.items ≤ length out.old.items + length words.now + 19 * length numbers.now }
+fn push_form(out: &mut Draft, words: &[u8], numbers: &[u64])
+    requires room { length out.old + length words.now + 19 * length numbers.now < 320 }
+    ensures text { out.new ≡ out.old ++ words.now ++ operands numbers.now }
+    ensures room { length out.new ≤ length out.old + length words.now + 19 * length numbers.now }
 {
     push_text(out, words);
     for number in numbers {
@@ -104,11 +78,11 @@ fn push_form(out: &mut Reply, words: &[u8], numbers: &[u64])
     }
 }
 
-fn push_device_write(out: &mut Reply, did: u64, iova: u64, bytes: &[u8])
+fn push_device_write(out: &mut Draft, did: u64, iova: u64, bytes: &[u8])
     requires few { length bytes.now ≤ 64 }
-    requires room { length out.old.items ≡ 0 }
-    ensures text { out.new.items ≡ out.old.items ++ codes "dma write" ++ operands (did ∷ iova ∷ []) ++ codes " " ++ encode_lower bytes.now }
-    ensures room { length out.new.items ≤ 176 }
+    requires room { length out.old ≡ 0 }
+    ensures text { out.new ≡ out.old ++ codes "dma write" ++ operands (did ∷ iova ∷ []) ++ codes " " ++ encode_lower bytes.now }
+    ensures room { length out.new ≤ 176 }
 {
     push_form(out, b"dma write", &[did, iova]);
     push_text(out, b" ");
@@ -117,10 +91,10 @@ fn push_device_write(out: &mut Reply, did: u64, iova: u64, bytes: &[u8])
 
 // Puts a step as its line of a script.
 #[tactic(auto, unfolding(crate::specs::Texts::step_text))]
-fn push_step(out: &mut Reply, step: &Step)
-    requires { length out.old.items ≡ 0 }
-    ensures text { out.new.items ≡ out.old.items ++ step_text step.now }
-    ensures room { length out.new.items ≤ 176 }
+fn push_step(out: &mut Draft, step: &Step)
+    requires { length out.old ≡ 0 }
+    ensures text { out.new ≡ out.old ++ step_text step.now }
+    ensures room { length out.new ≤ 176 }
 {
     match step {
         Step::Load { addr, size } => push_form(out, b"load", &[*addr, *size]),
@@ -145,10 +119,10 @@ fn push_step(out: &mut Reply, step: &Step)
 
 /// Puts the text of a step of a trace, and its answer.
 #[tactic(auto, unfolding(crate::specs::Texts::entry_text))]
-pub fn push_entry(out: &mut Reply, entry: Option<&Entry>)
-    requires { length out.old.items ≡ 0 }
-    ensures text { out.new.items ≡ out.old.items ++ entry_text (option_copied entry.entry) }
-    ensures room { length out.new.items < 320 }
+pub fn push_entry(out: &mut Draft, entry: Option<&Entry>)
+    requires { length out.old ≡ 0 }
+    ensures text { out.new ≡ out.old ++ entry_text (option_copied entry.entry) }
+    ensures room { length out.new < 320 }
 {
     let Some(entry) = entry else {
         push_text(out, b"none");

@@ -1,7 +1,7 @@
 use Rattle.std.proofs.Common.{refl, arith}
 use Rattle.hex.specs.Hex.{encode_with}
 use Rattle.iom_tool.proofs.Pairs.{byte_written, all_written}
-use Rattle.iom_tool.proofs.text.encode.Goals as goal
+use Rattle.iom_tool.proofs.draft.encode.Goals as goal
 
 pub loop-i-preserved : goal.loop-i-preserved
 loop-i-preserved c =
