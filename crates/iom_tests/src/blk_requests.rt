@@ -1,4 +1,3 @@
-use crate::first_wrong;
 use crate::tape::Tape;
 use iom_bits::{Cause, Kind};
 use iom_blk::{Blk, Moved, Want};
@@ -89,22 +88,11 @@ pub fn with_disk(disk: Vec<u8>) -> Option<Blk> {
     }
 }
 
-// A device that was not touched yet.
-fn device(alloc: Global) -> Result<Blk, Fail> {
-    Ok(with_disk(disk(alloc)?).ok_or("a disk of two sectors")?)
-}
-
-fn set(blk: &mut Blk, writes: &[(u64, u32)]) {
-    for (off, value) in writes {
-        blk.reg_write(*off, 4, *value as u64);
-    }
-}
-
-// A device that a driver has set up.
-fn ready(alloc: Global) -> Result<Blk, Fail> {
-    let mut blk = device(alloc)?;
-    set(&mut blk, SETUP);
-    Ok(blk)
+// A device, and its bus.
+#[derive(Drop)]
+struct Bench {
+    blk: Blk,
+    tape: Tape,
 }
 
 // A bus of these words that takes so many accesses.
@@ -118,75 +106,136 @@ fn tape(alloc: Global, words: &[&[(u64, u64)]], left: u64) -> Result<Tape, Fail>
     Ok(Tape { ram, left })
 }
 
-fn go(blk: &mut Blk, tape: &mut Tape, steps: u64) {
-    for _ in 0..steps {
-        blk.step(tape);
+// A device that was not touched yet.
+fn untouched(alloc: Global, words: &[&[(u64, u64)]], left: u64) -> Result<Bench, Fail> {
+    let blk = with_disk(disk(alloc)?).ok_or("a disk of two sectors")?;
+    Ok(Bench {
+        blk,
+        tape: tape(alloc, words, left)?,
+    })
+}
+
+fn wrote(bench: &mut Bench, off: u64, value: u32) -> bool {
+    bench.blk.reg_write(off, 4, value as u64)
+}
+
+fn set(bench: &mut Bench, writes: &[(u64, u32)]) {
+    for (off, value) in writes {
+        wrote(bench, *off, *value);
     }
 }
 
-fn same_memory(one: &Ram, other: &Ram) -> bool {
-    (0..0x600).all(|i| one.word(BASE + 8 * i) == other.word(BASE + 8 * i))
+// A device that a driver has set up.
+fn ready(alloc: Global, words: &[&[(u64, u64)]], left: u64) -> Result<Bench, Fail> {
+    let mut bench = untouched(alloc, words, left)?;
+    set(&mut bench, SETUP);
+    Ok(bench)
 }
 
-fn shows(blk: &Blk, status: u64, interrupts: u64) -> bool {
-    blk.reg_read(0x70, 4) == Some(status) && blk.reg_read(0x60, 4) == Some(interrupts)
+fn step(bench: &mut Bench) -> Moved {
+    bench.blk.step(&mut bench.tape)
+}
+
+fn go(bench: &mut Bench, steps: u64) {
+    for _ in 0..steps {
+        step(bench);
+    }
+}
+
+fn word(bench: &Bench, addr: u64) -> Option<u64> {
+    bench.tape.ram.word(addr)
+}
+
+// The number of the first word that is otherwise.
+fn otherwise_at(bench: &Bench, words: &[(u64, u64)]) -> Option<usize> {
+    for (i, (addr, want)) in words.iter().enumerate() {
+        if word(bench, *addr) != Some(*want) {
+            return Some(i);
+        }
+    }
+    None
+}
+
+fn same_memory(one: &Bench, other: &Bench) -> bool {
+    for i in 0..0x600 {
+        if word(one, BASE + 8 * i) != word(other, BASE + 8 * i) {
+            return false;
+        }
+    }
+    true
+}
+
+fn register(bench: &Bench, off: u64) -> Option<u64> {
+    bench.blk.reg_read(off, 4)
+}
+
+fn shows(bench: &Bench, status: u64, interrupts: u64) -> bool {
+    register(bench, 0x70) == Some(status) && register(bench, 0x60) == Some(interrupts)
+}
+
+// Memory before the last access.
+const READ: &[(u64, u64)] = &[
+    (RING, 0),
+    (STATUS, 0xffff_ffff_ffff_ff00),
+    (0x8000_1000, 0x1010_1010_1010_1010),
+    (0x8000_1038, 0x1111_1111_1111_1111),
+    (0x8000_1ff8, 0x1212_1212_1212_1212),
+    (0x8000_2000, 0x1313_1313_1313_1313),
+    (0x8000_28f8, 0x1f1f_1f1f_1f1f_1f1f),
+    (0x8000_2900, 0),
+    (RING + 8, 513),
+];
+
+// The last access tells the driver. Then the index shows nothing new, and the notification is spent.
+fn is_last(bench: &mut Bench) -> bool {
+    step(bench) == Moved::Did
+        && word(bench, RING) == Some(0x1_0000)
+        && shows(bench, 0xf, 1)
+        && step(bench) == Moved::Did
+        && step(bench) == Moved::Idle
 }
 
 #[test]
 fn in_moves_its_data(rt: HostRuntime) -> Result<(), Fail> {
-    let mut blk = ready(rt.alloc())?;
-    let mut tape = tape(rt.alloc(), &[IN], PLENTY)?;
-    go(&mut blk, &mut tape, ACCESSES - 1);
-    let before = [
-        tape.ram.word(RING) == Some(0),
-        tape.ram.word(STATUS) == Some(0xffff_ffff_ffff_ff00),
-        tape.ram.word(0x8000_1000) == Some(0x1010_1010_1010_1010),
-        tape.ram.word(0x8000_1038) == Some(0x1111_1111_1111_1111),
-        tape.ram.word(0x8000_1ff8) == Some(0x1212_1212_1212_1212),
-        tape.ram.word(0x8000_2000) == Some(0x1313_1313_1313_1313),
-        tape.ram.word(0x8000_28f8) == Some(0x1f1f_1f1f_1f1f_1f1f),
-        tape.ram.word(0x8000_2900) == Some(0),
-        tape.ram.word(RING + 8) == Some(513),
-        shows(&blk, 0xf, 0),
-    ];
-    assert_eq!(rt; first_wrong(&before), None);
-    let after = [
-        blk.step(&mut tape) == Moved::Did,
-        tape.ram.word(RING) == Some(0x1_0000),
-        shows(&blk, 0xf, 1),
-        // the index shows nothing new, and the notification is spent
-        blk.step(&mut tape) == Moved::Did,
-        blk.step(&mut tape) == Moved::Idle,
-    ];
-    assert_eq!(rt; first_wrong(&after), None);
+    let mut bench = ready(rt.alloc(), &[IN], PLENTY)?;
+    go(&mut bench, ACCESSES - 1);
+    assert_eq!(rt; otherwise_at(&bench, READ), None);
+    assert!(rt; shows(&bench, 0xf, 0));
+    assert!(rt; is_last(&mut bench));
     Ok(())
 }
 
-// The first access that is refused and leaves something else than it should: the device broken, and on the bus what the
-// accesses before left. Afterwards a reset and a new set-up lead to the whole request.
+// A refused access breaks the device.
+fn breaks(bench: &mut Bench) -> bool {
+    step(bench) == Moved::Outside && shows(bench, 0x4f, 2) && step(bench) == Moved::Idle
+}
+
+// A broken device is reset by 0 alone.
+fn resets(bench: &mut Bench) -> bool {
+    wrote(bench, 0x70, 0xf) && shows(bench, 0x4f, 2) && wrote(bench, 0x70, 0) && shows(bench, 0, 0)
+}
+
+// Whether a device whose next access is refused after so many is broken, and leaves on the bus what the accesses before left.
+// Afterwards a reset and a new set-up lead to the whole request.
+fn is_refused(alloc: Global, accesses: u64) -> Result<bool, Fail> {
+    let mut short = ready(alloc, &[IN], accesses)?;
+    go(&mut short, accesses);
+    let mut whole = ready(alloc, &[IN], PLENTY)?;
+    go(&mut whole, accesses);
+    if !breaks(&mut short) || !same_memory(&short, &whole) || !resets(&mut short) {
+        return Ok(false);
+    }
+    short.tape = tape(alloc, &[IN], PLENTY)?;
+    set(&mut short, SETUP);
+    go(&mut short, ACCESSES);
+    Ok(word(&short, RING) == Some(0x1_0000))
+}
+
+// How many accesses come before the first that is refused otherwise.
 fn otherwise_refused(alloc: Global) -> Result<Option<u64>, Fail> {
-    for k in 1..=ACCESSES {
-        let mut blk = ready(alloc)?;
-        let mut short = tape(alloc, &[IN], k - 1)?;
-        go(&mut blk, &mut short, k - 1);
-        let mut before = ready(alloc)?;
-        let mut whole = tape(alloc, &[IN], PLENTY)?;
-        go(&mut before, &mut whole, k - 1);
-        let facts = [
-            blk.step(&mut short) == Moved::Outside,
-            shows(&blk, 0x4f, 2),
-            blk.step(&mut short) == Moved::Idle,
-            same_memory(&short.ram, &whole.ram),
-            blk.reg_write(0x70, 4, 0xf),
-            shows(&blk, 0x4f, 2),
-            blk.reg_write(0x70, 4, 0),
-            shows(&blk, 0, 0),
-        ];
-        let mut again = tape(alloc, &[IN], PLENTY)?;
-        set(&mut blk, SETUP);
-        go(&mut blk, &mut again, ACCESSES);
-        if first_wrong(&facts).is_some() || again.ram.word(RING) != Some(0x1_0000) {
-            return Ok(Some(k));
+    for accesses in 0..ACCESSES {
+        if !is_refused(alloc, accesses)? {
+            return Ok(Some(accesses));
         }
     }
     Ok(None)
@@ -198,27 +247,34 @@ fn each_access_refused(rt: HostRuntime) -> Result<(), Fail> {
     Ok(())
 }
 
+// Whether two devices take the same steps from step n on until the request has ended.
+fn go_together(one: &mut Bench, other: &mut Bench, n: u64) -> bool {
+    for _ in n..ACCESSES + 2 {
+        if step(one) != step(other) {
+            return false;
+        }
+    }
+    shows(one, 0xf, 1) && shows(other, 0xf, 1)
+}
+
+// Whether a copy of the device made after n steps goes on as its original.
+fn is_copied(alloc: Global, words: &[&[(u64, u64)]], n: u64) -> Result<bool, Fail> {
+    let mut own = ready(alloc, words, PLENTY)?;
+    go(&mut own, n);
+    let mut other = ready(alloc, words, PLENTY)?;
+    go(&mut other, n);
+    other.blk = own.blk.try_clone(alloc)?;
+    Ok(
+        go_together(&mut own, &mut other, n)
+            && same_memory(&own, &other)
+            && own.blk.disk() == other.blk.disk(),
+    )
+}
+
 // The first step of a request after which a copy of the device goes on otherwise than its original.
 fn otherwise_copied(alloc: Global, words: &[&[(u64, u64)]]) -> Result<Option<u64>, Fail> {
     for n in 0..ACCESSES {
-        let mut blk = ready(alloc)?;
-        let mut own = tape(alloc, words, PLENTY)?;
-        go(&mut blk, &mut own, n);
-        let mut copy = blk.try_clone(alloc)?;
-        let mut other = tape(alloc, words, PLENTY)?;
-        go(&mut ready(alloc)?, &mut other, n);
-        for _ in n..ACCESSES + 2 {
-            if blk.step(&mut own) != copy.step(&mut other) {
-                return Ok(Some(n));
-            }
-        }
-        let facts = [
-            same_memory(&own.ram, &other.ram),
-            blk.disk() == copy.disk(),
-            shows(&blk, 0xf, 1),
-            shows(&copy, 0xf, 1),
-        ];
-        if first_wrong(&facts).is_some() {
+        if !is_copied(alloc, words, n)? {
             return Ok(Some(n));
         }
     }
@@ -232,56 +288,76 @@ fn copies_go_on_as_their_originals(rt: HostRuntime) -> Result<(), Fail> {
     Ok(())
 }
 
+// What the disk has, and from where on.
+const WRITTEN: &[(usize, &[u8])] = &[
+    (511, &[15, 0]),
+    (568, &[0x11; 8]),
+    (600, &[0x22; 8]),
+    (608, &[0x33; 8]),
+    (1016, &[0x44; 8]),
+];
+
+fn holds(bench: &Bench, at: usize, bytes: &[u8]) -> bool {
+    match bench.blk.disk().get(at..) {
+        Some(rest) => rest.starts_with(bytes),
+        None => false,
+    }
+}
+
+// The number of the first bytes that are otherwise.
+fn otherwise_on(bench: &Bench, parts: &[(usize, &[u8])]) -> Option<usize> {
+    for (i, (at, bytes)) in parts.iter().enumerate() {
+        if !holds(bench, *at, bytes) {
+            return Some(i);
+        }
+    }
+    None
+}
+
+const TOLD: &[(u64, u64)] = &[
+    (RING, 0x1_0000),
+    (RING + 8, 1),
+    (STATUS, 0xffff_ffff_ffff_ff00),
+];
+
 #[test]
 fn out_moves_its_data(rt: HostRuntime) -> Result<(), Fail> {
-    let mut blk = ready(rt.alloc())?;
-    let mut tape = tape(rt.alloc(), &[IN, OUT], PLENTY)?;
-    go(&mut blk, &mut tape, ACCESSES);
-    let disk = blk.disk();
-    let facts = [
-        disk.get(511) == Some(&15),
-        disk.get(512) == Some(&0),
-        disk.get(568..576) == Some([0x11; 8].as_slice()),
-        disk.get(600..616)
-            == Some([
-                0x22, 0x22, 0x22, 0x22, 0x22, 0x22, 0x22, 0x22, 0x33, 0x33, 0x33, 0x33, 0x33, 0x33,
-                0x33, 0x33,
-            ]
-            .as_slice()),
-        disk.get(1016..1024) == Some([0x44; 8].as_slice()),
-        tape.ram.word(RING) == Some(0x1_0000),
-        tape.ram.word(RING + 8) == Some(1),
-        tape.ram.word(STATUS) == Some(0xffff_ffff_ffff_ff00),
-        shows(&blk, 0xf, 1),
-    ];
-    assert_eq!(rt; first_wrong(&facts), None);
+    let mut bench = ready(rt.alloc(), &[IN, OUT], PLENTY)?;
+    go(&mut bench, ACCESSES);
+    assert_eq!(rt; otherwise_on(&bench, WRITTEN), None);
+    assert_eq!(rt; otherwise_at(&bench, TOLD), None);
+    assert!(rt; shows(&bench, 0xf, 1));
     Ok(())
 }
 
 // A type, a sector, how many data bytes; the features of the lower half; the status and the length that come back.
 type Case = (u64, u64, u64, u32, u64, u64);
 
+// The words of a request; the data of an OUT are read, of all other types written.
+fn asked(kind: u64, sector: u64, len: u64) -> [(u64, u64); 3] {
+    let flags: u64 = if kind == 1 { 1 } else { 3 };
+    [
+        (BASE + 0x18, len % 0x1_0000_0000 + (flags << 32) + (4 << 48)),
+        (HEADER, kind),
+        (HEADER + 8, sector),
+    ]
+}
+
+fn is_answered(bench: &Bench, status: u64, told: u64) -> bool {
+    word(bench, RING) == Some(0x1_0000)
+        && word(bench, RING + 8) == Some(told)
+        && word(bench, STATUS) == Some(0xffff_ffff_ffff_ff00 + status % 256)
+        && shows(bench, 0xf, 1)
+}
+
 fn otherwise_answered(alloc: Global, cases: &[Case]) -> Result<Option<usize>, Fail> {
     for (i, (kind, sector, len, features, status, told)) in cases.iter().enumerate() {
-        // The data of an OUT are read, of all other types written.
-        let flags: u64 = if *kind == 1 { 1 } else { 3 };
-        let words = [
-            (BASE + 0x18, len % 0x1_0000_0000 + (flags << 32) + (4 << 48)),
-            (HEADER, *kind),
-            (HEADER + 8, *sector),
-        ];
-        let mut blk = device(alloc)?;
-        set(&mut blk, &[(0x20, *features)]);
-        set(&mut blk, SETUP_WITHOUT_FLUSH);
-        let mut tape = tape(alloc, &[IN, &words], PLENTY)?;
-        go(&mut blk, &mut tape, 64);
-        let facts = [
-            tape.ram.word(RING) == Some(0x1_0000),
-            tape.ram.word(RING + 8) == Some(*told),
-            tape.ram.word(STATUS) == Some(0xffff_ffff_ffff_ff00 + status % 256),
-            shows(&blk, 0xf, 1),
-        ];
-        if first_wrong(&facts).is_some() {
+        let words = asked(*kind, *sector, *len);
+        let mut bench = untouched(alloc, &[IN, &words], PLENTY)?;
+        wrote(&mut bench, 0x20, *features);
+        set(&mut bench, SETUP_WITHOUT_FLUSH);
+        go(&mut bench, 64);
+        if !is_answered(&bench, *status, *told) {
             return Ok(Some(i));
         }
     }
@@ -301,52 +377,71 @@ const SETUP_WITHOUT_FLUSH: &[(u64, u32)] = &[
     (0x50, 0),
 ];
 
+const CASES: &[Case] = &[
+    (0, 1, 512, 0, 0, 513),
+    (0, 0, 1024, 0, 0, 1025),
+    (0, 1, 1024, 0, 1, 0),
+    (0, 2, 512, 0, 1, 0),
+    (0, 0, 511, 0, 1, 0),
+    (0, u64::MAX, 512, 0, 1, 0),
+    // no data: up to the capacity
+    (0, 2, 0, 0, 0, 1),
+    (0, 3, 0, 0, 1, 1),
+    (1, 1, 512, 0, 0, 1),
+    (1, 2, 512, 0, 1, 1),
+    (1, 0, 100, 0, 1, 1),
+    (1, 2, 0, 0, 0, 1),
+    (1, 3, 0, 0, 1, 1),
+    // FLUSH, with its feature and without; types that there are not, by all four bytes
+    (4, 9, 0, 0x200, 0, 1),
+    (4, 0, 512, 0x200, 0, 0),
+    (4, 0, 0, 0, 2, 1),
+    (8, 0, 20, 0x200, 2, 0),
+    (0x100, 1, 512, 0, 2, 0),
+    // the four bytes behind the type don't count
+    (0xffff_ffff_0000_0000, 1, 512, 0, 0, 513),
+];
+
 #[test]
 fn answers_each_type(rt: HostRuntime) -> Result<(), Fail> {
-    let cases = [
-        (0, 1, 512, 0, 0, 513),
-        (0, 0, 1024, 0, 0, 1025),
-        (0, 1, 1024, 0, 1, 0),
-        (0, 2, 512, 0, 1, 0),
-        (0, 0, 511, 0, 1, 0),
-        (0, u64::MAX, 512, 0, 1, 0),
-        // no data: up to the capacity
-        (0, 2, 0, 0, 0, 1),
-        (0, 3, 0, 0, 1, 1),
-        (1, 1, 512, 0, 0, 1),
-        (1, 2, 512, 0, 1, 1),
-        (1, 0, 100, 0, 1, 1),
-        (1, 2, 0, 0, 0, 1),
-        (1, 3, 0, 0, 1, 1),
-        // FLUSH, with its feature and without; types that there are not, by all four bytes
-        (4, 9, 0, 0x200, 0, 1),
-        (4, 0, 512, 0x200, 0, 0),
-        (4, 0, 0, 0, 2, 1),
-        (8, 0, 20, 0x200, 2, 0),
-        (0x100, 1, 512, 0, 2, 0),
-        // the four bytes behind the type don't count
-        (0xffff_ffff_0000_0000, 1, 512, 0, 0, 513),
-    ];
-    assert_eq!(rt; otherwise_answered(rt.alloc(), &cases)?, None);
+    assert_eq!(rt; otherwise_answered(rt.alloc(), CASES)?, None);
     Ok(())
+}
+
+const BROKEN: &[(u64, u64)] = &[
+    // nine requests in a queue of eight; a head of 8
+    (AVAIL, 0x9_0000),
+    (AVAIL, 0x8_0001_0000),
+    // a descriptor that names itself, one that names an eighth, an indirect one, one that wraps
+    (BASE + 0x08, 0x1_0000_0010),
+    (BASE + 0x08, 0x8_0001_0000_0010),
+    (BASE + 0x08, 0x1_0005_0000_0010),
+    (BASE + 0x10, u64::MAX),
+    // a readable part behind a writable one, a header of 15 bytes, no status byte
+    (BASE + 0x28, 0x3_0001_0000_00c0),
+    (BASE + 0x08, 0x1_0001_0000_000f),
+    (BASE + 0x08, 0x10),
+    // data outside memory
+    (BASE + 0x10, 0x9000_0000),
+];
+
+// A broken device is idle, and tells of itself by its second interrupt alone.
+fn is_broken(bench: &mut Bench) -> bool {
+    shows(bench, 0x4f, 2)
+        && step(bench) == Moved::Idle
+        && word(bench, RING) == Some(0)
+        && wrote(bench, 0x64, 1)
+        && shows(bench, 0x4f, 2)
+        && wrote(bench, 0x64, 2)
+        && shows(bench, 0x4f, 0)
 }
 
 // The first word that doesn't break the device.
 fn otherwise_broken(alloc: Global, words: &[(u64, u64)]) -> Result<Option<usize>, Fail> {
     for (i, word) in words.iter().enumerate() {
-        let mut blk = ready(alloc)?;
-        let mut tape = tape(alloc, &[IN, &[*word]], PLENTY)?;
-        go(&mut blk, &mut tape, 40);
-        let facts = [
-            shows(&blk, 0x4f, 2),
-            blk.step(&mut tape) == Moved::Idle,
-            tape.ram.word(RING) == Some(0),
-            blk.reg_write(0x64, 4, 1),
-            shows(&blk, 0x4f, 2),
-            blk.reg_write(0x64, 4, 2),
-            shows(&blk, 0x4f, 0),
-        ];
-        if first_wrong(&facts).is_some() {
+        let mut bench = ready(alloc, &[IN, &[*word]], PLENTY)?;
+        go(&mut bench, 40);
+        if !is_broken(&mut bench) {
             return Ok(Some(i));
         }
     }
@@ -355,43 +450,25 @@ fn otherwise_broken(alloc: Global, words: &[(u64, u64)]) -> Result<Option<usize>
 
 #[test]
 fn breaks_at_broken_rings_and_chains(rt: HostRuntime) -> Result<(), Fail> {
-    let words = [
-        // nine requests in a queue of eight; a head of 8
-        (AVAIL, 0x9_0000),
-        (AVAIL, 0x8_0001_0000),
-        // a descriptor that names itself, one that names an eighth, an indirect one, one that wraps
-        (BASE + 0x08, 0x1_0000_0010),
-        (BASE + 0x08, 0x8_0001_0000_0010),
-        (BASE + 0x08, 0x1_0005_0000_0010),
-        (BASE + 0x10, u64::MAX),
-        // a readable part behind a writable one, a header of 15 bytes, no status byte
-        (BASE + 0x28, 0x3_0001_0000_00c0),
-        (BASE + 0x08, 0x1_0001_0000_000f),
-        (BASE + 0x08, 0x10),
-        // data outside memory
-        (BASE + 0x10, 0x9000_0000),
-    ];
-    assert_eq!(rt; otherwise_broken(rt.alloc(), &words)?, None);
+    assert_eq!(rt; otherwise_broken(rt.alloc(), BROKEN)?, None);
     Ok(())
 }
 
-// The driver takes the queue away after so many steps, and gives it back: the request is carried out from its beginning.
+// The driver takes the queue away, and gives it back: the request is carried out from its beginning.
+fn begins_again(bench: &mut Bench) -> bool {
+    if !wrote(bench, 0x44, 0) || step(bench) != Moved::Idle || !wrote(bench, 0x44, 1) {
+        return false;
+    }
+    go(bench, ACCESSES - 1);
+    word(bench, RING) == Some(0) && step(bench) == Moved::Did && word(bench, RING) == Some(0x1_0000)
+}
+
+// The first number of steps after which it isn't so.
 fn otherwise_abandoned(alloc: Global) -> Result<Option<u64>, Fail> {
     for n in 0..ACCESSES {
-        let mut blk = ready(alloc)?;
-        let mut tape = tape(alloc, &[IN], PLENTY)?;
-        go(&mut blk, &mut tape, n);
-        let facts = [
-            blk.reg_write(0x44, 4, 0),
-            blk.step(&mut tape) == Moved::Idle,
-            blk.reg_write(0x44, 4, 1),
-        ];
-        go(&mut blk, &mut tape, ACCESSES - 1);
-        if first_wrong(&facts).is_some()
-            || tape.ram.word(RING) != Some(0)
-            || blk.step(&mut tape) != Moved::Did
-            || tape.ram.word(RING) != Some(0x1_0000)
-        {
+        let mut bench = ready(alloc, &[IN], PLENTY)?;
+        go(&mut bench, n);
+        if !begins_again(&mut bench) {
             return Ok(Some(n));
         }
     }
@@ -405,23 +482,19 @@ fn abandons_a_request_with_its_queue(rt: HostRuntime) -> Result<(), Fail> {
 }
 
 // How a device that asks for something tells of a denial.
-fn denied(blk: &mut Blk, cause: Cause) -> Option<Moved> {
-    match blk.want() {
+fn denied(bench: &mut Bench, cause: Cause) -> Option<Moved> {
+    match bench.blk.want() {
         Want::Nothing => None,
-        Want::Read { .. } => Some(blk.take(Access::Denied(cause), &[])),
-        Want::Write { .. } => Some(blk.take(Access::Denied(cause), &[])),
+        Want::Read { .. } => Some(bench.blk.take(Access::Denied(cause), &[])),
+        Want::Write { .. } => Some(bench.blk.take(Access::Denied(cause), &[])),
     }
 }
 
 #[test]
 fn a_denial_breaks_it(rt: HostRuntime) -> Result<(), Fail> {
     let cause = Cause::Page(Kind::Read);
-    let mut blk = ready(rt.alloc())?;
-    let facts = [
-        denied(&mut blk, cause) == Some(Moved::Denied(cause)),
-        shows(&blk, 0x4f, 2),
-        denied(&mut blk, cause).is_none(),
-    ];
-    assert_eq!(rt; first_wrong(&facts), None);
+    let mut bench = ready(rt.alloc(), &[], PLENTY)?;
+    assert!(rt; denied(&mut bench, cause) == Some(Moved::Denied(cause)));
+    assert!(rt; shows(&bench, 0x4f, 2) && denied(&mut bench, cause).is_none());
     Ok(())
 }

@@ -215,21 +215,31 @@ fn drops_by_the_table(rt: HostRuntime) -> Result<(), Fail> {
     Ok(())
 }
 
+const FULL: &[Stands<u32, Context>] = &[
+    (0, Place::Live(1, CONTEXT)),
+    (15, Place::Live(16, CONTEXT)),
+    (16, Place::Beyond),
+];
+
+const ONE_DROPPED: &[Stands<u32, Context>] = &[(0, Place::Live(1, CONTEXT)), (1, Place::Empty)];
+
+const ALL_DROPPED: &[Stands<u32, Context>] = &[(15, Place::Empty)];
+
+fn drop_each(cache: &mut ContextCache, commands: &[Command]) {
+    for command in commands {
+        cache.drop_matching(command);
+    }
+}
+
 #[test]
 fn keeps_sixteen_contexts(rt: HostRuntime) -> Result<(), Fail> {
     let mut cache = filled_contexts(rt.alloc(), 17)?;
-    let full = [
-        (0, Place::Live(1, CONTEXT)),
-        (15, Place::Live(16, CONTEXT)),
-        (16, Place::Beyond),
-    ];
-    assert_eq!(rt; otherwise_in(&cache, &full), None);
-    cache.drop_matching(&vma(false, 0, false));
-    cache.drop_matching(&Command::Iodir { dv: true, did: 2 });
-    let one_dropped = [(0, Place::Live(1, CONTEXT)), (1, Place::Empty)];
-    assert_eq!(rt; otherwise_in(&cache, &one_dropped), None);
-    cache.drop_matching(&Command::Iodir { dv: false, did: 2 });
-    assert_eq!(rt; otherwise_in(&cache, &[(15, Place::Empty)]), None);
+    assert_eq!(rt; otherwise_in(&cache, FULL), None);
+    let one = [vma(false, 0, false), Command::Iodir { dv: true, did: 2 }];
+    drop_each(&mut cache, &one);
+    assert_eq!(rt; otherwise_in(&cache, ONE_DROPPED), None);
+    drop_each(&mut cache, &[Command::Iodir { dv: false, did: 2 }]);
+    assert_eq!(rt; otherwise_in(&cache, ALL_DROPPED), None);
     Ok(())
 }
 

@@ -1,4 +1,3 @@
-use crate::first_wrong;
 use iom_virtq::{Chain, ChainFault, More, Side};
 
 const NEXT: u16 = 1;
@@ -6,6 +5,8 @@ const NEXT: u16 = 1;
 const WRITE: u16 = 2;
 
 const INDIRECT: u16 = 4;
+
+const END: u64 = u64::MAX;
 
 // Address, length, flags and next.
 type Words = (u64, u32, u16, u16);
@@ -41,34 +42,34 @@ fn otherwise(cases: &[Case]) -> Option<usize> {
     None
 }
 
+const CASES: &[Case] = &[
+    (8, 0, 0, (0, 1, INDIRECT, 0), Err(ChainFault::Indirect)),
+    (8, 0, 1, (0, 1, 0, 0), Err(ChainFault::ReadAfterWrite)),
+    (8, 8, 0, (0, 1, 0, 0), Err(ChainFault::TooLong)),
+    (64, 60, 4, (0, 0, WRITE, 0), Err(ChainFault::TooLong)),
+    (8, 0, 0, (0, 1, NEXT, 8), Err(ChainFault::BadNext)),
+    (8, 0, 0, (END, 2, 0, 0), Err(ChainFault::Wraps)),
+    (
+        8,
+        7,
+        1,
+        (END, 2, INDIRECT | NEXT, 8),
+        Err(ChainFault::Indirect),
+    ),
+    (8, 7, 1, (END, 2, NEXT, 8), Err(ChainFault::ReadAfterWrite)),
+    (8, 7, 1, (END, 2, WRITE | NEXT, 8), Err(ChainFault::TooLong)),
+    (8, 6, 1, (END, 2, WRITE | NEXT, 8), Err(ChainFault::BadNext)),
+    (8, 6, 1, (END, 2, WRITE | NEXT, 7), Err(ChainFault::Wraps)),
+    (8, 6, 1, (END, 1, WRITE | NEXT, 7), Ok(More::Next(7))),
+    (8, 0, 0, (0, u32::MAX, WRITE, 0xffff), Ok(More::Complete)),
+    (64, 63, 0, (0, 0, 0xfff8, 64), Ok(More::Complete)),
+    (1, 0, 0, (END, 0, NEXT, 0), Ok(More::Next(0))),
+];
+
 // Each refusal alone, then each beside all that are tested after it; corners that are no refusal.
 #[test]
 fn refuses_in_order(rt: HostRuntime) {
-    let end = u64::MAX;
-    let cases = [
-        (8, 0, 0, (0, 1, INDIRECT, 0), Err(ChainFault::Indirect)),
-        (8, 0, 1, (0, 1, 0, 0), Err(ChainFault::ReadAfterWrite)),
-        (8, 8, 0, (0, 1, 0, 0), Err(ChainFault::TooLong)),
-        (64, 60, 4, (0, 0, WRITE, 0), Err(ChainFault::TooLong)),
-        (8, 0, 0, (0, 1, NEXT, 8), Err(ChainFault::BadNext)),
-        (8, 0, 0, (end, 2, 0, 0), Err(ChainFault::Wraps)),
-        (
-            8,
-            7,
-            1,
-            (end, 2, INDIRECT | NEXT, 8),
-            Err(ChainFault::Indirect),
-        ),
-        (8, 7, 1, (end, 2, NEXT, 8), Err(ChainFault::ReadAfterWrite)),
-        (8, 7, 1, (end, 2, WRITE | NEXT, 8), Err(ChainFault::TooLong)),
-        (8, 6, 1, (end, 2, WRITE | NEXT, 8), Err(ChainFault::BadNext)),
-        (8, 6, 1, (end, 2, WRITE | NEXT, 7), Err(ChainFault::Wraps)),
-        (8, 6, 1, (end, 1, WRITE | NEXT, 7), Ok(More::Next(7))),
-        (8, 0, 0, (0, u32::MAX, WRITE, 0xffff), Ok(More::Complete)),
-        (64, 63, 0, (0, 0, 0xfff8, 64), Ok(More::Complete)),
-        (1, 0, 0, (end, 0, NEXT, 0), Ok(More::Next(0))),
-    ];
-    assert_eq!(rt; otherwise(&cases), None);
+    assert_eq!(rt; otherwise(CASES), None);
 }
 
 // A side, a position below its total, and the piece there.
@@ -83,39 +84,41 @@ fn otherwise_in(chain: &Chain, pieces: &[Piece]) -> Option<usize> {
     None
 }
 
+// The parts of a chain.
+const PARTS: &[Words] = &[
+    (0x1fc0, 0x50, NEXT, 1),
+    (0x2010, 0, NEXT, 2),
+    (0x2010, 0x82, NEXT, 3),
+    (0xffff_ffff_ffff_fffd, 3, NEXT | WRITE, 4),
+    (0x5000, 1, WRITE, 0),
+];
+
+const PIECES: &[Piece] = &[
+    (Side::Readable, 0, (0x1fc0, 0x40)),
+    (Side::Readable, 0x3f, (0x1fff, 1)),
+    (Side::Readable, 0x40, (0x2000, 0x10)),
+    (Side::Readable, 0x4f, (0x200f, 1)),
+    (Side::Readable, 0x50, (0x2010, 0x40)),
+    (Side::Readable, 0x51, (0x2011, 0x40)),
+    (Side::Readable, 0xd0, (0x2090, 2)),
+    (Side::Writable, 0, (0xffff_ffff_ffff_fffd, 3)),
+    (Side::Writable, 2, (0xffff_ffff_ffff_ffff, 1)),
+    (Side::Writable, 3, (0x5000, 1)),
+];
+
+fn are_added(chain: &mut Chain, parts: &[Words]) -> bool {
+    for (addr, len, flags, next) in parts {
+        if chain.add(*addr, *len, *flags, *next).is_err() {
+            return false;
+        }
+    }
+    true
+}
+
 #[test]
 fn pieces_end_at_parts_pages_and_64(rt: HostRuntime) {
     let mut chain = Chain::new(8);
-    let parts = [
-        (0x1fc0, 0x50, NEXT, 1),
-        (0x2010, 0, NEXT, 2),
-        (0x2010, 0x82, NEXT, 3),
-        (0xffff_ffff_ffff_fffd, 3, NEXT | WRITE, 4),
-        (0x5000, 1, WRITE, 0),
-    ];
-    let mut all_added = true;
-    for (addr, len, flags, next) in parts {
-        if chain.add(addr, len, flags, next).is_err() {
-            all_added = false;
-        }
-    }
-    let pieces = [
-        (Side::Readable, 0, (0x1fc0, 0x40)),
-        (Side::Readable, 0x3f, (0x1fff, 1)),
-        (Side::Readable, 0x40, (0x2000, 0x10)),
-        (Side::Readable, 0x4f, (0x200f, 1)),
-        (Side::Readable, 0x50, (0x2010, 0x40)),
-        (Side::Readable, 0x51, (0x2011, 0x40)),
-        (Side::Readable, 0xd0, (0x2090, 2)),
-        (Side::Writable, 0, (0xffff_ffff_ffff_fffd, 3)),
-        (Side::Writable, 2, (0xffff_ffff_ffff_ffff, 1)),
-        (Side::Writable, 3, (0x5000, 1)),
-    ];
-    assert_eq!(rt; otherwise_in(&chain, &pieces), None);
-    let facts = [
-        all_added,
-        chain.total(Side::Readable) == 0xd2,
-        chain.total(Side::Writable) == 4,
-    ];
-    assert_eq!(rt; first_wrong(&facts), None);
+    assert!(rt; are_added(&mut chain, PARTS));
+    assert_eq!(rt; otherwise_in(&chain, PIECES), None);
+    assert!(rt; chain.total(Side::Readable) == 0xd2 && chain.total(Side::Writable) == 4);
 }

@@ -50,7 +50,27 @@ fn encodes_and_decodes(rt: HostRuntime) {
 }
 
 // Words, and the cause that they are refused for.
-fn otherwise(cases: &[([u64; 4], Option<Cause>)]) -> Option<usize> {
+type Case = ([u64; 4], Option<Cause>);
+
+const CASES: &[Case] = &[
+    // V = 0 comes before any other fault.
+    ([0, u64::MAX, u64::MAX, u64::MAX], Some(Cause::DirInvalid)),
+    // A reserved bit of tc, of ta and of fsc.
+    ([0x21, 0, 0, 0], Some(Cause::DirBad)),
+    ([1, 0, 2, 0], Some(Cause::DirBad)),
+    ([1, 0, 0, 1 << 44], Some(Cause::DirBad)),
+    // A mode that there is not.
+    ([1, 0, 0, 10 << 60], Some(Cause::DirBad)),
+    ([1, 10 << 60, 0, 0], Some(Cause::DirBad)),
+    ([1, 0, 0, 9 << 60], None),
+    ([1, 9 << 60, 0, 8 << 60], None),
+    // A root of the second stage that isn't aligned, with the stage on and off.
+    ([1, 0x8000_0000_0000_0002, 0, 0], Some(Cause::DirBad)),
+    ([1, 0x9000_0000_0000_0002, 0, 0], Some(Cause::DirBad)),
+    ([1, 2, 0, 0], None),
+];
+
+fn otherwise(cases: &[Case]) -> Option<usize> {
     for (i, (words, want)) in cases.iter().enumerate() {
         if context_of(*words).err() != *want {
             return Some(i);
@@ -61,22 +81,5 @@ fn otherwise(cases: &[([u64; 4], Option<Cause>)]) -> Option<usize> {
 
 #[test]
 fn refuses_words(rt: HostRuntime) {
-    let cases = [
-        // V = 0 comes before any other fault.
-        ([0, u64::MAX, u64::MAX, u64::MAX], Some(Cause::DirInvalid)),
-        // A reserved bit of tc, of ta and of fsc.
-        ([0x21, 0, 0, 0], Some(Cause::DirBad)),
-        ([1, 0, 2, 0], Some(Cause::DirBad)),
-        ([1, 0, 0, 1 << 44], Some(Cause::DirBad)),
-        // A mode that there is not.
-        ([1, 0, 0, 10 << 60], Some(Cause::DirBad)),
-        ([1, 10 << 60, 0, 0], Some(Cause::DirBad)),
-        ([1, 0, 0, 9 << 60], None),
-        ([1, 9 << 60, 0, 8 << 60], None),
-        // A root of the second stage that isn't aligned, with the stage on and off.
-        ([1, 0x8000_0000_0000_0002, 0, 0], Some(Cause::DirBad)),
-        ([1, 0x9000_0000_0000_0002, 0, 0], Some(Cause::DirBad)),
-        ([1, 2, 0, 0], None),
-    ];
-    assert_eq!(rt; otherwise(&cases), None);
+    assert_eq!(rt; otherwise(CASES), None);
 }

@@ -3,10 +3,11 @@
 ghost use Rattle.std.specs.Prelude.{IfOk};
 ghost use Rattle.iom_core.specs.State.{AreDevices};
 
+use crate::warrants::{Case, memory, stored, take, written};
 use iom_blk::Blk;
 use iom_core::{Answer, Platform, Step, Warrant, explain};
 use iom_mem::Ram;
-use std::alloc::Global;
+use std::alloc::{AllocError, Global};
 use std::test::Fail;
 
 // A queue at physical addresses: a read of a sector into 0x80051000, its header at 0x80050000, its status at 0x80050010.
@@ -78,14 +79,6 @@ const BEFORE_QUEUE: [(u64, u64); 6] = [
 
 const AFTER_QUEUE: [(u64, u64); 3] = [(0x44, 1), (0x70, 0xf), (0x50, 0)];
 
-fn memory(alloc: Global, words: &[(u64, u64)]) -> Result<Ram, Fail> {
-    let mut ram = Ram::new(alloc, 0x8000_0000, 0x10_0000)?;
-    for (addr, word) in words {
-        let _is_inside = ram.write(*addr, &word.to_le_bytes());
-    }
-    Ok(ram)
-}
-
 // Device 5, with a disk of so many bytes of which the first are given. It must be 512, 1024 or 12288.
 pub fn devices(alloc: Global, size: usize, start: &[u8]) -> Result<Vec<(u32, Blk)>, Fail>
     ensures { IfOk result (λ devices. AreDevices devices.items) }
@@ -135,70 +128,79 @@ pub fn moved(platform: &mut Platform, count: usize) -> usize {
 fn reading(alloc: Global) -> Result<Platform, Fail> {
     let ram = memory(alloc, &BARE_READ)?;
     let mut platform = Platform::new(alloc, ram, devices(alloc, 1024, &[0xc0, 0xff, 0xee])?)?;
-    platform.step(&Step::RegWrite {
-        off: 16,
-        size: 8,
-        value: 1,
-    });
+    take(&mut platform, &[written(16, 8, 1)]);
     notified(&mut platform, 0x8004_0000, 0x8004_1000, 0x8004_2000);
     Ok(platform)
 }
 
-// Which steps of a list have these warrants, from a platform on which nothing happened yet.
-fn are_warranted(
+// Whether step n of a list has this warrant, from a platform on which nothing happened yet.
+fn is_warranted(
     alloc: Global,
     steps: &[Step],
-    cases: &[(usize, Option<Warrant>)],
+    n: usize,
+    want: Option<Warrant>,
 ) -> Result<bool, Fail> {
     let ram = memory(alloc, &WALKED_WRITE)?;
     let start = Platform::new(alloc, ram, devices(alloc, 512, &[])?)?;
+    Ok(n < steps.len() && explain(alloc, &start, steps, n)? == want)
+}
+
+// The number of the first step with another warrant.
+fn otherwise(alloc: Global, steps: &[Step], cases: &[Case]) -> Result<Option<usize>, Fail> {
     for (n, want) in cases {
-        if *n >= steps.len() || explain(alloc, &start, steps, *n)? != *want {
-            return Ok(false);
+        if !is_warranted(alloc, steps, *n, *want)? {
+            return Ok(Some(*n));
         }
     }
-    Ok(true)
+    Ok(None)
 }
+
+fn push_writes(steps: &mut Vec<Step>, writes: &[(u64, u64)]) -> Result<(), AllocError> {
+    for (off, value) in writes {
+        steps.push(wrote(*off, *value))?;
+    }
+    Ok(())
+}
+
+// The steps of the request's driver, and twelve of the device.
+fn requesting(alloc: Global) -> Result<Vec<Step>, AllocError> {
+    let mut steps = Vec::new(alloc);
+    steps.push(written(16, 8, 0x2000_0402))?;
+    push_writes(&mut steps, &BEFORE_QUEUE)?;
+    push_writes(&mut steps, &WALKED_QUEUE)?;
+    push_writes(&mut steps, &AFTER_QUEUE)?;
+    for _ in 0..12 {
+        steps.push(Step::Device { dev: 0 })?;
+    }
+    Ok(steps)
+}
+
+const WALKED_QUEUE: [(u64, u64); 3] = [
+    (0x80, 0x4020_1000),
+    (0x90, 0x4020_1100),
+    (0xa0, 0x4020_1200),
+];
+
+const WALKED: Option<Warrant> = Some(Warrant::Walked {
+    context: 13,
+    walk: 13,
+    current: 13,
+});
+
+const EXPLAINED: &[Case] = &[
+    (12, None),
+    (13, WALKED),
+    (14, WALKED),
+    (22, WALKED),
+    (23, None),
+    (24, None),
+];
 
 // All ten accesses used the page that the first one walked; the eleventh was denied, and the device is idle then.
 #[test]
 fn device_steps_are_explained(rt: HostRuntime) -> Result<(), Fail> {
-    let mut steps = Vec::new(rt.alloc());
-    steps.push(Step::RegWrite {
-        off: 16,
-        size: 8,
-        value: 0x2000_0402,
-    })?;
-    for (off, value) in &BEFORE_QUEUE {
-        steps.push(wrote(*off, *value))?;
-    }
-    for (off, value) in &[
-        (0x80, 0x4020_1000),
-        (0x90, 0x4020_1100),
-        (0xa0, 0x4020_1200),
-    ] {
-        steps.push(wrote(*off, *value))?;
-    }
-    for (off, value) in &AFTER_QUEUE {
-        steps.push(wrote(*off, *value))?;
-    }
-    for _ in 0..12 {
-        steps.push(Step::Device { dev: 0 })?;
-    }
-    let walked = Some(Warrant::Walked {
-        context: 13,
-        walk: 13,
-        current: 13,
-    });
-    let cases = [
-        (12, None),
-        (13, walked),
-        (14, walked),
-        (22, walked),
-        (23, None),
-        (24, None),
-    ];
-    assert!(rt; are_warranted(rt.alloc(), steps.as_slice(), &cases)?);
+    let steps = requesting(rt.alloc())?;
+    assert_eq!(rt; otherwise(rt.alloc(), &steps, EXPLAINED)?, None);
     Ok(())
 }
 
@@ -218,20 +220,23 @@ fn are_alike(one: &Platform, other: &Platform) -> bool {
     one.disk(0) == other.disk(0)
 }
 
-// A copy made after any step of a request goes on as its original, and neither moves the other.
+// Whether a copy made after so many steps of a request goes on as its original, and neither moves the other.
+fn is_copied_after(alloc: Global, steps: usize) -> Result<bool, Fail> {
+    let mut platform = reading(alloc)?;
+    let before = moved(&mut platform, steps);
+    let mut copy = platform.try_clone(alloc)?;
+    let rest = moved(&mut platform, 23);
+    Ok(
+        moved(&mut copy, 23) == rest
+            && before.saturating_add(rest) == 21
+            && are_alike(&platform, &copy),
+    )
+}
+
 #[test]
 fn copy_amid_a_request(rt: HostRuntime) -> Result<(), Fail> {
     for k in 0..23 {
-        let mut platform = reading(rt.alloc())?;
-        let before = moved(&mut platform, k);
-        let mut copy = platform.try_clone(rt.alloc())?;
-        let rest = moved(&mut platform, 23);
-        assert!(rt;
-            moved(&mut copy, 23) == rest
-                && before.saturating_add(rest) == 21
-                && are_alike(&platform, &copy),
-            "after {k}"
-        );
+        assert!(rt; is_copied_after(rt.alloc(), k)?, "after {k}");
     }
     Ok(())
 }
@@ -268,48 +273,60 @@ fn told(
     }
 }
 
-// The platform before the request's first step: the disk has 12,288 bytes. The 64 bytes of piece i are i + 1, on the disk
-// or in memory.
-fn requested(alloc: Global, request: Request) -> Result<Platform, Fail> {
-    let mut ram = memory(alloc, &BEHIND_BOTH)?;
+// The words of the request's data, its direction and its status.
+fn laid(ram: &mut Ram, request: Request) {
     let flags = if request.is_write { 1 } else { 3 };
     let data = 0x0002_0000_0000_0000 | (flags << 32) | (0x1000 * (request.pages % 4));
     let _is_inside = ram.write(0x8004_0018, &data.to_le_bytes());
     let _is_inside = ram.write(0x8004_0300, &[request.is_write as u8]);
-    let mut disk = Vec::new(alloc);
+}
+
+// The 64 bytes of piece i are i + 1, on the disk or in memory.
+fn fill_memory(ram: &mut Ram) {
     for i in 0..192 {
-        if request.is_write {
-            let _is_inside = ram.write(0x8004_1000 + 64 * i, &[i as u8 + 1; 64]);
-        } else {
-            disk.resize(64 * (i as usize + 1), i as u8 + 1)?;
-        }
+        let _is_inside = ram.write(0x8004_1000 + 64 * i, &[i as u8 + 1; 64]);
     }
-    let mut platform = Platform::new(alloc, ram, devices(alloc, 12288, disk.as_slice())?)?;
-    for (off, size, value) in &[(16, 8, 0x2000_0402), (24, 8, 0x2002_4003), (72, 4, 1)] {
-        platform.step(&Step::RegWrite {
-            off: *off,
-            size: *size,
-            value: *value,
-        });
+}
+
+fn full_disk(alloc: Global) -> Result<Vec<u8>, AllocError> {
+    let mut disk = Vec::new(alloc);
+    for byte in 1..=192_u8 {
+        disk.resize(64 * byte as usize, byte)?;
     }
+    Ok(disk)
+}
+
+// A platform with a disk of 12,288 bytes, before the driver's first step.
+fn untouched(alloc: Global, request: Request) -> Result<Platform, Fail> {
+    let mut ram = memory(alloc, &BEHIND_BOTH)?;
+    laid(&mut ram, request);
+    let mut disk = Vec::new(alloc);
+    if request.is_write {
+        fill_memory(&mut ram);
+    } else {
+        disk = full_disk(alloc)?;
+    }
+    Ok(Platform::new(alloc, ram, devices(alloc, 12288, &disk)?)?)
+}
+
+// The platform before the request's first step.
+fn requested(alloc: Global, request: Request) -> Result<Platform, Fail> {
+    let mut platform = untouched(alloc, request)?;
+    let steps = [
+        written(16, 8, 0x2000_0402),
+        written(24, 8, 0x2002_4003),
+        written(72, 4, 1),
+    ];
+    take(&mut platform, &steps);
     notified(&mut platform, 0x4020_1000, 0x4020_1100, 0x4020_1200);
     Ok(platform)
 }
 
 // The hart takes the page at 0x40203000 away, and what is cached of the guest where that is wanted.
 fn unmap(platform: &mut Platform, invalidated: bool) {
-    platform.step(&Step::Store {
-        addr: 0x8003_2018,
-        size: 8,
-        value: 0,
-    });
+    take(platform, &[stored(0x8003_2018, 0)]);
     if invalidated {
-        platform.step(&Step::RegWrite {
-            off: 36,
-            size: 4,
-            value: 1,
-        });
-        platform.step(&Step::Command);
+        take(platform, &[written(36, 4, 1), Step::Command]);
     }
 }
 

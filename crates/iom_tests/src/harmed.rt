@@ -1,6 +1,6 @@
 //! Queues laid over tables and over each other: what then was let through, and what was changed.
 
-use crate::warrants::{MAPPED, memory, otherwise, read, stored, walked, written};
+use crate::warrants::{MAPPED, otherwise, read, started, stored, take, walked, written};
 use iom_core::{Platform, Step};
 use iom_mem::Ram;
 use std::alloc::Global;
@@ -17,6 +17,17 @@ fn other_word(one: &Ram, other: &Ram, from: u64, to: u64) -> Option<u64> {
     None
 }
 
+// The platform after some steps.
+fn taken(alloc: Global, words: &[(u64, u64)], steps: &[Step]) -> Result<Platform, Fail> {
+    let mut platform = started(alloc, words)?;
+    take(&mut platform, steps);
+    Ok(platform)
+}
+
+fn changes(before: &Ram, after: &Ram, from: u64, to: u64) -> bool {
+    before.word(from) != after.word(from) && other_word(before, after, from, to).is_none()
+}
+
 // Whether the last of some steps changes the first word between two addresses, and no word that isn't there.
 fn last_changes(
     alloc: Global,
@@ -25,15 +36,10 @@ fn last_changes(
     from: u64,
     to: u64,
 ) -> Result<bool, Fail> {
-    let ram = memory(alloc, words)?;
-    let mut platform = Platform::new(alloc, ram, Vec::new(alloc))?;
-    let mut before = platform.try_clone(alloc)?;
-    for step in steps {
-        before = platform.try_clone(alloc)?;
-        platform.step(step);
-    }
-    let is_changed = before.ram().word(from) != platform.ram().word(from);
-    Ok(is_changed && other_word(before.ram(), platform.ram(), from, to).is_none())
+    let (_last, earlier) = steps.split_last().ok_or("no step")?;
+    let before = taken(alloc, words, earlier)?;
+    let after = taken(alloc, words, steps)?;
+    Ok(changes(before.ram(), after.ram(), from, to))
 }
 
 // The fault queue lies on the leaf table. A page that was read before serves on by its place; the record of a denied access

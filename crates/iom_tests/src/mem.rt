@@ -1,4 +1,3 @@
-use crate::first_wrong;
 use iom_mem::{MemFault, Ram};
 use std::alloc::Global;
 use std::test::Fail;
@@ -19,45 +18,105 @@ fn otherwise(alloc: Global, cases: &[Case]) -> Option<usize> {
     None
 }
 
+const CASES: &[Case] = &[
+    (0x1001, 0x1000, Some(MemFault::BadBase)),
+    (0x1001, 0, Some(MemFault::BadBase)),
+    (BASE, 0, Some(MemFault::BadSize)),
+    (BASE, 0x1001, Some(MemFault::BadSize)),
+    (BASE, 0x400_1000, Some(MemFault::BadSize)),
+    (BASE, 0x1000, None),
+    (BASE, 0x400_0000, None),
+    (PHYSICAL_END - 0x1000, 0x1000, None),
+    (PHYSICAL_END - 0x1000, 0x2000, Some(MemFault::BadSize)),
+    (PHYSICAL_END, 0x1000, Some(MemFault::BadSize)),
+    (0xffff_ffff_ffff_f000, 0x1000, Some(MemFault::BadSize)),
+];
+
 #[test]
 fn refuses_in_order(rt: HostRuntime) {
-    let cases = [
-        (0x1001, 0x1000, Some(MemFault::BadBase)),
-        (0x1001, 0, Some(MemFault::BadBase)),
-        (BASE, 0, Some(MemFault::BadSize)),
-        (BASE, 0x1001, Some(MemFault::BadSize)),
-        (BASE, 0x400_1000, Some(MemFault::BadSize)),
-        (BASE, 0x1000, None),
-        (BASE, 0x400_0000, None),
-        (PHYSICAL_END - 0x1000, 0x1000, None),
-        (PHYSICAL_END - 0x1000, 0x2000, Some(MemFault::BadSize)),
-        (PHYSICAL_END, 0x1000, Some(MemFault::BadSize)),
-        (0xffff_ffff_ffff_f000, 0x1000, Some(MemFault::BadSize)),
-    ];
-    assert_eq!(rt; otherwise(rt.alloc(), &cases), None);
+    assert_eq!(rt; otherwise(rt.alloc(), CASES), None);
 }
+
+// What is done at an address, and what it gives.
+enum Access<'a> {
+    // The bytes, and whether they are taken.
+    Write(u64, &'a [u8], bool),
+    // The bytes that are there.
+    Read(u64, &'a [u8]),
+    // Four bytes are refused, and left as they were.
+    NoRead(u64),
+    Word(u64, Option<u64>),
+    // The words that are there.
+    Words(u64, &'a [u64]),
+    // Two words are refused, and left as they were.
+    NoWords(u64),
+}
+
+fn reads(ram: &Ram, addr: u64, want: &[u8]) -> bool {
+    let mut out = [7; 4];
+    let Some(out) = out.get_mut(..want.len()) else {
+        return false;
+    };
+    ram.read(addr, out) && *out == *want
+}
+
+fn refuses(ram: &Ram, addr: u64) -> bool {
+    let mut out = [7; 4];
+    !ram.read(addr, &mut out) && out == [7; 4]
+}
+
+fn reads_words(ram: &Ram, addr: u64, want: &[u64]) -> bool {
+    let mut out = [7; 2];
+    let Some(out) = out.get_mut(..want.len()) else {
+        return false;
+    };
+    ram.words(addr, out) && *out == *want
+}
+
+fn refuses_words(ram: &Ram, addr: u64) -> bool {
+    let mut out = [7; 2];
+    !ram.words(addr, &mut out) && out == [7; 2]
+}
+
+fn goes(ram: &mut Ram, access: &Access<'_>) -> bool {
+    match access {
+        Access::Write(addr, bytes, is_taken) => ram.write(*addr, bytes) == *is_taken,
+        Access::Read(addr, want) => reads(ram, *addr, want),
+        Access::NoRead(addr) => refuses(ram, *addr),
+        Access::Word(addr, want) => ram.word(*addr) == *want,
+        Access::Words(addr, want) => reads_words(ram, *addr, want),
+        Access::NoWords(addr) => refuses_words(ram, *addr),
+    }
+}
+
+// The number of the first access that goes otherwise.
+fn otherwise_done(ram: &mut Ram, accesses: &[Access<'_>]) -> Option<usize> {
+    for (i, access) in accesses.iter().enumerate() {
+        if !goes(ram, access) {
+            return Some(i);
+        }
+    }
+    None
+}
+
+const KEPT: &[Access<'static>] = &[
+    Access::Write(BASE + 0xff8, &[1, 2, 3, 4, 5, 6, 7, 8], true),
+    Access::Word(BASE + 0xff8, Some(0x0807_0605_0403_0201)),
+    Access::Word(BASE + 0xff9, None),
+    Access::Write(BASE + 0xffd, &[9, 9, 9, 9], false),
+    Access::Write(BASE - 1, &[9, 9], false),
+    Access::NoRead(BASE + 0xffd),
+    Access::Read(BASE + 0xffc, &[5, 6, 7, 8]),
+    Access::Read(u64::MAX, &[]),
+    Access::Write(0, &[], true),
+    Access::NoRead(u64::MAX),
+];
 
 #[test]
 fn keeps_what_is_written(rt: HostRuntime) -> Result<(), Fail> {
     let mut ram = Ram::new(rt.alloc(), BASE, 0x1000)?;
-    let mut out = [7; 4];
-    let facts = [
-        ram.base() == BASE,
-        ram.size() == 0x1000,
-        ram.write(BASE + 0xff8, &[1, 2, 3, 4, 5, 6, 7, 8]),
-        ram.word(BASE + 0xff8) == Some(0x0807_0605_0403_0201),
-        ram.word(BASE + 0xff9).is_none(),
-        !ram.write(BASE + 0xffd, &[9, 9, 9, 9]),
-        !ram.write(BASE - 1, &[9, 9]),
-        !ram.read(BASE + 0xffd, &mut out),
-        out == [7; 4],
-        ram.read(BASE + 0xffc, &mut out),
-        out == [5, 6, 7, 8],
-        ram.read(u64::MAX, &mut []),
-        ram.write(0, &[]),
-        !ram.read(u64::MAX, &mut out),
-    ];
-    assert_eq!(rt; first_wrong(&facts), None);
+    assert!(rt; ram.base() == BASE && ram.size() == 0x1000);
+    assert_eq!(rt; otherwise_done(&mut ram, KEPT), None);
     Ok(())
 }
 
@@ -120,31 +179,33 @@ fn agrees_with_a_list_of_bytes(rt: HostRuntime) -> Result<(), Fail> {
     Ok(())
 }
 
+const BY_WORDS: &[Access<'static>] = &[
+    Access::Write(
+        BASE,
+        &[1, 2, 3, 4, 5, 6, 7, 8, 9, 10, 11, 12, 13, 14, 15, 16],
+        true,
+    ),
+    Access::Write(BASE + 0xff8, &[1, 2, 3, 4, 5, 6, 7, 8], true),
+    Access::NoWords(BASE + 0xff8),
+    Access::NoWords(BASE - 8),
+    Access::NoWords(u64::MAX),
+    Access::Words(BASE, &[0x0807_0605_0403_0201, 0x100f_0e0d_0c0b_0a09]),
+    Access::Words(BASE + 3, &[0x0b0a_0908_0706_0504, 0x0000_0010_0f0e_0d0c]),
+    Access::Words(BASE + 0xff0, &[0, 0x0807_0605_0403_0201]),
+    Access::Words(0, &[]),
+];
+
+// All of memory as words, the first and the last of which were written.
+fn has_ends(words: &[u64]) -> bool {
+    words.len() == 0x200
+        && words.first() == Some(&0x0807_0605_0403_0201)
+        && words.last() == Some(&0x0807_0605_0403_0201)
+}
+
 #[test]
-fn reads_words(rt: HostRuntime) -> Result<(), Fail> {
+fn memory_is_read_by_words(rt: HostRuntime) -> Result<(), Fail> {
     let mut ram = Ram::new(rt.alloc(), BASE, 0x1000)?;
-    let mut out = [7; 2];
-    let facts = [
-        ram.write(
-            BASE,
-            &[1, 2, 3, 4, 5, 6, 7, 8, 9, 10, 11, 12, 13, 14, 15, 16],
-        ),
-        ram.write(BASE + 0xff8, &[1, 2, 3, 4, 5, 6, 7, 8]),
-        !ram.words(BASE + 0xff8, &mut out),
-        !ram.words(BASE - 8, &mut out),
-        !ram.words(u64::MAX, &mut out),
-        out == [7; 2],
-        ram.words(BASE, &mut out),
-        out == [0x0807_0605_0403_0201, 0x100f_0e0d_0c0b_0a09],
-        ram.words(BASE + 3, &mut out),
-        out == [0x0b0a_0908_0706_0504, 0x0000_0010_0f0e_0d0c],
-        ram.words(BASE + 0xff0, &mut out),
-        out == [0, 0x0807_0605_0403_0201],
-        ram.words(0, &mut []),
-        ram.as_words().len() == 0x200,
-        ram.as_words().first() == Some(&0x0807_0605_0403_0201),
-        ram.as_words().last() == Some(&0x0807_0605_0403_0201),
-    ];
-    assert_eq!(rt; first_wrong(&facts), None);
+    assert_eq!(rt; otherwise_done(&mut ram, BY_WORDS), None);
+    assert!(rt; has_ends(ram.as_words()));
     Ok(())
 }

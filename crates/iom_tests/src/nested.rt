@@ -65,123 +65,202 @@ fn memory(alloc: Global, words: &[(u64, u64)], last: (u64, u64)) -> Result<Ram, 
     Ok(ram)
 }
 
-// An IOVA under a context, and what it leads to.
-type Case = (Context, u64, Kind, Result<Hit, Fault>);
+// An IOVA under a context; the frame, the level and whether it is global.
+type Found = (Context, u64, Kind, u64, u8, bool);
 
-// The first case that is otherwise, or whose context has no stage or isn't well formed.
-fn otherwise(ram: &Ram, cases: &[Case]) -> Option<usize> {
-    for (i, (context, iova, kind, want)) in cases.iter().enumerate() {
-        if !context.is_well_formed() || context.is_bare() {
-            return Some(i);
-        }
-        if translate(ram, context, *iova, *kind) != *want {
+// An IOVA under a context; the cause and iotval2 of the fault.
+type Failure = (Context, u64, Kind, Cause, u64);
+
+// What an IOVA leads to under a context; None where the context has no stage or isn't well formed.
+fn led(ram: &Ram, context: &Context, iova: u64, kind: Kind) -> Option<Result<Hit, Fault>> {
+    if !context.is_well_formed() || context.is_bare() {
+        return None;
+    }
+    Some(translate(ram, context, iova, kind))
+}
+
+// The number of the first that is otherwise.
+fn found_otherwise(ram: &Ram, cases: &[Found]) -> Option<usize> {
+    for (i, (context, iova, kind, frame, level, global)) in cases.iter().enumerate() {
+        let hit = Hit {
+            frame: *frame,
+            level: *level,
+            global: *global,
+        };
+        if led(ram, context, *iova, *kind) != Some(Ok(hit)) {
             return Some(i);
         }
     }
     None
 }
 
-fn fault(cause: Cause, iotval2: u64) -> Result<Hit, Fault> {
-    Err(Fault { cause, iotval2 })
-}
-
-fn hit(frame: u64, level: u8, global: bool) -> Result<Hit, Fault> {
-    Ok(Hit {
-        frame,
-        level,
-        global,
-    })
-}
-
-#[test]
-fn each_failure(rt: HostRuntime) -> Result<(), Fail> {
-    let bare_second = Context { gmode: 0, ..BOTH };
-    let first = Context {
-        ppn: 0x80030,
-        ..bare_second
-    };
-    let bare_first = Context { mode: 0, ..BOTH };
-    let outside = Context {
-        gppn: 0x4000,
-        ..BOTH
-    };
-    let empty = memory(rt.alloc(), &[], (0x8003_0000, 0))?;
-    let whole = memory(rt.alloc(), TABLES, SECOND_WHOLE)?;
-    for kind in [Kind::Read, Kind::Write] {
-        let of_empty = [
-            // An entry of the first stage, and one of the second while an entry of the first is read.
-            (bare_second, 0x1000, kind, fault(Cause::Access(kind), 0)),
-            (outside, 0x1000, kind, fault(Cause::Access(kind), 0)),
-            // The first stage.
-            (first, 0x1000, kind, fault(Cause::Page(kind), 0)),
-            // The second stage, for an entry of the first.
-            (BOTH, 0x4020_1abc, kind, fault(Cause::Guest(kind), 0x30009)),
-            // The second stage, for the access itself.
-            (
-                bare_first,
-                0x200_0000_0003,
-                kind,
-                fault(Cause::Guest(kind), 0x200_0000_0000),
-            ),
-        ];
-        assert_eq!(rt; otherwise(&empty, &of_empty), None);
-        let of_whole = [
-            (BOTH, 0x1000, kind, fault(Cause::Page(kind), 0)),
-            // An address beyond the width of the second stage.
-            (
-                BOTH,
-                0x4020_2abf,
-                kind,
-                fault(Cause::Guest(kind), 0x8000_00f7 << 12 | 0xabc),
-            ),
-        ];
-        assert_eq!(rt; otherwise(&whole, &of_whole), None);
+fn failing_otherwise(ram: &Ram, cases: &[Failure]) -> Option<usize> {
+    for (i, (context, iova, kind, cause, iotval2)) in cases.iter().enumerate() {
+        let fault = Fault {
+            cause: *cause,
+            iotval2: *iotval2,
+        };
+        if led(ram, context, *iova, *kind) != Some(Err(fault)) {
+            return Some(i);
+        }
     }
-    Ok(())
+    None
 }
 
-// The same in a memory that has these words.
-fn otherwise_with(
+// The first hit and the first fault that are otherwise, in a memory that has these words.
+fn otherwise(
     alloc: Global,
     words: &[(u64, u64)],
     last: (u64, u64),
-    cases: &[Case],
-) -> Result<Option<usize>, MemFault> {
+    found: &[Found],
+    failing: &[Failure],
+) -> Result<[Option<usize>; 2], MemFault> {
     let ram = memory(alloc, words, last)?;
-    Ok(otherwise(&ram, cases))
+    Ok([
+        found_otherwise(&ram, found),
+        failing_otherwise(&ram, failing),
+    ])
 }
+
+const BARE_SECOND: Context = Context { gmode: 0, ..BOTH };
+
+const BARE_FIRST: Context = Context { mode: 0, ..BOTH };
+
+// The first stage alone, with its root in memory.
+const FIRST: Context = Context {
+    gmode: 0,
+    ppn: 0x80030,
+    ..BOTH
+};
+
+// The second stage's root outside memory.
+const OUTSIDE: Context = Context {
+    gppn: 0x4000,
+    ..BOTH
+};
+
+const OF_EMPTY: &[Failure] = &[
+    // An entry of the first stage, and one of the second while an entry of the first is read.
+    (
+        BARE_SECOND,
+        0x1000,
+        Kind::Read,
+        Cause::Access(Kind::Read),
+        0,
+    ),
+    (
+        BARE_SECOND,
+        0x1000,
+        Kind::Write,
+        Cause::Access(Kind::Write),
+        0,
+    ),
+    (OUTSIDE, 0x1000, Kind::Read, Cause::Access(Kind::Read), 0),
+    (OUTSIDE, 0x1000, Kind::Write, Cause::Access(Kind::Write), 0),
+    // The first stage.
+    (FIRST, 0x1000, Kind::Read, Cause::Page(Kind::Read), 0),
+    (FIRST, 0x1000, Kind::Write, Cause::Page(Kind::Write), 0),
+    // The second stage, for an entry of the first.
+    (
+        BOTH,
+        0x4020_1abc,
+        Kind::Read,
+        Cause::Guest(Kind::Read),
+        0x30009,
+    ),
+    (
+        BOTH,
+        0x4020_1abc,
+        Kind::Write,
+        Cause::Guest(Kind::Write),
+        0x30009,
+    ),
+    // The second stage, for the access itself.
+    (
+        BARE_FIRST,
+        0x200_0000_0003,
+        Kind::Read,
+        Cause::Guest(Kind::Read),
+        0x200_0000_0000,
+    ),
+    (
+        BARE_FIRST,
+        0x200_0000_0003,
+        Kind::Write,
+        Cause::Guest(Kind::Write),
+        0x200_0000_0000,
+    ),
+];
+
+const OF_WHOLE: &[Failure] = &[
+    (BOTH, 0x1000, Kind::Read, Cause::Page(Kind::Read), 0),
+    (BOTH, 0x1000, Kind::Write, Cause::Page(Kind::Write), 0),
+    // An address beyond the width of the second stage.
+    (
+        BOTH,
+        0x4020_2abf,
+        Kind::Read,
+        Cause::Guest(Kind::Read),
+        0x8000_00f7 << 12 | 0xabc,
+    ),
+    (
+        BOTH,
+        0x4020_2abf,
+        Kind::Write,
+        Cause::Guest(Kind::Write),
+        0x8000_00f7 << 12 | 0xabc,
+    ),
+];
+
+#[test]
+fn each_failure(rt: HostRuntime) -> Result<(), Fail> {
+    let nowhere = (0x8003_0000, 0);
+    assert_eq!(rt;
+        otherwise(rt.alloc(), &[], nowhere, &[], OF_EMPTY)?,
+        [None, None]
+    );
+    assert_eq!(rt;
+        otherwise(rt.alloc(), TABLES, SECOND_WHOLE, &[], OF_WHOLE)?,
+        [None, None]
+    );
+    Ok(())
+}
+
+const HITS: &[Found] = &[
+    (BOTH, 0x4020_1abc, Kind::Write, 0x80040, 0, false),
+    // A superpage of the first stage over one of the second.
+    (BOTH, 0x4045_6abc, Kind::Read, 0x80256, 1, false),
+];
+
+// Under a second stage for reads alone entries are read, and the write is refused.
+const READ: &[Found] = &[(BOTH, 0x4020_1abc, Kind::Read, 0x80040, 0, false)];
+
+const WRITTEN: &[Failure] = &[(
+    BOTH,
+    0x4020_1abc,
+    Kind::Write,
+    Cause::Guest(Kind::Write),
+    0x40abc,
+)];
+
+// A superpage over small pages.
+const SMALL: &[Found] = &[(BOTH, 0x4045_6abc, Kind::Read, 0x80050, 1, false)];
+
+const BEYOND_SMALL: &[Failure] = &[(
+    BOTH,
+    0x4045_7abc,
+    Kind::Read,
+    Cause::Guest(Kind::Read),
+    0x25_7abc,
+)];
 
 #[test]
 fn hits(rt: HostRuntime) -> Result<(), Fail> {
-    let of_whole = [
-        (BOTH, 0x4020_1abc, Kind::Write, hit(0x80040, 0, false)),
-        // A superpage of the first stage over one of the second.
-        (BOTH, 0x4045_6abc, Kind::Read, hit(0x80256, 1, false)),
-    ];
-    let in_whole = otherwise_with(rt.alloc(), TABLES, SECOND_WHOLE, &of_whole)?;
-    // Under a second stage for reads alone entries are read, and the write is refused.
-    let of_read_only = [
-        (BOTH, 0x4020_1abc, Kind::Read, hit(0x80040, 0, false)),
-        (
-            BOTH,
-            0x4020_1abc,
-            Kind::Write,
-            fault(Cause::Guest(Kind::Write), 0x40abc),
-        ),
-    ];
-    let in_read_only = otherwise_with(rt.alloc(), TABLES, SECOND_READ_ONLY, &of_read_only)?;
-    // A superpage over small pages.
-    let of_small = [
-        (BOTH, 0x4045_6abc, Kind::Read, hit(0x80050, 1, false)),
-        (
-            BOTH,
-            0x4045_7abc,
-            Kind::Read,
-            fault(Cause::Guest(Kind::Read), 0x25_7abc),
-        ),
-    ];
-    let in_small = otherwise_with(rt.alloc(), SECOND_SMALL, ONE_SMALL, &of_small)?;
-    assert_eq!(rt; [in_whole, in_read_only, in_small], [None, None, None]);
+    let alloc = rt.alloc();
+    let in_whole = otherwise(alloc, TABLES, SECOND_WHOLE, HITS, &[])?;
+    let in_read_only = otherwise(alloc, TABLES, SECOND_READ_ONLY, READ, WRITTEN)?;
+    let in_small = otherwise(alloc, SECOND_SMALL, ONE_SMALL, SMALL, BEYOND_SMALL)?;
+    assert_eq!(rt; [in_whole, in_read_only, in_small], [[None, None]; 3]);
     Ok(())
 }
 
@@ -194,53 +273,68 @@ const FOUR_LEVELS: &[(u64, u64)] = &[
     (0x8003_2008, 0xcc01),
 ];
 
+const FOUR: Context = Context {
+    gmode: 9,
+    mode: 9,
+    ..BOTH
+};
+
+const FIRST_OF_THREE: Context = Context { mode: 8, ..FOUR };
+
+const SECOND_OF_THREE: Context = Context { gmode: 8, ..FOUR };
+
+const BARE_FIRST_OF_FOUR: Context = Context { mode: 0, ..FOUR };
+
+const BARE_FIRST_OF_THREE: Context = Context {
+    mode: 0,
+    ..SECOND_OF_THREE
+};
+
+const LEVELS: &[Found] = &[
+    (FOUR, 0x80_4020_1abc, Kind::Write, 0x80040, 0, false),
+    (
+        SECOND_OF_THREE,
+        0x80_4020_1abc,
+        Kind::Write,
+        0x80040,
+        0,
+        false,
+    ),
+    (BARE_FIRST_OF_FOUR, 0x20_0abc, Kind::Read, 0x80200, 0, false),
+];
+
+const WRONG_LEVELS: &[Failure] = &[
+    // In three levels the third table is the last, and a pointer in it is a fault.
+    (
+        FIRST_OF_THREE,
+        0x4020_1abc,
+        Kind::Read,
+        Cause::Page(Kind::Read),
+        0,
+    ),
+    // In three levels the second table's entry maps 2 MiB, and not 1 GiB.
+    (
+        BARE_FIRST_OF_THREE,
+        0x20_0abc,
+        Kind::Read,
+        Cause::Guest(Kind::Read),
+        0x20_0abc,
+    ),
+    // Beyond the width of four levels.
+    (
+        BARE_FIRST_OF_FOUR,
+        0x4_0000_0000_0003,
+        Kind::Read,
+        Cause::Guest(Kind::Read),
+        0x4_0000_0000_0000,
+    ),
+];
+
 #[test]
 fn each_stage_has_its_own_levels(rt: HostRuntime) -> Result<(), Fail> {
-    let four = Context {
-        gmode: 9,
-        mode: 9,
-        ..BOTH
-    };
-    let first_of_three = Context { mode: 8, ..four };
-    let second_of_three = Context { gmode: 8, ..four };
-    let bare_first = Context { mode: 0, ..four };
-    let bare_first_of_three = Context {
-        mode: 0,
-        ..second_of_three
-    };
-    let cases = [
-        (four, 0x80_4020_1abc, Kind::Write, hit(0x80040, 0, false)),
-        // In three levels the third table is the last, and a pointer in it is a fault.
-        (
-            first_of_three,
-            0x4020_1abc,
-            Kind::Read,
-            fault(Cause::Page(Kind::Read), 0),
-        ),
-        (
-            second_of_three,
-            0x80_4020_1abc,
-            Kind::Write,
-            hit(0x80040, 0, false),
-        ),
-        // In three levels the second table's entry maps 2 MiB, and not 1 GiB.
-        (bare_first, 0x20_0abc, Kind::Read, hit(0x80200, 0, false)),
-        (
-            bare_first_of_three,
-            0x20_0abc,
-            Kind::Read,
-            fault(Cause::Guest(Kind::Read), 0x20_0abc),
-        ),
-        // Beyond the width of four levels.
-        (
-            bare_first,
-            0x4_0000_0000_0003,
-            Kind::Read,
-            fault(Cause::Guest(Kind::Read), 0x4_0000_0000_0000),
-        ),
-    ];
-    let found = otherwise_with(rt.alloc(), FOUR_LEVELS, (0x8003_3008, 0x1_00d7), &cases)?;
-    assert_eq!(rt; found, None);
+    let last = (0x8003_3008, 0x1_00d7);
+    let found = otherwise(rt.alloc(), FOUR_LEVELS, last, LEVELS, WRONG_LEVELS)?;
+    assert_eq!(rt; found, [None, None]);
     Ok(())
 }
 

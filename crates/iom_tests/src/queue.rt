@@ -74,6 +74,40 @@ fn decoded(words: &[[u64; 2]]) -> Option<usize> {
         .position(|pair| decode_command(*pair).is_some())
 }
 
+const ENCODINGS: &[(Command, [u64; 2])] = &[
+    (VMA, VMA_WORDS),
+    (GVMA, GVMA_WORDS),
+    (FENCE, FENCE_WORDS),
+    (ORDERED, ORDERED_WORDS),
+    (IODIR, IODIR_WORDS),
+];
+
+// Words that are no command.
+const REFUSED: &[[u64; 2]] = &[
+    // no opcode, no func3
+    [0, 0],
+    [4, 0],
+    [0x101, 0],
+    [0x82, 0],
+    [0x83, 0],
+    // reserved bits of IOTINVAL; PSCV in a GVMA
+    [0x801, 0],
+    [0x4_0000_0001, 0],
+    [0x1000_0000_0000_0001, 0],
+    [1, 0x200],
+    [1, 0x4000_0000_0000_0000],
+    [0x1_0000_0081, 0],
+    // of IOFENCE.C
+    [0x4002, 0],
+    [2, 0x4000_0000_0000_0000],
+    // of IODIR.INVAL_DDT
+    [0x403, 0],
+    [0x1003, 0],
+    [0x1_0000_0003, 0],
+    [0x80_0000_0003, 0],
+    [3, 1],
+];
+
 #[test]
 fn commands_are_their_words(rt: HostRuntime) {
     let facts = [
@@ -84,39 +118,8 @@ fn commands_are_their_words(rt: HostRuntime) {
         encode_command(&IODIR) == IODIR_WORDS,
     ];
     assert_eq!(rt; first_wrong(&facts), None);
-    let encodings = [
-        (VMA, VMA_WORDS),
-        (GVMA, GVMA_WORDS),
-        (FENCE, FENCE_WORDS),
-        (ORDERED, ORDERED_WORDS),
-        (IODIR, IODIR_WORDS),
-    ];
-    assert_eq!(rt; otherwise(&encodings), None);
-    let refused = [
-        // no opcode, no func3
-        [0, 0],
-        [4, 0],
-        [0x101, 0],
-        [0x82, 0],
-        [0x83, 0],
-        // reserved bits of IOTINVAL; PSCV in a GVMA
-        [0x801, 0],
-        [0x4_0000_0001, 0],
-        [0x1000_0000_0000_0001, 0],
-        [1, 0x200],
-        [1, 0x4000_0000_0000_0000],
-        [0x1_0000_0081, 0],
-        // of IOFENCE.C
-        [0x4002, 0],
-        [2, 0x4000_0000_0000_0000],
-        // of IODIR.INVAL_DDT
-        [0x403, 0],
-        [0x1003, 0],
-        [0x1_0000_0003, 0],
-        [0x80_0000_0003, 0],
-        [3, 1],
-    ];
-    assert_eq!(rt; decoded(&refused), None);
+    assert_eq!(rt; otherwise(ENCODINGS), None);
+    assert_eq!(rt; decoded(REFUSED), None);
 }
 
 const FAULT: Record = Record {
@@ -155,6 +158,17 @@ fn otherwise_reported(causes: &[(Cause, bool)]) -> Option<usize> {
     None
 }
 
+const CAUSES: &[(Cause, bool)] = &[
+    (Cause::Access(Kind::Read), false),
+    (Cause::Page(Kind::Write), false),
+    (Cause::Guest(Kind::Read), false),
+    (Cause::Off, true),
+    (Cause::DirAccess, true),
+    (Cause::DirInvalid, true),
+    (Cause::DirBad, true),
+    (Cause::TooWide, true),
+];
+
 #[test]
 fn records_are_their_words(rt: HostRuntime) {
     let words = [0x8008_0000_0104, 0, 0x1000, 0];
@@ -168,17 +182,7 @@ fn records_are_their_words(rt: HostRuntime) {
         denial(Kind::Write).ttyp == 3,
     ];
     assert_eq!(rt; first_wrong(&facts), None);
-    let causes = [
-        (Cause::Access(Kind::Read), false),
-        (Cause::Page(Kind::Write), false),
-        (Cause::Guest(Kind::Read), false),
-        (Cause::Off, true),
-        (Cause::DirAccess, true),
-        (Cause::DirInvalid, true),
-        (Cause::DirBad, true),
-        (Cause::TooWide, true),
-    ];
-    assert_eq!(rt; otherwise_reported(&causes), None);
+    assert_eq!(rt; otherwise_reported(CAUSES), None);
 }
 
 // Four or eight bytes of a register; a value that doesn't fit is not written.
@@ -222,36 +226,47 @@ fn otherwise_stored(ram: &Ram, words: &[u64]) -> Option<usize> {
     None
 }
 
+const EVENTS: &[(Event, u64, u64)] = &[
+    // two entries at the base of memory
+    (Event::Write(40, 0x2000_0000), 0, 0),
+    (Event::Deliver, 0, 0),
+    (Event::Write(76, 1), 0, 0x1_0001),
+    (Event::Deliver, 1, 0x1_0001),
+    (Event::Deliver, 1, 0x1_0201),
+    // with fqof cleared and the head moved the next one is stored again
+    (Event::Write(48, 1), 1, 0x1_0201),
+    (Event::Deliver, 1, 0x1_0201),
+    (Event::Write(76, 0x201), 1, 0x1_0001),
+    (Event::Deliver, 0, 0x1_0001),
+    // the same beyond memory: full comes first
+    (Event::Write(76, 0), 0, 0),
+    (Event::Write(40, 0x2000_0400), 0, 0),
+    (Event::Write(76, 1), 0, 0x1_0001),
+    (Event::Deliver, 0, 0x1_0201),
+    (Event::Write(76, 0x201), 0, 0x1_0001),
+    (Event::Write(48, 0), 0, 0x1_0001),
+    (Event::Deliver, 0, 0x1_0101),
+    (Event::Deliver, 0, 0x1_0101),
+];
+
+const STORED: &[u64] = &[
+    0x8008_0000_0104,
+    0,
+    0x1000,
+    0,
+    0x8008_0000_0104,
+    0,
+    0x1000,
+    0,
+    0,
+];
+
 #[test]
 fn records_are_delivered(rt: HostRuntime) -> Result<(), Fail> {
     let mut ram = Ram::new(rt.alloc(), BASE, 0x1000)?;
     let mut registers = Regs::reset();
-    // two entries at the base of memory
-    let events = [
-        (Event::Write(40, 0x2000_0000), 0, 0),
-        (Event::Deliver, 0, 0),
-        (Event::Write(76, 1), 0, 0x1_0001),
-        (Event::Deliver, 1, 0x1_0001),
-        (Event::Deliver, 1, 0x1_0201),
-        // with fqof cleared and the head moved the next one is stored again
-        (Event::Write(48, 1), 1, 0x1_0201),
-        (Event::Deliver, 1, 0x1_0201),
-        (Event::Write(76, 0x201), 1, 0x1_0001),
-        (Event::Deliver, 0, 0x1_0001),
-        // the same beyond memory: full comes first
-        (Event::Write(76, 0), 0, 0),
-        (Event::Write(40, 0x2000_0400), 0, 0),
-        (Event::Write(76, 1), 0, 0x1_0001),
-        (Event::Deliver, 0, 0x1_0201),
-        (Event::Write(76, 0x201), 0, 0x1_0001),
-        (Event::Write(48, 0), 0, 0x1_0001),
-        (Event::Deliver, 0, 0x1_0101),
-        (Event::Deliver, 0, 0x1_0101),
-    ];
-    assert_eq!(rt; otherwise_shown(&mut registers, &mut ram, &events), None);
-    let first = 0x8008_0000_0104;
-    let words = [first, 0, 0x1000, 0, first, 0, 0x1000, 0, 0];
-    assert_eq!(rt; otherwise_stored(&ram, &words), None);
+    assert_eq!(rt; otherwise_shown(&mut registers, &mut ram, EVENTS), None);
+    assert_eq!(rt; otherwise_stored(&ram, STORED), None);
     Ok(())
 }
 
@@ -295,6 +310,21 @@ fn otherwise_fetched(
     None
 }
 
+const LAST: Fetch = Fetch::Ready(IODIR);
+
+const CHANGES: &[(Change, Fetch)] = &[
+    (Change::Write(72, 0), Fetch::Idle),
+    (Change::Write(72, 1), Fetch::Illegal),
+    (Change::Pass(255), LAST),
+    (Change::Fence, LAST),
+    (Change::Illegal, Fetch::Idle),
+    (Change::Write(72, 0x401), LAST),
+    (Change::Fault, Fetch::Idle),
+    (Change::Write(72, 0x101), LAST),
+    (Change::Write(36, 255), Fetch::Idle),
+    (Change::Pass(1), Fetch::Fault),
+];
+
 #[test]
 fn commands_are_fetched(rt: HostRuntime) -> Result<(), Fail> {
     let mut ram = Ram::new(rt.alloc(), BASE, 0x1000)?;
@@ -303,19 +333,6 @@ fn commands_are_fetched(rt: HostRuntime) -> Result<(), Fail> {
     // 512 entries at the base of memory, of which 256 are in it
     set(&mut registers, 24, 8, 0x2000_0008);
     set(&mut registers, 36, 4, 300);
-    let last = Fetch::Ready(IODIR);
-    let changes = [
-        (Change::Write(72, 0), Fetch::Idle),
-        (Change::Write(72, 1), Fetch::Illegal),
-        (Change::Pass(255), last),
-        (Change::Fence, last),
-        (Change::Illegal, Fetch::Idle),
-        (Change::Write(72, 0x401), last),
-        (Change::Fault, Fetch::Idle),
-        (Change::Write(72, 0x101), last),
-        (Change::Write(36, 255), Fetch::Idle),
-        (Change::Pass(1), Fetch::Fault),
-    ];
-    assert_eq!(rt; otherwise_fetched(&mut registers, &ram, &changes), None);
+    assert_eq!(rt; otherwise_fetched(&mut registers, &ram, CHANGES), None);
     Ok(())
 }

@@ -5,8 +5,9 @@
 use crate::blk_requests::with_disk;
 use crate::devices::devices;
 use crate::first_wrong;
-use crate::warrants::{MAPPED, memory, otherwise, read, stored, walked, written};
+use crate::warrants::{MAPPED, otherwise, read, started, stored, take, walked, written};
 use iom_asm::{Item, assemble, list, load, play, upgrade};
+use iom_blk::Blk;
 use iom_cache::{ContextCache, Place, TransCache};
 use iom_core::{Answer, Platform, Step};
 use iom_mem::Ram;
@@ -33,33 +34,36 @@ fn are_expected(answers: &[Answer]) -> bool {
     }
 }
 
+const READ_STORED: [Step; 3] = [
+    Step::Store {
+        addr: BASE,
+        size: 8,
+        value: 0x0807_0605_0403_0201,
+    },
+    Step::RegWrite {
+        off: 16,
+        size: 8,
+        value: 1,
+    },
+    Step::DmaRead {
+        did: 5,
+        iova: BASE,
+        len: 8,
+    },
+];
+
+fn reads_stored(platform: &mut Platform) -> bool {
+    let mut answers = [Answer::Idle, Answer::Idle, Answer::Idle];
+    platform.run(&READ_STORED, &mut answers);
+    are_expected(&answers) && platform.ram().word(BASE) == Some(0x0807_0605_0403_0201)
+}
+
 // A platform takes the allocation of its memory, and then that of each of its caches.
 #[test]
 fn device_reads_what_the_hart_stored(rt: HostRuntime) -> Result<(), Fail> {
     spend(rt.alloc(), 12)?;
-    let ram = Ram::new(rt.alloc(), BASE, 0x10_0000)?;
-    let mut platform = Platform::new(rt.alloc(), ram, Vec::new(rt.alloc()))?;
-    let steps = [
-        Step::Store {
-            addr: BASE,
-            size: 8,
-            value: 0x0807_0605_0403_0201,
-        },
-        Step::RegWrite {
-            off: 16,
-            size: 8,
-            value: 1,
-        },
-        Step::DmaRead {
-            did: 5,
-            iova: BASE,
-            len: 8,
-        },
-    ];
-    let mut answers = [Answer::Idle, Answer::Idle, Answer::Idle];
-    platform.run(&steps, &mut answers);
-    assert!(rt; are_expected(&answers));
-    assert!(rt; platform.ram().word(BASE) == Some(0x0807_0605_0403_0201));
+    let mut platform = started(rt.alloc(), &[])?;
+    assert!(rt; reads_stored(&mut platform));
     Ok(())
 }
 
@@ -113,19 +117,20 @@ fn copy_for_the_context_of_the_walk(rt: HostRuntime) -> Result<(), Fail> {
     Ok(())
 }
 
-// A platform whose device 5 has read through its tables, and whose tables map nothing any more.
-fn read_once(alloc: Global) -> Result<Platform, Fail> {
-    let ram = memory(alloc, &MAPPED)?;
-    let mut platform = Platform::new(alloc, ram, Vec::new(alloc))?;
-    spend(alloc, 9)?;
+fn read_and_unmap(platform: &mut Platform) {
     let steps = [
         written(16, 8, 0x2000_0402),
         read(0x4020_1abc),
         stored(0x8000_4008, 0),
     ];
-    for step in &steps {
-        platform.step(step);
-    }
+    take(platform, &steps);
+}
+
+// A platform whose device 5 has read through its tables, and whose tables map nothing any more.
+fn read_once(alloc: Global) -> Result<Platform, Fail> {
+    let mut platform = started(alloc, &MAPPED)?;
+    spend(alloc, 9)?;
+    read_and_unmap(&mut platform);
     Ok(platform)
 }
 
@@ -142,32 +147,40 @@ fn byte_read(platform: &mut Platform) -> Option<u8> {
 }
 
 // Both read by what was cached when the copy was made; then each goes its own way.
+fn go_apart(original: &mut Platform, copy: &mut Platform) -> Option<usize> {
+    let facts = [
+        byte_read(copy) == Some(0x11),
+        byte_read(original) == Some(0x11),
+        is_done(copy, written(16, 8, 0)),
+        byte_read(copy).is_none(),
+        byte_read(original) == Some(0x11),
+        is_done(original, stored(0x8001_0ab8, 0x22_0000_0000)),
+        byte_read(original) == Some(0x22),
+        is_done(copy, written(16, 8, 0x2000_0402)),
+        byte_read(copy) == Some(0x11),
+    ];
+    first_wrong(&facts)
+}
+
 #[test]
 fn copies_go_their_own_ways(rt: HostRuntime) -> Result<(), Fail> {
     let mut original = read_once(rt.alloc())?;
     let mut copy = original.try_clone(rt.alloc())?;
-    let facts = [
-        byte_read(&mut copy) == Some(0x11),
-        byte_read(&mut original) == Some(0x11),
-        is_done(&mut copy, written(16, 8, 0)),
-        byte_read(&mut copy).is_none(),
-        byte_read(&mut original) == Some(0x11),
-        is_done(&mut original, stored(0x8001_0ab8, 0x22_0000_0000)),
-        byte_read(&mut original) == Some(0x22),
-        is_done(&mut copy, written(16, 8, 0x2000_0402)),
-        byte_read(&mut copy) == Some(0x11),
-    ];
-    assert_eq!(rt; first_wrong(&facts), None);
+    assert_eq!(rt; go_apart(&mut original, &mut copy), None);
     Ok(())
+}
+
+fn block_device(alloc: Global) -> Result<Blk, Fail> {
+    let mut disk = Vec::new(alloc);
+    disk.resize(1024, 7)?;
+    Ok(with_disk(disk).ok_or("a disk of two sectors")?)
 }
 
 // A copy of a block device takes one allocation, that of its disk; here it is the copy of a copy of a copy.
 #[test]
 fn block_device_is_copied(rt: HostRuntime) -> Result<(), Fail> {
     spend(rt.alloc(), 11)?;
-    let mut disk = Vec::new(rt.alloc());
-    disk.resize(1024, 7)?;
-    let blk = with_disk(disk).ok_or("a disk of two sectors")?;
+    let blk = block_device(rt.alloc())?;
     let first = blk.try_clone(rt.alloc())?;
     let second = first.try_clone(rt.alloc())?;
     let third = second.try_clone(rt.alloc())?;
@@ -175,15 +188,23 @@ fn block_device_is_copied(rt: HostRuntime) -> Result<(), Fail> {
     Ok(())
 }
 
+fn with_device(alloc: Global) -> Result<Platform, Fail> {
+    let ram = Ram::new(alloc, BASE, 0x1000)?;
+    let devices = devices(alloc, 512, &[7; 512])?;
+    Ok(Platform::new(alloc, ram, devices)?)
+}
+
+fn has_equal_disk(one: &Platform, other: &Platform) -> bool {
+    one.disk(0) == other.disk(0) && one.disk(0).is_some()
+}
+
 // The copy of a platform with a block device takes two more, of the disk and of the list; here these come after its translations'.
 #[test]
 fn platform_with_a_device_is_copied(rt: HostRuntime) -> Result<(), Fail> {
     spend(rt.alloc(), 5)?;
-    let ram = Ram::new(rt.alloc(), BASE, 0x1000)?;
-    let devices = devices(rt.alloc(), 512, &[7; 512])?;
-    let platform = Platform::new(rt.alloc(), ram, devices)?;
+    let platform = with_device(rt.alloc())?;
     let copy = platform.try_clone(rt.alloc())?;
-    assert!(rt; copy.disk(0) == platform.disk(0) && copy.disk(0).is_some());
+    assert!(rt; has_equal_disk(&copy, &platform));
     Ok(())
 }
 
@@ -272,27 +293,44 @@ fn items_are_listed(rt: HostRuntime) -> Result<(), Fail> {
     Ok(())
 }
 
+fn is_memory_copied(alloc: Global, platform: &Platform) -> Result<bool, AllocError> {
+    let copy = platform.ram().try_clone(alloc)?;
+    Ok(
+        copy.base() == BASE
+            && copy.size() == 0x10_0000
+            && copy.word(0x8001_0ab8) == Some(0x11_0000_0000),
+    )
+}
+
 fn same_translations(one: &TransCache, other: &TransCache) -> bool {
     (0..2).all(|i| one.place(i) == other.place(i))
+}
+
+fn are_translations_copied(alloc: Global, platform: &Platform) -> Result<bool, AllocError> {
+    let copy = platform.trans().try_clone(alloc)?;
+    Ok(same_translations(&copy, platform.trans()))
 }
 
 fn same_contexts(one: &ContextCache, other: &ContextCache) -> bool {
     (0..2).all(|i| one.place(i) == other.place(i))
 }
 
+fn are_contexts_copied(alloc: Global, platform: &Platform) -> Result<bool, AllocError> {
+    let copy = platform.contexts().try_clone(alloc)?;
+    Ok(same_contexts(&copy, platform.contexts()))
+}
+
+fn are_parts_copied(alloc: Global) -> Result<bool, Fail> {
+    let platform = read_once(alloc)?;
+    Ok(
+        is_memory_copied(alloc, &platform)?
+            && are_translations_copied(alloc, &platform)?
+            && are_contexts_copied(alloc, &platform)?,
+    )
+}
+
 #[test]
 fn parts_are_copied(rt: HostRuntime) -> Result<(), Fail> {
-    let platform = read_once(rt.alloc())?;
-    let ram = platform.ram().try_clone(rt.alloc())?;
-    let trans = platform.trans().try_clone(rt.alloc())?;
-    let contexts = platform.contexts().try_clone(rt.alloc())?;
-    let facts = [
-        ram.base() == BASE,
-        ram.size() == 0x10_0000,
-        ram.word(0x8001_0ab8) == Some(0x11_0000_0000),
-        same_translations(&trans, platform.trans()),
-        same_contexts(&contexts, platform.contexts()),
-    ];
-    assert_eq!(rt; first_wrong(&facts), None);
+    assert!(rt; are_parts_copied(rt.alloc())?);
     Ok(())
 }

@@ -1,8 +1,8 @@
 //! A script in pieces.
 
-use crate::tool::{ANSWERS, Limits, MANY, SCRIPT, Sink, WELL, run, small};
+use crate::tool::{ANSWERS, Limits, MANY, SCRIPT, Sink, WELL, is_read_once, is_whole, small};
 use iom_tool::{Feeder, RunFault, Trace};
-use std::alloc::Global;
+use std::alloc::{AllocError, Global};
 use std::test::Fail;
 
 // How a script given in pieces ended, and what it wrote.
@@ -65,15 +65,28 @@ fn cut_into_single_bytes(rt: HostRuntime) -> Result<(), Fail> {
     Ok(())
 }
 
+// A line of 512 bytes.
+fn long_line(alloc: Global) -> Result<Vec<u8>, AllocError> {
+    let mut line = Vec::from_slice(alloc, b"reg read 8 4")?;
+    line.resize(512, b' ')?;
+    Ok(line)
+}
+
+// Whether the line is answered where it is cut after so many bytes, and is too long with one byte more.
+fn is_long_fed(alloc: Global, line: &[u8], at: usize) -> Result<bool, Fail> {
+    let (first, second) = line.split_at_checked(at).ok_or("a shorter line")?;
+    Ok(
+        is_fed(alloc, &[first, second, b"\ncmd"], b"0x2\nidle\n")?
+            && is_fed(alloc, &[first, second, b" \ncmd"], b"bad\nidle\n")?
+            && is_fed(alloc, &[first, second, b" "], b"bad\n")?,
+    )
+}
+
 #[test]
 fn line_over_two_pieces(rt: HostRuntime) -> Result<(), Fail> {
-    let mut line = Vec::from_slice(rt.alloc(), b"reg read 8 4")?;
-    line.resize(512, b' ')?;
+    let line = long_line(rt.alloc())?;
     for at in [1, 12, 300, 511] {
-        let (first, second) = line.as_slice().split_at(at);
-        assert!(rt; is_fed(rt.alloc(), &[first, second, b"\ncmd"], b"0x2\nidle\n")?);
-        assert!(rt; is_fed(rt.alloc(), &[first, second, b" \ncmd"], b"bad\nidle\n")?);
-        assert!(rt; is_fed(rt.alloc(), &[first, second, b" "], b"bad\n")?);
+        assert!(rt; is_long_fed(rt.alloc(), &line, at)?, "cut at {at}");
     }
     Ok(())
 }
@@ -81,11 +94,25 @@ fn line_over_two_pieces(rt: HostRuntime) -> Result<(), Fail> {
 // A reader that gives all that it is asked for is asked twice: for the script, and for what follows.
 #[test]
 fn two_reads(rt: HostRuntime) -> Result<(), Fail> {
-    let twice = run(rt.alloc(), SCRIPT, Limits { reads: 2, ..WELL })?;
-    assert!(rt; twice.ended.is_ok() && twice.written.as_slice() == ANSWERS);
-    let once = run(rt.alloc(), SCRIPT, Limits { reads: 1, ..WELL })?;
-    assert!(rt; once.ended == Err(RunFault::Read) && once.written.as_slice() == ANSWERS);
+    assert!(rt; is_whole(rt.alloc(), Limits { reads: 2, ..WELL })?);
+    assert!(rt; is_read_once(rt.alloc(), SCRIPT, ANSWERS)?);
     Ok(())
+}
+
+fn is_write_fault(ended: Result<(), RunFault>) -> bool {
+    ended == Err(RunFault::Write)
+}
+
+// A write that fails is told from then on, and nothing more is written.
+fn stays_failed(mut feeder: Feeder<'_>, writer: &mut Sink) -> bool {
+    writer.calls = 0;
+    let first = is_write_fault(feeder.feed(b"cmd\n", writer));
+    writer.calls = MANY;
+    first
+        && is_write_fault(feeder.feed(b"cmd\n", writer))
+        && is_write_fault(feeder.finish(writer))
+        && writer.held.is_empty()
+        && writer.calls == MANY
 }
 
 #[test]
@@ -97,13 +124,7 @@ fn refused_from_then_on(rt: HostRuntime) -> Result<(), Fail> {
         calls: 0,
         most: MANY,
     };
-    let mut feeder = Feeder::new(&mut platform, &mut trace);
-    let first = feeder.feed(b"cmd\n", &mut writer);
-    writer.calls = MANY;
-    let second = feeder.feed(b"cmd\n", &mut writer);
-    let last = feeder.finish(&mut writer);
-    let fault = Err(RunFault::Write);
-    assert!(rt; first == fault && second == fault && last == fault);
-    assert!(rt; writer.held.is_empty() && writer.calls == MANY);
+    let feeder = Feeder::new(&mut platform, &mut trace);
+    assert!(rt; stays_failed(feeder, &mut writer));
     Ok(())
 }

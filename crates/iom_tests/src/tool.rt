@@ -177,23 +177,24 @@ fn is_cut(part: &Outcome, fault: RunFault, answered: usize, done: usize) -> bool
         && part.moved == Some(moved)
 }
 
-// With each read failing in turn, the lines read whole before are answered and done, and no other.
+// With a read failing, the lines read whole before are answered and done, and no other.
+fn is_cut_at_read(alloc: Global, reads: usize, piece: usize) -> Result<bool, Fail> {
+    let limits = Limits {
+        reads,
+        piece,
+        ..WELL
+    };
+    let part = run(alloc, SCRIPT, limits)?;
+    let whole = lines(SCRIPT.get(..reads.saturating_mul(piece)).unwrap_or(SCRIPT));
+    Ok(is_cut(&part, RunFault::Read, whole, whole))
+}
+
 #[test]
 fn each_read_fails(rt: HostRuntime) -> Result<(), Fail> {
     for piece in PIECES {
         for reads in 0..=SCRIPT.len().div_ceil(piece) {
-            let part = run(
-                rt.alloc(),
-                SCRIPT,
-                Limits {
-                    reads,
-                    piece,
-                    ..WELL
-                },
-            )?;
-            let whole = lines(SCRIPT.get(..reads * piece).unwrap_or(SCRIPT));
             assert!(rt;
-                is_cut(&part, RunFault::Read, whole, whole),
+                is_cut_at_read(rt.alloc(), reads, piece)?,
                 "at read {reads} of {piece} bytes"
             );
         }
@@ -201,23 +202,24 @@ fn each_read_fails(rt: HostRuntime) -> Result<(), Fail> {
     Ok(())
 }
 
-// With each write failing in turn, one call a line, the lines before are answered, and their steps and that of the line
-// itself are done. The last is the flush.
+// With a write failing, one call a line, the lines before are answered, and their steps and that of the line itself are done.
+fn is_cut_at_write(alloc: Global, writes: usize, piece: usize) -> Result<bool, Fail> {
+    let limits = Limits {
+        writes,
+        piece,
+        ..WELL
+    };
+    let part = run(alloc, SCRIPT, limits)?;
+    Ok(is_cut(&part, RunFault::Write, writes, writes.saturating_add(1)))
+}
+
+// The last is the flush.
 #[test]
 fn each_write_fails(rt: HostRuntime) -> Result<(), Fail> {
     for piece in PIECES {
         for writes in 0..=10 {
-            let part = run(
-                rt.alloc(),
-                SCRIPT,
-                Limits {
-                    writes,
-                    piece,
-                    ..WELL
-                },
-            )?;
             assert!(rt;
-                is_cut(&part, RunFault::Write, writes, writes + 1),
+                is_cut_at_write(rt.alloc(), writes, piece)?,
                 "at write {writes}, {piece} bytes a read"
             );
         }
@@ -225,25 +227,47 @@ fn each_write_fails(rt: HostRuntime) -> Result<(), Fail> {
     Ok(())
 }
 
-// With so many lines, or so many bytes, a script is read; with one more it is too long, and the lines before are answered.
+// A script that starts so and goes on with equal bytes, and what it writes where it is just short enough.
+type Longest<'a> = (&'a [u8], u8, usize, &'a [u8]);
+
+// Whether the script is read.
+fn fits(alloc: Global, script: &Longest<'_>) -> Result<bool, Fail> {
+    let (start, fill, filled, answers) = script;
+    let all = run_filled(alloc, start, *fill, *filled, WELL)?;
+    Ok(all.ended.is_ok() && all.written.as_slice() == *answers)
+}
+
+// Whether with one byte more it is too long, and the lines before are answered.
+fn is_over(
+    alloc: Global,
+    script: &Longest<'_>,
+    piece: usize,
+    answers: &[u8],
+) -> Result<bool, Fail> {
+    let (start, fill, filled, _) = script;
+    let limits = Limits { piece, ..WELL };
+    let over = run_filled(alloc, start, *fill, filled.saturating_add(1), limits)?;
+    Ok(over.ended == Err(RunFault::TooLong) && over.written.as_slice() == answers)
+}
+
+// So many lines, and so many bytes.
+const MOST_LINES: Longest<'static> = (b"reg read 8 4\n", b'\n', (1 << 20) - 1, b"0x2\n");
+
+const MOST_BYTES: Longest<'static> = (b"reg read 8 4#", b'x', (1 << 26) - 13, b"bad\n");
+
 #[test]
 fn each_limit(rt: HostRuntime) -> Result<(), Fail> {
-    let (line, long) = (b"reg read 8 4\n".as_slice(), b"reg read 8 4#".as_slice());
-    let cases: [(&[u8], u8, usize, &[u8], &[u8]); 2] = [
-        (line, b'\n', (1 << 20) - 1, b"0x2\n", b"0x2\n"),
-        (long, b'x', (1 << 26) - 13, b"bad\n", b""),
-    ];
-    for (start, fill, filled, all, _part) in cases {
-        let fits = run_filled(rt.alloc(), start, fill, filled, WELL)?;
-        assert!(rt; fits.ended.is_ok() && fits.written.as_slice() == all);
-    }
+    assert!(rt; fits(rt.alloc(), &MOST_LINES)?);
+    assert!(rt; fits(rt.alloc(), &MOST_BYTES)?);
     for piece in PIECES {
-        let limits = Limits { piece, ..WELL };
-        for (start, fill, filled, _all, part) in cases {
-            let over = run_filled(rt.alloc(), start, fill, filled + 1, limits)?;
-            let is_over = over.ended == Err(RunFault::TooLong) && over.written.as_slice() == part;
-            assert!(rt; is_over, "{piece} bytes a read");
-        }
+        assert!(rt;
+            is_over(rt.alloc(), &MOST_LINES, piece, b"0x2\n")?,
+            "{piece} bytes a read"
+        );
+        assert!(rt;
+            is_over(rt.alloc(), &MOST_BYTES, piece, b"")?,
+            "{piece} bytes a read"
+        );
     }
     Ok(())
 }
@@ -256,6 +280,12 @@ fn is_front(alloc: Global, writes: usize) -> Result<bool, Fail> {
     Ok(part.ended == Err(RunFault::Write) && has_front)
 }
 
+// Whether a run within these limits ends well, with all answers written.
+pub fn is_whole(alloc: Global, limits: Limits) -> Result<bool, Fail> {
+    let all = run(alloc, SCRIPT, limits)?;
+    Ok(all.ended.is_ok() && all.written.as_slice() == ANSWERS)
+}
+
 // The last call is the flush.
 #[test]
 fn each_byte_fails(rt: HostRuntime) -> Result<(), Fail> {
@@ -264,17 +294,19 @@ fn each_byte_fails(rt: HostRuntime) -> Result<(), Fail> {
     }
     let writes = ANSWERS.len() + 1;
     let bytes = Limits { most: 1, ..WELL };
-    let all = run(rt.alloc(), SCRIPT, Limits { writes, ..bytes })?;
-    assert!(rt; all.ended.is_ok() && all.written.as_slice() == ANSWERS);
+    assert!(rt; is_whole(rt.alloc(), Limits { writes, ..bytes })?);
     Ok(())
+}
+
+// Whether a run of which the second read fails has written these answers.
+pub fn is_read_once(alloc: Global, script: &[u8], answers: &[u8]) -> Result<bool, Fail> {
+    let part = run(alloc, script, Limits { reads: 1, ..WELL })?;
+    Ok(part.ended == Err(RunFault::Read) && part.written.as_slice() == answers)
 }
 
 #[test]
 fn answers_before_it_reads_on(rt: HostRuntime) -> Result<(), Fail> {
-    let part = run(rt.alloc(), b"reg read 8 4\n", Limits { reads: 1, ..WELL })?;
-    assert!(rt;
-        part.ended == Err(RunFault::Read) && part.written.as_slice() == b"0x2\n".as_slice()
-    );
+    assert!(rt; is_read_once(rt.alloc(), b"reg read 8 4\n", b"0x2\n")?);
     assert!(rt; is_answered(rt.alloc(), b"reg read 8 4", b"0x2\n")?);
     Ok(())
 }
@@ -292,21 +324,31 @@ fn is_long_answered(
     is_answered(alloc, line.as_slice(), want)
 }
 
-#[test]
-fn long_lines(rt: HostRuntime) -> Result<(), Fail> {
-    let cases: [(&[u8], u8, &[u8]); 4] = [
-        (b"reg read 8 4", b' ', b"0x2\n"),
-        (b"reg read 8 4 #", b'x', b"0x2\n"),
-        (b" ", b'\t', b""),
-        (b"#", b'#', b""),
-    ];
-    for (start, fill, want) in cases {
-        for end in [b"\n".as_slice(), b"".as_slice()] {
-            let line = (start, fill, end);
-            assert!(rt; is_long_answered(rt.alloc(), line, 512, want)?);
-            assert!(rt; is_long_answered(rt.alloc(), line, 513, b"bad\n")?);
+// How a line begins, what it is filled up with, and what is answered.
+const LONG: &[(&[u8], u8, &[u8])] = &[
+    (b"reg read 8 4", b' ', b"0x2\n"),
+    (b"reg read 8 4 #", b'x', b"0x2\n"),
+    (b" ", b'\t', b""),
+    (b"#", b'#', b""),
+];
+
+// The number of the first line that is answered otherwise, of those with this end.
+fn otherwise_long(alloc: Global, end: &[u8]) -> Result<Option<usize>, Fail> {
+    for (i, (start, fill, want)) in LONG.iter().enumerate() {
+        let line: (&[u8], u8, &[u8]) = (start, *fill, end);
+        if !is_long_answered(alloc, line, 512, want)?
+            || !is_long_answered(alloc, line, 513, b"bad\n")?
+        {
+            return Ok(Some(i));
         }
     }
+    Ok(None)
+}
+
+#[test]
+fn long_lines(rt: HostRuntime) -> Result<(), Fail> {
+    assert_eq!(rt; otherwise_long(rt.alloc(), b"\n")?, None);
+    assert_eq!(rt; otherwise_long(rt.alloc(), b"")?, None);
     Ok(())
 }
 
@@ -328,18 +370,23 @@ fn otherwise(
     None
 }
 
+const LINES: &[(&[u8], &[u8])] = &[
+    (b"reg read 8 4", b"0x2"),
+    (b"", b""),
+    (b" \t\r# load", b""),
+    (b"reg read 8 4\n", b"bad"),
+    (b"reg read 8 4\r", b"0x2"),
+    (b"place page 0", b"none"),
+];
+
+fn otherwise_answered(alloc: Global) -> Result<Option<usize>, Fail> {
+    let mut platform = small(alloc)?;
+    let mut trace = Trace::new(alloc)?;
+    Ok(otherwise(&mut platform, &mut trace, LINES))
+}
+
 #[test]
 fn answers_single_lines(rt: HostRuntime) -> Result<(), Fail> {
-    let mut platform = small(rt.alloc())?;
-    let mut trace = Trace::new(rt.alloc())?;
-    let cases: [(&[u8], &[u8]); 6] = [
-        (b"reg read 8 4", b"0x2"),
-        (b"", b""),
-        (b" \t\r# load", b""),
-        (b"reg read 8 4\n", b"bad"),
-        (b"reg read 8 4\r", b"0x2"),
-        (b"place page 0", b"none"),
-    ];
-    assert_eq!(rt; otherwise(&mut platform, &mut trace, &cases), None);
+    assert_eq!(rt; otherwise_answered(rt.alloc())?, None);
     Ok(())
 }

@@ -1,11 +1,12 @@
 //! Images of version 2, read-only disks, and images of version 1 as ones of version 2.
 
-use crate::asm::{REQUEST, changed, not_cut};
+use crate::asm::{
+    Changed, Judged, REQUEST, is_assembled, not_cut, otherwise_changed, otherwise_judged, with_byte,
+};
 use crate::devices::{moved, notified};
-use crate::first_wrong;
-use iom_asm::{LoadFault, assemble, built_in, judge, load, upgrade};
+use iom_asm::{LoadFault, assemble, built_in, load, upgrade};
 use iom_core::{Answer, Platform, Step};
-use std::alloc::Global;
+use std::alloc::{AllocError, Global};
 use std::test::Fail;
 
 // A page of memory, and a read-only disk of a sector that begins with 0xaa.
@@ -19,64 +20,94 @@ const WRITABLE: &[u8] =
 const UPGRADED: &[u8] =
     b"RVIOMMU2\0\0\0\x80\0\0\0\0\0\x10\0\0\0\0\0\0\0\0\0\0\x01\0\0\0\x05\0\0\0\x01\0\0\0\0\0\0\0\x01\0\0\0\xaa";
 
+const JUDGED: &[Judged<'static>] = &[
+    (READ_ONLY, None),
+    (UPGRADED, None),
+    // The flags 3 are judged once they are whole, before the length.
+    (
+        b"RVIOMMU2\0\0\0\x80\0\0\0\0\0\x10\0\0\0\0\0\0\0\0\0\0\x01\0\0\0\x05\0\0\0\x01\0\0\0\x03\0\0",
+        Some(LoadFault::Truncated),
+    ),
+    (
+        b"RVIOMMU2\0\0\0\x80\0\0\0\0\0\x10\0\0\0\0\0\0\0\0\0\0\x01\0\0\0\x05\0\0\0\x01\0\0\0\x03\0\0\0",
+        Some(LoadFault::BadDevice),
+    ),
+];
+
+const CHANGED: &[Changed<'static>] = &[
+    (READ_ONLY, 40, 2, Some(LoadFault::BadDevice)),
+    (READ_ONLY, 40, 3, Some(LoadFault::BadDevice)),
+    (READ_ONLY, 40, 0, None),
+    (READ_ONLY, 43, 0x80, Some(LoadFault::BadDevice)),
+    (READ_ONLY, 7, b'1', Some(LoadFault::Trailing)),
+    (READ_ONLY, 7, b'3', Some(LoadFault::BadMagic)),
+    (WRITABLE, 7, b'2', Some(LoadFault::Truncated)),
+];
+
 #[test]
-fn read_only_disk_is_stated(rt: HostRuntime) -> Result<(), Fail> {
-    let alloc = rt.alloc();
-    let image = assemble(alloc, b"ram 0x80000000 0x1000\nrodisk 5 1 aa\n")?;
-    let writable = assemble(alloc, b"ram 0x80000000 0x1000\ndisk 5 1 aa\n")?;
-    let facts = [
-        image.as_slice() == READ_ONLY,
-        image.len() == 49,
-        writable.as_slice() == WRITABLE,
-        judge(READ_ONLY).is_ok(),
-        judge(UPGRADED).is_ok(),
-        not_cut(READ_ONLY).is_none(),
-        changed(alloc, READ_ONLY, 40, 2)? == Some(LoadFault::BadDevice),
-        changed(alloc, READ_ONLY, 40, 0)?.is_none(),
-        changed(alloc, READ_ONLY, 43, 0x80)? == Some(LoadFault::BadDevice),
-        changed(alloc, READ_ONLY, 7, b'1')? == Some(LoadFault::Trailing),
-        changed(alloc, READ_ONLY, 7, b'3')? == Some(LoadFault::BadMagic),
-        changed(alloc, WRITABLE, 7, b'2')? == Some(LoadFault::Truncated),
-    ];
-    assert_eq!(rt; first_wrong(&facts), None);
+fn read_only_disk_is_stated(rt: HostRuntime) {
+    let read_only = b"ram 0x80000000 0x1000\nrodisk 5 1 aa\n";
+    let writable = b"ram 0x80000000 0x1000\ndisk 5 1 aa\n";
+    assert!(rt; is_assembled(rt.alloc(), read_only, READ_ONLY));
+    assert!(rt; is_assembled(rt.alloc(), writable, WRITABLE));
+}
+
+#[test]
+fn flags_are_judged(rt: HostRuntime) -> Result<(), Fail> {
+    assert_eq!(rt; otherwise_judged(JUDGED), None);
+    assert_eq!(rt; otherwise_changed(rt.alloc(), CHANGED)?, None);
+    assert_eq!(rt; not_cut(READ_ONLY), None);
     Ok(())
 }
 
-// The flags are judged once they are whole, before the length.
-#[test]
-fn flags_are_judged_before_the_length(rt: HostRuntime) -> Result<(), Fail> {
-    let mut image = Vec::from_slice(rt.alloc(), READ_ONLY)?;
-    if let Some(flags) = image.get_mut(40) {
-        *flags = 3;
+// Images, and what they are as ones of version 2.
+const UPGRADES: &[(&[u8], &[u8])] = &[
+    (READ_ONLY, READ_ONLY),
+    (WRITABLE, UPGRADED),
+    (UPGRADED, UPGRADED),
+];
+
+// An image of version 2 that differs from that of version 1 by its eighth byte alone.
+const BUILT_IN: &[u8] = b"RVIOMMU2\0\0\0\x80\0\0\0\0\0\0\x10\0\0\0\0\0\0\0\0\0\0\0\0\0";
+
+fn is_upgraded(alloc: Global, image: &[u8], want: &[u8]) -> bool {
+    match upgrade(alloc, image) {
+        Ok(new) => new.as_slice() == want,
+        Err(_) => false,
     }
-    let facts = [
-        judge(&image[..43.min(image.len())]) == Err(LoadFault::Truncated),
-        judge(&image[..44.min(image.len())]) == Err(LoadFault::BadDevice),
-        judge(&image) == Err(LoadFault::BadDevice),
-    ];
-    assert_eq!(rt; first_wrong(&facts), None);
-    Ok(())
+}
+
+// The number of the first image that is upgraded otherwise.
+fn otherwise(alloc: Global, upgrades: &[(&[u8], &[u8])]) -> Option<usize> {
+    for (i, (image, want)) in upgrades.iter().enumerate() {
+        if !is_upgraded(alloc, image, want) {
+            return Some(i);
+        }
+    }
+    None
+}
+
+fn is_refused(alloc: Global, image: &[u8], want: LoadFault) -> bool {
+    upgrade(alloc, image).err() == Some(want)
 }
 
 #[test]
 fn images_are_upgraded(rt: HostRuntime) -> Result<(), Fail> {
-    let alloc = rt.alloc();
-    let mut platform = built_in();
-    platform[7] = b'2';
-    let several = assemble(
-        alloc,
+    assert_eq!(rt; otherwise(rt.alloc(), UPGRADES), None);
+    assert!(rt; is_upgraded(rt.alloc(), &built_in(), BUILT_IN));
+    assert!(rt; is_refused(rt.alloc(), b"RVIOMMU3", LoadFault::BadMagic));
+    assert!(rt; is_refused(rt.alloc(), b"RVIOMMU", LoadFault::Truncated));
+    Ok(())
+}
+
+// An image with chunks and with disks of both kinds stays as it is.
+#[test]
+fn image_of_version_2_stays(rt: HostRuntime) -> Result<(), Fail> {
+    let image = assemble(
+        rt.alloc(),
         b"ram 0x80000000 0x1000\nbytes 0102\nat 0x80000ffe\nbytes 03\ndisk 5 1 aa\nrodisk 6 2\n",
     )?;
-    let facts = [
-        upgrade(alloc, READ_ONLY)?.as_slice() == READ_ONLY,
-        upgrade(alloc, WRITABLE)?.as_slice() == UPGRADED,
-        upgrade(alloc, UPGRADED)?.as_slice() == UPGRADED,
-        upgrade(alloc, &built_in())?.as_slice() == platform.as_slice(),
-        upgrade(alloc, &several)?.as_slice() == several.as_slice(),
-        upgrade(alloc, b"RVIOMMU3").err() == Some(LoadFault::BadMagic),
-        upgrade(alloc, b"RVIOMMU").err() == Some(LoadFault::Truncated),
-    ];
-    assert_eq!(rt; first_wrong(&facts), None);
+    assert!(rt; is_upgraded(rt.alloc(), &image, &image));
     Ok(())
 }
 
@@ -92,27 +123,45 @@ at 0x80051000
 bytes 5a
 ";
 
-// The platform of that request, notified, and upgraded before or not.
-fn writing(alloc: Global, disk: &[u8], upgraded: bool) -> Result<Platform, Fail> {
+// The text of that request, with a disk.
+fn text_with(alloc: Global, disk: &[u8]) -> Result<Vec<u8>, AllocError> {
     let mut text = Vec::from_slice(alloc, b"ram 0x80000000 0x100000\n")?;
     text.extend_from_slice(disk)?;
     text.extend_from_slice(WRITE)?;
-    let mut image = assemble(alloc, &text)?;
+    Ok(text)
+}
+
+// Its image, upgraded or not.
+fn image_with(alloc: Global, disk: &[u8], upgraded: bool) -> Result<Vec<u8>, Fail> {
+    let text = text_with(alloc, disk)?;
+    let image = assemble(alloc, &text)?;
     if upgraded {
-        image = upgrade(alloc, &image)?;
+        return Ok(upgrade(alloc, &image)?);
     }
-    let mut platform = load(alloc, &image)?;
+    Ok(image)
+}
+
+fn notify(platform: &mut Platform) {
     platform.step(&Step::RegWrite {
         off: 16,
         size: 8,
         value: 1,
     });
-    notified(&mut platform, 0x8004_0000, 0x8004_1000, 0x8004_2000);
+    notified(platform, 0x8004_0000, 0x8004_1000, 0x8004_2000);
+}
+
+// The platform of an image, notified of its request.
+fn notified_on(alloc: Global, image: &[u8]) -> Result<Platform, Fail> {
+    let mut platform = load(alloc, image)?;
+    notify(&mut platform);
     Ok(platform)
 }
 
-// Whether so many steps are done, of which the last finds that there is no other request, and then: what features are offered, the status byte, and the disk's first byte.
-fn ends(platform: &mut Platform, steps: usize, offered: u64, status: u64, first: u8) -> bool {
+// How many steps are done, of which the last finds that there is no other request, and then: what features are offered, the
+// status byte, and the disk's first byte.
+type Ending = (usize, u64, u64, u8);
+
+fn ends(platform: &mut Platform, (steps, offered, status, first): Ending) -> bool {
     let features = Step::DevRead {
         dev: 0,
         off: 0x10,
@@ -128,44 +177,55 @@ fn ends(platform: &mut Platform, steps: usize, offered: u64, status: u64, first:
         && matches!(platform.disk(0), Some([byte, ..]) if *byte == first)
 }
 
-// Eleven steps without the eight pieces of the data. A copy is of the same kind.
+// A disk, whether its image is upgraded, whether its platform is copied, and how the request ends.
+type Written<'a> = (&'a [u8], bool, bool, Ending);
+
+fn is_written(alloc: Global, case: &Written<'_>) -> Result<bool, Fail> {
+    let (disk, upgraded, copied, ending) = case;
+    let image = image_with(alloc, disk, *upgraded)?;
+    let mut platform = notified_on(alloc, &image)?;
+    if *copied {
+        platform = platform.try_clone(alloc)?;
+    }
+    Ok(ends(&mut platform, *ending))
+}
+
+fn otherwise_written(alloc: Global, cases: &[Written<'_>]) -> Result<Option<usize>, Fail> {
+    for (i, case) in cases.iter().enumerate() {
+        if !is_written(alloc, case)? {
+            return Ok(Some(i));
+        }
+    }
+    Ok(None)
+}
+
+// Of a read-only disk eleven steps without the eight pieces of the data.
+const WRITES: &[Written<'static>] = &[
+    (b"rodisk 5 1 aa", false, false, (11, 0x220, 1, 0xaa)),
+    (b"rodisk 5 1 aa", false, true, (11, 0x220, 1, 0xaa)),
+    (b"disk 5 1 aa", false, false, (19, 0x200, 0, 0x5a)),
+    (b"disk 5 1 aa", true, false, (19, 0x200, 0, 0x5a)),
+    (b"rodisk 5 1 aa", true, false, (11, 0x220, 1, 0xaa)),
+];
+
 #[test]
 fn read_only_disk_is_written(rt: HostRuntime) -> Result<(), Fail> {
-    let alloc = rt.alloc();
-    let mut read_only = writing(alloc, b"rodisk 5 1 aa", false)?;
-    let mut copy = read_only.try_clone(alloc)?;
-    let mut writable = writing(alloc, b"disk 5 1 aa", false)?;
-    let mut other = writing(alloc, b"disk 5 1 aa", true)?;
-    let mut same = writing(alloc, b"rodisk 5 1 aa", true)?;
-    let facts = [
-        ends(&mut read_only, 11, 0x220, 1, 0xaa),
-        ends(&mut copy, 11, 0x220, 1, 0xaa),
-        ends(&mut writable, 19, 0x200, 0, 0x5a),
-        ends(&mut other, 19, 0x200, 0, 0x5a),
-        ends(&mut same, 11, 0x220, 1, 0xaa),
-    ];
-    assert_eq!(rt; first_wrong(&facts), None);
+    assert_eq!(rt; otherwise_written(rt.alloc(), WRITES)?, None);
     Ok(())
+}
+
+// The image of a request that reads, with its disk read-only: its flags stand before its length and its three bytes.
+fn read_only_request(alloc: Global) -> Result<Vec<u8>, Fail> {
+    let image = assemble(alloc, REQUEST)?;
+    let new = upgrade(alloc, &image)?;
+    Ok(with_byte(alloc, &new, new.len().saturating_sub(11), 1)?)
 }
 
 // A read-only disk is read as any other.
 #[test]
 fn read_only_disk_is_read(rt: HostRuntime) -> Result<(), Fail> {
-    let image = assemble(rt.alloc(), REQUEST)?;
-    let new = upgrade(rt.alloc(), &image)?;
-    let mut two = Vec::from_slice(rt.alloc(), &new)?;
-    // Its flags stand before its length and its three bytes.
-    let at = two.len().saturating_sub(11);
-    if let Some(flags) = two.get_mut(at) {
-        *flags = 1;
-    }
-    let mut platform = load(rt.alloc(), &two)?;
-    platform.step(&Step::RegWrite {
-        off: 16,
-        size: 8,
-        value: 1,
-    });
-    notified(&mut platform, 0x8004_0000, 0x8004_1000, 0x8004_2000);
+    let image = read_only_request(rt.alloc())?;
+    let mut platform = notified_on(rt.alloc(), &image)?;
     assert!(rt; moved(&mut platform, 23) == 21);
     assert!(rt; platform.ram().word(0x8005_1000) == Some(0xee_ffc0));
     Ok(())

@@ -49,8 +49,34 @@ pub fn read(iova: u64) -> Step {
     }
 }
 
+// A platform with such a memory, on which nothing happened yet.
+pub fn started(alloc: Global, words: &[(u64, u64)]) -> Result<Platform, Fail> {
+    let ram = memory(alloc, words)?;
+    Ok(Platform::new(alloc, ram, Vec::new(alloc))?)
+}
+
+// Carries out steps, and leaves their answers aside.
+pub fn take(platform: &mut Platform, steps: &[Step]) {
+    for step in steps {
+        platform.step(step);
+    }
+}
+
 // A step, and the warrant of its access.
 pub type Case = (usize, Option<Warrant>);
+
+// Whether step n has this warrant, of steps carried out from a memory with these words on.
+fn is_warranted(
+    alloc: Global,
+    words: &[(u64, u64)],
+    steps: &[Step],
+    n: usize,
+    want: Option<Warrant>,
+) -> Result<bool, Fail> {
+    let ram = memory(alloc, words)?;
+    let start = Platform::new(alloc, ram, Vec::new(alloc))?;
+    Ok(n < steps.len() && explain(alloc, &start, steps, n)? == want)
+}
 
 // The number of the first case that is otherwise, of steps carried out from a memory with these words on.
 pub fn otherwise(
@@ -59,10 +85,8 @@ pub fn otherwise(
     steps: &[Step],
     cases: &[Case],
 ) -> Result<Option<usize>, Fail> {
-    let ram = memory(alloc, words)?;
-    let start = Platform::new(alloc, ram, Vec::new(alloc))?;
     for (i, (n, want)) in cases.iter().enumerate() {
-        if *n >= steps.len() || explain(alloc, &start, steps, *n)? != *want {
+        if !is_warranted(alloc, words, steps, *n, *want)? {
             return Ok(Some(i));
         }
     }
@@ -174,21 +198,28 @@ fn compared_otherwise(platform: &Platform, cases: &[Compared]) -> Option<usize> 
     None
 }
 
-// Of 65 pages read the first has left the cache. A look-up compares the keys of one bucket, the newest first: those of every 32nd page.
-#[test]
-fn look_ups_compare_one_bucket(rt: HostRuntime) -> Result<(), Fail> {
-    let ram = memory(rt.alloc(), &MAPPED)?;
-    let mut platform = Platform::new(rt.alloc(), ram, Vec::new(rt.alloc()))?;
-    platform.step(&written(16, 8, 0x2000_0402));
-    platform.step(&stored(0x8000_3008, 0x2000_00d7));
+fn read_pages(platform: &mut Platform) {
     for page in 0x4_0200..0x4_0241 {
         platform.step(&read(page * 4096));
     }
-    let cases = [
-        (0x4_0240, true, 1),
-        (0x4_0220, true, 2),
-        (0x4_0200, false, 2),
+}
+
+const COMPARED: &[Compared] = &[
+    (0x4_0240, true, 1),
+    (0x4_0220, true, 2),
+    (0x4_0200, false, 2),
+];
+
+// Of 65 pages read the first has left the cache. A look-up compares the keys of one bucket, the newest first: those of every 32nd page.
+#[test]
+fn look_ups_compare_one_bucket(rt: HostRuntime) -> Result<(), Fail> {
+    let mut platform = started(rt.alloc(), &MAPPED)?;
+    let steps = [
+        written(16, 8, 0x2000_0402),
+        stored(0x8000_3008, 0x2000_00d7),
     ];
-    assert_eq!(rt; compared_otherwise(&platform, &cases), None);
+    take(&mut platform, &steps);
+    read_pages(&mut platform);
+    assert_eq!(rt; compared_otherwise(&platform, COMPARED), None);
     Ok(())
 }
