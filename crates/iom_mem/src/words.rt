@@ -15,8 +15,8 @@ pub fn all_words(words: &[u64]) -> &[u64]
     words
 }
 
-/// The eight bytes from place `at` on, as a number.
-pub fn word_at(words: &[u64], at: usize) -> u64
+// The eight bytes from place `at` on, as a number.
+fn word_at(words: &[u64], at: usize) -> u64
     requires { at + 8 ≤ 8 * length words.now }
     ensures bytes { bytes_of_number 8 result ≡ take 8 (drop at (bytes_of_words words.now)) }
     ensures value { result ≡ number_of_bytes (take 8 (drop at (bytes_of_words words.now))) }
