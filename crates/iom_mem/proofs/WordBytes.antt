@@ -1,6 +1,7 @@
 -- The bytes of words, place by place.
 use Rattle.std.proofs.Common.{◌≡◌, ◌+◌, ◌-◌, ◌*◌, ◌/◌, ◌%◌, ◌^◌, ◌<◌, ◌≤◌, ℕ, zero, suc, List, [], ◌∷◌, ◌++◌, length, get_or, take, drop, replicate, sym, ◌∙◌, ap, refl, inl, inr, arith, append_assoc, length-append, length-take, length-drop, get_or-take, get_or-drop}
-use Rattle.std.proofs.lemmas.List.{ext_get_or, get_or_append_left, get_or-append_right}
+use Rattle.std.proofs.Math.Seq.{drop-append_seam}
+use Rattle.std.proofs.lemmas.List.{take-append-drop, ext_get_or, get_or_append_left, get_or-append_right}
 use Rattle.std.proofs.lemmas.Bool.{cases_lt}
 use Rattle.iom_bits.specs.Bytes.{bytes_of_number}
 use Rattle.iom_mem.specs.Words.{bytes_of_words}
@@ -18,6 +19,16 @@ bytes_of_append [] back = refl
 bytes_of_append (word ∷ words) back =
     ap (λ bytes. bytes_of_number 8 word ++ bytes) (bytes_of_append words back)
     ∙ sym (append_assoc (bytes_of_number 8 word) (bytes_of_words words) (bytes_of_words back))
+
+pub bytes_of_drop : (words : List ℕ) (k : ℕ) → k ≤ length words → bytes_of_words (drop k words) ≡ drop (8 * k) (bytes_of_words words)
+bytes_of_drop words k within =
+    let front : List ℕ = take k words in
+    let back : List ℕ = drop k words in
+    let size : length (bytes_of_words front) ≡ 8 * k = words_hold front ∙ omega (arith, length-take k words) in
+    let parts : bytes_of_words front ++ bytes_of_words back ≡ bytes_of_words words =
+    sym (bytes_of_append front back) ∙ ap bytes_of_words (take-append-drop k words) in
+    sym (drop-append_seam (bytes_of_words front) (bytes_of_words back))
+    ∙ ap (λ n. drop n (bytes_of_words front ++ bytes_of_words back)) size ∙ ap (drop (8 * k)) parts
 
 pub bytes_of_zeros : (count : ℕ) → bytes_of_words (replicate count 0) ≡ replicate (8 * count) 0
 unfolding bytes_of_words

@@ -1,4 +1,4 @@
-ghost use Rattle.std.specs.Prelude.{◌≡◌, ◌+◌, ◌-◌, ◌*◌, ◌/◌, ◌%◌, ◌^◌, ◌<◌, ◌≤◌, ℕ, length, take, drop};
+ghost use Rattle.std.specs.Prelude.{◌≡◌, ◌+◌, ◌-◌, ◌*◌, ◌/◌, ◌%◌, ◌^◌, ◌<◌, ◌≤◌, ℕ, length, get_or, take, drop};
 ghost use Rattle.std.proofs.Math.Seq.{paste};
 ghost use Rattle.iom_bits.specs.Bytes.{number_of_bytes, bytes_of_number};
 ghost use Rattle.iom_mem.specs.Words.{bytes_of_words, AreWords, StartsWith};
@@ -15,8 +15,8 @@ pub fn all_words(words: &[u64]) -> &[u64]
     words
 }
 
-/// The eight bytes from place `at` on, as a number.
-pub fn word_at(words: &[u64], at: usize) -> u64
+// The eight bytes from place `at` on, as a number.
+fn word_at(words: &[u64], at: usize) -> u64
     requires { at + 8 ≤ 8 * length words.now }
     ensures bytes { bytes_of_number 8 result ≡ take 8 (drop at (bytes_of_words words.now)) }
     ensures value { result ≡ number_of_bytes (take 8 (drop at (bytes_of_words words.now))) }
@@ -80,40 +80,78 @@ pub fn read_bytes(words: &[u64], at: usize, out: &mut [u8])
     ensures { out.new ≡ take (length out.old) (drop at (bytes_of_words words.now)) }
 {
     let len = out.len();
-    if len > 16 {
-        read_many(words, at, out);
-    } else if len >= 8 {
-        put_word(out, 0, word_at(words, at));
-        put_word(out, len - 8, word_at(words, at + (len - 8)));
+    if len >= 8 {
+        read_from(&words[at / 8..], at % 8, out);
     } else if len > 0 {
         put_few(out, few_at(words, at, len));
     }
 }
 
-// Fills `out`, more than sixteen bytes: the last word and the first one shifted, and then the words
+// Fills `out`, eight bytes or more, from place `at` on, which is in the first word.
+fn read_from(words: &[u64], at: usize, out: &mut [u8])
+    requires within { at + length out.old ≤ 8 * length words.now }
+    requires some { 8 ≤ length out.old }
+    ensures { out.new ≡ take (length out.old) (drop at (bytes_of_words words.now)) }
+{
+    let len = out.len();
+    if len > 72 {
+        read_many(words, at, out);
+    } else if len > 16 {
+        read_some(words, at, out);
+    } else {
+        put_word(out, 0, word_at(words, at));
+        put_word(out, len - 8, word_at(words, at + (len - 8)));
+    }
+}
+
+// Fills `out`, from 17 to 72 bytes: the last word and the first one shifted, and then the words
 // between them as they stand, over what is not theirs.
+fn read_some(words: &[u64], at: usize, out: &mut [u8])
+    requires within { at + length out.old ≤ 8 * length words.now }
+    requires some { 16 < length out.old }
+    requires few { length out.old ≤ 72 }
+    ensures { out.new ≡ take (length out.old) (drop at (bytes_of_words words.now)) }
+{
+    let last = at + out.len() - 1;
+    put_ends(words, at, out);
+    put_words(out, 8 - at % 8, &words[at / 8 + 1..last / 8]);
+}
+
+// Fills `out`, more than 72 bytes. A function of its own keeps the code for fewer short.
+#[inline(never)]
 fn read_many(words: &[u64], at: usize, out: &mut [u8])
     requires within { at + length out.old ≤ 8 * length words.now }
-    requires many { 16 < length out.old }
+    requires many { 72 < length out.old }
     ensures { out.new ≡ take (length out.old) (drop at (bytes_of_words words.now)) }
+{
+    let last = at + out.len() - 1;
+    put_ends(words, at, out);
+    put_row(out, 8 - at % 8, &words[at / 8 + 1..last / 8]);
+}
+
+// The word with the last byte, and the one with the first: each shifted to its end of `out`.
+fn put_ends(words: &[u64], at: usize, out: &mut [u8])
+    requires within { at + length out.old ≤ 8 * length words.now }
+    requires many { 16 < length out.old }
+    ensures { out.new ≡ paste (paste out.old (length out.old - 8)
+        (bytes_of_number 8 (get_or words.now ((at + length out.old - 1) / 8) 0 * 2 ^ (8 * (7 - (at + length out.old - 1) % 8)) % 2 ^ 64)) 8)
+        0 (bytes_of_number 8 (get_or words.now (at / 8) 0 / 2 ^ (8 * (at % 8)))) 8 }
 {
     let len = out.len();
     let last = at + len - 1;
     put_word(out, len - 8, words[last / 8] << (8 * (7 - last % 8)));
     put_word(out, 0, words[at / 8] >> (8 * (at % 8)));
-    put_words(out, 8 - at % 8, &words[at / 8 + 1..last / 8]);
 }
 
-// Replaces the bytes of `out` from `to` on by those of words; the last steps overlap earlier ones.
+// Replaces the bytes of `out` from `to` on by those of at most eight words; the last step overlaps the
+// first.
 fn put_words(out: &mut [u8], to: usize, words: &[u64])
-    requires { to + 8 * length words.now ≤ length out.old }
+    requires room { to + 8 * length words.now ≤ length out.old }
+    requires few { length words.now ≤ 8 }
     ensures { out.new ≡ paste out.old to (bytes_of_words words.now) (8 * length words.now) }
 {
     let count = words.len();
-    if count > 8 {
-        put_pairs(out, to, words);
-        put_two(out, to, words, count - 2);
-    } else if count >= 4 {
+    if count >= 4 {
         put_four(out, to, words, 0);
         put_four(out, to, words, count - 4);
     } else if count >= 2 {
@@ -122,6 +160,16 @@ fn put_words(out: &mut [u8], to: usize, words: &[u64])
     } else if count == 1 {
         put_word(out, to, words[0]);
     }
+}
+
+// The same for any number of words from two on.
+fn put_row(out: &mut [u8], to: usize, words: &[u64])
+    requires room { to + 8 * length words.now ≤ length out.old }
+    requires some { 2 ≤ length words.now }
+    ensures { out.new ≡ paste out.old to (bytes_of_words words.now) (8 * length words.now) }
+{
+    put_pairs(out, to, words);
+    put_two(out, to, words, words.len() - 2);
 }
 
 // The words two at a time; one that is left over is not put.

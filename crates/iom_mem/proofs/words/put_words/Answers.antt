@@ -1,21 +1,9 @@
-use Rattle.std.proofs.Common.{◌≡◌, ◌+◌, ◌-◌, ◌*◌, ◌/◌, ℕ, List, length, take, drop, ap, ◌∙◌, arith}
+use Rattle.std.proofs.Common.{◌≡◌, ◌+◌, ◌-◌, ◌*◌, ℕ, List, length, take, drop, ap, ◌∙◌, arith}
 use Rattle.std.proofs.Math.Seq.{paste}
 use Rattle.iom_mem.specs.Words.{bytes_of_words}
 use Rattle.iom_mem.proofs.WordBytes.{words_hold, whole_word}
-use Rattle.iom_mem.proofs.Pasting.{paste_first, paste_both, paste_more_of}
+use Rattle.iom_mem.proofs.Pasting.{paste_first, paste_both}
 use Rattle.iom_mem.proofs.words.put_words.Goals as goal
-
-pub returns-then-count-gt8 : goal.returns-then-count-gt8
-returns-then-count-gt8 c =
-    let words : List ℕ = c.args.words.now in
-    let bytes : List ℕ = bytes_of_words words in
-    let count : ℕ = length words in
-    let to : ℕ = c.args.to in
-    let from : ℕ = 8 * (count - 2) in
-    c.put_two.ensures
-    ∙ ap (λ e. paste e (to + from) (take 16 (drop from bytes)) 16) c.put_pairs.ensures
-    ∙ paste_more_of c.args.out.now to bytes (16 * (count / 2)) from 16 (to + from) (8 * count) (omega arith) (omega arith) (omega arith)
-    (omega arith) (omega (arith, words_hold words)) (omega (arith, c.requires))
 
 pub returns-then-count-ge4 : goal.returns-then-count-ge4
 returns-then-count-ge4 c =
@@ -27,7 +15,7 @@ returns-then-count-ge4 c =
     c.put_four-then-count-ge4.ensures
     ∙ ap (λ e. paste e (to + from) (take 32 (drop from bytes)) 32) c.put_four.ensures
     ∙ paste_both c.args.out.now to bytes 32 (8 * 0) from (to + 8 * 0) (to + from) (8 * count) (omega arith) (omega arith) (omega arith) (omega arith)
-    (omega arith) (omega (arith, words_hold words)) (omega (arith, c.requires))
+    (omega arith) (omega (arith, words_hold words)) (omega (arith, c.requires.room))
 
 pub returns-then-count-ge2 : goal.returns-then-count-ge2
 returns-then-count-ge2 c =
@@ -36,10 +24,10 @@ returns-then-count-ge2 c =
     let count : ℕ = length words in
     let to : ℕ = c.args.to in
     let from : ℕ = 8 * (count - 2) in
-    c.put_two-then-count-ge2-2.ensures
-    ∙ ap (λ e. paste e (to + from) (take 16 (drop from bytes)) 16) c.put_two-then-count-ge2.ensures
+    c.put_two-then-count-ge2.ensures
+    ∙ ap (λ e. paste e (to + from) (take 16 (drop from bytes)) 16) c.put_two.ensures
     ∙ paste_both c.args.out.now to bytes 16 (8 * 0) from (to + 8 * 0) (to + from) (8 * count) (omega arith) (omega arith) (omega arith) (omega arith)
-    (omega arith) (omega (arith, words_hold words)) (omega (arith, c.requires))
+    (omega arith) (omega (arith, words_hold words)) (omega (arith, c.requires.room))
 
 pub returns-then-count-eq1 : goal.returns-then-count-eq1
 returns-then-count-eq1 c =

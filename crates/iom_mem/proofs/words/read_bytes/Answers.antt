@@ -1,32 +1,18 @@
-use Rattle.std.proofs.Common.{◌≡◌, ◌+◌, ◌-◌, ℕ, List, length, subst, ◌∙◌, add-zero, arith}
-use Rattle.std.proofs.lemmas.List.Edits.{length-paste}
-use Rattle.std.proofs.Math.Seq.{paste}
-use Rattle.iom_bits.specs.Bytes.{bytes_of_number}
-use Rattle.iom_mem.specs.Words.{bytes_of_words, StartsWith}
-use Rattle.iom_mem.proofs.Digits.{length-bytes_of_number}
-use Rattle.iom_mem.proofs.WordBytes.{words_hold}
-use Rattle.iom_mem.proofs.Pasting.{more_read, all_read}
+use Rattle.std.proofs.Common.{◌≡◌, ◌+◌, ◌*◌, ◌/◌, ◌%◌, ℕ, List, length, take, drop, ap, ◌∙◌, arith, drop-drop}
+use Rattle.std.proofs.lemmas.List.{take_rest}
+use Rattle.iom_mem.specs.Words.{bytes_of_words}
+use Rattle.iom_mem.proofs.WordBytes.{bytes_of_drop}
 use Rattle.iom_mem.proofs.words.read_bytes.Goals as goal
 
 pub returns-then-len-ge8 : goal.returns-then-len-ge8
 returns-then-len-ge8 c =
+    let words : List ℕ = c.args.words.now in
     let at : ℕ = c.args.at in
-    let bytes : List ℕ = bytes_of_words c.args.words.now in
-    let out : List ℕ = c.args.out.now in
-    let count : ℕ = length out in
-    let low : ℕ = c.word_at.result in
-    let high : ℕ = c.word_at-then-len-ge8.result in
-    let low_size : length (bytes_of_number 8 low) ≡ 8 = length-bytes_of_number 8 low in
-    let high_size : length (bytes_of_number 8 high) ≡ 8 = length-bytes_of_number 8 high in
-    let once : List ℕ = paste out 0 (bytes_of_number 8 low) 8 in
-    let twice : List ℕ = paste once (count - 8) (bytes_of_number 8 high) 8 in
-    let first : StartsWith once bytes at 8 =
-    more_read out bytes at 0 0 low (λ k h. absurd (omega arith)) (omega arith) (omega arith) low_size (rw add-zero c.word_at.ensures.bytes) in
-    let once_size : length once ≡ count = length-paste out 0 (bytes_of_number 8 low) 8 c.if-len-ge8.true (omega (arith, low_size)) in
-    let more : StartsWith twice bytes at (count - 8 + 8) =
-    more_read once bytes at (count - 8) 8 high first (omega arith) (omega (arith, once_size)) high_size c.word_at-then-len-ge8.ensures.bytes in
-    let twice_size : length twice ≡ count =
-    length-paste once (count - 8) (bytes_of_number 8 high) 8 (omega (arith, once_size)) (omega (arith, high_size)) ∙ once_size in
-    let end : count - 8 + 8 ≡ count = omega arith in
-    rw (c.put_word-then-len-ge8.ensures, c.put_word.ensures) (all_read twice bytes at count twice_size
-    (omega (arith, c.requires, words_hold c.args.words.now)) (subst (StartsWith twice bytes at) end more))
+    let first : ℕ = at / 8 in
+    let len : ℕ = length c.args.out.now in
+    let place : 8 * first + at % 8 ≡ at = omega arith in
+    c.read_from.ensures
+    ∙ ap (λ ws. take len (drop (at % 8) (bytes_of_words ws))) (take_rest words first)
+    ∙ ap (λ bytes. take len (drop (at % 8) bytes)) (bytes_of_drop words first (omega (arith, c.requires)))
+    ∙ ap (take len) (drop-drop (at % 8) (8 * first) (bytes_of_words words))
+    ∙ ap (λ k. take len (drop k (bytes_of_words words))) place

@@ -1,6 +1,5 @@
 use Rattle.std.proofs.Common.{◌+◌, ◌-◌, ◌*◌, ◌/◌, ◌%◌, ◌^◌, ℕ, List, length, get_or, take, drop, refl, ap, ◌∙◌, arith}
 use Rattle.std.proofs.Math.Seq.{paste}
-use Rattle.iom_bits.specs.Bytes.{bytes_of_number}
 use Rattle.iom_mem.specs.Words.{bytes_of_words}
 use Rattle.iom_mem.proofs.Ends.{many_read}
 use Rattle.iom_mem.proofs.words.read_many.Goals as goal
@@ -14,7 +13,6 @@ returns c =
     let middle : List ℕ = take (last / 8 - (at / 8 + 1)) (drop (at / 8 + 1) words) in
     let high : ℕ = get_or words (last / 8) 0 * 2 ^ (8 * (7 - last % 8)) % 2 ^ 64 in
     let low : ℕ = get_or words (at / 8) 0 / 2 ^ (8 * (at % 8)) in
-    c.put_words.ensures
-    ∙ ap (λ e. paste e (8 - at % 8) (bytes_of_words middle) (8 * length middle))
-    (c.put_word-2.ensures ∙ ap (λ e. paste e 0 (bytes_of_number 8 low) 8) c.put_word.ensures)
-    ∙ many_read words out middle at last low high c.requires.within c.requires.many (omega (arith, c.requires.many)) refl refl refl
+    c.put_row.ensures
+    ∙ ap (λ e. paste e (8 - at % 8) (bytes_of_words middle) (8 * length middle)) c.put_ends.ensures
+    ∙ many_read words out middle at last low high c.requires.within (omega (arith, c.requires.many)) (omega (arith, c.requires.many)) refl refl refl
