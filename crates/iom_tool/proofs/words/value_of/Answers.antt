@@ -1,4 +1,4 @@
-use Rattle.std.proofs.Common.{◌∙◌, ap, get_or, arith}
+use Rattle.std.proofs.Common.{ap, get_or, arith}
 use Rattle.iom_tool.specs.declared.words.TheConstants.{VALUES}
 use Rattle.iom_tool.proofs.Values.{digit, other}
 use Rattle.iom_tool.proofs.words.value_of.Goals as goal
