@@ -26,9 +26,12 @@ fn takes_and_replaces_bits(rt: HostRuntime) {
 }
 
 fn otherwise(causes: &[(Cause, u16)]) -> Option<usize> {
-    causes
-        .iter()
-        .position(|(cause, number)| cause.number() != *number)
+    for (i, (cause, number)) in causes.iter().enumerate() {
+        if cause.number() != *number {
+            return Some(i);
+        }
+    }
+    None
 }
 
 #[test]

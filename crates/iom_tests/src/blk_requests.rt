@@ -74,8 +74,8 @@ const ACCESSES: u64 = 21;
 // Two sectors; byte j is j / 32.
 fn disk(alloc: Global) -> Result<Vec<u8>, AllocError> {
     let mut disk = Vec::new(alloc);
-    for i in 0..32 {
-        disk.resize((i + 1) * 32, i as u8)?;
+    for byte in 0..32_u8 {
+        disk.resize((byte as usize + 1) * 32, byte)?;
     }
     Ok(disk)
 }
@@ -210,10 +210,20 @@ fn breaks(bench: &mut Bench) -> bool {
     step(bench) == Moved::Outside && shows(bench, 0x4f, 2) && step(bench) == Moved::Idle
 }
 
-// A broken device is reset by 0 alone.
-fn resets(bench: &mut Bench) -> bool {
-    wrote(bench, 0x70, 0xf) && shows(bench, 0x4f, 2) && wrote(bench, 0x70, 0) && shows(bench, 0, 0)
+// Writes to registers, and the status and the interrupts after each.
+type Shown = (u64, u32, u64, u64);
+
+fn shows_after(bench: &mut Bench, writes: &[Shown]) -> bool {
+    for (off, value, status, interrupts) in writes {
+        if !wrote(bench, *off, *value) || !shows(bench, *status, *interrupts) {
+            return false;
+        }
+    }
+    true
 }
+
+// A broken device is reset by 0 alone.
+const RESET: &[Shown] = &[(0x70, 0xf, 0x4f, 2), (0x70, 0, 0, 0)];
 
 // Whether a device whose next access is refused after so many is broken, and leaves on the bus what the accesses before left.
 // Afterwards a reset and a new set-up lead to the whole request.
@@ -222,7 +232,7 @@ fn is_refused(alloc: Global, accesses: u64) -> Result<bool, Fail> {
     go(&mut short, accesses);
     let mut whole = ready(alloc, &[IN], PLENTY)?;
     go(&mut whole, accesses);
-    if !breaks(&mut short) || !same_memory(&short, &whole) || !resets(&mut short) {
+    if !breaks(&mut short) || !same_memory(&short, &whole) || !shows_after(&mut short, RESET) {
         return Ok(false);
     }
     short.tape = tape(alloc, &[IN], PLENTY)?;
@@ -247,10 +257,14 @@ fn each_access_refused(rt: HostRuntime) -> Result<(), Fail> {
     Ok(())
 }
 
+fn steps_alike(one: &mut Bench, other: &mut Bench) -> bool {
+    step(one) == step(other)
+}
+
 // Whether two devices take the same steps from step n on until the request has ended.
 fn go_together(one: &mut Bench, other: &mut Bench, n: u64) -> bool {
     for _ in n..ACCESSES + 2 {
-        if step(one) != step(other) {
+        if !steps_alike(one, other) {
             return false;
         }
     }
@@ -425,15 +439,14 @@ const BROKEN: &[(u64, u64)] = &[
     (BASE + 0x10, 0x9000_0000),
 ];
 
-// A broken device is idle, and tells of itself by its second interrupt alone.
+// The second interrupt is taken back by its own bit alone.
+const TAKEN_BACK: &[Shown] = &[(0x64, 1, 0x4f, 2), (0x64, 2, 0x4f, 0)];
+
 fn is_broken(bench: &mut Bench) -> bool {
     shows(bench, 0x4f, 2)
         && step(bench) == Moved::Idle
         && word(bench, RING) == Some(0)
-        && wrote(bench, 0x64, 1)
-        && shows(bench, 0x4f, 2)
-        && wrote(bench, 0x64, 2)
-        && shows(bench, 0x4f, 0)
+        && shows_after(bench, TAKEN_BACK)
 }
 
 // The first word that doesn't break the device.

@@ -32,10 +32,10 @@ fn chain(limit: u16, read: u16, written: u16) -> Option<Chain> {
 
 fn otherwise(cases: &[Case]) -> Option<usize> {
     for (i, (limit, read, written, (addr, len, flags, next), want)) in cases.iter().enumerate() {
-        let added = chain(*limit, *read, *written).map(|mut chain| chain.add(
-            *addr, *len, *flags, *next,
-        ));
-        if added != Some(*want) {
+        let Some(mut chain) = chain(*limit, *read, *written) else {
+            return Some(i);
+        };
+        if chain.add(*addr, *len, *flags, *next) != *want {
             return Some(i);
         }
     }

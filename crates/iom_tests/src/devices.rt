@@ -3,9 +3,9 @@
 ghost use Rattle.std.specs.Prelude.{IfOk};
 ghost use Rattle.iom_core.specs.State.{AreDevices};
 
-use crate::warrants::{Case, memory, stored, take, written};
+use crate::warrants::{Case, is_warranted, memory, stored, take, written};
 use iom_blk::Blk;
-use iom_core::{Answer, Platform, Step, Warrant, explain};
+use iom_core::{Answer, Platform, Step, Warrant};
 use iom_mem::Ram;
 use std::alloc::{AllocError, Global};
 use std::test::Fail;
@@ -79,7 +79,7 @@ const BEFORE_QUEUE: [(u64, u64); 6] = [
 
 const AFTER_QUEUE: [(u64, u64); 3] = [(0x44, 1), (0x70, 0xf), (0x50, 0)];
 
-// Device 5, with a disk of so many bytes of which the first are given. It must be 512, 1024 or 12288.
+// Device 5, with a disk of so many bytes of which the first are given. Of another size than 512, 1024 or 12288 there is none.
 pub fn devices(alloc: Global, size: usize, start: &[u8]) -> Result<Vec<(u32, Blk)>, Fail>
     ensures { IfOk result (λ devices. AreDevices devices.items) }
 {
@@ -133,23 +133,11 @@ fn reading(alloc: Global) -> Result<Platform, Fail> {
     Ok(platform)
 }
 
-// Whether step n of a list has this warrant, from a platform on which nothing happened yet.
-fn is_warranted(
-    alloc: Global,
-    steps: &[Step],
-    n: usize,
-    want: Option<Warrant>,
-) -> Result<bool, Fail> {
-    let ram = memory(alloc, &WALKED_WRITE)?;
-    let start = Platform::new(alloc, ram, devices(alloc, 512, &[])?)?;
-    Ok(n < steps.len() && explain(alloc, &start, steps, n)? == want)
-}
-
 // The number of the first step with another warrant.
 fn otherwise(alloc: Global, steps: &[Step], cases: &[Case]) -> Result<Option<usize>, Fail> {
-    for (n, want) in cases {
-        if !is_warranted(alloc, steps, *n, *want)? {
-            return Ok(Some(*n));
+    for case in cases {
+        if !is_warranted(alloc, &WALKED_WRITE, 512, steps, *case)? {
+            return Ok(Some(case.0));
         }
     }
     Ok(None)
@@ -275,8 +263,12 @@ fn told(
 
 // The words of the request's data, its direction and its status.
 fn laid(ram: &mut Ram, request: Request) {
-    let flags = if request.is_write { 1 } else { 3 };
-    let data = 0x0002_0000_0000_0000 | (flags << 32) | (0x1000 * (request.pages % 4));
+    let data: u64 = match (request.pages, request.is_write) {
+        (1, true) => 0x0002_0001_0000_1000,
+        (1, false) => 0x0002_0003_0000_1000,
+        (_, true) => 0x0002_0001_0000_3000,
+        (_, false) => 0x0002_0003_0000_3000,
+    };
     let _is_inside = ram.write(0x8004_0018, &data.to_le_bytes());
     let _is_inside = ram.write(0x8004_0300, &[request.is_write as u8]);
 }

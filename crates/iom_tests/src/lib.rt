@@ -45,5 +45,10 @@ mod warrants;
 // The number of the first fact that isn't so.
 #[cfg(test)]
 fn first_wrong(facts: &[bool]) -> Option<usize> {
-    facts.iter().position(|fact| !*fact)
+    for (i, fact) in facts.iter().enumerate() {
+        if !*fact {
+            return Some(i);
+        }
+    }
+    None
 }

@@ -122,10 +122,13 @@ fn keeps_what_is_written(rt: HostRuntime) -> Result<(), Fail> {
 
 // Whether the memory's bytes are those of a list.
 fn same(ram: &Ram, list: &[u8]) -> bool {
-    list.iter().enumerate().all(|(i, byte)| {
+    for (i, byte) in list.iter().enumerate() {
         let mut out = [0];
-        ram.read(BASE.wrapping_add(i as u64), &mut out) && out[0] == *byte
-    })
+        if !ram.read(BASE.wrapping_add(i as u64), &mut out) || out[0] != *byte {
+            return false;
+        }
+    }
+    true
 }
 
 // Whether a write changes the memory as it changes a list, and a read gives the bytes back.

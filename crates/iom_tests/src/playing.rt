@@ -113,9 +113,12 @@ const NAMES: &[(&[u8], Option<Item>)] = &[
 ];
 
 fn named_otherwise(names: &[(&[u8], Option<Item>)]) -> Option<usize> {
-    names
-        .iter()
-        .position(|(name, item)| Item::named(name) != *item)
+    for (i, (name, item)) in names.iter().enumerate() {
+        if Item::named(name) != *item {
+            return Some(i);
+        }
+    }
+    None
 }
 
 #[test]

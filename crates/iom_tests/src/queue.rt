@@ -69,9 +69,12 @@ fn otherwise(encodings: &[(Command, [u64; 2])]) -> Option<usize> {
 
 // The first words that are a command.
 fn decoded(words: &[[u64; 2]]) -> Option<usize> {
-    words
-        .iter()
-        .position(|pair| decode_command(*pair).is_some())
+    for (i, pair) in words.iter().enumerate() {
+        if decode_command(*pair).is_some() {
+            return Some(i);
+        }
+    }
+    None
 }
 
 const ENCODINGS: &[(Command, [u64; 2])] = &[

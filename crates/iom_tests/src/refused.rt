@@ -303,7 +303,7 @@ fn is_memory_copied(alloc: Global, platform: &Platform) -> Result<bool, AllocErr
 }
 
 fn same_translations(one: &TransCache, other: &TransCache) -> bool {
-    (0..2).all(|i| one.place(i) == other.place(i))
+    one.place(0) == other.place(0) && one.place(1) == other.place(1)
 }
 
 fn are_translations_copied(alloc: Global, platform: &Platform) -> Result<bool, AllocError> {
@@ -312,7 +312,7 @@ fn are_translations_copied(alloc: Global, platform: &Platform) -> Result<bool, A
 }
 
 fn same_contexts(one: &ContextCache, other: &ContextCache) -> bool {
-    (0..2).all(|i| one.place(i) == other.place(i))
+    one.place(0) == other.place(0) && one.place(1) == other.place(1)
 }
 
 fn are_contexts_copied(alloc: Global, platform: &Platform) -> Result<bool, AllocError> {

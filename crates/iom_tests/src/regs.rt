@@ -69,15 +69,19 @@ fn happen(regs: &mut Regs, event: Event) {
     }
 }
 
-// What cqcsr, fqcsr, ipsr, cqh and fqt show.
-fn shown(regs: &Regs) -> [Option<u64>; 5] {
-    [72, 76, 84, 32, 52].map(|off| regs.read(off, 4))
+// Whether cqcsr, fqcsr, ipsr, cqh and fqt show these.
+fn shows(regs: &Regs, [cqcsr, fqcsr, ipsr, cqh, fqt]: [u64; 5]) -> bool {
+    regs.read(72, 4) == Some(cqcsr)
+        && regs.read(76, 4) == Some(fqcsr)
+        && regs.read(84, 4) == Some(ipsr)
+        && regs.read(32, 4) == Some(cqh)
+        && regs.read(52, 4) == Some(fqt)
 }
 
 fn otherwise_shown(regs: &mut Regs, events: &[(Event, [u64; 5])]) -> Option<usize> {
     for (i, (event, want)) in events.iter().enumerate() {
         happen(regs, *event);
-        if shown(regs) != want.map(Some) {
+        if !shows(regs, *want) {
             return Some(i);
         }
     }

@@ -1,5 +1,6 @@
 //! Which moments warrant what a read used.
 
+use crate::devices::devices;
 use iom_bits::Kind;
 use iom_cache::Key;
 use iom_core::{Platform, Step, Warrant, explain};
@@ -65,16 +66,17 @@ pub fn take(platform: &mut Platform, steps: &[Step]) {
 // A step, and the warrant of its access.
 pub type Case = (usize, Option<Warrant>);
 
-// Whether step n has this warrant, of steps carried out from a memory with these words on.
-fn is_warranted(
+// Whether step n has this warrant, of steps carried out from a memory with these words on. Of a disk of no bytes there is no
+// device.
+pub fn is_warranted(
     alloc: Global,
     words: &[(u64, u64)],
+    disk: usize,
     steps: &[Step],
-    n: usize,
-    want: Option<Warrant>,
+    (n, want): Case,
 ) -> Result<bool, Fail> {
     let ram = memory(alloc, words)?;
-    let start = Platform::new(alloc, ram, Vec::new(alloc))?;
+    let start = Platform::new(alloc, ram, devices(alloc, disk, &[])?)?;
     Ok(n < steps.len() && explain(alloc, &start, steps, n)? == want)
 }
 
@@ -85,8 +87,8 @@ pub fn otherwise(
     steps: &[Step],
     cases: &[Case],
 ) -> Result<Option<usize>, Fail> {
-    for (i, (n, want)) in cases.iter().enumerate() {
-        if !is_warranted(alloc, words, steps, *n, *want)? {
+    for (i, case) in cases.iter().enumerate() {
+        if !is_warranted(alloc, words, 0, steps, *case)? {
             return Ok(Some(i));
         }
     }
