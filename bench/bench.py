@@ -3,7 +3,7 @@
 
 Five scripts have 1,000,000 lines: mode Bare, and one stage and both with 24 pages (all found in the translation cache once it
 is warm) and with 176 (most of them not). The sixth has 32 lines, and each program is started on it a thousand times. Each
-program runs on each script seven times (the sixth: three times a thousand), in turn, with the script as standard input and a
+program runs on each script 25 times (the sixth: five times a thousand), in turn, with the script as standard input and a
 file as standard output; the best time counts. Where two programs are given, the ratio is that of their speeds, the first
 to the second, and their outputs must be the same, byte for byte. The status is 1 where they differ or a run fails.
 """
@@ -20,12 +20,12 @@ STARTS = 1000
 SEED = 1
 # name, stages, pages, lines, starts, times
 SCRIPTS = [
-    ("mode Bare", 0, 256, LINES, 1, 7),
-    ("one stage, 24 pages", 1, 24, LINES, 1, 7),
-    ("one stage, 176 pages", 1, 176, LINES, 1, 7),
-    ("both stages, 24 pages", 2, 24, LINES, 1, 7),
-    ("both stages, 176 pages", 2, 176, LINES, 1, 7),
-    ("32 lines, a thousand starts", 0, 256, SHORT, STARTS, 3),
+    ("mode Bare", 0, 256, LINES, 1, 25),
+    ("one stage, 24 pages", 1, 24, LINES, 1, 25),
+    ("one stage, 176 pages", 1, 176, LINES, 1, 25),
+    ("both stages, 24 pages", 2, 24, LINES, 1, 25),
+    ("both stages, 176 pages", 2, 176, LINES, 1, 25),
+    ("32 lines, a thousand starts", 0, 256, SHORT, STARTS, 5),
 ]
 
 
