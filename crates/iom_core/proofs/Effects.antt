@@ -7,14 +7,12 @@ use Rattle.iom_regs.specs.Queues.{record_passed, with_fqmf, with_fqof}
 use Rattle.iom_queue.specs.Denials.{denial_record}
 use Rattle.iom_queue.specs.Delivery.{Delivery, KeepsOtherRegisters, delivered, is_full, is_in_memory, is_stopped, record_addr, record_bytes}
 use Rattle.iom_queue.specs.declared.record.Record.{Record}
-use Rattle.iom_queue.specs.declared.fetch.Fetch.TheVariants as fetch
 use Rattle.iom_virtq.specs.Bus.{Ask, Read, Write, reply_of}
 use Rattle.iom_virtq.specs.declared.access.Access.TheVariants as access
 use Rattle.iom_core.specs.State.{State, Machine, with_machine}
 use Rattle.iom_core.specs.Access.{Denial, Effect, Request, effect_at, granted, outside, read_there, record_left}
 use Rattle.iom_core.specs.Table.{answer_by_reply}
 use Rattle.iom_core.specs.Reach.{ChangesOnly, Refuses, Span, TakesBy, nothing, span_to}
-use Rattle.iom_core.specs.declared.step.Step.TheVariants as step
 use Rattle.iom_core.proofs.Puts.{put_changes_only, same_memory}
 
 -- A delivery.

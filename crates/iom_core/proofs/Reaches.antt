@@ -7,7 +7,6 @@ use Rattle.iom_regs.specs.Table.{after_write, is_legal, read}
 use Rattle.iom_queue.specs.declared.command.Command.TheVariants.{Vma, Gvma, Fence, Iodir}
 use Rattle.iom_queue.specs.declared.fetch.Fetch.{Fetch}
 use Rattle.iom_queue.specs.declared.fetch.Fetch.TheVariants as fetch
-use Rattle.iom_virtq.specs.declared.access.Access.TheVariants as access
 use Rattle.iom_core.specs.State.{State, Machine, with_machine}
 use Rattle.iom_core.specs.Access.{effect, served}
 use Rattle.iom_core.specs.Commands.{after_command, executed_by, executed_of, fetched, is_taken, memory_left}

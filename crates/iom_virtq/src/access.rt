@@ -1,6 +1,5 @@
 //! How a bus answers.
 
-
 use iom_bits::Cause;
 
 /// How a bus answers a device's access.
