@@ -169,8 +169,8 @@ impl Machine {
             iova,
             kind: Kind::Read,
         };
-        match self.address(request) {
-            Err(denial) => self.deny(request, denial),
+        match self.address(&request) {
+            Err(denial) => self.deny(&request, denial),
             Ok(addr) if self.ram.read(addr, out) => Access::Ok,
             Ok(_) => Access::Outside,
         }
@@ -188,8 +188,8 @@ impl Machine {
             iova,
             kind: Kind::Write,
         };
-        match self.address(request) {
-            Err(denial) => self.deny(request, denial),
+        match self.address(&request) {
+            Err(denial) => self.deny(&request, denial),
             Ok(addr) if self.ram.write(addr, bytes) => Access::Ok,
             Ok(_) => Access::Outside,
         }
@@ -198,11 +198,11 @@ impl Machine {
     // The physical address that a request leads to. What is learnt on the way is cached.
     #[inline(always)]
     #[tactic(auto, unfolding(crate::specs::Access::led))]
-    fn address(&mut self, request: Request) -> Result<u64, Denial>
-        requires { request.did < 2 ^ 24 }
+    fn address(&mut self, request: &Request) -> Result<u64, Denial>
+        requires { request.now.did < 2 ^ 24 }
         ensures address { address_of result
-            ≡ address_on (led self.old (request_in request)).way request.iova }
-        ensures learnt { self.new ≡ learnt self.old (led self.old (request_in request)) }
+            ≡ address_on (led self.old (request_in request.now)).way request.now.iova }
+        ensures learnt { self.new ≡ learnt self.old (led self.old (request_in request.now)) }
     {
         match self.registers.mode() {
             Mode::Off => Err(plain(Cause::Off)),
@@ -214,13 +214,13 @@ impl Machine {
     // The same by the context of the device's id, from its live place or else from the directory.
     #[inline(always)]
     #[tactic(auto, unfolding(crate::specs::Access::context_look), using(crate::proofs::Wide::too_wide_located))]
-    fn address_by_directory(&mut self, request: Request) -> Result<u64, Denial>
+    fn address_by_directory(&mut self, request: &Request) -> Result<u64, Denial>
         requires directory { 1 ≤ levels_of (mode_of self.old.registers) }
-        requires width { request.did < 2 ^ 24 }
-        ensures address { address_of result ≡ address_on (led_by_context self.old (request_in request)
-            (context_look self.old request.did).filled (context_look self.old request.did).used).way request.iova }
-        ensures learnt { self.new ≡ learnt self.old (led_by_context self.old (request_in request)
-            (context_look self.old request.did).filled (context_look self.old request.did).used) }
+        requires width { request.now.did < 2 ^ 24 }
+        ensures address { address_of result ≡ address_on (led_by_context self.old (request_in request.now)
+            (context_look self.old request.now.did).filled (context_look self.old request.now.did).used).way request.now.iova }
+        ensures learnt { self.new ≡ learnt self.old (led_by_context self.old (request_in request.now)
+            (context_look self.old request.now.did).filled (context_look self.old request.now.did).used) }
     {
         if is_too_wide(&self.registers, request.did) {
             return Err(plain(Cause::TooWide));
@@ -234,16 +234,16 @@ impl Machine {
     // The same by a context that the directory has. It is filled also where the walk fails.
     #[inline(never)]
     #[tactic(auto, using(crate::proofs::Learnt::apart))]
-    fn address_by_new_context(&mut self, request: Request) -> Result<u64, Denial>
+    fn address_by_new_context(&mut self, request: &Request) -> Result<u64, Denial>
         requires directory { 1 ≤ levels_of (mode_of self.old.registers) }
-        requires width { request.did < 2 ^ 24 }
-        requires new { find (same_did request.did) self.old.contexts ≡ None }
-        ensures address { address_of result ≡ address_on (led_by_context self.old (request_in request)
-            (look request.did None (located self.old.memory self.old.registers request.did)).filled
-            (located self.old.memory self.old.registers request.did)).way request.iova }
-        ensures learnt { self.new ≡ learnt self.old (led_by_context self.old (request_in request)
-            (look request.did None (located self.old.memory self.old.registers request.did)).filled
-            (located self.old.memory self.old.registers request.did)) }
+        requires width { request.now.did < 2 ^ 24 }
+        requires new { find (same_did request.now.did) self.old.contexts ≡ None }
+        ensures address { address_of result ≡ address_on (led_by_context self.old (request_in request.now)
+            (look request.now.did None (located self.old.memory self.old.registers request.now.did)).filled
+            (located self.old.memory self.old.registers request.now.did)).way request.now.iova }
+        ensures learnt { self.new ≡ learnt self.old (led_by_context self.old (request_in request.now)
+            (look request.now.did None (located self.old.memory self.old.registers request.now.did)).filled
+            (located self.old.memory self.old.registers request.now.did)) }
     {
         match locate(&self.ram, &self.registers, request.did) {
             Ok(context) => {
@@ -258,12 +258,12 @@ impl Machine {
     // The same by a context, from the page's live place or else by the stages.
     #[inline(always)]
     #[tactic(auto, unfolding(crate::specs::Access::page_look))]
-    fn address_by_context(&mut self, request: Request, context: &Context) -> Result<u64, Denial>
+    fn address_by_context(&mut self, request: &Request, context: &Context) -> Result<u64, Denial>
         requires { IsWellFormed context.now }
         ensures address { address_of result
-            ≡ address_on (led_by_context self.old (request_in request) None (Ok context.now)).way request.iova }
+            ≡ address_on (led_by_context self.old (request_in request.now) None (Ok context.now)).way request.now.iova }
         ensures learnt { self.new
-            ≡ learnt self.old (led_by_context self.old (request_in request) None (Ok context.now)) }
+            ≡ learnt self.old (led_by_context self.old (request_in request.now) None (Ok context.now)) }
     {
         if context.is_bare() {
             return Ok(request.iova);
@@ -280,18 +280,18 @@ impl Machine {
     #[tactic(auto, unfolding(crate::specs::Access::page_look))]
     fn address_by_walk(
         &mut self,
-        request: Request,
+        request: &Request,
         context: &Context,
         key: Key,
     ) -> Result<u64, Denial>
         requires well_formed { IsWellFormed context.now }
         requires staged { is_bare context.now ≡ false }
-        requires key { key ≡ request_key (request_in request) context.now }
+        requires key { key ≡ request_key (request_in request.now) context.now }
         requires new { find (same_key key) self.old.pages ≡ None }
         ensures address { address_of result
-            ≡ address_on (led_by_context self.old (request_in request) None (Ok context.now)).way request.iova }
+            ≡ address_on (led_by_context self.old (request_in request.now) None (Ok context.now)).way request.now.iova }
         ensures learnt { self.new
-            ≡ learnt self.old (led_by_context self.old (request_in request) None (Ok context.now)) }
+            ≡ learnt self.old (led_by_context self.old (request_in request.now) None (Ok context.now)) }
     {
         match translate(&self.ram, context, request.iova, request.kind) {
             Ok(hit) => {
@@ -304,13 +304,13 @@ impl Machine {
 
     // Denies a request, and delivers its record where it makes one.
     #[tactic(auto, unfolding(crate::specs::Access::record_left))]
-    fn deny(&mut self, request: Request, denial: Denial) -> Access
-        requires { request.did < 2 ^ 24 }
+    fn deny(&mut self, request: &Request, denial: Denial) -> Access
+        requires { request.now.did < 2 ^ 24 }
         ensures answer { result ≡ Access.Denied denial.cause }
-        ensures left { self.new ≡ with_delivery self.old (record_left self.old.registers self.old.memory (request_in request) (denial_of denial)) }
+        ensures left { self.new ≡ with_delivery self.old (record_left self.old.registers self.old.memory (request_in request.now) (denial_of denial)) }
     {
         if denial.reported {
-            let Request { did, iova, kind } = request;
+            let Request { did, iova, kind } = *request;
             let record = Record::of_denial(denial.cause, kind, did, iova, denial.iotval2);
             deliver(&mut self.registers, &mut self.ram, &record);
         }

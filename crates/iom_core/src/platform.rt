@@ -172,6 +172,8 @@ impl Platform {
         }
     }
 
+    // Apart from the other steps, so that these needn't clear room for its bytes.
+    #[inline(never)]
     fn dma_read(&mut self, did: u64, iova: u64, len: u64) -> Answer
         ensures answer { result
             ≡ (probed self.old (asking_where (is_device_access did iova len) did (Read iova len))).answer }

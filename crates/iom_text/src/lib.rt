@@ -2,7 +2,7 @@
 #![tactic(auto)]
 
 pub use reading::{MOST_WORDS, Words, is_over, number, past_blanks, take_number, take_word, words};
-pub use writing::{Numeral, decimal, hexed};
+pub use writing::{Numeral, decimal, hexed, put_hex};
 
 mod reading;
 mod writing;

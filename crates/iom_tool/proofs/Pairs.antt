@@ -60,6 +60,14 @@ pair_done word bytes i h l all inside within first second so_far =
     so_far ∙ ap (option_map (λ more. take i bytes ++ more)) step ∙ fused (take i bytes) (h * 16 + l) rest
     ∙ ap (λ front. option_map (λ more. front ++ more) rest) (sym (take_more_set bytes i (h * 16 + l) within))
 
+-- the same where a byte was put that is this one
+pub pair_put : (word bytes : List ℕ) (i h l byte : ℕ) (all : Option (List ℕ)) → byte ≡ h * 16 + l → 2 * i + 1 < length word → i < length bytes →
+    hex_digit_value (get_or word (2 * i) 0) ≡ Some h → hex_digit_value (get_or word (2 * i + 1) 0) ≡ Some l →
+    all ≡ option_map (λ more. take i bytes ++ more) (result_ok (decode_pairs (2 * i) (drop (2 * i) word))) →
+    all ≡ option_map (λ more. take (i + 1) (set bytes i byte) ++ more) (result_ok (decode_pairs (2 * (i + 1)) (drop (2 * (i + 1)) word)))
+pair_put word bytes i h l byte all is inside within first second so_far =
+    rw is (pair_done word bytes i h l all inside within first second so_far)
+
 pub pairs_begin : (all : Option (List ℕ)) (bytes : List ℕ) → all ≡ option_map (λ more. take 0 bytes ++ more) all
 pairs_begin (Some more) bytes = refl
 pairs_begin None bytes = refl

@@ -1,8 +1,10 @@
 -- The values of hex digits.
-use Rattle.std.proofs.Common.{◌≡◌, ℕ, ◌<◌, ◌≤◌, ◌&&◌, ◌||◌, nat_lt, Bool, true, false, Option, Some, None, is_some, map, get_or, refl, sym, ap, subst, ◌∙◌, arith, ⊎_elim}
+use Rattle.std.proofs.Common.{◌≡◌, ℕ, ◌<◌, ◌≤◌, ◌&&◌, Bool, true, false, Option, Some, None, is_some, map, get_or, refl, sym, ap, subst, ◌∙◌, arith, ⊎_elim}
 use Rattle.std.proofs.lemmas.Bool.{cases_lt}
+use Rattle.std.proofs.lemmas.Nat.{le_or_l, le_or_r, or_lt}
 use Rattle.std.proofs.lemmas.Grind.{common_steps}
 use Rattle.std.proofs.lemmas.List.FromFn.{get_or-map-range_with_len}
+use Rattle.std.specs.Int.Bits.{bit_or}
 use Rattle.std.specs.List.{range_with_len}
 use Rattle.std.specs.Option.{unwrap_or}
 use Rattle.hex.specs.Hex.{hex_digit_value}
@@ -39,22 +41,27 @@ digit c n byte is below =
 pub other : (c n : ℕ) → c < 256 → n ≡ get_or VALUES c 0 → 16 ≤ n → hex_digit_value c ≡ None
 other c n byte is above = untold c (hex_digit_value c) refl (subst (λ n. 16 ≤ n) (is ∙ read c byte) above)
 
--- neither of two is above 15
-pub digits : (a b : ℕ) → nat_lt 15 a || nat_lt 15 b ≡ false → (a < 16) × (b < 16)
-digits a b is = (grind (arith, common_steps), grind (arith, common_steps))
+-- where what was met and two more values are below 16 together, each of them is
+pub each_below : (met high low : ℕ) → bit_or met (bit_or high low) < 16 → (met < 16) × (high < 16) × (low < 16)
+each_below met high low below =
+    let pair : bit_or high low ≤ bit_or met (bit_or high low) = le_or_r met (bit_or high low) in (
+      omega (arith, below, le_or_l met (bit_or high low)),
+      omega (arith, below, pair, le_or_l high low),
+      omega (arith, below, pair, le_or_r high low),
+    )
 
 and_false : (x : Bool) → x && false ≡ false
 and_false true = refl
 and_false false = refl
 
--- where one of two is above 15, one is no digit
-pub no_digits : (a b : ℕ) (x y : Option ℕ) → (16 ≤ a → x ≡ None) → (16 ≤ b → y ≡ None) → nat_lt 15 a || nat_lt 15 b ≡ true →
-    is_some x && is_some y ≡ false
-no_digits a b x y first second is =
+-- where they aren't and what was met is, one of the two is no digit
+pub not_all : (met high low : ℕ) (x y : Option ℕ) → (16 ≤ high → x ≡ None) → (16 ≤ low → y ≡ None) → met < 16 →
+    16 ≤ bit_or met (bit_or high low) → is_some x && is_some y ≡ false
+not_all met high low x y first second few above =
     ⊎_elim
-    (λ above. rw (first (omega (arith, above))) refl)
-    (λ below. ⊎_elim
-    (λ above. rw (second (omega (arith, above))) (and_false (is_some x)))
-    (λ below'. absurd (grind (arith, common_steps)))
-    (cases_lt 15 b))
-    (cases_lt 15 a)
+    (λ some. rw (first (omega (arith, some))) refl)
+    (λ small. ⊎_elim
+    (λ some. rw (second (omega (arith, some))) (and_false (is_some x)))
+    (λ low_small. absurd (omega (arith, above, or_lt 4 met (bit_or high low) few (or_lt 4 high low (omega (arith, small)) (omega (arith, low_small))))))
+    (cases_lt 15 low))
+    (cases_lt 15 high)

@@ -2,7 +2,9 @@
 
 ghost use Rattle.std.specs.Prelude.{◌≡◌, ◌+◌, ◌*◌, slice_index, ◌++◌, ◌<◌, ◌≤◌, length, take, [], ◌∷◌};
 ghost use Rattle.hex.specs.Hex.{encode_lower, lower_digits};
+ghost use Rattle.iom_text.specs.Texts.{hexed, numeral};
 
+use iom_text::put_hex;
 use std::marker::Model;
 
 /// Room for any answer. To empty it writes nothing but its length.
@@ -63,6 +65,29 @@ impl Draft {
         let end = self.len + text.len();
         self.bytes[self.len..end].copy_from_slice(text);
         self.len = end;
+    }
+
+    /// Appends a number as `0x` and hex digits in lower case.
+    #[inline(always)]
+    pub fn append_hexed(&mut self, number: u64)
+        requires { length self.old + 18 < 320 }
+        ensures text { self.new ≡ self.old ++ hexed number }
+        ensures room { length self.new ≤ length self.old + 18 }
+    {
+        self.push(b'0');
+        self.push(b'x');
+        self.append_digits(number);
+    }
+
+    // Appends a number's hex digits, which are put in place.
+    #[inline(always)]
+    fn append_digits(&mut self, number: u64)
+        requires { length self.old + 16 < 320 }
+        ensures text { self.new ≡ self.old ++ numeral 16 number }
+        ensures room { length self.new ≤ length self.old + 16 }
+    {
+        let count = put_hex(&mut self.bytes[self.len..self.len + 16], number);
+        self.len += count;
     }
 
     /// Appends bytes as hex digits in lower case, two a byte.

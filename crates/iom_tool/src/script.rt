@@ -116,6 +116,15 @@ fn put(parsed: Option<Step>, place: &mut Step) -> bool
     true
 }
 
+// Apart from the others, so that these needn't clear room for its bytes.
+#[inline(never)]
+fn put_dma_write(text: &[u8], place: &mut Step) -> bool
+    ensures some { result ≡ true → dma_write (words_of text.now) ≡ Some place.new }
+    ensures none { result ≡ false → dma_write (words_of text.now) ≡ None }
+{
+    put(dma_write(text), place)
+}
+
 #[inline(always)]
 #[tactic(auto, unfolding(crate::specs::Script::dma))]
 fn put_dma(text: &[u8], place: &mut Step) -> bool
@@ -127,7 +136,7 @@ fn put_dma(text: &[u8], place: &mut Step) -> bool
     };
     match way {
         b"read" => put(dma_read(text), place),
-        b"write" => put(dma_write(text), place),
+        b"write" => put_dma_write(text, place),
         _ => false,
     }
 }

@@ -33,7 +33,7 @@ pub fn push_hexed(out: &mut Draft, number: u64)
     ensures text { out.new ≡ out.old ++ hexed number }
     ensures room { length out.new ≤ length out.old + 18 }
 {
-    push_text(out, iom_text::hexed(number).as_slice());
+    out.append_hexed(number);
 }
 
 fn push_denied(out: &mut Draft, cause: u16)

@@ -36,22 +36,21 @@ fn value_of(c: u8) -> u8
     VALUES[usize::from(c)]
 }
 
-// Puts the bytes that pairs of hex digits write; whether all are digits.
+// Puts the bytes that pairs of hex digits write; whether all are digits, which is told by all their values together.
 #[inline(never)]
 fn decode(word: &[u8], bytes: &mut [u8]) -> bool
     requires { length word.now ≡ 2 * length bytes.old }
     ensures all { result ≡ true → Some bytes.new ≡ result_ok (decode_pairs 0 word.now) }
     ensures other { result ≡ false → result_ok (decode_pairs 0 word.now) ≡ None }
 {
+    let mut met = 0;
     for i in 0..bytes.len() {
         let high = value_of(word[2 * i]);
         let low = value_of(word[2 * i + 1]);
-        if (high > 15) | (low > 15) {
-            return false;
-        }
-        bytes[i] = high * 16 + low;
+        met |= high | low;
+        bytes[i] = high.wrapping_mul(16).wrapping_add(low);
     }
-    true
+    met < 16
 }
 
 /// The bytes that a word of 2 to 128 hex digits writes.

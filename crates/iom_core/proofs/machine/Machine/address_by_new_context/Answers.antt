@@ -7,6 +7,6 @@ use Rattle.iom_core.proofs.machine.Machine.address_by_new_context.Goals as goal
 pub invariant_of-self : goal.invariant_of-self
 invariant_of-self c = (
   rw c.fill.ensures
-      (live_filled HoldsContext context_room (Some (c.args.request.did, c.in-Ok.context)) c.self-in-Ok.inside.contexts c.self-in-Ok.invariant.0 c.in-Ok.ensures.sound),
+      (live_filled HoldsContext context_room (Some (c.args.request.now.did, c.in-Ok.context)) c.self-in-Ok.inside.contexts c.self-in-Ok.invariant.0 c.in-Ok.ensures.sound),
   c.self-in-Ok.invariant.1,
 )
