@@ -16,6 +16,7 @@ use iom_mem::Ram;
 use iom_nested::Hit;
 
 /// Puts the text of the answer to a question, without a line end.
+#[inline(never)]
 pub fn push_answer_in(out: &mut Draft, platform: &Platform, trace: &Trace, question: Question)
     requires { length out.old ≡ 0 }
     ensures text { out.new ≡ out.old ++ answer_in (console platform.now trace.now) question }

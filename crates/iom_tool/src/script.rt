@@ -72,6 +72,15 @@ fn reg(text: &[u8]) -> Option<Step>
     }
 }
 
+// The steps that scripts have few of are put apart from the others, so that these needn't clear room for them.
+#[inline(never)]
+fn put_reg(text: &[u8], place: &mut Step) -> bool
+    ensures some { result ≡ true → reg (words_of text.now) ≡ Some place.new }
+    ensures none { result ≡ false → reg (words_of text.now) ≡ None }
+{
+    put(reg(text), place)
+}
+
 #[inline(always)]
 #[tactic(auto, unfolding(crate::specs::Script::cmd))]
 fn cmd(text: &[u8]) -> Option<Step>
@@ -116,7 +125,6 @@ fn put(parsed: Option<Step>, place: &mut Step) -> bool
     true
 }
 
-// Apart from the others, so that these needn't clear room for its bytes.
 #[inline(never)]
 fn put_dma_write(text: &[u8], place: &mut Step) -> bool
     ensures some { result ≡ true → dma_write (words_of text.now) ≡ Some place.new }
@@ -186,6 +194,14 @@ fn dev(text: &[u8]) -> Option<Step>
     }
 }
 
+#[inline(never)]
+fn put_dev(text: &[u8], place: &mut Step) -> bool
+    ensures some { result ≡ true → dev (words_of text.now) ≡ Some place.new }
+    ensures none { result ≡ false → dev (words_of text.now) ≡ None }
+{
+    put(dev(text), place)
+}
+
 #[inline(always)]
 #[tactic(auto, using(crate::proofs::Forms::place_page_none, crate::proofs::Forms::place_page_some))]
 fn place_page(text: &[u8]) -> Option<Question>
@@ -247,10 +263,10 @@ pub fn put_step_of(verb: &[u8], text: &[u8], place: &mut Step) -> bool
     match verb {
         b"load" => put(load(text), place),
         b"store" => put(store(text), place),
-        b"reg" => put(reg(text), place),
+        b"reg" => put_reg(text, place),
         b"cmd" => put(cmd(text), place),
         b"dma" => put_dma(text, place),
-        b"dev" => put(dev(text), place),
+        b"dev" => put_dev(text, place),
         _ => false,
     }
 }
