@@ -1,5 +1,5 @@
 -- What a walk along a bucket finds and counts.
-use Rattle.std.proofs.Common.{◌≡◌, ◌<◌, ◌≤◌, ◌==◌, ◌∙◌, ℕ, zero, suc, List, [], ◌∷◌, length, get_or, drop, Bool, true, false, Option, Some, None, if◌then◌else◌, refl, sym, ap, subst, inl, inr, arith}
+use Rattle.std.proofs.Common.{◌≡◌, ◌<◌, ◌≤◌, ◌==◌, ◌∙◌, ℕ, zero, suc, List, [], ◌∷◌, length, get_or, drop, Bool, true, false, Option, Some, None, if◌then◌else◌, refl, sym, ap, subst, inl, inr, IfSome, arith}
 use Rattle.std.proofs.Math.Seq.{drop-cons, drop-length}
 use Rattle.std.proofs.lemmas.Bool.{cases_lt}
 use Rattle.std.proofs.lemmas.List.{length-drop}
@@ -212,3 +212,9 @@ walked_few links first key places slot limit count h =
     let len = length-drop limit places in
     let is = h.so_far in
     omega (arith, few, len, is)
+
+-- a place that has the key is the one found
+pub hit_is_found : (key : Key) (places : List (Option (Key × Hit))) (at : ℕ) (o : Option Hit) → AreApart places →
+    o ≡ hit_of key (get_or places at None) → IfSome o (λ hit. find (same_key key) places ≡ Some hit)
+hit_is_found key places _ None apart is = tt
+hit_is_found key places at (Some hit) apart is = (found_at key places places at hit apart (sym is)).found

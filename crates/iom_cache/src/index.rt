@@ -1,6 +1,6 @@
 //! The index of the translation cache: in which places a key may stand.
 
-ghost use Rattle.std.specs.Prelude.{◌≡◌, ◌<◌, ◌≤◌, ◌++◌, [], ◌∷◌, List, Option, length, get_or};
+ghost use Rattle.std.specs.Prelude.{◌≡◌, ◌+◌, ◌%◌, ◌<◌, ◌≤◌, ◌++◌, [], ◌∷◌, List, Option, length, get_or};
 ghost use Rattle.iom_nested.specs.declared.translation.Hit.{Hit};
 ghost use Rattle.iom_cache.specs.declared.key.Key.{Key};
 ghost use Rattle.iom_cache.specs.Buckets.{bucket_of};
@@ -62,6 +62,15 @@ impl Index {
         } else {
             SLOTS
         }
+    }
+
+    /// The slot of the place behind `at` others.
+    pub fn slot(&self, at: usize) -> usize
+        requires room { at < 64 }
+        requires first { self.now.first < 64 }
+        ensures { result ≡ (self.now.first + at) % 64 }
+    {
+        (self.first + at) % SLOTS
     }
 
     /// A place is filled behind `at` others.

@@ -8,6 +8,7 @@ use crate::index::{Index, bucket_of};
 use crate::key::is_same;
 use crate::{Key, Place};
 use circular_buffer::HeapCircularBuffer;
+use iom_bits::Kind;
 use iom_nested::Hit;
 use iom_queue::Command;
 use std::alloc::{AllocError, Global};
@@ -16,11 +17,16 @@ use std::marker::Model;
 /// How many places there are.
 const PLACES: usize = 64;
 
+/// How many hints there are.
+const HINTS: usize = 128;
+
 /// The translation cache: at most 64 places, oldest first, each empty or with where a key leads.
 #[derive(Drop)]
 pub struct TransCache {
     places: HeapCircularBuffer<Option<(Key, Hit)>>,
     index: Index,
+    // The slot of the last fill for pages and a kind that are alike. It is tried first, and promises nothing.
+    hints: [u8; HINTS],
 }
 
 impl Model for TransCache {
@@ -54,6 +60,7 @@ impl TransCache {
         Ok(TransCache {
             places: HeapCircularBuffer::with_capacity(alloc, PLACES)?,
             index: Index::new(),
+            hints: [0; HINTS],
         })
     }
 
@@ -68,6 +75,7 @@ impl TransCache {
         Ok(TransCache {
             places,
             index: self.index,
+            hints: self.hints,
         })
     }
 
@@ -79,10 +87,33 @@ impl TransCache {
         ensures within { length self.now ≤ 64 }
     {
         let _ = &self.places;
-        self.find_counted(key).0
+        self.look(key)
     }
 
-    /// The same, and how many keys were compared for it.
+    // The same by the hint, or else by the buckets.
+    #[inline(always)]
+    fn look(&self, key: &Key) -> Option<Hit>
+        ensures { result ≡ find (same_key key.now) self.now }
+    {
+        match self.hinted(key) {
+            Some(hit) => Some(hit),
+            None => self.find_counted(key).0,
+        }
+    }
+
+    // What the place that the key's hint names says, where it has the key.
+    #[inline(always)]
+    fn hinted(&self, key: &Key) -> Option<Hit>
+        ensures { IfSome result (λ hit. find (same_key key.now) self.now ≡ Some hit) }
+    {
+        let at = self.index.position(usize::from(self.hints[hint_of(key)]));
+        if at >= self.places.len() {
+            return None;
+        }
+        self.hit_at(at, key)
+    }
+
+    /// The same as `find`, and how many keys of its bucket were compared for it.
     pub fn find_counted(&self, key: &Key) -> (Option<Hit>, u32)
         ensures found { result.0 ≡ find (same_key key.now) self.now }
         ensures count { result.1 ≡ compared key.now self.now }
@@ -118,8 +149,10 @@ impl TransCache {
         ensures { self.new ≡ filled_by 64 (Some (key, hit)) self.old }
     {
         make_room(&mut self.places, &mut self.index);
+        let at = self.places.len();
+        self.hints[hint_of(&key)] = self.index.slot(at) as u8;
         let place = Some((key, hit));
-        self.index.append(self.places.len(), &place);
+        self.index.append(at, &place);
         let _none = self.places.push_back(place);
     }
 
@@ -141,6 +174,13 @@ impl TransCache {
     {
         Place::of(self.places.get(i as usize))
     }
+}
+
+// The hint of a key.
+fn hint_of(key: &Key) -> usize
+    ensures { result < 128 }
+{
+    (2 * (key.page % 64) + u64::from(key.kind == Kind::Write)) as usize
 }
 
 // Where there are as many places as there may be, the oldest leaves.

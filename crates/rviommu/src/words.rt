@@ -6,6 +6,9 @@ use clap::{Arg, ArgMatches, Command, Error};
 use iom_asm::Item;
 use std::alloc::{AllocError, Global};
 
+/// The operand that says what is listed.
+const KIND: &str = "KIND";
+
 /// The names of the items that can be listed.
 const KINDS: [&str; 6] = ["cmd", "fault", "context", "dir", "pte", "u64"];
 
@@ -36,52 +39,114 @@ pub enum Task<'a> {
     },
 }
 
-fn file<'a>(alloc: Global, name: &'a str, help: &'a str) -> Arg<'a> {
-    Arg::new(alloc, name).required(true).help(help)
+/// A subcommand, with its operands in turn.
+struct Verb {
+    name: &'static str,
+    about: &'static str,
+    after_help: &'static str,
+    operands: &'static [Operand],
 }
 
-fn asm<'a>(alloc: Global) -> Result<Command<'a>, AllocError> {
-    Command::new(alloc, "asm")
-        .about("Assembles a text into an image")
-        .after_help(help::ASM)
-        .arg(file(alloc, "SOURCE", "The file of the text"))?
-        .arg(file(alloc, "IMAGE", "The file to write the image to"))
+/// An operand, which has to be there.
+struct Operand {
+    name: &'static str,
+    help: &'static str,
 }
 
-fn run<'a>(alloc: Global) -> Result<Command<'a>, AllocError> {
-    Command::new(alloc, "run")
-        .about("Runs the script on standard input on an image")
-        .after_help(help::RUN)
-        .arg(file(alloc, "IMAGE", "The file of the image"))
+const VERBS: [Verb; 4] = [
+    Verb {
+        name: "asm",
+        about: "Assembles a text into an image",
+        after_help: help::ASM,
+        operands: &[
+            Operand {
+                name: "SOURCE",
+                help: "The file of the text",
+            },
+            Operand {
+                name: "IMAGE",
+                help: "The file to write the image to",
+            },
+        ],
+    },
+    Verb {
+        name: "run",
+        about: "Runs the script on standard input on an image",
+        after_help: help::RUN,
+        operands: &[Operand {
+            name: "IMAGE",
+            help: "The file of the image",
+        }],
+    },
+    Verb {
+        name: "list",
+        about: "Lists items in the memory of an image",
+        after_help: help::LIST,
+        operands: &[
+            Operand {
+                name: "IMAGE",
+                help: "The file of the image",
+            },
+            Operand {
+                name: KIND,
+                help: "What the items are",
+            },
+            Operand {
+                name: "ADDR",
+                help: "The physical address of the first",
+            },
+            Operand {
+                name: "COUNT",
+                help: "How many there are",
+            },
+        ],
+    },
+    Verb {
+        name: "upgrade",
+        about: "Writes an image again in version 2",
+        after_help: help::UPGRADE,
+        operands: &[
+            Operand {
+                name: "IMAGE",
+                help: "The file of the image",
+            },
+            Operand {
+                name: "NEW",
+                help: "The file to write the new image to",
+            },
+        ],
+    },
+];
+
+fn arg<'a>(alloc: Global, operand: &Operand) -> Arg<'a> {
+    let arg = Arg::new(alloc, operand.name)
+        .required(true)
+        .help(operand.help);
+    if operand.name == KIND {
+        return arg.value_parser(KINDS.as_slice());
+    }
+    arg
 }
 
-fn list<'a>(alloc: Global) -> Result<Command<'a>, AllocError> {
-    Command::new(alloc, "list")
-        .about("Lists items in the memory of an image")
-        .after_help(help::LIST)
-        .arg(file(alloc, "IMAGE", "The file of the image"))?
-        .arg(file(alloc, "KIND", "What the items are").value_parser(KINDS.as_slice()))?
-        .arg(file(alloc, "ADDR", "The physical address of the first"))?
-        .arg(file(alloc, "COUNT", "How many there are"))
-}
-
-fn upgrade<'a>(alloc: Global) -> Result<Command<'a>, AllocError> {
-    Command::new(alloc, "upgrade")
-        .about("Writes an image again in version 2")
-        .after_help(help::UPGRADE)
-        .arg(file(alloc, "IMAGE", "The file of the image"))?
-        .arg(file(alloc, "NEW", "The file to write the new image to"))
+fn subcommand<'a>(alloc: Global, verb: &Verb) -> Result<Command<'a>, AllocError> {
+    let mut command = Command::new(alloc, verb.name)
+        .about(verb.about)
+        .after_help(verb.after_help);
+    for operand in verb.operands {
+        command = command.arg(arg(alloc, operand))?;
+    }
+    Ok(command)
 }
 
 fn command<'a>(alloc: Global) -> Result<Command<'a>, AllocError> {
-    Command::new(alloc, "rviommu")
+    let mut command = Command::new(alloc, "rviommu")
         .version("0.1.0")
         .about("A model of the RISC-V IOMMU: without words it runs the script on standard input")
-        .after_help(help::SCRIPT)
-        .subcommand(asm(alloc)?)?
-        .subcommand(run(alloc)?)?
-        .subcommand(list(alloc)?)?
-        .subcommand(upgrade(alloc)?)
+        .after_help(help::SCRIPT);
+    for verb in &VERBS {
+        command = command.subcommand(subcommand(alloc, verb)?)?;
+    }
+    Ok(command)
 }
 
 // The value of an operand that has to be there.
@@ -95,7 +160,7 @@ fn number<'a>(found: &ArgMatches<'a>, name: &'static str) -> Result<u64, Fault<'
 }
 
 fn listing<'a>(found: &ArgMatches<'a>) -> Result<Task<'a>, Fault<'a>> {
-    let kind = value(found, "KIND");
+    let kind = value(found, KIND);
     Ok(Task::List {
         image: value(found, "IMAGE"),
         item: Item::named(kind.as_bytes()).ok_or(Fault::BadKind { word: kind })?,

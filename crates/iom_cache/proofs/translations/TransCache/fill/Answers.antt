@@ -16,5 +16,5 @@ invariant_of-self c =
       grind (arith, common_steps),
       grind (arith, common_steps),
       rw filled (apart_filled places (c.args.key, c.args.hit) c.make_room.ensures.apart none),
-      rw filled (c.append.ensures places (sym c.len.ensures.len) c.make_room.ensures.index),
+      rw filled (c.append.ensures places (sym c.len-at.ensures.len) c.make_room.ensures.index),
     )

@@ -5,7 +5,7 @@ use Rattle.iom_cache.proofs.Live.{found_each}
 use Rattle.iom_cache.proofs.translations.TransCache.find.Goals as goal
 
 pub returns-clause-held : goal.returns-clause-held
-returns-clause-held c = key_held c.args.key.now c.find_counted.result.0 c.args.self.now c.find_counted.ensures.found
+returns-clause-held c = key_held c.args.key.now c.look.result c.args.self.now c.look.ensures
 
 pub returns-clause-sound : goal.returns-clause-sound
-returns-clause-sound c = λ each. found_each HitFits (same_key c.args.key.now) c.find_counted.result.0 c.args.self.now c.find_counted.ensures.found each
+returns-clause-sound c = λ each. found_each HitFits (same_key c.args.key.now) c.look.result c.args.self.now c.look.ensures each
