@@ -98,7 +98,7 @@ put_before places at rest glyph number within count last is =
     let positive : 0 < rest = some_of rest (omega (arith, count)) in (
       omega (arith, count, length-digits_of_step 16 rest (omega arith) positive),
       ap (λ l. digits_in 16 (rest / 16) ++ l) (from_put places at glyph within)
-      ∙ sym (append_assoc (digits_in 16 (rest / 16)) (glyph ∷ []) (drop (suc at) places))
-      ∙ ap (λ l. l ++ drop (suc at) places) (last_written 16 rest glyph [] (digits_in 16 (rest / 16)) (omega arith) positive refl last)
-      ∙ is,
+          ∙ sym (append_assoc (digits_in 16 (rest / 16)) (glyph ∷ []) (drop (suc at) places))
+          ∙ ap (λ l. l ++ drop (suc at) places) (last_written 16 rest glyph [] (digits_in 16 (rest / 16)) (omega arith) positive refl last)
+          ∙ is,
     )

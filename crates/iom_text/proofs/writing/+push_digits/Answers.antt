@@ -1,8 +1,5 @@
-use Rattle.std.proofs.Common.{◌++◌, ◌∙◌, false, length, lit<, ap, arith}
+use Rattle.std.proofs.Common.{length, lit<, arith}
 use Rattle.std.proofs.Math.Nat.{div-lt_self}
-use Rattle.std.specs.Fmt.{digit_glyph}
-use Rattle.std.specs.Int.Digits.{digits_of}
-use Rattle.iom_text.specs.Texts.{digits_in}
 use Rattle.iom_text.proofs.Digits.{room_before, room_for_last, last_written}
 use Rattle.iom_text.proofs.writing.+push_digits.Goals as goal
 

@@ -1,5 +1,4 @@
-use Rattle.std.proofs.Common.{◌≡◌, ◌++◌, ◌-◌, suc, length, drop, subst, ◌∙◌, arith, rules}
-use Rattle.std.specs.Int.Digits.{digits_of}
+use Rattle.std.proofs.Common.{◌≡◌, ◌++◌, ◌-◌, suc, drop, subst, ◌∙◌, arith, rules}
 use Rattle.iom_text.specs.Texts.{digits_in}
 use Rattle.iom_text.proofs.Digits.{put_before}
 use Rattle.iom_text.proofs.writing.put_digits.Goals as goal

@@ -1,4 +1,4 @@
-use Rattle.std.proofs.Common.{◌++◌, length, take, ap, ◌∙◌, arith}
+use Rattle.std.proofs.Common.{◌++◌, take, ap, ◌∙◌, arith}
 use Rattle.iom_tool.proofs.Pairs.{front_put}
 use Rattle.iom_tool.proofs.draft.Draft.append_digits.Goals as goal
 
