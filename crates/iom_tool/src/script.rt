@@ -72,7 +72,7 @@ fn reg(text: &[u8]) -> Option<Step>
     }
 }
 
-// The steps that scripts have few of are put apart from the others, so that these needn't clear room for them.
+// Some forms are put apart, so that the others needn't clear room for them.
 #[inline(never)]
 fn put_reg(text: &[u8], place: &mut Step) -> bool
     ensures some { result ≡ true → reg (words_of text.now) ≡ Some place.new }
