@@ -33,20 +33,12 @@ last_written radix number glyph before now least some is last =
     ∙ map-append (digit_glyph false) (digits_of radix (number / radix)) (number % radix ∷ []) in
     rw (is, last, all) (append_assoc before (digits_in radix (number / radix)) (digit_glyph false (number % radix) ∷ []))
 
-pub sixteen_digits : (number : ℕ) → number < 2 ^ 64 → length (digits_of 16 number) ≤ 16
-sixteen_digits number small = length-digits_of-le 16 16 number (omega arith) small
-
 pub twenty_digits : (number : ℕ) → number < 2 ^ 64 → length (digits_of 10 number) ≤ 20
 twenty_digits number small = length-digits_of-le 10 20 number (omega arith) (omega arith)
 
 short_either : (most : ℕ) (is_zero : Bool) (digits : List ℕ) → 1 ≤ most → length digits ≤ most → length (if is_zero then codes "0" else digits) ≤ most
 short_either most true digits some short = omega (arith, some)
 short_either most false digits some short = short
-
-pub short_hex : (number : ℕ) → number < 2 ^ 64 → length (numeral 16 number) ≤ 16
-short_hex number small =
-    short_either 16 (number == 0) (digits_in 16 number) (omega arith)
-    (omega (arith, length-map (digits_of 16 number) (digit_glyph false), sixteen_digits number small))
 
 pub short_decimal : (number : ℕ) → number < 2 ^ 64 → length (numeral 10 number) ≤ 20
 short_decimal number small =
