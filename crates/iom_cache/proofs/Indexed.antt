@@ -1,6 +1,6 @@
 -- The index as a place is filled and as the oldest leaves.
-use Rattle.std.proofs.Common.{◌≡◌, ◌≢◌, ◌+◌, ◌%◌, ◌<◌, ◌==◌, ◌⊎◌, ◌∙◌, ◌++◌, ℕ, zero, suc, List, [], ◌∷◌, length, get_or, set, Bool, true, false, Option, Some, None, if◌then◌else◌, refl, sym, ap, subst, inl, inr, arith}
-use Rattle.std.specs.Prelude.{replicate}
+use Rattle.std.proofs.Common.{◌≡◌, ◌≢◌, ◌+◌, ◌-◌, ◌%◌, ◌<◌, ◌==◌, ◌⊎◌, ◌∙◌, ◌++◌, ℕ, zero, suc, List, [], ◌∷◌, length, get_or, set, Bool, true, false, Option, Some, None, if◌then◌else◌, refl, sym, ap, subst, inl, inr, arith}
+use Rattle.std.specs.Prelude.{min, replicate}
 use Rattle.std.proofs.lemmas.Bool.{cases_lt}
 use Rattle.std.proofs.Math.Seq.{get_or-append_seam}
 use Rattle.std.proofs.lemmas.List.{get_or_append_left, get_or-replicate, get_or-set_other, get_or-set_same, get_or_default, length-set}
@@ -8,8 +8,9 @@ use Rattle.iom_nested.specs.declared.translation.Hit.{Hit}
 use Rattle.iom_cache.specs.declared.index.Index.{Index}
 use Rattle.iom_cache.specs.declared.key.Key.{Key}
 use Rattle.iom_cache.specs.Buckets.{bucket_of, is_in}
-use Rattle.iom_cache.specs.Index.{IsIndex, IsWithin, Leads, LeadsAt, cleared, is_in_at, position}
+use Rattle.iom_cache.specs.Index.{IsIndex, IsWithin, Leads, LeadsAt, cleared, counted_less, counted_more, is_in_at, position, tag_of}
 use Rattle.iom_cache.proofs.Chains.{Led, frame, led_to, next_first, nothing_leads, position_down, position_end, position_filled, position_first, position_oldest, position_stays, shift}
+use Rattle.iom_cache.proofs.Tallied.{counted_filled, counted_left, tally_filled}
 
 length_one_more : {X : Type 0} → (xs : List X) (x : X) → length (xs ++ x ∷ []) ≡ suc (length xs)
 length_one_more [] x = refl
@@ -39,13 +40,16 @@ within_other at count few (inl low) = λ same. omega (arith, low, same)
 within_other at count few (inr none) = λ same. omega (arith, few, none, same)
 
 -- the index of no place
-pub empty_index : (index : Index) → index.heads ≡ replicate 32 64 → length index.links ≡ 64 → index.first ≡ 0 → IsIndex index []
-empty_index index heads links first = record {
+pub empty_index : (index : Index) → index.heads ≡ replicate 32 64 → length index.links ≡ 64 → index.first ≡ 0 → index.counts ≡ replicate 256 0 →
+    IsIndex index []
+empty_index index heads links first counts = record {
   heads = ap length heads;
   links = links;
   first = omega (arith, first);
   leads = λ bucket few. tt;
   within = λ bucket few. inr (ap (position index.first) (ap (λ (l : List ℕ). get_or l bucket 64) heads ∙ get_or-replicate 32 bucket 64 64 few) ∙ position_end index.first);
+  counts = ap length counts;
+  counted = λ tag few. ap (λ (l : List ℕ). get_or l tag 0) counts ∙ get_or-replicate 256 tag 0 0 few;
 }
 
 -- an empty place is filled: a copy of one
@@ -70,16 +74,23 @@ appended_none index places room h =
           ));
       within = λ bucket few. subst (IsWithin (position index.first (get_or index.heads bucket 64))) (sym len)
           (within_more (position index.first (get_or index.heads bucket 64)) (length places) (h.within bucket few));
+      counts = h.counts;
+      counted = λ tag few. h.counted tag few ∙ sym (tally_filled tag places None);
     }
 
 -- a place is filled: its bucket starts with it
 module _ (index : Index) (places : List (Option (Key × Hit))) (entry : Key × Hit) (own : ℕ) (is : own ≡ bucket_of entry.0) (small : own < 32)
-    (room : length places < 64) (h : IsIndex index places) where
+    (tag : ℕ) (tagged : tag ≡ tag_of entry.0) (room : length places < 64) (h : IsIndex index places) where
   abbrev pub slot : ℕ
   slot = (index.first + length places) % 64
 
   abbrev pub after : Index
-  after = record { heads = set index.heads own slot; links = set index.links slot (get_or index.heads own 0); first = index.first }
+  after = record {
+    heads = set index.heads own slot;
+    links = set index.links slot (get_or index.heads own 0);
+    first = index.first;
+    counts = counted_more index.counts tag;
+  }
 
   there : position index.first slot ≡ length places
   there = position_filled index.first (length places) h.first room
@@ -153,9 +164,15 @@ module _ (index : Index) (places : List (Option (Key × Hit))) (entry : Key × H
             (subst (λ (place : Option (Key × Hit)). LedAt bucket (get_or after.heads bucket 64) (is_in bucket place))
             (sym (get_or-append_seam places (Some entry) [] None)) (led_at bucket few));
         within = λ bucket few. subst (IsWithin (position index.first (get_or after.heads bucket 64))) (sym len) (within_at bucket few);
+        counts = length-set index.counts tag (min (get_or index.counts tag 0 + 1) 255) ∙ h.counts;
+        counted = counted_filled index.counts places entry tag tagged h.counts room h.counted;
       }
 
 -- the oldest place leaves
+counted_length : (counts : List ℕ) (oldest : Option (Key × Hit)) → length (counted_less counts oldest) ≡ length counts
+counted_length counts None = refl
+counted_length counts (Some entry) = length-set counts (tag_of entry.0) (get_or counts (tag_of entry.0) 0 - 1)
+
 cleared_length : (heads : List ℕ) (first : ℕ) (oldest : Option (Key × Hit)) → length (cleared heads first oldest) ≡ length heads
 cleared_length heads first None = refl
 cleared_length heads first (Some entry) =
@@ -189,7 +206,12 @@ cleared_own heads first (Some entry) bucket is starts low =
 module _ (index : Index) (oldest : Option (Key × Hit)) (places : List (Option (Key × Hit))) (room : length places < 64)
     (h : IsIndex index (oldest ∷ places)) where
   abbrev pub rest : Index
-  rest = record { heads = cleared index.heads index.first oldest; links = index.links; first = next_first index.first }
+  rest = record {
+    heads = cleared index.heads index.first oldest;
+    links = index.links;
+    first = next_first index.first;
+    counts = counted_less index.counts oldest;
+  }
 
   -- what is to be shown of a bucket
   record Stays (bucket : ℕ) : Type 0 where
@@ -248,4 +270,6 @@ module _ (index : Index) (oldest : Option (Key × Hit)) (places : List (Option (
     first = omega arith;
     leads = λ bucket few. (stays bucket few).leads;
     within = λ bucket few. (stays bucket few).within;
+    counts = counted_length index.counts oldest ∙ h.counts;
+    counted = counted_left index.counts oldest places h.counts h.counted;
   }

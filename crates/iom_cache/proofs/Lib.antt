@@ -10,3 +10,4 @@ pub mod Chains
 pub mod Indexed
 pub mod Apart
 pub mod Counted
+pub mod Tallied

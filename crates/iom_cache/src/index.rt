@@ -1,16 +1,20 @@
 //! The index of the translation cache: in which places a key may stand.
 
-ghost use Rattle.std.specs.Prelude.{◌≡◌, ◌+◌, ◌%◌, ◌<◌, ◌≤◌, ◌++◌, [], ◌∷◌, List, Option, length, get_or};
+ghost use Rattle.std.specs.Prelude.{◌≡◌, ◌+◌, ◌%◌, ◌<◌, ◌≤◌, ◌==◌, ◌++◌, [], ◌∷◌, List, Option, length, get_or};
 ghost use Rattle.iom_nested.specs.declared.translation.Hit.{Hit};
 ghost use Rattle.iom_cache.specs.declared.key.Key.{Key};
 ghost use Rattle.iom_cache.specs.Buckets.{bucket_of};
-ghost use Rattle.iom_cache.specs.Index.{IsIndex, cleared, position};
+ghost use Rattle.iom_cache.specs.Index.{IsIndex, cleared, counted_less, counted_more, position, tag_of};
 
 use crate::Key;
+use iom_bits::Kind;
 use iom_nested::Hit;
 
 /// How many slots there are: one for each place.
 const SLOTS: usize = 64;
+
+/// How many tags there are.
+pub const TAGS: usize = 256;
 
 /// The live places by buckets, the newest first. A place keeps its slot from its fill on.
 #[derive(Clone, Copy)]
@@ -21,6 +25,8 @@ pub struct Index {
     links: [usize; 64],
     // The slot of the oldest place.
     first: usize,
+    // How many live places have keys with each tag.
+    counts: [u8; TAGS],
 }
 
 impl Index {
@@ -32,7 +38,16 @@ impl Index {
             heads: [SLOTS; 32],
             links: [SLOTS; 64],
             first: 0,
+            counts: [0; TAGS],
         }
+    }
+
+    /// Whether no live place has a key with the tag.
+    pub fn lacks(&self, tag: usize) -> bool
+        requires { tag < 256 }
+        ensures { result ≡ (get_or self.now.counts tag 0 == 0) }
+    {
+        self.counts[tag] == 0
     }
 
     /// The slot that a bucket starts with.
@@ -85,6 +100,7 @@ impl Index {
             let slot = (self.first + at) % SLOTS;
             self.links[slot] = self.heads[bucket];
             self.heads[bucket] = slot;
+            count_more(&mut self.counts, tag_of(key));
         }
     }
 
@@ -95,6 +111,7 @@ impl Index {
             IsIndex self.new places }
     {
         clear(&mut self.heads, self.first, oldest);
+        count_less(&mut self.counts, oldest);
         self.first = (self.first + 1) % SLOTS;
     }
 
@@ -121,6 +138,37 @@ fn clear(heads: &mut [usize; 32], first: usize, oldest: &Option<(Key, Hit)>)
             heads[bucket] = SLOTS;
         }
     }
+}
+
+// One more place has a key with the tag.
+fn count_more(counts: &mut [u8; TAGS], tag: usize)
+    requires { tag < 256 }
+    ensures { counts.new ≡ counted_more counts.old tag }
+{
+    counts[tag] = counts[tag].saturating_add(1);
+}
+
+// The oldest place is counted no more.
+fn count_less(counts: &mut [u8; TAGS], oldest: &Option<(Key, Hit)>)
+    ensures { counts.new ≡ counted_less counts.old oldest.now }
+{
+    if let Some((key, _)) = oldest {
+        let tag = tag_of(key);
+        counts[tag] = counts[tag].saturating_sub(1);
+    }
+}
+
+/// The tag of a key: by its page and by what the access does.
+#[tactic(auto, unfolding(crate::specs::Index::tag_of))]
+pub fn tag_of(key: &Key) -> usize
+    ensures tag { result ≡ tag_of key.now }
+    ensures few { result < 256 }
+{
+    let side = match key.kind {
+        Kind::Read => 0,
+        Kind::Write => 1,
+    };
+    2 * (key.page as usize % 128) + side
 }
 
 /// The bucket of a key.

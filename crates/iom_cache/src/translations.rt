@@ -4,11 +4,10 @@ ghost use Rattle.iom_cache.specs.Places.{dropped_by, made_room};
 ghost use Rattle.iom_cache.specs.Drops.{drops_page};
 
 use crate::drops::drops_page;
-use crate::index::{Index, bucket_of};
+use crate::index::{Index, TAGS, bucket_of, tag_of};
 use crate::key::is_same;
 use crate::{Key, Place};
 use circular_buffer::HeapCircularBuffer;
-use iom_bits::Kind;
 use iom_nested::Hit;
 use iom_queue::Command;
 use std::alloc::{AllocError, Global};
@@ -17,16 +16,13 @@ use std::marker::Model;
 /// How many places there are.
 const PLACES: usize = 64;
 
-/// How many hints there are.
-const HINTS: usize = 128;
-
 /// The translation cache: at most 64 places, oldest first, each empty or with where a key leads.
 #[derive(Drop)]
 pub struct TransCache {
     places: HeapCircularBuffer<Option<(Key, Hit)>>,
     index: Index,
-    // The slot of the last fill for pages and a kind that are alike. It is tried first, and promises nothing.
-    hints: [u8; HINTS],
+    // The slot of the last fill for a key with each tag. It is tried first, and promises nothing.
+    hints: [u8; TAGS],
 }
 
 impl Model for TransCache {
@@ -60,7 +56,7 @@ impl TransCache {
         Ok(TransCache {
             places: HeapCircularBuffer::with_capacity(alloc, PLACES)?,
             index: Index::new(),
-            hints: [0; HINTS],
+            hints: [0; TAGS],
         })
     }
 
@@ -90,23 +86,28 @@ impl TransCache {
         self.look(key)
     }
 
-    // The same by the hint, or else by the buckets.
+    // The same by the key's tag and hint, or else by the buckets.
     #[inline(always)]
     fn look(&self, key: &Key) -> Option<Hit>
         ensures { result ≡ find (same_key key.now) self.now }
     {
-        match self.hinted(key) {
+        let tag = tag_of(key);
+        if self.index.lacks(tag) {
+            return None;
+        }
+        match self.hinted(tag, key) {
             Some(hit) => Some(hit),
             None => self.find_counted(key).0,
         }
     }
 
-    // What the place that the key's hint names says, where it has the key.
+    // What the place that a tag's hint names says, where it has the key.
     #[inline(always)]
-    fn hinted(&self, key: &Key) -> Option<Hit>
+    fn hinted(&self, tag: usize, key: &Key) -> Option<Hit>
+        requires { tag < 256 }
         ensures { IfSome result (λ hit. find (same_key key.now) self.now ≡ Some hit) }
     {
-        let at = self.index.position(usize::from(self.hints[hint_of(key)]));
+        let at = self.index.position(usize::from(self.hints[tag]));
         if at >= self.places.len() {
             return None;
         }
@@ -150,7 +151,7 @@ impl TransCache {
     {
         make_room(&mut self.places, &mut self.index);
         let at = self.places.len();
-        self.hints[hint_of(&key)] = self.index.slot(at) as u8;
+        self.hints[tag_of(&key)] = self.index.slot(at) as u8;
         let place = Some((key, hit));
         self.index.append(at, &place);
         let _none = self.places.push_back(place);
@@ -174,13 +175,6 @@ impl TransCache {
     {
         Place::of(self.places.get(i as usize))
     }
-}
-
-// The hint of a key.
-fn hint_of(key: &Key) -> usize
-    ensures { result < 128 }
-{
-    (2 * (key.page % 64) + u64::from(key.kind == Kind::Write)) as usize
 }
 
 // Where there are as many places as there may be, the oldest leaves.

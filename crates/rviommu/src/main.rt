@@ -20,8 +20,11 @@ mod help;
 mod tied;
 mod words;
 
-// The bytes that are read, and written, at once.
-const BLOCK: usize = 0x1_0000;
+// The bytes that are read at once; their room is cleared at the start.
+const READ_BLOCK: usize = 0x8000;
+
+// The bytes that are written at once.
+const WRITE_BLOCK: usize = 0x1_0000;
 
 // Runs a script on an image. Its answers are written by blocks, but before it waits for input.
 fn run<'a>(
@@ -32,11 +35,15 @@ fn run<'a>(
 ) -> Result<(), Fault<'a>> {
     let mut platform = iom_asm::load(alloc, image)?;
     let mut trace = Trace::new(alloc)?;
-    let writer = BufWriter::with_capacity(alloc, BLOCK, output).map_err(|_| Fault::OutOfMemory)?;
+    let writer = BufWriter::with_capacity(alloc, WRITE_BLOCK, output).map_err(
+        |_| Fault::OutOfMemory,
+    )?;
     let output = RefCell::new(writer);
     let output = &output;
     let tied = Tied { input, output };
-    let mut reader = BufReader::with_capacity(alloc, BLOCK, tied).map_err(|_| Fault::OutOfMemory)?;
+    let mut reader = BufReader::with_capacity(alloc, READ_BLOCK, tied).map_err(
+        |_| Fault::OutOfMemory,
+    )?;
     let mut writer = Shared { output };
     let ended = iom_tool::run(&mut platform, &mut trace, &mut reader, &mut writer);
     // The answers before a fault are written too.

@@ -2,7 +2,7 @@ use Rattle.std.proofs.Common.{◌≡◌, ◌+◌, ◌%◌, ◌<◌, ℕ, ◌∷�
 use Rattle.iom_nested.specs.declared.translation.Hit.{Hit}
 use Rattle.iom_cache.specs.declared.index.Index.{Index}
 use Rattle.iom_cache.specs.declared.key.Key.{Key}
-use Rattle.iom_cache.specs.Index.{IsIndex}
+use Rattle.iom_cache.specs.Index.{IsIndex, counted_more}
 use Rattle.iom_cache.proofs.Indexed.{appended_none, appended_some}
 use Rattle.iom_cache.proofs.index.Index.append.Goals as goal
 
@@ -22,7 +22,8 @@ returns-in-Some c = λ places count h.
       heads = set index.heads own ((index.first + n) % 64);
       links = set index.links ((index.first + n) % 64) (get_or index.heads own 0);
       first = index.first;
+      counts = counted_more index.counts c.tag_of.result;
     } in
-    subst (λ (place : Option (Key × Hit)). IsIndex (After c.args.at) (places ++ place ∷ [])) (sym c.in-Some.is)
+    rw c.count_more.ensures (subst (λ (place : Option (Key × Hit)). IsIndex (After c.args.at) (places ++ place ∷ [])) (sym c.in-Some.is)
     (subst (λ (n : ℕ). IsIndex (After n) (places ++ Some entry ∷ [])) count
-    (appended_some index places entry own c.bucket_of-bucket.ensures.bucket c.bucket_of-bucket.ensures.few room h))
+    (appended_some index places entry own c.bucket_of-bucket.ensures.bucket c.bucket_of-bucket.ensures.few c.tag_of.result c.tag_of.ensures.tag room h)))
