@@ -5,7 +5,7 @@ ghost use Rattle.std.specs.Option.{option_map};
 ghost use Rattle.iom_ddt.specs.Contexts.{IsWellFormed};
 ghost use Rattle.iom_queue.specs.Commands.{CommandFits};
 ghost use Rattle.iom_queue.specs.Records.{RecordFits};
-ghost use Rattle.iom_asm.specs.Forms.{vma, gvma, fence, iodir, command, fault, context, dir, pte, each_number, numbers, words_for};
+ghost use Rattle.iom_asm.specs.Forms.{vma, gvma, fence, iodir, command, fault, formed, context, dir, pte, each_number, numbers, words_for};
 
 use crate::operands::{any_number, are_operands, flag_for, limited};
 use arrayvec::ArrayVec;
@@ -134,6 +134,21 @@ fn fault(words: &[&[u8]]) -> Option<Record>
     })
 }
 
+// A context, where it is well formed.
+fn formed(context: Context) -> Option<Context>
+    requires second_root { context.gppn < 2 ^ 44 }
+    requires process { context.pscid < 2 ^ 20 }
+    requires first_root { context.ppn < 2 ^ 44 }
+    ensures value { result ≡ formed context }
+    ensures well_formed { IfSome result IsWellFormed }
+{
+    if context.is_well_formed() {
+        Some(context)
+    } else {
+        None
+    }
+}
+
 #[tactic(auto, unfolding(crate::specs::Forms::context))]
 fn context(words: &[&[u8]]) -> Option<Context>
     ensures value { result ≡ context (map (λ word. word.now) words.now) }
@@ -147,7 +162,7 @@ fn context(words: &[&[u8]]) -> Option<Context>
     ) {
         return None;
     }
-    let context = Context {
+    formed(Context {
         dtf: flag_for(b"dtf", words)?,
         custom: limited(b"custom", 1 << 8, words)? as u8,
         gmode: limited(b"gmode", 1 << 4, words)? as u8,
@@ -157,12 +172,7 @@ fn context(words: &[&[u8]]) -> Option<Context>
         pscid: limited(b"pscid", 1 << 20, words)? as u32,
         mode: limited(b"mode", 1 << 4, words)? as u8,
         ppn: limited(b"ppn", 1 << 44, words)?,
-    };
-    if context.is_well_formed() {
-        Some(context)
-    } else {
-        None
-    }
+    })
 }
 
 #[tactic(auto, unfolding(crate::specs::Forms::dir))]
