@@ -4,3 +4,6 @@ use Rattle.iom_core.proofs.platform.Platform.take_all.Goals as goal
 
 pub returns-clause-end : goal.returns-clause-end
 returns-clause-end c = grind (arith, common_steps)
+
+pub loop-i-preserved : goal.loop-i-preserved
+loop-i-preserved c = grind (arith, common_steps)
