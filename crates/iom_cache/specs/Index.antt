@@ -32,6 +32,7 @@ Leads links first bucket places slot (suc n) = LeadsAt (is_in_at bucket places n
 abbrev pub IsWithin : ℕ → ℕ → Type 0
 IsWithin at count = (at < count) ⊎ (at ≡ 64)
 
+-- a read and a write of a page have different tags
 abbrev pub side_of : Kind → ℕ
 side_of Read = 0
 side_of Write = 1
