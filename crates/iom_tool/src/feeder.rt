@@ -65,9 +65,20 @@ impl<'a> Feeder<'a> {
             .rest
             .feed(self.platform, self.trace, piece, &mut writer);
         if let Err(fault) = fed {
-            self.refusal = Some(fault);
+            self.refuse(fault);
         }
         fed
+    }
+
+    // Refuses what comes from now on.
+    #[inline(always)]
+    fn refuse(&mut self, fault: RunFault)
+        ensures refused { self.new.refusal ≡ Some fault }
+        ensures rest { self.new.rest ≡ self.old.rest }
+        ensures platform { self.new.platform ≡ self.old.platform }
+        ensures trace { self.new.trace ≡ self.old.trace }
+    {
+        self.refusal = Some(fault);
     }
 
     /// Answers a last line that lacks its line end, and flushes.

@@ -3,8 +3,17 @@ use Rattle.std.proofs.lemmas.List.{length-take-le}
 use Rattle.std.proofs.lemmas.Result.{err_from_is_err_and}
 use Rattle.iom_tool.specs.Console.{console}
 use Rattle.iom_tool.specs.Running.{progress}
-use Rattle.iom_tool.proofs.Runs.{run_ends, piece_ends, runs_on, end_is_no_read, piece_is_no_read}
+use Rattle.iom_tool.proofs.Runs.{run_stops, run_ends, piece_ends, runs_on, end_is_no_read, piece_is_no_read}
 use Rattle.iom_tool.proofs.running.run_watched.Goals as goal
+
+pub returns-in_default-clause-ends : goal.returns-in_default-clause-ends
+returns-in_default-clause-ends g c = run_stops _ _ _ _ _ _ _ _ _ c.loop-turn.invariant.runs c.in_default.ensures.bytes
+
+pub returns-in_default-clause-read_told : goal.returns-in_default-clause-read_told
+returns-in_default-clause-read_told g c = c.in_default.ensures.failed
+
+pub returns-in_default-clause-write_told : goal.returns-in_default-clause-write_told
+returns-in_default-clause-write_told g c = c.loop-turn.invariant.can_write
 
 pub returns-then-count-eq0-clause-ends : goal.returns-then-count-eq0-clause-ends
 returns-then-count-eq0-clause-ends g c =

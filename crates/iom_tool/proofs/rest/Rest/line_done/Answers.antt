@@ -1,5 +1,8 @@
 use Rattle.std.proofs.Common.{◌++◌, sym, ap}
 use Rattle.std.proofs.lemmas.Result.{err_from_is_err_and}
+use Rattle.iom_tool.specs.Console.{console}
+use Rattle.iom_tool.specs.Output.{open_line}
+use Rattle.iom_tool.specs.Running.{progress}
 use Rattle.iom_tool.specs.Script.{line_of}
 use Rattle.iom_tool.proofs.Feeding.{unbegun, kept_line, kept_grows, line_answered, line_ends, line_fails, none_kept}
 use Rattle.iom_tool.proofs.rest.Rest.line_done.Goals as goal
@@ -7,8 +10,11 @@ use Rattle.iom_tool.proofs.rest.Rest.line_done.Goals as goal
 pub returns-then-is_empty-clause-fed : goal.returns-then-is_empty-clause-fed
 returns-then-is_empty-clause-fed g c start text h short =
     let nothing = none_kept c.args.self.now.line.items c.if-is_empty.ensures in
-    let begun = unbegun _ _ h.keeps nothing.0 in
-    line_answered _ _ _ c.args.part.now _ _ _ _ _ _ c.answer_cut.result h c.requires.one short c.requires.few
+    let begun = unbegun c.args.self.now.line.items (open_line text) h.keeps nothing.0 in
+    line_answered start (progress (g.W.Write.contents c.args.writer.now.inner.now) (console c.args.platform.now c.args.trace.now))
+    c.args.self.now.line.items c.args.part.now c.args.self.now.line.items c.args.self.now.lines text c.args.part.now
+    (console c.answer_cut.new.platform c.answer_cut.new.trace) (g.W.Write.contents c.answer_cut.new.writer.inner.now) c.answer_cut.result
+    h c.requires.one short c.requires.few
     (ap (λ l. line_of (l ++ c.args.part.now)) (sym begun))
     c.answer_cut.ensures.console c.answer_cut.ensures.ok c.answer_cut.ensures.front c.answer_cut.ensures.fault nothing.1
 
@@ -16,15 +22,23 @@ pub returns-in_err-answer-clause-fed : goal.returns-in_err-answer-clause-fed
 returns-in_err-answer-clause-fed g c start text h short =
     let p = err_from_is_err_and c.from_residual.result c.from_residual.ensures.1 in
     rw (p.1, p.2, c.in_err-answer.ensures.fault) (
-    line_fails _ _ _ c.keep.new.self.line.items _ _ _ _ _ h c.requires.one short c.requires.few
-    (kept_line _ _ (kept_grows _ _ _ _ h.keeps c.keep.ensures.line))
+    line_fails start (progress (g.W.Write.contents c.args.writer.now.inner.now) (console c.args.platform.now c.args.trace.now))
+    c.args.self.now.line.items c.keep.new.self.line.items c.args.self.now.lines text c.args.part.now
+    (console c.answer.new.platform c.answer.new.trace) (g.W.Write.contents c.answer.new.writer.inner.now)
+    h c.requires.one short c.requires.few
+    (kept_line c.keep.new.self.line.items (open_line text ++ c.args.part.now)
+    (kept_grows c.args.self.now.line.items (open_line text) c.args.part.now c.keep.new.self.line.items h.keeps c.keep.ensures.line))
     (rw c.as_slice.ensures.value at c.in_err-answer.ensures.console)
     (rw c.as_slice.ensures.value at c.in_err-answer.ensures.front))
 
 pub returns-clause-fed : goal.returns-clause-fed
 returns-clause-fed g c start text h short =
     rw (c.clear.ensures, c.keep.ensures.lines) (
-    line_ends _ _ _ c.keep.new.self.line.items _ _ _ _ _ h c.requires.one short c.requires.few
-    (kept_line _ _ (kept_grows _ _ _ _ h.keeps c.keep.ensures.line))
+    line_ends start (progress (g.W.Write.contents c.args.writer.now.inner.now) (console c.args.platform.now c.args.trace.now))
+    c.args.self.now.line.items c.keep.new.self.line.items c.args.self.now.lines text c.args.part.now
+    (console c.answer.new.platform c.answer.new.trace) (g.W.Write.contents c.answer.new.writer.inner.now)
+    h c.requires.one short c.requires.few
+    (kept_line c.keep.new.self.line.items (open_line text ++ c.args.part.now)
+    (kept_grows c.args.self.now.line.items (open_line text) c.args.part.now c.keep.new.self.line.items h.keeps c.keep.ensures.line))
     (rw c.as_slice.ensures.value at c.in_ok-answer.ensures.console)
     (rw c.as_slice.ensures.value at c.in_ok-answer.ensures.ok))
