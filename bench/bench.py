@@ -5,10 +5,12 @@ Five scripts have 1,000,000 lines: mode Bare, and one stage and both with 24 pag
 is warm) and with 176 (most of them not). The sixth has 32 lines, and each program is started on it a thousand times. Each
 program runs on each script 25 times (the sixth: five times a thousand), in turn, with the script as standard input and a
 file as standard output; the best time counts. Where two programs are given, the ratio is that of their speeds, the first
-to the second, and their outputs must be the same, byte for byte. The status is 1 where they differ or a run fails.
+to the second: the median over all turns, since a host's speed changes from one second to the next and two runs of a turn
+follow each other. Their outputs must be the same, byte for byte. The status is 1 where they differ or a run fails.
 """
 import filecmp
 import os
+import statistics
 import subprocess
 import sys
 import tempfile
@@ -56,12 +58,16 @@ def measured(programs, room, name, stages, pages, lines, starts, times):
         subprocess.run([sys.executable, generate, *words], stdout=out, check=True)
     outputs = [f"{room}/output{at}" for at in range(len(programs))]
     taken = [[] for _ in programs]
-    for _ in range(times):
-        for program, output, seconds in zip(programs, outputs, taken):
+    for turn in range(times):
+        row = list(zip(programs, outputs, taken))
+        # Each program is the first in every second turn.
+        for program, output, seconds in row if turn % 2 else reversed(row):
             seconds.append(timed(program, script, output, starts))
     best = [min(it) for it in taken]
     speeds = ", ".join(f"{lines * starts / it:,.0f} lines per second ({it:.3f} s)" for it in best)
-    ratio = f"; ratio {best[1] / best[0]:.2f}" if len(best) == 2 else ""
+    ratio = ""
+    if len(taken) == 2:
+        ratio = f"; ratio {statistics.median(other / own for own, other in zip(*taken)):.2f}"
     is_same = all(filecmp.cmp(outputs[0], it, shallow=False) for it in outputs[1:])
     is_whole = line_count(outputs[0]) == lines
     print(f"{name}: {speeds}{ratio}{'' if is_same else '; outputs DIFFER'}", flush=True)
