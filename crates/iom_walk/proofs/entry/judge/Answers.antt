@@ -1,5 +1,5 @@
 -- Each goal by one tactic, so that a wrong body is refused without a long search.
-use Rattle.std.proofs.Common.{arith}
+use Rattle.std.proofs.Common.{arith, rules}
 use Rattle.iom_walk.specs.Verdict.{verdict_of}
 use Rattle.iom_walk.proofs.entry.judge.Goals as goal
 
@@ -22,3 +22,7 @@ returns-then-refuses c = grind arith
 pub returns-else-refuses : goal.returns-else-refuses
 unfolding verdict_of
 returns-else-refuses c = grind arith
+
+pub returns-in-Outside : goal.returns-in-Outside
+unfolding verdict_of
+returns-in-Outside c = search rules

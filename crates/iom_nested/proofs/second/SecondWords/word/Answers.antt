@@ -1,0 +1,11 @@
+use Rattle.std.proofs.Common.{rules}
+use Rattle.iom_nested.proofs.second.SecondWords.word.Goals as goal
+
+pub returns-in-Leaf : goal.returns-in-Leaf
+returns-in-Leaf c = search rules
+
+pub returns-in-Outside : goal.returns-in-Outside
+returns-in-Outside c = search rules
+
+pub returns-in-Guest : goal.returns-in-Guest
+returns-in-Guest c = search rules

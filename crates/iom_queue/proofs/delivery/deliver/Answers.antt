@@ -1,0 +1,11 @@
+use Rattle.iom_queue.specs.Delivery.{is_stored, delivered}
+use Rattle.std.proofs.Common.{rules}
+use Rattle.iom_queue.proofs.delivery.deliver.Goals as goal
+
+pub returns-then-is_full-clause-memory : goal.returns-then-is_full-clause-memory
+unfolding delivered is_stored
+returns-then-is_full-clause-memory c = search rules
+
+pub returns-then-is_full-clause-unchanged : goal.returns-then-is_full-clause-unchanged
+unfolding delivered is_stored
+returns-then-is_full-clause-unchanged c = search rules
