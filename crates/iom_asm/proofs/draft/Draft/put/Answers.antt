@@ -1,6 +1,6 @@
-use Rattle.std.proofs.Common.{◌≡◌, length, true, false, map, sym, ◌∙◌, refl}
+use Rattle.std.proofs.Common.{◌≡◌, length, true, false, map, sym, ◌∙◌, refl, rules}
 use Rattle.std.specs.List.{list_any}
-use Rattle.iom_asm.specs.Assembly.{is_inside, meets}
+use Rattle.iom_asm.specs.Assembly.{is_inside, meets, placed}
 use Rattle.iom_asm.specs.Drafts.{chunk_seen, draft_seen}
 use Rattle.iom_asm.proofs.Places.{inserted, placed_there}
 use Rattle.iom_asm.proofs.draft.Draft.put.Goals as goal
@@ -16,3 +16,7 @@ returns c =
     rw (← len) (sym c.is_taken.ensures ∙ c.if-is_taken.false) in
     placed_there c.args.line (draft_seen draft) bytes inside none
     ∙ rw (len, c.in_ok-insert.ensures.entries, inserted _ _ _ draft.place c.args.bytes draft.chunks.entries c.requires.good.chunks c.requires.some none) refl
+
+pub returns-then-is_taken : goal.returns-then-is_taken
+unfolding placed
+returns-then-is_taken c = search rules
