@@ -1,32 +1,37 @@
 # Short names over the toolchain's commands.
 #
 #   make run < FILE           run a script on standard input; builds the program first where it is not current
+#   make build                build the program where it is not current, crates side by side
 #   make test                 every proof from nothing, the edits that must be refused, every test
 #   make rows                 plays the scripts of crates/iom_rows/data, and prints each answer that is not the expected one
 #   make cost                 processor seconds of what make test does, crate by crate, on a copy
 #   make bench [OTHER=FILE]   lines per second, and images loaded, assembled and listed, beside another program where one is named
-#   make fuzz OTHER=FILE     cases made to harm, beside another program; MINUTES=1 and SEED=1 where they aren't given
+#   make fuzz OTHER=FILE      cases made to harm, beside another program; MINUTES=1 and SEED=1 where they aren't given
+#   make peer                 the program beside QEMU's IOMMU (QEMU 10), 5,000 cases; CASES=5000 and SEED=1 where they aren't given
 #   make install PREFIX=..    copy the program to PREFIX/bin, /usr/local/bin where PREFIX is not given, with its man page and
 #                             completions for bash and zsh
+#   make dist, make deb       pack the program into dist/, as an archive or as a Debian package
 
 PREFIX = /usr/local
 MINUTES = 1
 SEED = 1
+CASES = 5000
 program = crates/rviommu/out/rviommu
 sources = $(shell find crates -name out -prune -o -type f \( -name '*.rt' -o -name '*.antt' \) -print)
 
 # On standard error, so that standard output has the program's answers alone.
 has_rt = command -v rt >/dev/null || { echo "rt, the command of the Rattle kit, is not on the path" >&2; exit 1; }
 has_python = command -v python3 >/dev/null || { echo "python3 is not on the path" >&2; exit 1; }
-# rt builds the program and then runs it, here on nothing.
-build = cd crates/rviommu && rt run </dev/null >/dev/null
 
-.PHONY: run test rows cost bench fuzz install
+.PHONY: run build test rows cost bench fuzz peer install dist deb
 
 $(program): crates.txt $(sources)
 	@$(has_rt)
-	@$(build)
+	@$(has_python)
+	@packaging/build.py
 	@touch $@
+
+build: $(program)
 
 run: $(program)
 	@$(program)
@@ -36,8 +41,9 @@ test:
 	@$(has_python)
 	rt ci
 	sh tests/refused_memory.sh
-	@test -x $(program) || { $(build); }
+	@test -x $(program) || packaging/build.py
 	tests/program.py $(program)
+	tests/package.py $(program)
 
 rows:
 	@$(has_rt)
@@ -57,6 +63,10 @@ fuzz: $(program)
 	@$(has_python)
 	tests/fuzz.py $(program) $(OTHER) $(MINUTES) $(SEED)
 
+peer: $(program)
+	@$(has_python)
+	tests/peer/peer.py $(program) $(CASES) $(SEED)
+
 install: $(program)
 	install -d $(DESTDIR)$(PREFIX)/bin
 	install -m 755 $(program) $(DESTDIR)$(PREFIX)/bin/rviommu
@@ -66,3 +76,9 @@ install: $(program)
 	install -m 644 completions/rviommu.bash $(DESTDIR)$(PREFIX)/share/bash-completion/completions/rviommu
 	install -d $(DESTDIR)$(PREFIX)/share/zsh/site-functions
 	install -m 644 completions/_rviommu $(DESTDIR)$(PREFIX)/share/zsh/site-functions/_rviommu
+
+dist: $(program)
+	@packaging/package.py dist $(program)
+
+deb: $(program)
+	@packaging/package.py deb $(program)

@@ -1,15 +1,28 @@
 # bash completion for rviommu
+
+# Offers the files that begin so. Names stay whole, whatever they have in them, and bash quotes them.
+_rviommu_files() {
+    compopt -o filenames 2>/dev/null
+    mapfile -t COMPREPLY < <(compgen -f -- "$1")
+}
+
 _rviommu() {
     local current=${COMP_WORDS[COMP_CWORD]}
     COMPREPLY=()
     if [ "$COMP_CWORD" -eq 1 ]; then
-        COMPREPLY=($(compgen -W "asm run list upgrade help --help --version" -- "$current"))
+        mapfile -t COMPREPLY < <(compgen -W "asm run list upgrade help --help --version" -- "$current")
         return
     fi
+    case ${COMP_WORDS[1]}:$current in
+        asm:-* | run:-* | list:-* | upgrade:-*)
+            mapfile -t COMPREPLY < <(compgen -W "--help" -- "$current")
+            return
+            ;;
+    esac
     case ${COMP_WORDS[1]}:$COMP_CWORD in
-        asm:2 | asm:3 | run:2 | list:2 | upgrade:2 | upgrade:3) COMPREPLY=($(compgen -f -- "$current")) ;;
-        list:3) COMPREPLY=($(compgen -W "cmd fault context dir pte u64" -- "$current")) ;;
-        help:2) COMPREPLY=($(compgen -W "asm run list upgrade" -- "$current")) ;;
+        asm:2 | asm:3 | run:2 | list:2 | upgrade:2 | upgrade:3) _rviommu_files "$current" ;;
+        list:3) mapfile -t COMPREPLY < <(compgen -W "cmd fault context dir pte u64" -- "$current") ;;
+        help:2) mapfile -t COMPREPLY < <(compgen -W "asm run list upgrade" -- "$current") ;;
     esac
 }
-complete -o filenames -F _rviommu rviommu
+complete -F _rviommu rviommu

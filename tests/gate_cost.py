@@ -3,7 +3,7 @@
 repository.
 
 The parts of a crate are its proof from nothing (of a program with both of its builds), its tests, proved and run, and
-the edits that must be refused. Prints a table of all crates, or of those that are named, as docs/MAP.md has it; the
+the edits that must be refused. Prints a table of all crates, or of those that are named, as docs/GATE.md has it; the
 libraries that these stand on are built first. The status is 1 where a part fails.
 
 Other work on the same cores makes each number larger.

@@ -16,9 +16,12 @@ import time
 import tty
 
 from checks import *  # noqa: F403
+import program_completions  # noqa: F401
+import program_documents  # noqa: F401
 import program_images  # noqa: F401
 import program_memory  # noqa: F401
 import program_pages  # noqa: F401
+import program_walks  # noqa: F401
 
 # A conversation over two pipes.
 
@@ -213,7 +216,7 @@ def _():
 
 
 def add_refused(*words):
-    @check(f"words that there are not are refused with status 2: {' '.join(words)}")
+    @check(f"unknown words are refused with status 2: {' '.join(words)}")
     def _():
         status, out, errors = run(words, ASK + b"\n")
         want("status", status, 2)
@@ -247,7 +250,7 @@ def _():
             raise Failure("standard error is empty")
 
 
-@check("words that there are not, with standard error closed: status 2")
+@check("unknown words, with standard error closed: status 2")
 def _():
     for words in (["jump"], ["--jump"], [b"\xff"]):
         with tempfile.TemporaryFile() as script:

@@ -96,6 +96,22 @@ def _():
     want("whether there were some", played > 20, True)
 
 
+def steps_of(path):
+    """The lines of a script that have a word, without comments and with one blank between words."""
+    words = [line.partition(b"#")[0].split() for line in read(path).splitlines()]
+    return tuple(b" ".join(line) for line in words if line)
+
+
+@check("rows: no two of them have the same steps")
+def _():
+    first = {}
+    for script in sorted(glob.glob(os.path.join(ROWS, "*.script"))):
+        name = os.path.basename(script)
+        other = first.setdefault(steps_of(script), name)
+        want(f"the row whose steps are those of {name}", other, name)
+    want("whether there were some", len(first) > 20, True)
+
+
 def add_bad_text(name, text, line):
     @check(f"asm: {name}, and the image's file is as it was")
     def _():

@@ -1,25 +1,19 @@
-"""Checks of the man page and of the completions against what the program knows."""
+"""Checks of the man page against what the program knows."""
 import os
 import re
 import subprocess
 
-from checks import EXAMPLES, FORMS, PROGRAM, RUN_SECONDS, Skip, check, folder, put, run, want, want_words
+from checks import EXAMPLES, FORMS, PROGRAM, RUN_SECONDS, check, folder, put, want, want_words
+from program_completions import KINDS, commands
 from program_images import STATEMENTS
 
 TOP = os.path.join(EXAMPLES, os.pardir)
-KINDS = ["cmd", "fault", "context", "dir", "pte", "u64"]
 ANSWERS = ["done", "idle", "denied", "bus error", "bad access", "no device", "misuse", "outside", "none", "empty", "bad"]
 TEXTS = [
     *("line N: bad line", "line N: overlap", "line N: outside memory", "bad magic", "truncated", "trailing bytes"),
     *("bad memory", "bad chunk", "bad device", "outside memory", "read failed", "write failed", "script too long"),
     *("out of memory", "cannot read FILE", "cannot write FILE"),
 ]
-
-
-def commands():
-    """The words that the program knows, by its help."""
-    out = run(["--help"])[1].decode()
-    return [line.split()[0] for line in out[out.index("Commands:\n") : out.index("Options:\n")].splitlines()[1:] if line.strip()]
 
 
 def plain(page):
@@ -77,32 +71,3 @@ def _():
         ended = subprocess.run(["sh", "-c", command], cwd=here, env=where, stdout=subprocess.PIPE, timeout=RUN_SECONDS)
     answers = "".join(line + "\n" for line in lines if not line.startswith("$ "))
     want("status and standard output", (ended.returncode, ended.stdout.decode()), (0, answers))
-
-
-@check("completions: they know every word and every kind")
-def _():
-    for name in ("rviommu.bash", "_rviommu"):
-        with open(os.path.join(TOP, "completions", name)) as file:
-            words = set(re.findall(r"[-\w]+", file.read()))
-        want(f"what {name} lacks", [it for it in [*commands(), "--help", "--version", *KINDS] if it not in words], [])
-
-
-def add_completed(line, wanted):
-    @check(f"bash completes `{line}`")
-    def _():
-        script = os.path.join(TOP, "completions", "rviommu.bash")
-        words = line.split(" ")
-        quoted = " ".join(f"'{word}'" for word in words)
-        text = f"source '{script}'; COMP_WORDS=({quoted}); COMP_CWORD={len(words) - 1}; _rviommu; echo ${{COMPREPLY[@]}}"
-        try:
-            ended = subprocess.run(["bash", "-c", text], stdout=subprocess.PIPE, timeout=RUN_SECONDS)
-        except FileNotFoundError:
-            raise Skip("there is no bash") from None
-        want("what it offers", ended.stdout.decode().split(), wanted)
-
-
-add_completed("rviommu a", ["asm"])
-add_completed("rviommu list image ", KINDS)
-add_completed("rviommu list image c", ["cmd", "context"])
-add_completed("rviommu u", ["upgrade"])
-add_completed("rviommu help ", ["asm", "run", "list", "upgrade"])

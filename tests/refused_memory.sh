@@ -32,7 +32,7 @@ platform_with_a_device_is_copied AllocError
 memory_and_devices_are_loaded OutOfMemory
 caches_are_made_for_an_image OutOfMemory
 image_is_played OutOfMemory
-caches_are_made_for_a_played_image OutOfMemory
+caches_and_a_trace_are_made_for_a_played_image OutOfMemory
 text_is_read OutOfMemory
 image_is_written OutOfMemory
 image_is_upgraded OutOfMemory 13

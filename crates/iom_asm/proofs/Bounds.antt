@@ -7,7 +7,8 @@ use Rattle.std.proofs.lemmas.Bool.{cond_both, and_parts, ltb-true}
 use Rattle.iom_bits.specs.Bits.{flag}
 use Rattle.iom_text.specs.Words.{number, number_in}
 use Rattle.iom_ddt.specs.declared.context.Context.{Context}
-use Rattle.iom_ddt.specs.Words.{words_of, is_well_formed}
+use Rattle.iom_ddt.specs.Contexts.{is_well_formed}
+use Rattle.iom_ddt.specs.Words.{words_of}
 use Rattle.iom_queue.specs.declared.command.Command.{Command}
 use Rattle.iom_queue.specs.declared.command.Command.TheVariants.{Fence}
 use Rattle.iom_queue.specs.declared.record.Record.{Record}

@@ -8,10 +8,11 @@ use Rattle.iom_text.specs.Words.{number, words_of}
 use Rattle.iom_mem.specs.Sizes.{is_paged, is_good_size}
 use Rattle.iom_asm.specs.declared.asm_fault.AsmFault.{AsmFault}
 use Rattle.iom_asm.specs.declared.asm_fault.AsmFault.TheVariants.{BadLine, Outside, Overlap}
-use Rattle.iom_asm.specs.Image.{Chunk, Disk, IsChunk, AreChunks, IsDisk, AreDisks, IsImage, end_of, is_new_id, is_disk_size}
+use Rattle.iom_image.specs.Image.{Chunk, Disk, IsChunk, AreChunks, IsDisk, AreDisks, IsImage, end_of, is_new_id, is_disk_size}
 use Rattle.iom_asm.specs.Forms.{where_so}
 use Rattle.iom_asm.specs.Operands.{◌>>=◌}
 use Rattle.iom_asm.specs.Assembly.{Draft, meets, insert, is_inside, with_bytes, placed, is_next_disk, with_disk, disk_for, joined, moved_to, moved, empty_draft, ram_draft, opened, bytes_for, or_bad, then_so, stated, started, after_words, after_line, after_lines}
+use Rattle.iom_image.proofs.Flags.{with_flags}
 use Rattle.iom_asm.proofs.Full.{some_byte}
 
 -- chunks
@@ -59,20 +60,6 @@ one_more has_flags ids (first ∷ others) disk good new = (
   good.0,
   one_more has_flags (ids ++ first.id ∷ []) others disk good.1
       (subst (λ (ids : List ℕ). IsDisk has_flags ids disk) (sym (append_assoc ids (first.id ∷ []) (map (λ other. other.id) others))) new),
-)
-
--- disks without flags may stand among those that have some
-pub with_flags : (has_flags others : Bool) (ids : List ℕ) (disks : List Disk) → (others ≡ false → has_flags ≡ false) →
-    AreDisks has_flags ids disks → AreDisks others ids disks
-with_flags has_flags others ids [] fewer good = tt
-with_flags has_flags others ids (disk ∷ disks) fewer good = (
-  record {
-    id = good.0.id;
-    sectors = good.0.sectors;
-    room = good.0.room;
-    writable = λ none. good.0.writable (fewer none);
-  },
-  with_flags has_flags others (ids ++ disk.id ∷ []) disks fewer good.1,
 )
 
 -- statements

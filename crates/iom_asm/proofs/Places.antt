@@ -7,9 +7,9 @@ use Rattle.std.specs.BTreeMap.{insert_entry}
 use Rattle.std.specs.BTreeMap.Range.{range_contains, entries_between}
 use Rattle.std.specs.declared.ops.Bound.TheVariants.{Excluded, Unbounded}
 use Rattle.std.proofs.lemmas.Bool.{cases_lt, cases_order, lt-ltb, le-ltb}
-use Rattle.iom_asm.specs.Image.{Chunk, AreChunks, end_of}
+use Rattle.iom_image.specs.Image.{Chunk, AreChunks, end_of}
 use Rattle.iom_asm.specs.Assembly.{Draft, is_inside, meets, insert, with_bytes, placed}
-use Rattle.iom_asm.specs.Drafts.{chunk_seen}
+use Rattle.iom_image.specs.Own.{chunk_seen}
 
 pub in_front : (limit q : ℕ) → range_contains nat_cmp Unbounded (Excluded limit) q ≡ nat_lt q limit
 in_front limit q = grind arith

@@ -8,7 +8,7 @@ use Rattle.iom_text.specs.Words.{words_of, number}
 use Rattle.iom_mem.specs.Sizes.{is_paged, is_good_size}
 use Rattle.iom_asm.specs.declared.asm_fault.AsmFault.{AsmFault}
 use Rattle.iom_asm.specs.declared.asm_fault.AsmFault.TheVariants.{BadLine, Outside, Overlap, OutOfMemory}
-use Rattle.iom_asm.specs.Image.{Chunk, Disk, Image, end_of, is_new_id, is_disk_size, image_bytes}
+use Rattle.iom_image.specs.Image.{Chunk, Disk, Image, end_of, is_new_id, is_disk_size, image_bytes}
 use Rattle.iom_mem.specs.Words.{bytes_of_words}
 use Rattle.iom_asm.specs.Forms.{where_so, words_for}
 use Rattle.iom_asm.specs.Operands.{◌>>=◌}

@@ -3,7 +3,8 @@ use Rattle.std.specs.Prelude.{ℕ, ◌^◌, ◌%◌, ◌==◌, ◌&&◌, Bool, L
 use Rattle.std.specs.Option.{option_map}
 use Rattle.iom_text.specs.Words.{number}
 use Rattle.iom_ddt.specs.declared.context.Context.{Context}
-use Rattle.iom_ddt.specs.Words.{words_of, is_well_formed}
+use Rattle.iom_ddt.specs.Contexts.{is_well_formed}
+use Rattle.iom_ddt.specs.Words.{words_of}
 use Rattle.iom_queue.specs.declared.command.Command.{Command}
 use Rattle.iom_queue.specs.declared.command.Command.TheVariants.{Vma, Gvma, Fence, Iodir}
 use Rattle.iom_queue.specs.declared.record.Record.{Record}

@@ -1,13 +1,8 @@
 pub mod Items
 pub mod Lines
-pub mod Image
-pub mod Reading
 pub mod Operands
 pub mod Forms
 pub mod Assembly
 pub mod Drafts
 pub mod Listing
 pub mod Retelling
-pub mod Loading
-pub mod Theorem
-pub mod Upgrading

@@ -1,16 +1,16 @@
 -- What a text says is told again by what it describes.
-use Rattle.std.specs.Prelude.{ℕ, ◌≡◌, ◌↔◌, ◌+◌, ◌*◌, ◌++◌, List, [], ◌∷◌, length, map, bytes_eq, Option, Some, None, Ok}
+use Rattle.std.specs.Prelude.{ℕ, ◌≡◌, ◌+◌, ◌*◌, ◌++◌, List, [], ◌∷◌, length, map, bytes_eq, Option, Some, None, Ok}
 use Rattle.std.specs.Option.{option_map}
 use Rattle.iom_text.specs.Words.{words_of}
 use Rattle.iom_asm.specs.declared.item.Item.{Item}
 use Rattle.iom_asm.specs.declared.item.Item.TheVariants as item
-use Rattle.iom_asm.specs.Image.{Image, IsImageOf, AreBytes, image_bytes}
+use Rattle.iom_image.specs.Image.{Image, image_bytes}
 use Rattle.iom_asm.specs.Items.{name_of, words_in}
 use Rattle.iom_asm.specs.Forms.{where_so, words_for}
 use Rattle.iom_asm.specs.Lines.{line_of, item_line}
 use Rattle.iom_asm.specs.Listing.{listed}
 use Rattle.iom_asm.specs.Operands.{◌>>=◌}
-use Rattle.iom_asm.specs.Reading.{image_of, opening_of}
+use Rattle.iom_image.specs.Reading.{image_of, opening_of}
 use Rattle.iom_asm.specs.Assembly.{Draft, lines_of, after_lines, described}
 
 -- these lines of a text stand between others, and this is what the statements before them make
@@ -92,7 +92,3 @@ abbrev pub FollowItems : Type 0
 FollowItems =
     (text : List ℕ) (image : Image) (draft : Draft) (kind : Item) (lines items : List (List ℕ)) → described text ≡ Ok image →
     StandsIn lines text draft → items_in kind lines ≡ Some items → AreStated text kind items draft.place
-
--- Reading bytes gives an image exactly where they are the bytes of that image.
-abbrev pub ReadsImages : Type 0
-ReadsImages = (bytes : List ℕ) (image : Image) → AreBytes bytes → (image_of bytes ≡ Ok image) ↔ IsImageOf image bytes

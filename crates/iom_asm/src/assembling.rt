@@ -2,14 +2,14 @@
 
 ghost use Rattle.std.specs.Prelude.{◌≡◌, ◌≢◌, ◌∷◌, ◌<◌, ◌==◌, [], length, IfOk};
 ghost use Rattle.std.specs.List.{position};
-ghost use Rattle.iom_asm.specs.Image.{IsImage};
+ghost use Rattle.iom_image.specs.Image.{IsImage};
 ghost use Rattle.iom_asm.specs.Assembly.{lines_of, described, assembled, Makes};
 ghost use Rattle.iom_asm.specs.Drafts.{draft_seen};
 
 use crate::asm_fault::AsmFault;
 use crate::draft::Draft;
 use crate::statements::after_line;
-use crate::writing::image_bytes;
+use iom_image::image_bytes;
 use std::alloc::Global;
 
 fn line_end(text: &[u8]) -> Option<usize>
@@ -30,6 +30,7 @@ fn cut(text: &[u8]) -> (&[u8], &[u8])
     }
 }
 
+// What a whole text describes, line by line.
 fn described(alloc: Global, text: &[u8]) -> Result<Draft, AsmFault>
     ensures made { Makes (λ draft. (draft_seen draft).image) result (described text.now) }
     ensures good { IfOk result (λ draft. IsImage (draft_seen draft).image) }
@@ -49,11 +50,11 @@ fn described(alloc: Global, text: &[u8]) -> Result<Draft, AsmFault>
     }
 }
 
-/// The image that a text describes, or the first line with a fault. `OutOfMemory` may stand in place of any answer.
+/// The bytes of the image that a text describes, or the first line with a fault. `OutOfMemory` may stand in place of any answer.
 #[tactic(auto, unfolding(crate::specs::Assembly::assembled))]
 pub fn assemble(alloc: Global, text: &[u8]) -> Result<Vec<u8>, AsmFault>
     ensures { Makes (λ image. image.items) result (assembled text.now) }
 {
     let draft = described(alloc, text)?;
-    Ok(image_bytes(alloc, &draft)?)
+    Ok(image_bytes(alloc, &draft.image)?)
 }

@@ -13,9 +13,10 @@ use iom_ddt::{Context, encode_context};
 use iom_queue::{Command, Record, encode_command, encode_record};
 use iom_text::number;
 
-/// The words that a statement stands for, one to eight.
+/// The words that a statement stands for: one to eight, of 8 bytes each.
 pub type Words = ArrayVec<u64, 8>;
 
+// The IOTINVAL.VMA of these operands; an operand that isn't given is 0.
 #[tactic(auto, unfolding(crate::specs::Forms::vma))]
 fn vma(words: &[&[u8]]) -> Option<Command>
     ensures value { result ≡ vma (map (λ word. word.now) words.now) }
@@ -34,6 +35,7 @@ fn vma(words: &[&[u8]]) -> Option<Command>
     })
 }
 
+// The IOTINVAL.GVMA of these operands; an operand that isn't given is 0.
 #[tactic(auto, unfolding(crate::specs::Forms::gvma))]
 fn gvma(words: &[&[u8]]) -> Option<Command>
     ensures value { result ≡ gvma (map (λ word. word.now) words.now) }
@@ -51,6 +53,7 @@ fn gvma(words: &[&[u8]]) -> Option<Command>
     })
 }
 
+// The IOFENCE.C of these operands, whose address is a multiple of 4.
 #[tactic(auto, unfolding(crate::specs::Forms::fence))]
 fn fence(words: &[&[u8]]) -> Option<Command>
     ensures value { result ≡ fence (map (λ word. word.now) words.now) }
@@ -78,6 +81,7 @@ fn fence(words: &[&[u8]]) -> Option<Command>
     })
 }
 
+// The IODIR.INVAL_DDT of these operands.
 #[tactic(auto, unfolding(crate::specs::Forms::iodir))]
 fn iodir(words: &[&[u8]]) -> Option<Command>
     ensures value { result ≡ iodir (map (λ word. word.now) words.now) }
@@ -92,6 +96,7 @@ fn iodir(words: &[&[u8]]) -> Option<Command>
     })
 }
 
+// The command of these words: its name and its operands.
 #[tactic(auto, unfolding(crate::specs::Forms::command))]
 fn command(words: &[&[u8]]) -> Option<Command>
     ensures value { result ≡ command (map (λ word. word.now) words.now) }
@@ -109,6 +114,7 @@ fn command(words: &[&[u8]]) -> Option<Command>
     }
 }
 
+// The fault record of these operands.
 #[tactic(auto, unfolding(crate::specs::Forms::fault))]
 fn fault(words: &[&[u8]]) -> Option<Record>
     ensures value { result ≡ fault (map (λ word. word.now) words.now) }
@@ -149,6 +155,7 @@ fn formed(context: Context) -> Option<Context>
     }
 }
 
+// The device context of these operands, where it is well formed.
 #[tactic(auto, unfolding(crate::specs::Forms::context))]
 fn context(words: &[&[u8]]) -> Option<Context>
     ensures value { result ≡ context (map (λ word. word.now) words.now) }
@@ -175,6 +182,7 @@ fn context(words: &[&[u8]]) -> Option<Context>
     })
 }
 
+// The PPN of a directory entry that points to a table.
 #[tactic(auto, unfolding(crate::specs::Forms::dir))]
 fn dir(words: &[&[u8]]) -> Option<u64>
     ensures value { result ≡ dir (map (λ word. word.now) words.now) }
@@ -203,6 +211,7 @@ fn pte(words: &[&[u8]]) -> Option<(u64, u64)>
     Some((ppn, flags))
 }
 
+// Appends the numbers of these words; None where one of them is no number.
 #[tactic(auto, unfolding(crate::specs::Forms::each_number))]
 fn push_numbers(out: &mut Words, words: &[&[u8]]) -> Option<()>
     requires { length out.old.items + length words.now ≤ 8 }
@@ -218,6 +227,7 @@ fn push_numbers(out: &mut Words, words: &[&[u8]]) -> Option<()>
     }
 }
 
+// The numbers of one to eight words.
 #[tactic(auto, unfolding(crate::specs::Forms::numbers))]
 fn numbers(words: &[&[u8]]) -> Option<Words>
     ensures { option_map (λ numbers. numbers.items) result ≡ numbers (map (λ word. word.now) words.now) }
@@ -230,6 +240,7 @@ fn numbers(words: &[&[u8]]) -> Option<Words>
     Some(out)
 }
 
+// At most eight words as they are.
 fn all(words: &[u64]) -> Words
     requires { length words.now ≤ 8 }
     ensures { result.items ≡ words.now }
@@ -239,7 +250,7 @@ fn all(words: &[u64]) -> Words
     out
 }
 
-/// The words that the statement of this name and these operands stands for; None where there is no such statement.
+/// The words, one to eight, that the statement of this name and these operands stands for; None where there is no such statement.
 #[tactic(auto, unfolding(crate::specs::Forms::words_for))]
 pub fn words_for(name: &[u8], operands: &[&[u8]]) -> Option<Words>
     ensures { option_map (λ words. words.items) result

@@ -1,25 +1,25 @@
 ghost use Rattle.std.specs.Prelude.{◌≡◌, ◌*◌};
 ghost use Rattle.iom_asm.specs.Items.{item_named, words_in};
 
-/// What some words of memory are looked at as.
+/// What some words of memory are read as.
 #[derive(Clone, Copy, Debug, PartialEq)]
 pub enum Item {
     /// A command of the command queue, 16 bytes.
     Cmd,
     /// A fault record, 32 bytes.
     Fault,
-    /// A device context, 32 bytes.
+    /// A device context, the leaf of a device directory (DDT), 32 bytes.
     Context,
-    /// An entry of a device directory that points to a further table, 8 bytes.
+    /// A non-leaf entry of a device directory (DDT), which points to a further table, 8 bytes.
     Dir,
-    /// An entry of a page table, 8 bytes.
+    /// An entry of a page table (PTE), 8 bytes.
     Pte,
     /// A word, 8 bytes.
     Word,
 }
 
 impl Item {
-    /// The item of this name: `cmd`, `fault`, `context`, `dir`, `pte` or `u64`.
+    /// The item of this name: `cmd`, `fault`, `context`, `dir`, `pte` or `u64`; None of any other.
     #[tactic(auto, unfolding(crate::specs::Items::item_named))]
     pub fn named(name: &[u8]) -> Option<Item>
         ensures { result ≡ item_named name.now }
@@ -41,7 +41,7 @@ impl Item {
         }
     }
 
-    /// How many bytes it has.
+    /// How many bytes it has: 8, 16 or 32.
     pub fn size(self) -> u64
         ensures { result ≡ 8 * words_in self }
     {

@@ -13,9 +13,10 @@ use iom_mem::Ram;
 use iom_queue::{Command, Record, decode_command, decode_record};
 use iom_text::hexed;
 
-/// The line of an item, without a line end.
+/// The line of an item, at most 256 bytes, without a line end.
 pub type Line = ArrayVec<u8, 256>;
 
+// Appends a text, for which there is room.
 fn push_text(out: &mut Line, text: &[u8])
     requires { length out.old.items + length text.now ≤ 256 }
     ensures text { out.new.items ≡ out.old.items ++ text.now }
@@ -24,6 +25,7 @@ fn push_text(out: &mut Line, text: &[u8])
     let _fits = out.try_extend_from_slice(text);
 }
 
+// Appends a blank, a key, `=` and a number in hex.
 fn push_operand(out: &mut Line, key: &[u8], value: u64)
     requires { length out.old.items + length key.now + 20 ≤ 256 }
     ensures text { out.new.items ≡ out.old.items ++ operand key.now value }
@@ -35,6 +37,7 @@ fn push_operand(out: &mut Line, key: &[u8], value: u64)
     push_text(out, hexed(value).as_slice());
 }
 
+// A line that begins with a text.
 fn begun(text: &[u8]) -> Line
     requires { length text.now ≤ 256 }
     ensures { result.items ≡ text.now }
@@ -44,6 +47,7 @@ fn begun(text: &[u8]) -> Line
     line
 }
 
+// The line of a command: `cmd`, its name and its operands.
 fn command_line(command: &Command) -> Line
     ensures { result.items ≡ command_text command.now }
 {
@@ -106,6 +110,7 @@ fn command_line(command: &Command) -> Line
     }
 }
 
+// The line of a fault record: `fault` and its operands.
 fn record_line(fault: &Record) -> Line
     ensures { result.items ≡ record_text fault.now }
 {
@@ -121,7 +126,7 @@ fn record_line(fault: &Record) -> Line
     line
 }
 
-/// The line of a context: `context` and its operands.
+/// The line of a context: `context` and its operands, without a line end.
 pub fn context_line(context: &Context) -> Line
     ensures { result.items ≡ context_text context.now }
 {
@@ -153,6 +158,7 @@ fn push_numbers(out: &mut Line, words: &[u64])
     }
 }
 
+// The line of at most eight words: `u64` and the numbers.
 fn words_line(words: &[u64]) -> Line
     requires { length words.now ≤ 8 }
     ensures { result.items ≡ words_text words.now }
@@ -162,6 +168,7 @@ fn words_line(words: &[u64]) -> Line
     line
 }
 
+// The line of a directory entry, or of its word where it is none.
 fn dir_line(word: u64) -> Line
     ensures { result.items ≡ line_of item.Dir (word ∷ []) }
 {
@@ -173,6 +180,7 @@ fn dir_line(word: u64) -> Line
     line
 }
 
+// The line of a page-table entry, or of its word where a reserved bit is set.
 fn pte_line(word: u64) -> Line
     ensures { result.items ≡ line_of item.Pte (word ∷ []) }
 {
@@ -185,6 +193,7 @@ fn pte_line(word: u64) -> Line
     line
 }
 
+// The line of a command, or of the two words where they stand for none.
 fn pair_line(words: [u64; 2]) -> Line
     ensures { result.items ≡ line_of item.Cmd words }
 {
@@ -194,6 +203,7 @@ fn pair_line(words: [u64; 2]) -> Line
     }
 }
 
+// The line of a fault record, or of the four words where they stand for none.
 fn four_as_record(words: [u64; 4]) -> Line
     ensures { result.items ≡ line_of item.Fault words }
 {
@@ -203,6 +213,7 @@ fn four_as_record(words: [u64; 4]) -> Line
     }
 }
 
+// The line of a context, or of the four words where they stand for none.
 fn four_as_context(words: [u64; 4]) -> Line
     ensures { result.items ≡ line_of item.Context words }
 {

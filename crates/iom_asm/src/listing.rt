@@ -36,6 +36,7 @@ fn are_inside(ram: &Ram, item: Item, addr: u64, count: u64) -> bool
     }
 }
 
+// Appends a line of ASCII and its line end.
 fn push_line(out: &mut String, line: &[u8]) -> Result<(), AllocError>
     requires { IsAscii line.now }
     ensures { OnOk result (string_bytes out.new ≡ string_bytes out.old ++ (line.now ++ 10 ∷ [])) }
@@ -47,8 +48,8 @@ fn push_line(out: &mut String, line: &[u8]) -> Result<(), AllocError>
     out.push('\n')
 }
 
-/// The lines of `count` items one after the other, the first at physical address `addr`, each with its line end. Of no items the
-/// text is empty at every address.
+/// The lines of `count` items one after the other, the first at physical address `addr`, of any alignment, each with its line end.
+/// Of no items the text is empty at every address. The faults are `Outside`, which is tested first, and `OutOfMemory`.
 pub fn list(
     alloc: Global,
     ram: &Ram,

@@ -20,6 +20,7 @@ fn equals_at(word: &[u8]) -> Option<usize>
     word.iter().position(|c| *c == b'=')
 }
 
+// The key and the value of a word with `=`; None of any other.
 #[tactic(auto, unfolding(crate::specs::Operands::operand_of))]
 fn operand_of(word: &[u8]) -> Option<Operand<'_>>
     ensures { option_map (λ o. record { key = o.key.now; value = o.value.now }) result ≡ operand_of word.now }
@@ -31,6 +32,7 @@ fn operand_of(word: &[u8]) -> Option<Operand<'_>>
     })
 }
 
+// Whether a word is an operand with this key.
 fn has_key(key: &[u8], word: &[u8]) -> bool
     ensures { result ≡ has_key key.now (operand_of word.now) }
 {
@@ -40,6 +42,7 @@ fn has_key(key: &[u8], word: &[u8]) -> bool
     }
 }
 
+// Whether one of the words is an operand with this key.
 fn is_given(key: &[u8], words: &[&[u8]]) -> bool
     ensures { result ≡ is_given key.now (map (λ word. word.now) words.now) }
 {
@@ -49,6 +52,7 @@ fn is_given(key: &[u8], words: &[&[u8]]) -> bool
     }
 }
 
+// Whether a word has one of the keys, which no later word has.
 fn is_one_of(keys: &[&[u8]], word: &[u8], later: &[&[u8]]) -> bool
     ensures { result
         ≡ is_one_of (map (λ key. key.now) keys.now) (operand_of word.now) (map (λ word. word.now) later.now) }
@@ -71,6 +75,7 @@ pub fn are_operands(keys: &[&[u8]], words: &[&[u8]]) -> bool
     }
 }
 
+// The number of the first operand with a key; 0 where there is none.
 fn value_of(key: &[u8], words: &[&[u8]]) -> Option<u64>
     ensures { result ≡ value_of key.now (map (λ word. word.now) words.now) }
 {
@@ -83,7 +88,8 @@ fn value_of(key: &[u8], words: &[&[u8]]) -> Option<u64>
     }
 }
 
-/// The number that is given for a key, where it is below a limit; 0 where the key is absent.
+/// The number that is given for a key, where it is below a limit; 0 where the key is absent, and None where what is given is no
+/// such number.
 #[tactic(auto, unfolding(crate::specs::Operands::limited))]
 pub fn limited(key: &[u8], limit: u64, words: &[&[u8]]) -> Option<u64>
     ensures value { result ≡ limited key.now limit (map (λ word. word.now) words.now) }
@@ -93,7 +99,7 @@ pub fn limited(key: &[u8], limit: u64, words: &[&[u8]]) -> Option<u64>
     if number < limit { Some(number) } else { None }
 }
 
-/// The number of 64 bits that is given for a key; 0 where the key is absent.
+/// The number below 2^64 that is given for a key; 0 where the key is absent, and None where what is given is no number.
 #[tactic(auto, unfolding(crate::specs::Operands::limited))]
 pub fn any_number(key: &[u8], words: &[&[u8]]) -> Option<u64>
     ensures { result ≡ limited key.now (2 ^ 64) (map (λ word. word.now) words.now) }
@@ -101,7 +107,7 @@ pub fn any_number(key: &[u8], words: &[&[u8]]) -> Option<u64>
     value_of(key, words)
 }
 
-/// The flag that is given for a key as 0 or 1; 0 where the key is absent.
+/// The flag that is given for a key as 0 or 1; false where the key is absent, and None where what is given is neither.
 #[tactic(auto, unfolding(crate::specs::Operands::flag_for))]
 pub fn flag_for(key: &[u8], words: &[&[u8]]) -> Option<bool>
     ensures { result ≡ flag_for key.now (map (λ word. word.now) words.now) }

@@ -2,38 +2,42 @@
 
 ghost use Rattle.std.specs.Prelude.{◌≡◌, ◌+◌, ◌<◌, ◌≤◌, ◌==◌, ◌&&◌, ◌^◌, map, length, false, Some, None, IfOk, if◌then◌else◌};
 ghost use Rattle.std.specs.List.{list_any};
-ghost use Rattle.iom_asm.specs.Image.{IsImage};
+ghost use Rattle.iom_image.specs.Image.{IsImage};
+ghost use Rattle.iom_image.specs.Own.{disk_seen};
 ghost use Rattle.iom_asm.specs.Assembly.{empty_draft, is_next_disk, with_disk, is_inside, meets, placed, Makes};
 ghost use Rattle.iom_asm.specs.Forms.{where_so};
-ghost use Rattle.iom_asm.specs.Drafts.{disk_seen, draft_seen};
+ghost use Rattle.iom_asm.specs.Drafts.{draft_seen};
 
 use crate::asm_fault::AsmFault;
-use crate::draft::{Draft, OwnDisk};
+use crate::draft::Draft;
+use iom_image::{OwnDisk, OwnImage};
 use std::alloc::{AllocError, Global};
 use std::collections::BTreeMap;
 
 impl Draft {
-    /// Memory of this base and size, of which nothing is placed.
+    /// What the statement `ram` makes: memory of this base, a physical address, and this size in bytes, of which nothing is placed.
     pub fn new(alloc: Global, base: u64, size: u64) -> Draft
         ensures { draft_seen result ≡ empty_draft base size }
     {
         Draft {
-            has_flags: false,
-            base,
-            size,
+            image: OwnImage {
+                has_flags: false,
+                base,
+                size,
+                chunks: BTreeMap::new(alloc),
+                disks: Vec::new(alloc),
+            },
             place: base,
-            chunks: BTreeMap::new(alloc),
-            disks: Vec::new(alloc),
         }
     }
 
     // Whether `len` bytes at the place are memory.
     fn is_inside(&self, len: u64) -> bool
-        requires { self.now.base + self.now.size ≤ 2 ^ 56 }
+        requires { self.now.image.base + self.now.image.size ≤ 2 ^ 56 }
         ensures { result ≡ is_inside (draft_seen self.now).image self.now.place len }
     {
-        let end = self.base + self.size;
-        self.base <= self.place && self.place <= end && len <= end - self.place
+        let end = self.image.base + self.image.size;
+        self.image.base <= self.place && self.place <= end && len <= end - self.place
     }
 
     // Whether one of `len` bytes at the place is placed already: only the last chunk that begins before their end may have one.
@@ -42,13 +46,14 @@ impl Draft {
         requires fits { self.now.place + len ≤ 2 ^ 56 }
         ensures { result ≡ list_any (meets self.now.place len) (draft_seen self.now).image.chunks }
     {
-        match self.chunks.range(..self.place + len).next_back() {
+        match self.image.chunks.range(..self.place + len).next_back() {
             Some((addr, bytes)) => self.place < *addr + bytes.len() as u64,
             None => false,
         }
     }
 
-    /// Places bytes, of line `line`.
+    /// Places bytes, one or more, of line `line`, where the place is, which moves behind them. `Outside` where one of them isn't in
+    /// memory, then `Overlap` where one is placed already; `OutOfMemory` comes last.
     #[tactic(auto, unfolding(crate::specs::Assembly::placed))]
     pub fn put(&mut self, line: u64, bytes: Vec<u8>) -> Result<(), AsmFault>
         requires good { IsImage (draft_seen self.old).image }
@@ -62,7 +67,7 @@ impl Draft {
         if self.is_taken(len) {
             return Err(AsmFault::Overlap(line));
         }
-        self.chunks.insert(self.place, bytes)?;
+        self.image.chunks.insert(self.place, bytes)?;
         self.place += len;
         Ok(())
     }
@@ -71,15 +76,16 @@ impl Draft {
     fn takes(&self, disk: &OwnDisk) -> bool
         ensures { result ≡ is_next_disk (draft_seen self.now).image.disks (disk_seen disk.now) }
     {
-        self.disks.len() < 8
+        self.image.disks.len() < 8
             && disk.id < 1 << 24
-            && !has_id(&self.disks, disk.id)
+            && !has_id(&self.image.disks, disk.id)
             && disk.sectors >= 1
             && disk.sectors <= 65_536
             && disk.bytes.len() as u64 <= disk.sectors * 512
     }
 
-    /// Puts a disk behind the others, and answers true; false where it may not stand there.
+    /// Puts a disk behind the others, and answers true; false where it may not stand there: there are eight, its id is another's or
+    /// 2^24 or above, its sectors aren't 1 to 65,536, or its bytes don't fit in them. The fault is a refused allocation.
     pub fn join(&mut self, disk: OwnDisk) -> Result<bool, AllocError>
         ensures { IfOk result (λ takes. (if takes then Some (draft_seen self.new) else None)
             ≡ where_so (is_next_disk (draft_seen self.old).image.disks (disk_seen disk)) (Some (with_disk (draft_seen self.old) (disk_seen disk)))) }
@@ -88,9 +94,9 @@ impl Draft {
             return Ok(false);
         }
         let read_only = disk.read_only;
-        match self.disks.push(disk) {
+        match self.image.disks.push(disk) {
             Ok(()) => {
-                self.has_flags = self.has_flags || read_only;
+                self.image.has_flags = self.image.has_flags || read_only;
                 Ok(true)
             }
             Err(_) => Err(AllocError),

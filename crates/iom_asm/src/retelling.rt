@@ -1,6 +1,6 @@
 //! What a text says is told again.
 
-ghost use Rattle.iom_asm.specs.Retelling.{FollowItems, ListsItems, ReadsAgain, ReadsImages, TellsItems};
+ghost use Rattle.iom_asm.specs.Retelling.{FollowItems, ListsItems, ReadsAgain, TellsItems};
 
 /// A law of `assemble`, `load`, `item_line` and `list`, which cite the same definitions: the image that a text describes is
 /// accepted, and read as that image; where an item is stated, its line in the memory that the image starts is that of the stated
@@ -11,9 +11,4 @@ pub fn texts_are_told_again()
     ensures tells { TellsItems }
     ensures lists { ListsItems }
     ensures follow { FollowItems }
-{}
-
-/// A law of `judge` and `load`: bytes are read as an image exactly where they are the bytes of that image.
-pub fn images_are_what_is_read()
-    ensures { ReadsImages }
 {}

@@ -4,15 +4,16 @@ ghost use Rattle.std.specs.Prelude.{◌≡◌, ◌++◌, ◌<◌, ◌+◌, map, 
 ghost use Rattle.std.specs.Option.{option_map};
 ghost use Rattle.iom_asm.specs.Assembly.{Draft as AsmDraft, moved_to, hex, one_hex, bytes_for, ram_draft, opened, moved, disk_of, disk_for, first_bytes, joined, stated, started, after_words, after_line, or_bad, Makes};
 ghost use Rattle.iom_text.specs.Words.{words_of};
-ghost use Rattle.iom_asm.specs.Image.{IsImage};
+ghost use Rattle.iom_image.specs.Image.{IsImage};
+ghost use Rattle.iom_image.specs.Own.{disk_seen};
 ghost use Rattle.iom_mem.specs.Words.{bytes_of_words};
-ghost use Rattle.iom_asm.specs.Drafts.{disk_seen, draft_seen, found_seen};
+ghost use Rattle.iom_asm.specs.Drafts.{draft_seen, found_seen};
 
 use crate::asm_fault::AsmFault;
-use crate::draft::{Draft, OwnDisk};
-use crate::fields::is_ram;
+use crate::draft::Draft;
 use crate::forms::words_for;
 use hex::FromHexError;
+use iom_image::{OwnDisk, is_ram};
 use iom_text::{number, words};
 use std::alloc::{AllocError, Global};
 
@@ -31,6 +32,7 @@ fn hex(alloc: Global, word: &[u8]) -> Result<Option<Vec<u8>>, AllocError>
     }
 }
 
+// The bytes that one word of hex digits writes; None of any other number of words.
 fn one_hex(alloc: Global, words: &[&[u8]]) -> Result<Option<Vec<u8>>, AllocError>
     ensures { IfOk result (λ found. option_map (λ bytes. bytes.items) found ≡ one_hex (map (λ word. word.now) words.now)) }
 {
@@ -40,6 +42,7 @@ fn one_hex(alloc: Global, words: &[&[u8]]) -> Result<Option<Vec<u8>>, AllocError
     }
 }
 
+// Appends the bytes of words, the lowest first.
 #[tactic(auto, unfolding(iom_mem::specs::Words::bytes_of_words))]
 fn push_words(out: &mut Vec<u8>, words: &[u64]) -> Result<(), AllocError>
     ensures { OnOk result (out.new.items ≡ out.old.items ++ bytes_of_words words.now) }
@@ -53,6 +56,7 @@ fn push_words(out: &mut Vec<u8>, words: &[u64]) -> Result<(), AllocError>
     }
 }
 
+// The bytes of words, the lowest first.
 fn words_of(alloc: Global, words: &[u64]) -> Result<Vec<u8>, AllocError>
     ensures { IfOk result (λ bytes. bytes.items ≡ bytes_of_words words.now) }
 {
@@ -76,6 +80,7 @@ fn bytes_for(alloc: Global, name: &[u8], operands: &[&[u8]]) -> Result<Option<Ve
     }
 }
 
+// The memory that a base and a size write, where there may be such a one.
 #[tactic(auto, unfolding(crate::specs::Assembly::ram_draft))]
 fn ram_draft(alloc: Global, base: &[u8], size: &[u8]) -> Option<Draft>
     ensures { option_map draft_seen result ≡ ram_draft base.now size.now }
@@ -88,6 +93,7 @@ fn ram_draft(alloc: Global, base: &[u8], size: &[u8]) -> Option<Draft>
     Some(Draft::new(alloc, base, size))
 }
 
+// What the operands of `ram` make.
 #[tactic(auto, unfolding(crate::specs::Assembly::opened))]
 fn opened(alloc: Global, operands: &[&[u8]]) -> Option<Draft>
     ensures { option_map draft_seen result ≡ opened (map (λ word. word.now) operands.now) }
@@ -98,6 +104,7 @@ fn opened(alloc: Global, operands: &[&[u8]]) -> Option<Draft>
     }
 }
 
+// The place that the operand of `at` writes.
 #[tactic(auto, unfolding(crate::specs::Assembly::moved))]
 fn place_for(operands: &[&[u8]]) -> Option<u64>
     ensures { (draft : AsmDraft) → option_map (moved_to draft) result ≡ moved draft (map (λ word. word.now) operands.now) }
@@ -108,6 +115,7 @@ fn place_for(operands: &[&[u8]]) -> Option<u64>
     }
 }
 
+// The first bytes of a disk: none, or those of one word.
 fn first_bytes(alloc: Global, words: &[&[u8]]) -> Result<Option<Vec<u8>>, AllocError>
     ensures { IfOk result (λ found. option_map (λ bytes. bytes.items) found ≡ first_bytes (map (λ word. word.now) words.now)) }
 {
@@ -117,6 +125,7 @@ fn first_bytes(alloc: Global, words: &[&[u8]]) -> Result<Option<Vec<u8>>, AllocE
     one_hex(alloc, words)
 }
 
+// The disk that an id, a number of sectors and the words behind them write.
 #[tactic(auto, unfolding(crate::specs::Assembly::disk_of))]
 fn disk_of(
     alloc: Global,
@@ -144,6 +153,7 @@ fn disk_of(
     }
 }
 
+// The disk that the operands of `disk` or `rodisk` write.
 #[tactic(auto, unfolding(crate::specs::Assembly::disk_for))]
 fn disk_for(
     alloc: Global,
@@ -159,6 +169,7 @@ fn disk_for(
 }
 
 impl Draft {
+    // A statement `disk` or `rodisk`.
     #[tactic(auto, unfolding(crate::specs::Assembly::joined))]
     fn state_disk(
         &mut self,
@@ -226,6 +237,7 @@ fn started(alloc: Global, line: u64, name: &[u8], operands: &[&[u8]]) -> Result<
     }
 }
 
+// What the statements before and a line of these words make.
 #[tactic(auto, unfolding(crate::specs::Assembly::after_words))]
 fn after_words(
     alloc: Global,
@@ -248,7 +260,7 @@ fn after_words(
     }
 }
 
-/// What the statements before and a line make.
+/// What the statements before and line `line` make; None while there is no statement. The faults name that line.
 #[tactic(auto, unfolding(crate::specs::Assembly::after_line))]
 pub fn after_line(
     alloc: Global,

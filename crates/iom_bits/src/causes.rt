@@ -1,37 +1,40 @@
 ghost use Rattle.std.specs.Prelude.{◌≡◌};
 
-/// What an access does.
+/// What an access does: the kind of its transaction, TTYP of a fault record (RISC-V IOMMU Architecture 1.0, "Fault/Event-Queue
+/// (FQ)").
 #[derive(Clone, Copy, Debug, PartialEq)]
 pub enum Kind {
+    /// It reads memory: TTYP 2, an untranslated read.
     Read,
+    /// It writes memory: TTYP 3, an untranslated write.
     Write,
 }
 
 /// Why a device's access is denied (RISC-V IOMMU Architecture 1.0, "Fault/Event-Queue", CAUSE).
 #[derive(Clone, Copy, Debug, PartialEq)]
 pub enum Cause {
-    /// An entry of a page table lies outside memory.
+    /// Read or write access fault, 5 or 7: an entry of a page table of either stage lies outside memory.
     Access(Kind),
-    /// A page fault of the first stage.
+    /// Read or write page fault, 13 or 15: one of the first stage.
     Page(Kind),
-    /// A guest page fault: one of the second stage.
+    /// Read or write guest page fault, 21 or 23: one of the second stage.
     Guest(Kind),
-    /// All inbound transactions disallowed: the IOMMU is off.
+    /// All inbound transactions disallowed, 256: ddtp.iommu_mode is Off.
     Off,
-    /// The device directory can't be read: an entry of it lies outside memory.
+    /// DDT entry load access fault, 257: an entry of the device directory lies outside memory.
     DirAccess,
-    /// An entry of the device directory has V = 0.
+    /// DDT entry not valid, 258: an entry of the device directory has V = 0.
     DirInvalid,
-    /// An entry of the device directory is misconfigured.
+    /// DDT entry misconfigured, 259: an entry of the device directory has a reserved bit set, or a field that may not be.
     DirBad,
-    /// Transaction type disallowed: the device id is wider than the directory's levels.
+    /// Transaction type disallowed, 260: the device id is wider than the directory's levels.
     TooWide,
 }
 
 impl Cause {
     ghost use Rattle.iom_bits.specs.Causes.{cause_number};
 
-    /// The number that stands for it in a fault record: 5, 7, 13, 15, 21, 23 or 256 to 260.
+    /// The number that stands for it in a fault record, CAUSE, 12 bits: 5, 7, 13, 15, 21, 23 or 256 to 260.
     pub fn number(self) -> u16
         ensures { result ≡ cause_number self }
     {

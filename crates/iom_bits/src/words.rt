@@ -2,7 +2,7 @@ ghost use Rattle.std.specs.Prelude.{◌≡◌, ◌+◌, ◌<◌, ◌≤◌, ◌^
 ghost use Rattle.iom_bits.specs.Bits.{has_bit, flag, field_of, with_field_of, IsField, ReplacesField};
 ghost use Rattle.iom_bits.specs.Bytes.{number_of_bytes};
 
-/// Whether bit `bit` of `word` is 1. Bit 0 is the lowest.
+/// Whether bit `bit` of `word` is 1. Bit 0 is the lowest, 63 the highest.
 #[tactic(auto, unfolding(crate::specs::Bits::has_bit))]
 pub fn has_bit(word: u64, bit: u32) -> bool
     requires { bit < 64 }
@@ -18,7 +18,8 @@ pub fn flag(set: bool) -> u64
     set as u64
 }
 
-/// The `width` bits of `word` from bit `low` on, as a number. Bit 0 is the lowest.
+/// The `width` bits of `word` from bit `low` on, as a number below 2^`width`. Bit 0 is the lowest; `width` is 1 to 64, and `low +
+/// width` at most 64.
 pub fn field(word: u64, low: u32, width: u32) -> u64
     requires some { 1 ≤ width }
     requires within { low + width ≤ 64 }
@@ -28,7 +29,8 @@ pub fn field(word: u64, low: u32, width: u32) -> u64
     (word >> low) & (u64::MAX >> (64 - width))
 }
 
-/// `word` with the `width` bits from bit `low` on replaced by those of `value`.
+/// `word` with the `width` bits from bit `low` on replaced by those of `value`, which is below 2^`width`. `width` is 1 to 64, and
+/// `low + width` at most 64.
 pub fn with_field(word: u64, low: u32, width: u32, value: u64) -> u64
     requires some { 1 ≤ width }
     requires within { low + width ≤ 64 }

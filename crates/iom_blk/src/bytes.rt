@@ -6,7 +6,7 @@ ghost use Rattle.iom_blk.specs.Requests.{number_at};
 
 use iom_bits::{le_u16, le_u32, le_u64};
 
-/// The number of two bytes.
+/// The number of the two bytes from place `at` on, which are there.
 #[tactic(auto, unfolding(crate::specs::Requests::number_at))]
 pub fn u16_at(bytes: &[u8], at: usize) -> u16
     requires { at + 2 ≤ length bytes.now }
@@ -17,7 +17,7 @@ pub fn u16_at(bytes: &[u8], at: usize) -> u16
     le_u16(word)
 }
 
-/// The number of four bytes.
+/// The number of the four bytes from place `at` on, which are there.
 #[tactic(auto, unfolding(crate::specs::Requests::number_at))]
 pub fn u32_at(bytes: &[u8], at: usize) -> u32
     requires { at + 4 ≤ length bytes.now }
@@ -28,7 +28,7 @@ pub fn u32_at(bytes: &[u8], at: usize) -> u32
     le_u32(word)
 }
 
-/// The number of eight bytes.
+/// The number of the eight bytes from place `at` on, which are there.
 #[tactic(auto, unfolding(crate::specs::Requests::number_at))]
 pub fn u64_at(bytes: &[u8], at: usize) -> u64
     requires { at + 8 ≤ length bytes.now }
@@ -39,14 +39,14 @@ pub fn u64_at(bytes: &[u8], at: usize) -> u64
     le_u64(word)
 }
 
-/// The bytes of a number of 16 bits.
+/// The two bytes of a number of 16 bits, the lowest first.
 pub fn bytes_of_u16(number: u16) -> [u8; 2]
     ensures { result ≡ bytes_of_number 2 number }
 {
     number.to_le_bytes()
 }
 
-/// The bytes of a number of 32 bits.
+/// The four bytes of a number of 32 bits, the lowest first.
 pub fn bytes_of_u32(number: u32) -> [u8; 4]
     ensures { result ≡ bytes_of_number 4 number }
 {

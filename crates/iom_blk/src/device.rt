@@ -13,26 +13,44 @@ use iom_virtq::Bus;
 use std::alloc::{AllocError, Global};
 use std::marker::Model;
 
-/// A virtio block device with one queue. Its every address is an IOVA.
+/// A virtio block device with one queue (VIRTIO 1.2, "Block Device"). Its every address is an IOVA, in bytes.
 #[derive(Drop)]
 pub struct Blk {
+    /// The bytes of its disk: 1 to 65,536 whole sectors of 512 bytes.
     pub(crate) disk: Vec<u8>,
+    /// Whether the disk may only be read: then VIRTIO_BLK_F_RO is offered.
     pub(crate) read_only: bool,
+    /// DeviceFeaturesSel, 32 bits: which half of the offered features DeviceFeatures shows.
     pub(crate) features_sel: u64,
+    /// DriverFeaturesSel, 32 bits: which half of the accepted features DriverFeatures writes.
     pub(crate) driver_sel: u64,
+    /// The features that the driver accepts, 64 bits: what it wrote to DriverFeatures.
     pub(crate) features: u64,
+    /// QueueSel, 32 bits. Only queue 0 is there.
     pub(crate) queue_sel: u64,
+    /// QueueNum, 32 bits: how many descriptors the queue has; of a ready queue a power of two from 1 to 64.
     pub(crate) size: u64,
+    /// QueueDesc: the IOVA of the descriptor table; of a ready queue a multiple of 16.
     pub(crate) desc: u64,
+    /// QueueDriver: the IOVA of the available ring; of a ready queue a multiple of 2.
     pub(crate) avail: u64,
+    /// QueueDevice: the IOVA of the used ring; of a ready queue a multiple of 4.
     pub(crate) ring: u64,
+    /// QueueReady. Of a ready queue each of the three parts ends at IOVA 2^64 or below.
     pub(crate) ready: bool,
+    /// InterruptStatus: bit 0 where a buffer was used, bit 1 where the device broke.
     pub(crate) interrupts: u64,
+    /// Status, 8 bits ("Device Status Field").
     pub(crate) status: u64,
+    /// Whether the queue was notified (QueueNotify), and the available ring wasn't found empty since.
     pub(crate) pending: bool,
+    /// How many requests were taken from the available ring, modulo 2^16: the index that its idx is compared with.
     pub(crate) seen: u16,
+    /// How many requests were given back, modulo 2^16: the idx of the used ring.
     pub(crate) used: u16,
+    /// What the next access is for.
     pub(crate) phase: Phase,
+    /// The request that is under way; where none is, that of before.
     pub(crate) request: Request,
 }
 
@@ -101,7 +119,7 @@ impl Blk {
     ghost use Rattle.iom_blk.specs.Wants.{wanted};
     ghost use Rattle.iom_blk.specs.declared.want.Moved.TheVariants as moved;
 
-    /// A device that was not touched yet, with this disk of 1 to 65,536 whole sectors of 512 bytes.
+    /// A device at reset, with this disk of 1 to 65,536 whole sectors of 512 bytes.
     pub fn new(disk: Vec<u8>) -> Blk
         requires { IsDisk disk.items }
         ensures { result ≡ at_reset disk.items false }
@@ -145,7 +163,7 @@ impl Blk {
         }
     }
 
-    /// The bytes of its disk.
+    /// The bytes of its disk: 1 to 65,536 whole sectors of 512 bytes.
     pub fn disk(&self) -> &[u8]
         ensures bytes { result.now ≡ self.now.disk }
         ensures legal { IsDisk self.now.disk }
@@ -153,7 +171,7 @@ impl Blk {
         &self.disk
     }
 
-    /// What the next step asks the bus for.
+    /// What the next step asks the bus for: nothing, or one access of 1 to 64 bytes within one page, at an IOVA.
     #[tactic(auto, unfolding(crate::specs::Phases::asks), using(crate::proofs::Broken::broken_asks_nothing))]
     pub fn want(&self) -> Want
         ensures asks { wanted result ≡ asks self.now }
@@ -167,7 +185,9 @@ impl Blk {
         }
     }
 
-    /// One step: at most one access of `bus`. It asks what `want` says, and goes on as `take` with the answer.
+    /// One step: at most one access of `bus`. It asks what `want` says, and goes on as `take` with the answer. An access that isn't
+    /// granted breaks the device: DEVICE_NEEDS_RESET is set, and it asks for nothing until it is reset (VIRTIO 1.2, "Device Status
+    /// Field").
     pub fn step<B: Bus>(&mut self, bus: &mut B) -> Moved
         ensures idle { IfNone (asks self.old)
             ((result ≡ moved.Idle) × (self.new ≡ self.old) × (bus.new ≡ bus.old)) }
@@ -191,7 +211,7 @@ impl Blk {
         }
     }
 
-    /// The same device once more, with a disk of its own. After a refused allocation this one stands unchanged.
+    /// The same device once more, with a disk of its own. After a refused allocation, the fault, this one stands unchanged.
     pub fn try_clone(&self, alloc: Global) -> Result<Blk, AllocError>
         ensures { IfOk result (λ copy. copy ≡ self.now) }
     {
@@ -284,7 +304,7 @@ impl Blk {
         }
     }
 
-    // How many sectors the disk has.
+    /// How many sectors of 512 bytes the disk has: at most 65,536, which the configuration field `capacity` shows.
     pub(crate) fn sectors(&self) -> u64
         ensures value { result ≡ sectors self.now.disk }
         ensures most { result ≤ 65536 }
@@ -292,7 +312,7 @@ impl Blk {
         self.disk.len() as u64 / SECTOR
     }
 
-    // The entry of the used ring that is written next.
+    // The IOVA of the entry of the used ring that is written next.
     fn used_entry(&self) -> u64
         requires { self.now.ready ≡ true }
         ensures entry { result ≡ used_entry self.now }

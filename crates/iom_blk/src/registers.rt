@@ -24,8 +24,9 @@ impl Blk {
     ghost use Rattle.iom_blk.specs.Phases.{is_broken};
     ghost use Rattle.iom_blk.specs.Sound.{IsGoodQueue};
 
-    /// The number of the `size` bytes at offset `off`; None where the registers don't take the access. They take 4 bytes at a
-    /// multiple of 4 below 0x1000, and from 0x100 on 1 or 2 bytes at a multiple of as many.
+    /// The number of the `size` bytes at offset `off`, in bytes; None where the registers don't take the access. They take 4 bytes
+    /// at a multiple of 4 below 0x1000, and from 0x100 on, where the configuration is, 1 or 2 bytes at a multiple of as many. A
+    /// place with no register reads 0 ("MMIO Device Register Layout").
     #[tactic(auto, unfolding(crate::specs::Registers::read))]
     pub fn reg_read(&self, off: u64, size: u64) -> Option<u64>
         ensures { result ≡ read self.now off size }
@@ -40,8 +41,9 @@ impl Blk {
         })
     }
 
-    /// Writes the `size` bytes of `value` at offset `off`, and answers true; false where the registers don't take the access, and
-    /// then nothing is changed.
+    /// Writes the `size` bytes of `value` at offset `off`, in bytes, and answers true; false where the registers don't take the
+    /// access, and then nothing is changed. Of 4 bytes `value` is below 2^32. What is taken `reg_read` says; read-only registers
+    /// and the configuration stay as they are.
     #[tactic(auto, unfolding(crate::specs::Registers::written), using(crate::proofs::Broken::written_stays))]
     pub fn reg_write(&mut self, off: u64, size: u64, value: u64) -> bool
         requires { size ≡ 4 → value < 2 ^ 32 }

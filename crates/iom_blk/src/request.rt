@@ -36,19 +36,20 @@ const UNSUPPORTED: u8 = 2;
 /// A request: what was read of it, and what came of it.
 #[derive(Drop)]
 pub struct Request {
-    /// Its first descriptor.
+    /// The index of its first descriptor, below the queue's size.
     pub head: u16,
+    /// The chain of the descriptors that were read; its parts' addresses are IOVAs.
     pub chain: Chain,
-    /// What was read of its first 16 bytes.
+    /// What was read of its first 16 bytes: type, a reserved word, and sector.
     pub header: ArrayVec<u8, 16>,
-    /// The status byte, once the header is whole.
+    /// The status byte, once the header is whole: VIRTIO_BLK_S_OK (0), VIRTIO_BLK_S_IOERR (1) or VIRTIO_BLK_S_UNSUPP (2).
     pub answer: u8,
-    /// The length that the used ring will tell.
+    /// The length that the used ring will tell: `len` of its entry, in bytes.
     pub used_length: u32,
 }
 
 impl Request {
-    /// A request that begins at a descriptor, in a queue of `limit` descriptors.
+    /// A request that begins at descriptor `head`, in a queue of `limit` descriptors, 1 to 64.
     pub fn new(head: u16, limit: u16) -> Request
         requires some { 1 ≤ limit }
         requires most { limit ≤ 64 }
@@ -102,7 +103,7 @@ impl Request {
         u64_at(&self.header, 8)
     }
 
-    /// Whether its data are written by the device.
+    /// Whether its data are written by the device: its type is VIRTIO_BLK_T_IN.
     pub fn is_in(&self) -> bool
         requires { length self.now.header.items ≡ 16 }
         ensures { result ≡ is_in self.now.header.items }
@@ -126,7 +127,7 @@ impl Request {
         self.is_in() || self.is_out()
     }
 
-    /// How many bytes the device reads.
+    /// How many bytes the device reads, the header among them.
     #[tactic(auto, unfolding(crate::specs::Requests::readable))]
     pub fn readable(&self) -> u64
         ensures total { result ≡ readable self.now.chain }
@@ -135,7 +136,7 @@ impl Request {
         self.chain.total(Side::Readable)
     }
 
-    /// How many bytes the device writes.
+    /// How many bytes the device writes, the status byte among them.
     #[tactic(auto, unfolding(crate::specs::Requests::writable))]
     pub fn writable(&self) -> u64
         ensures total { result ≡ writable self.now.chain }
@@ -144,7 +145,7 @@ impl Request {
         self.chain.total(Side::Writable)
     }
 
-    /// How many data bytes there are.
+    /// How many data bytes there are: between header and status byte, and 0 of a type that has none.
     #[tactic(auto, unfolding(crate::specs::Requests::data_length))]
     pub fn data_length(&self) -> u64
         requires whole { length self.now.header.items ≡ 16 }
@@ -209,8 +210,9 @@ impl Request {
         }
     }
 
-    /// Judges the request, whose header is whole, on a disk of so many sectors that is read-only or not, and with these features
-    /// accepted: its status byte, the length for the used ring, and the phase that comes next.
+    /// Judges the request, whose header is whole, on a disk of so many sectors of 512 bytes that is read-only or not, and with
+    /// these features accepted: its status byte, the length for the used ring, and the phase that comes next (VIRTIO 1.2, "Block
+    /// Device", "Device Operation").
     pub fn judge(&mut self, sectors: u64, read_only: bool, features: u64) -> Phase
         requires whole { length self.old.header.items ≡ 16 }
         requires header { HEADER ≤ readable self.old.chain }
@@ -253,7 +255,7 @@ impl Request {
         }
     }
 
-    /// The piece of the header that is to be read next.
+    /// The piece of the header that is to be read next: its IOVA, and how many bytes it has, 1 to 16.
     #[tactic(auto, unfolding(crate::specs::Requests::readable, crate::specs::Requests::header_address, crate::specs::Requests::header_count))]
     pub fn header_piece(&self) -> (u64, u64)
         requires part { length self.now.header.items < 16 }
@@ -267,7 +269,7 @@ impl Request {
         (iova, count.min(HEADER - at))
     }
 
-    /// The piece of the data that is to be moved next, after `position` bytes.
+    /// The piece of the data that is to be moved next, after `position` bytes: its IOVA, and how many bytes it has, 1 to 64.
     #[tactic(auto, unfolding(crate::specs::Requests::readable, crate::specs::Requests::writable, crate::specs::Requests::data_length, crate::specs::Requests::data_address, crate::specs::Requests::data_count))]
     pub fn data_piece(&self, position: u64) -> (u64, u64)
         requires whole { length self.now.header.items ≡ 16 }
@@ -288,7 +290,7 @@ impl Request {
         }
     }
 
-    /// Where the status byte is to be written.
+    /// The IOVA that the status byte is to be written at: that of the last byte that the device writes.
     #[tactic(auto, unfolding(crate::specs::Requests::writable, crate::specs::Requests::status_address))]
     pub fn status_address(&self) -> u64
         requires { 1 ≤ writable self.now.chain }
@@ -299,7 +301,8 @@ impl Request {
         iova
     }
 
-    /// Where on a disk of so many sectors, read-only or not, the data behind `position` bytes stand.
+    /// Where on a disk of so many sectors, read-only or not, the data behind `position` bytes stand: how many bytes of the disk
+    /// come before them.
     #[tactic(auto, using(crate::proofs::Served::moved_within, crate::proofs::Served::place_within))]
     pub fn place(&self, position: u64, sectors: u64, read_only: bool) -> u64
         requires whole { length self.now.header.items ≡ 16 }

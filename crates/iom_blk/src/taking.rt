@@ -19,7 +19,7 @@ impl Blk {
     ghost use Rattle.iom_blk.specs.Wants.{Answers};
 
     /// Goes on with the bus's answer to what `want` said, which isn't Nothing. `bytes` are those of a read that was granted, as
-    /// many as were asked for; else they aren't looked at.
+    /// many as were asked for; else they aren't looked at. An answer that isn't Ok breaks the device: DEVICE_NEEDS_RESET is set.
     #[tactic(auto, unfolding(crate::specs::Phases::asks, crate::specs::Phases::took), using(crate::proofs::Asking::asked_is_ready, crate::proofs::Broken::broken_is_broken, crate::proofs::Kept::broken_keeps))]
     pub fn take(&mut self, answer: Access, bytes: &[u8]) -> Moved
         requires asked { IsSome (asks self.old) }

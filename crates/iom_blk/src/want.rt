@@ -7,19 +7,19 @@ ghost use Rattle.iom_blk.specs.Wants.{wanted};
 use arrayvec::ArrayVec;
 use iom_bits::Cause;
 
-/// What a device asks the bus for, within one page of 4096 bytes. Addresses are IOVAs.
+/// What a device asks the bus for, within one page of 4096 bytes. Addresses are IOVAs, in bytes.
 #[derive(Drop)]
 pub enum Want {
     /// Nothing: its step is idle.
     Nothing,
-    /// So many bytes, 1 to 64, from this address on.
+    /// A read of `len` bytes, 1 to 64, from this IOVA on.
     Read { iova: u64, len: u64 },
-    /// That these 1 to 64 bytes be written from this address on.
+    /// A write of these 1 to 64 bytes from this IOVA on.
     Write { iova: u64, bytes: ArrayVec<u8, 64> },
 }
 
 impl Want {
-    /// That these bytes be written.
+    /// A write of these 1 to 64 bytes from this IOVA on.
     pub(crate) fn write(iova: u64, bytes: &[u8]) -> Want
         requires { length bytes.now ≤ 64 }
         ensures { wanted result ≡ Some (Write iova bytes.now) }
@@ -37,7 +37,7 @@ pub enum Moved {
     Idle,
     /// Its access was granted; also where the device then broke.
     Did,
-    /// Its access was denied.
+    /// Its access was denied by the IOMMU, for this cause.
     Denied(Cause),
     /// A byte of its access lies outside memory.
     Outside,

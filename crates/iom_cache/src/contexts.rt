@@ -13,7 +13,8 @@ use std::marker::Model;
 /// How many places there are.
 const PLACES: usize = 16;
 
-/// The context cache: at most 16 places, oldest first, each empty or with the context of a device id.
+/// The context cache, in the standard the DDTC: at most 16 places, oldest first, each empty or with the context of a device id
+/// ("Caching in-memory data structures").
 #[derive(Drop)]
 pub struct ContextCache {
     places: HeapCircularBuffer<Option<(u32, Context)>>,
@@ -38,7 +39,8 @@ impl ContextCache {
     ghost use Rattle.iom_cache.specs.Keys.{same_did};
     ghost use Rattle.iom_cache.specs.Drops.{drops_context};
 
-    /// A cache with no place yet. It takes the memory of all places, and no other call takes any.
+    /// A cache with no place yet. It takes the memory of all places; no other call but `try_clone` takes any. The fault is a
+    /// refused allocation.
     pub fn new(alloc: Global) -> Result<ContextCache, AllocError>
         ensures { IfOk result (λ cache. cache ≡ []) }
     {
@@ -58,7 +60,7 @@ impl ContextCache {
         Ok(ContextCache { places })
     }
 
-    /// The context in the live place of this device id; None where there is none.
+    /// The context in the live place of this device id, 24 bits; None where there is none.
     pub fn find(&self, did: u32) -> Option<Context>
         ensures found { result ≡ find (same_did did) self.now }
         ensures held { IsHeld did result self.now }
@@ -83,7 +85,8 @@ impl ContextCache {
         let _oldest = self.places.push_back(Some((did, context)));
     }
 
-    /// Empties, where they stand, the places that a command drops ("IODIR").
+    /// Empties, where they stand, the places that a command drops: IODIR.INVAL_DDT all of them, or with DV those of its device id;
+    /// no other command drops any ("IODIR").
     pub fn drop_matching(&mut self, command: &Command)
         ensures { self.new ≡ emptied_by drops_context (Some command.now) self.old }
     {
@@ -101,6 +104,7 @@ impl ContextCache {
     }
 }
 
+// Empties the places that a command drops.
 fn empty_matching(command: &Command, places: &mut [Option<(u32, Context)>])
     ensures { places.new ≡ map (dropped_by (drops_context command.now)) places.old }
 {
@@ -109,6 +113,7 @@ fn empty_matching(command: &Command, places: &mut [Option<(u32, Context)>])
     }
 }
 
+// What a command leaves of a place.
 fn kept(command: &Command, place: Option<(u32, Context)>) -> Option<(u32, Context)>
     ensures { result ≡ dropped_by (drops_context command.now) place }
 {

@@ -5,7 +5,8 @@ use crate::Key;
 use iom_nested::Hit;
 use iom_queue::Command;
 
-/// Whether a command drops a translation ("IOTINVAL").
+/// Whether a command drops a translation: IOTINVAL.VMA by its guest, process and page, IOTINVAL.GVMA by its guest alone, and no
+/// other ("IOTINVAL").
 #[tactic(auto, unfolding(crate::specs::Drops::drops_page))]
 pub fn drops_page(command: &Command, key: &Key, hit: &Hit) -> bool
     ensures { result ≡ drops_page command.now key.now hit.now }
@@ -28,7 +29,8 @@ pub fn drops_page(command: &Command, key: &Key, hit: &Hit) -> bool
     }
 }
 
-/// Whether a command drops the context of a device id ("IODIR").
+/// Whether a command drops the context of a device id, 24 bits: IODIR.INVAL_DDT that of each device, or with DV that of its own,
+/// and no other ("IODIR").
 #[tactic(auto, unfolding(crate::specs::Drops::drops_device))]
 pub fn drops_device(command: &Command, own: u32) -> bool
     ensures { result ≡ drops_device command.now own }
@@ -39,6 +41,7 @@ pub fn drops_device(command: &Command, own: u32) -> bool
     }
 }
 
+// With GV the entries of that guest, else those that have no second stage.
 fn vma_guest(gv: bool, gscid: u16, own: Option<u16>) -> bool
     ensures { result ≡ vma_guest gv gscid own }
 {
@@ -56,6 +59,7 @@ fn vma_process(pscv: bool, pscid: u32, own: Option<u32>, global: bool) -> bool
     !pscv || own == Some(pscid) && !global
 }
 
+// With AV the entries whose page lies in the same superpage as the command's, else all.
 fn vma_page(av: bool, page: u64, own: u64, level: u8) -> bool
     ensures { result ≡ vma_page av page own level }
 {

@@ -42,7 +42,7 @@ impl Index {
         }
     }
 
-    /// Whether no live place has a key with the tag.
+    /// Whether no live place has a key with the tag, which is below 256.
     pub fn lacks(&self, tag: usize) -> bool
         requires { tag < 256 }
         ensures { result ≡ (get_or self.now.counts tag 0 == 0) }
@@ -50,7 +50,7 @@ impl Index {
         self.counts[tag] == 0
     }
 
-    /// The slot that a bucket starts with.
+    /// The slot that a bucket, below 32, starts with: that of its newest place; 64 where it has none.
     pub fn newest(&self, bucket: usize) -> usize
         requires { bucket < 32 }
         ensures { result ≡ get_or self.now.heads bucket 64 }
@@ -58,7 +58,7 @@ impl Index {
         self.heads[bucket]
     }
 
-    /// The slot behind a slot.
+    /// The slot behind a slot, below 64, in its bucket: that of an older place, where it has one.
     pub fn older(&self, slot: usize) -> usize
         requires { slot < 64 }
         ensures { result ≡ get_or self.now.links slot 64 }
@@ -66,7 +66,7 @@ impl Index {
         self.links[slot]
     }
 
-    /// The place at a slot; SLOTS where there is none.
+    /// The place at a slot, counted from the oldest, 0; 64 where there is no slot.
     #[tactic(auto, unfolding(crate::specs::Index::position))]
     pub fn position(&self, slot: usize) -> usize
         requires { self.now.first < 64 }
@@ -79,7 +79,7 @@ impl Index {
         }
     }
 
-    /// The slot of the place behind `at` others.
+    /// The slot, below 64, of the place behind `at` others, at most 63.
     pub fn slot(&self, at: usize) -> usize
         requires room { at < 64 }
         requires first { self.now.first < 64 }
@@ -88,7 +88,7 @@ impl Index {
         (self.first + at) % SLOTS
     }
 
-    /// A place is filled behind `at` others.
+    /// A place is filled behind `at` others, at most 63.
     pub fn append(&mut self, at: usize, place: &Option<(Key, Hit)>)
         requires room { at < 64 }
         requires first { self.old.first < 64 }
@@ -115,7 +115,7 @@ impl Index {
         self.first = (self.first + 1) % SLOTS;
     }
 
-    /// The index of these places.
+    /// The index of these places, at most 64, the oldest first.
     pub fn of(places: &[Option<(Key, Hit)>]) -> Index
         requires { length places.now ≤ 64 }
         ensures { IsIndex result places.now }
@@ -158,7 +158,7 @@ fn count_less(counts: &mut [u8; TAGS], oldest: &Option<(Key, Hit)>)
     }
 }
 
-/// The tag of a key: by its page and by what the access does.
+/// The tag of a key, below 256: by its page and by what the access does.
 #[tactic(auto, unfolding(crate::specs::Index::tag_of))]
 pub fn tag_of(key: &Key) -> usize
     ensures tag { result ≡ tag_of key.now }
@@ -171,7 +171,7 @@ pub fn tag_of(key: &Key) -> usize
     2 * (key.page as usize % 128) + side
 }
 
-/// The bucket of a key.
+/// The bucket of a key, below 32: by its page and its device id.
 #[tactic(auto, unfolding(crate::specs::Buckets::bucket_of))]
 pub fn bucket_of(key: &Key) -> usize
     ensures bucket { result ≡ bucket_of key.now }

@@ -4,7 +4,7 @@ ghost use Rattle.iom_cache.specs.Keys.{pscid_of, gscid_of, key_of, same_key};
 use iom_bits::Kind;
 use iom_ddt::Context;
 
-/// What a translation is found by ("Caching in-memory data structures").
+/// What a translation is found by in the translation cache, the IOTLB ("Caching in-memory data structures").
 #[derive(Clone, Copy, Debug, PartialEq)]
 pub struct Key {
     /// The device id, 24 bits.
@@ -19,7 +19,7 @@ pub struct Key {
     pub kind: Kind,
 }
 
-/// The key of a device's access to an IOVA, under the device's context.
+/// The key of an access of device `did`, 24 bits, to an IOVA, under the device's context.
 #[tactic(auto, unfolding(crate::specs::Keys::key_of))]
 pub fn key_of(context: &Context, did: u32, iova: u64, kind: Kind) -> Key
     ensures { result ≡ key_of context.now did iova kind }
@@ -33,6 +33,7 @@ pub fn key_of(context: &Context, did: u32, iova: u64, kind: Kind) -> Key
     }
 }
 
+// The process soft-context id that tags an entry: that of a context with a first stage.
 fn pscid_of(context: &Context) -> Option<u32>
     ensures { result ≡ pscid_of context.now }
 {
@@ -43,6 +44,7 @@ fn pscid_of(context: &Context) -> Option<u32>
     }
 }
 
+// The guest soft-context id that tags an entry: that of a context with a second stage.
 fn gscid_of(context: &Context) -> Option<u16>
     ensures { result ≡ gscid_of context.now }
 {
@@ -53,7 +55,7 @@ fn gscid_of(context: &Context) -> Option<u16>
     }
 }
 
-// Whether an entry's own key is the one looked for.
+/// Whether an entry's own key is the one looked for, in each of its parts.
 pub fn is_same(key: &Key, own: &Key) -> bool
     ensures { result ≡ same_key key.now own.now }
 {

@@ -1,4 +1,4 @@
-/// What stands at a place of a cache.
+/// What stands at a place of a cache: of the IOTLB or of the DDTC.
 #[derive(Clone, Copy, Debug, PartialEq)]
 pub enum Place<K, V> {
     /// It is beyond the last place.
@@ -13,7 +13,7 @@ impl<K: Copy, V: Copy> Place<K, V> {
     ghost use Rattle.std.specs.Prelude.{◌≡◌, option_copied};
     ghost use Rattle.iom_cache.specs.Places.{place_in};
 
-    // What is said of a place that there may be.
+    /// What is said of a place that there may be: None is beyond the last one.
     pub(crate) fn of(place: Option<&Option<(K, V)>>) -> Place<K, V>
         ensures { result ≡ place_in (option_copied place.entry) }
     {

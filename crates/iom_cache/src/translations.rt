@@ -16,7 +16,8 @@ use std::marker::Model;
 /// How many places there are.
 const PLACES: usize = 64;
 
-/// The translation cache: at most 64 places, oldest first, each empty or with where a key leads.
+/// The translation cache, in the standard the IOTLB: at most 64 places, oldest first, each empty or with where a key leads
+/// ("Caching in-memory data structures").
 #[derive(Drop)]
 pub struct TransCache {
     places: HeapCircularBuffer<Option<(Key, Hit)>>,
@@ -49,7 +50,8 @@ impl TransCache {
     ghost use Rattle.iom_cache.specs.Keys.{same_key};
     ghost use Rattle.iom_cache.specs.Drops.{drops_page};
 
-    /// A cache with no place yet. It takes the memory of all places, and no other call takes any.
+    /// A cache with no place yet. It takes the memory of all places; no other call but `try_clone` takes any. The fault is a
+    /// refused allocation.
     pub fn new(alloc: Global) -> Result<TransCache, AllocError>
         ensures { IfOk result (λ cache. cache ≡ []) }
     {
@@ -157,7 +159,8 @@ impl TransCache {
         let _none = self.places.push_back(place);
     }
 
-    /// Empties, where they stand, the places that a command drops ("IOTINVAL").
+    /// Empties, where they stand, the places that a command drops: IOTINVAL.VMA and IOTINVAL.GVMA by their operands; no other
+    /// command drops any ("IOTINVAL").
     pub fn drop_matching(&mut self, command: &Command)
         ensures { self.new ≡ emptied_by drops_page (Some command.now) self.old }
     {
@@ -196,6 +199,7 @@ fn make_room(places: &mut HeapCircularBuffer<Option<(Key, Hit)>>, index: &mut In
     }
 }
 
+// Empties the places that a command drops.
 fn empty_matching(command: &Command, places: &mut [Option<(Key, Hit)>])
     ensures { places.new ≡ map (dropped_by (drops_page command.now)) places.old }
 {
@@ -204,6 +208,7 @@ fn empty_matching(command: &Command, places: &mut [Option<(Key, Hit)>])
     }
 }
 
+// What a command leaves of a place.
 fn kept(command: &Command, place: Option<(Key, Hit)>) -> Option<(Key, Hit)>
     ensures { result ≡ dropped_by (drops_page command.now) place }
 {

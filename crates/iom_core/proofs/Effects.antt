@@ -10,7 +10,9 @@ use Rattle.iom_queue.specs.declared.record.Record.{Record}
 use Rattle.iom_virtq.specs.Bus.{Ask, Read, Write, reply_of}
 use Rattle.iom_virtq.specs.declared.access.Access.TheVariants as access
 use Rattle.iom_core.specs.State.{State, Machine, with_machine}
-use Rattle.iom_core.specs.Access.{Denial, Effect, Request, effect_at, granted, outside, read_there, record_left}
+use Rattle.iom_core.specs.Access.{Effect, effect_at, granted, outside, read_there, record_left}
+use Rattle.iom_core.specs.declared.access.Denial.{Denial}
+use Rattle.iom_core.specs.declared.access.Request.{Request}
 use Rattle.iom_core.specs.Table.{answer_by_reply}
 use Rattle.iom_core.specs.Reach.{ChangesOnly, Refuses, Span, TakesBy, nothing, span_to}
 use Rattle.iom_core.proofs.Puts.{put_changes_only, same_memory}

@@ -15,7 +15,8 @@ use Rattle.iom_cache.specs.declared.key.Key.{Key}
 use Rattle.iom_cache.proofs.Origins.{Origin, origin_of}
 use Rattle.iom_cache.proofs.Same.{same_did_exact, same_did_itself, same_key_exact, same_key_itself}
 use Rattle.iom_core.specs.State.{State}
-use Rattle.iom_core.specs.Access.{Request, context_look, page_look, led, request_key}
+use Rattle.iom_core.specs.Access.{context_look, page_look, led, request_key}
+use Rattle.iom_core.specs.declared.access.Request.{Request}
 use Rattle.iom_core.specs.Warrants.{IsFreshContext, IsUncached, IsWalked, context_filled, context_filled_at, executed_at, moment, page_filled, page_filled_at, request_at, way_at}
 use Rattle.iom_core.specs.Access.{Led, Walked}
 use Rattle.iom_core.specs.declared.step.Step.{Step}

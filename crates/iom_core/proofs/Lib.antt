@@ -7,10 +7,13 @@ pub mod Moments
 pub mod Fresh
 pub mod Learnt
 pub mod Explained
+pub mod Warranted
 pub mod Puts
 pub mod Slots
 pub mod Effects
 pub mod Moved
 pub mod Reaches
 pub mod Search
+pub mod Filled
+pub mod Passed
 pub mod Found

@@ -15,7 +15,7 @@ use Rattle.iom_virtq.specs.Bus.{Ask}
 use Rattle.iom_blk.specs.Device.{Device}
 use Rattle.iom_blk.specs.Phases.{asks}
 use Rattle.iom_core.specs.State.{State, Machine, context_room, page_room}
-use Rattle.iom_core.specs.Access.{Request}
+use Rattle.iom_core.specs.declared.access.Request.{Request}
 use Rattle.iom_core.specs.Commands.{after_command}
 use Rattle.iom_core.specs.Table.{Asking, asked, asked_by, asking_for, dev_written, device_step, executed, moving, next, probed, request_in, request_of_step}
 use Rattle.iom_core.specs.Warrants.{context_filled, context_filled_at, executed_at, moment, page_filled, page_filled_at, request_at}
@@ -73,7 +73,7 @@ pub written-machine : (state : State) (dev : ℕ) (slot : Option (ℕ × Device)
 written-machine state dev None off size value = refl
 written-machine state dev (Some own) off size value = refl
 
-next-contexts : (state : State) (taken : Step) → (next state taken).state.machine.contexts
+pub next-contexts : (state : State) (taken : Step) → (next state taken).state.machine.contexts
     ≡ emptied_by drops_context (executed state taken) (filled_by context_room (context_filled state (request_of_step state taken)) state.machine.contexts)
 unfolding next executed after_command asked
 next-contexts state (step.Load addr size) = refl
@@ -87,7 +87,7 @@ next-contexts state (step.DevRead dev off size) = refl
 next-contexts state (step.DevWrite dev off size value) = ap (λ (m : Machine). m.contexts) (written-machine state dev (slice_get state.devices dev) off size value)
 next-contexts state (step.Device dev) = moved-contexts state dev (slice_get state.devices dev)
 
-next-pages : (state : State) (taken : Step) → (next state taken).state.machine.pages
+pub next-pages : (state : State) (taken : Step) → (next state taken).state.machine.pages
     ≡ emptied_by drops_page (executed state taken) (filled_by page_room (page_filled state (request_of_step state taken)) state.machine.pages)
 unfolding next executed after_command asked
 next-pages state (step.Load addr size) = refl
@@ -114,12 +114,12 @@ next_by-pages state None = refl
 next_by-pages state (Some taken) = next-pages state taken
 
 -- what a request fills was not found
-context_filled-unused : (state : State) (request : Option Request) →
+pub context_filled-unused : (state : State) (request : Option Request) →
     IfSome (context_filled state request) (λ entry. find (same_did entry.0) state.machine.contexts ≡ None)
 context_filled-unused state None = tt
 context_filled-unused state (Some request) = led_context-unused state.machine request
 
-page_filled-unused : (state : State) (request : Option Request) →
+pub page_filled-unused : (state : State) (request : Option Request) →
     IfSome (page_filled state request) (λ entry. find (same_key entry.0) state.machine.pages ≡ None)
 page_filled-unused state None = tt
 page_filled-unused state (Some request) = led_page-unused state.machine request

@@ -1,18 +1,19 @@
 -- The search of a history for the step that filled an entry.
-use Rattle.std.proofs.Common.{◌≡◌, ◌+◌, ◌∙◌, ℕ, zero, suc, List, [], ◌∷◌, take, Bool, true, false, Option, Some, None, refl, sym, ap, subst, inl, inr, arith}
+use Rattle.std.proofs.Common.{◌≡◌, ◌+◌, ◌∙◌, ◌&&◌, not, ℕ, zero, suc, List, [], ◌∷◌, take, Bool, true, false, Option, Some, None, refl, sym, ap, subst, inl, inr, arith}
 use Rattle.std.specs.Prelude.{slice_get}
 use Rattle.std.specs.Option.{option_and_then, unwrap_or}
 use Rattle.std.proofs.lemmas.Bool.{cases_lt}
 use Rattle.iom_cache.specs.Origins.{IsLast}
 use Rattle.iom_core.specs.State.{State}
-use Rattle.iom_core.specs.Access.{Request}
+use Rattle.iom_core.specs.declared.access.Request.{Request}
 use Rattle.iom_core.specs.declared.history.Entry.{Entry}
-use Rattle.iom_core.specs.Histories.{LastBelow, fills_at, fills_entry, later}
+use Rattle.iom_core.specs.Histories.{LastBelow, fills_at, fills_entry, holds, later}
 use Rattle.iom_core.specs.Run.{end_of}
 use Rattle.iom_core.specs.Table.{next, request_of_step}
 use Rattle.iom_core.specs.Warrants.{moment, request_at}
 use Rattle.iom_core.specs.declared.step.Step.{Step}
 use Rattle.iom_core.proofs.Moments.{moment-suc, next_by}
+use Rattle.iom_core.proofs.Passed.{filled_between}
 
 pub last_none : (test : ℕ → Bool) → LastBelow test 0 None
 last_none test = λ j low. absurd (omega arith)
@@ -69,11 +70,13 @@ moment_more start steps k taken is =
     let one : suc k ≡ k + 1 = omega arith in
     sym (ap (next_by (moment start steps k)) is) ∙ sym (moment-suc start steps k) ∙ ap (moment start steps) one
 
-pub search_more : (start : State) (steps : List Step) (wanted : Entry) (k : ℕ) (taken : Step) (last : Option ℕ) (passes : Bool) →
-    slice_get steps k ≡ Some taken →
-    passes ≡ fills_entry (moment start steps k) (request_of_step (moment start steps k) taken) wanted →
-    LastBelow (fills_at start steps wanted) k last → LastBelow (fills_at start steps wanted) (k + 1) (later last k passes)
-search_more start steps wanted k taken last passes is found h =
-    let asked : request_at start steps k ≡ request_of_step (moment start steps k) taken = ap (option_and_then (request_of_step (moment start steps k))) is in
-    last_more (fills_at start steps wanted) k last passes
-    (ap (λ (r : Option Request). fills_entry (moment start steps k) r wanted) asked ∙ sym found) h
+pub search_more : (start : State) (steps : List Step) (wanted : Entry) (k : ℕ) (taken : Step) (last : Option ℕ) (before after : Bool) →
+    slice_get steps k ≡ Some taken → before ≡ holds (moment start steps k) wanted → after ≡ holds (next (moment start steps k) taken).state wanted →
+    LastBelow (fills_at start steps wanted) k last → LastBelow (fills_at start steps wanted) (k + 1) (later last k (not before && after))
+search_more start steps wanted k taken last before after is held_before held_after h =
+    let state = moment start steps k in
+    let asked : request_at start steps k ≡ request_of_step state taken = ap (option_and_then (request_of_step state)) is in
+    let found : (not before && after) ≡ fills_entry state (request_of_step state taken) wanted =
+    ap (λ (b : Bool). not b && after) held_before ∙ ap (λ (b : Bool). not (holds state wanted) && b) held_after ∙ filled_between state taken wanted in
+    last_more (fills_at start steps wanted) k last (not before && after)
+    (ap (λ (r : Option Request). fills_entry state r wanted) asked ∙ sym found) h

@@ -8,7 +8,7 @@ use Rattle.iom_cache.proofs.Kept.{iodir_keeps_pages, fence_keeps_pages, vma_keep
 use Rattle.iom_cache.specs.declared.key.Key.{Key}
 use Rattle.iom_cache.specs.Drops.{drops_page, drops_context}
 use Rattle.iom_cache.specs.Places.{emptied_by}
-use Rattle.iom_core.specs.Code.{is_for_pages, is_for_contexts}
+use Rattle.iom_core.specs.Commands.{is_for_pages, is_for_contexts}
 
 pub pages_untouched : (command : Command) (pages : List (Option (Key × Hit))) → is_for_pages command ≡ false →
     pages ≡ emptied_by drops_page (Some command) pages

@@ -1,6 +1,6 @@
 -- A device's access: where it leads, what it leaves in the caches, and how the bus answers it. RISC-V IOMMU Architecture 1.0,
 -- "Process to translate an IOVA", "Caching in-memory data structures" and "Fault/Event-Queue (FQ)".
-use Rattle.std.specs.Prelude.{ℕ, ◌+◌, ◌*◌, ◌%◌, Bool, true, List, [], length, Option, Some, None, Result, Ok, Err, is_some, if◌then◌else◌}
+use Rattle.std.specs.Prelude.{ℕ, ◌+◌, ◌*◌, ◌%◌, true, List, [], length, Option, Some, None, Result, Ok, Err, is_some, if◌then◌else◌}
 use Rattle.iom_bits.specs.declared.causes.Cause.{Cause}
 use Rattle.iom_bits.specs.declared.causes.Cause.TheVariants as cause
 use Rattle.iom_bits.specs.declared.causes.Kind.{Kind}
@@ -24,20 +24,8 @@ use Rattle.iom_cache.specs.declared.key.Key.{Key}
 use Rattle.iom_virtq.specs.Bus.{Ask, Read, Write, Reply, reply_of}
 use Rattle.iom_virtq.specs.declared.access.Access.TheVariants as access
 use Rattle.iom_core.specs.State.{Machine, context_room, page_room}
-
--- what a device asks of the IOMMU: an access at an IOVA
-pub record Request : Type 0 where
-  pub did : ℕ
-  pub iova : ℕ
-  pub kind : Kind
-
--- why a request is denied
-pub record Denial : Type 0 where
-  pub cause : Cause
-  -- of a guest page fault the guest-physical address, else 0
-  pub iotval2 : ℕ
-  -- whether it makes a fault record
-  pub reported : Bool
+use Rattle.iom_core.specs.declared.access.Denial.{Denial}
+use Rattle.iom_core.specs.declared.access.Request.{Request}
 
 -- the way that a request is led
 pub data Way : Type 0 where

@@ -27,11 +27,8 @@ is_taken (fetch.Ready command) = true
 
 -- a fence with AV stores DATA in four bytes: it can't be executed where one of them is outside memory
 abbrev pub can_execute : Memory → Command → Bool
-can_execute memory (Vma av page pscv pscid gv gscid) = true
-can_execute memory (Gvma av page pscid gv gscid) = true
 can_execute memory (Fence true wsi pr pw value addr) = is_some (bytes_at memory addr 4)
-can_execute memory (Fence false wsi pr pw value addr) = true
-can_execute memory (Iodir dv did) = true
+can_execute memory _ = true
 
 -- the command that is executed, where there is one
 abbrev pub executed_of : Memory → Fetch → Option Command
@@ -45,19 +42,13 @@ executed_by m = executed_of m.memory (fetched m)
 
 -- a fence's store
 abbrev pub memory_after : Command → Memory → Memory
-memory_after (Vma av page pscv pscid gv gscid) memory = memory
-memory_after (Gvma av page pscid gv gscid) memory = memory
 memory_after (Fence true wsi pr pw value addr) memory = put memory addr (bytes_of_number 4 value)
-memory_after (Fence false wsi pr pw value addr) memory = memory
-memory_after (Iodir dv did) memory = memory
+memory_after _ memory = memory
 
 -- a fence with WSI sets fence_w_ip
 abbrev pub fenced : Command → Registers → Registers
-fenced (Vma av page pscv pscid gv gscid) registers = registers
-fenced (Gvma av page pscid gv gscid) registers = registers
 fenced (Fence av true pr pw value addr) registers = with_fence registers
-fenced (Fence av false pr pw value addr) registers = registers
-fenced (Iodir dv did) registers = registers
+fenced _ registers = registers
 
 abbrev pub after_fence : Machine → Command → Machine
 after_fence m command = record m { memory = memory_after command m.memory; registers = fenced command m.registers }
@@ -65,6 +56,16 @@ after_fence m command = record m { memory = memory_after command m.memory; regis
 abbrev pub memory_left : Memory → Option Command → Memory
 memory_left memory None = memory
 memory_left memory (Some command) = memory_after command memory
+
+-- the commands that drop translations, and those that drop contexts
+abbrev pub is_for_pages : Command → Bool
+is_for_pages (Vma av page pscv pscid gv gscid) = true
+is_for_pages (Gvma av page pscid gv gscid) = true
+is_for_pages _ = false
+
+abbrev pub is_for_contexts : Command → Bool
+is_for_contexts (Iodir dv did) = true
+is_for_contexts _ = false
 
 -- each cache loses the places that the command drops
 abbrev pub without_dropped : Machine → Option Command → Machine

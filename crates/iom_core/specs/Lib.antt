@@ -4,6 +4,5 @@ pub mod Commands
 pub mod Table
 pub mod Run
 pub mod Warrants
-pub mod Code
 pub mod Reach
 pub mod Histories

@@ -4,12 +4,13 @@ use Rattle.std.specs.Option.{option_map}
 use Rattle.iom_mem.specs.Memory.{Memory, byte, bytes_at, size_of}
 use Rattle.iom_queue.specs.Delivery.{KeepsOtherRegisters, record_addr}
 use Rattle.iom_queue.specs.declared.command.Command.{Command}
-use Rattle.iom_queue.specs.declared.command.Command.TheVariants.{Vma, Gvma, Fence, Iodir}
+use Rattle.iom_queue.specs.declared.command.Command.TheVariants.{Fence}
 use Rattle.iom_virtq.specs.Bus.{Ask, Read, Write, Reply, is_granted}
 use Rattle.iom_blk.specs.Device.{Device}
 use Rattle.iom_blk.specs.Phases.{is_broken, moved_of, took}
 use Rattle.iom_core.specs.State.{State, Machine}
-use Rattle.iom_core.specs.Access.{Denial, address_on, led}
+use Rattle.iom_core.specs.Access.{address_on, led}
+use Rattle.iom_core.specs.declared.access.Denial.{Denial}
 use Rattle.iom_core.specs.Table.{Asking, answer_of, asked, executed, request_in}
 use Rattle.iom_core.specs.declared.step.Step.{Step}
 use Rattle.iom_core.specs.declared.step.Step.TheVariants as step
@@ -49,25 +50,14 @@ span_of_access state (Some asking) = span_to state.machine asking.ask (address_i
 
 -- a fence changes the four bytes of its DATA
 abbrev pub span_of_command : Option Command → Span
-span_of_command None = nothing
-span_of_command (Some (Vma av page pscv pscid gv gscid)) = nothing
-span_of_command (Some (Gvma av page pscid gv gscid)) = nothing
 span_of_command (Some (Fence true wsi pr pw value addr)) = record { addr = addr; count = 4 }
-span_of_command (Some (Fence false wsi pr pw value addr)) = nothing
-span_of_command (Some (Iodir dv did)) = nothing
+span_of_command _ = nothing
 
--- what a step may change of memory
+-- what a step may change of memory: a store's bytes, a command's, and those of the access that a device makes
 abbrev pub span_of : State → Step → Span
-span_of state (step.Load addr size) = nothing
 span_of state (step.Store addr size value) = record { addr = addr; count = size }
-span_of state (step.RegRead off size) = nothing
-span_of state (step.RegWrite off size value) = nothing
 span_of state step.Command = span_of_command (executed state step.Command)
-span_of state (step.DmaRead did iova len) = span_of_access state (asked state (step.DmaRead did iova len))
-span_of state (step.DmaWrite did iova bytes) = span_of_access state (asked state (step.DmaWrite did iova bytes))
-span_of state (step.DevRead dev off size) = nothing
-span_of state (step.DevWrite dev off size value) = nothing
-span_of state (step.Device dev) = span_of_access state (asked state (step.Device dev))
+span_of state taken = span_of_access state (asked state taken)
 
 -- a read is answered the bytes at the address that it is led to
 abbrev pub TakesAt : Memory → Ask → List ℕ → Result ℕ Denial → Type 0
@@ -76,15 +66,8 @@ TakesAt memory (Read iova count) bytes (Err denial) = ⊥
 TakesAt memory (Write iova given) bytes led_to = ⊥
 
 abbrev pub TakesBy : Memory → Ask → Result ℕ Denial → Answer → Type 0
-TakesBy memory ask led_to (answer.Value value) = Unit {0}
-TakesBy memory ask led_to answer.Done = Unit {0}
 TakesBy memory ask led_to (answer.Bytes bytes) = TakesAt memory ask bytes.items led_to
-TakesBy memory ask led_to answer.Idle = Unit {0}
-TakesBy memory ask led_to (answer.Denied cause) = Unit {0}
-TakesBy memory ask led_to answer.BusError = Unit {0}
-TakesBy memory ask led_to answer.BadAccess = Unit {0}
-TakesBy memory ask led_to answer.NoDevice = Unit {0}
-TakesBy memory ask led_to answer.Misuse = Unit {0}
+TakesBy memory ask led_to _ = Unit {0}
 
 abbrev pub Takes : State → Option Asking → Answer → Type 0
 Takes state None given = Unit {0}
@@ -97,16 +80,9 @@ pub record ChangesDevice (dev : ℕ) (old new : List (ℕ × Device)) : Type 0 w
 
 -- what a step may change of the block devices
 abbrev pub KeepsDevices : Step → List (ℕ × Device) → List (ℕ × Device) → Type 0
-KeepsDevices (step.Load addr size) old new = new ≡ old
-KeepsDevices (step.Store addr size value) old new = new ≡ old
-KeepsDevices (step.RegRead off size) old new = new ≡ old
-KeepsDevices (step.RegWrite off size value) old new = new ≡ old
-KeepsDevices step.Command old new = new ≡ old
-KeepsDevices (step.DmaRead did iova len) old new = new ≡ old
-KeepsDevices (step.DmaWrite did iova bytes) old new = new ≡ old
-KeepsDevices (step.DevRead dev off size) old new = new ≡ old
 KeepsDevices (step.DevWrite dev off size value) old new = ChangesDevice dev old new
 KeepsDevices (step.Device dev) old new = ChangesDevice dev old new
+KeepsDevices _ old new = new ≡ old
 
 -- a reply to what is asked: where it grants a read, it has the bytes at the address that the access is led to
 abbrev pub Carries : Memory → Ask → Result ℕ Denial → Reply → Type 0
@@ -126,48 +102,25 @@ abbrev pub GoesOnIn : State → Option Asking → Answer → Option (ℕ × Devi
 GoesOnIn state None given old new = new ≡ old
 GoesOnIn state (Some asking) given (Some old) (Some new) =
     GoesOn state.machine.memory asking.ask (address_in state asking) given old.1 new.1
-GoesOnIn state (Some asking) given (Some old) None = ⊥
-GoesOnIn state (Some asking) given None new = ⊥
+GoesOnIn state (Some asking) given _ _ = ⊥
 
 -- a device whose access is denied, or led outside memory, breaks
 abbrev pub IsBroken : Option (ℕ × Device) → Type 0
 IsBroken slot = IfSome slot (λ own. is_broken own.1 ≡ true)
 
 abbrev pub BreaksBy : Answer → Option (ℕ × Device) → Type 0
-BreaksBy (answer.Value value) slot = Unit {0}
-BreaksBy answer.Done slot = Unit {0}
-BreaksBy (answer.Bytes bytes) slot = Unit {0}
-BreaksBy answer.Idle slot = Unit {0}
 BreaksBy (answer.Denied cause) slot = IsBroken slot
 BreaksBy answer.BusError slot = IsBroken slot
-BreaksBy answer.BadAccess slot = Unit {0}
-BreaksBy answer.NoDevice slot = Unit {0}
-BreaksBy answer.Misuse slot = Unit {0}
+BreaksBy _ slot = Unit {0}
 
 abbrev pub Breaks : Step → Answer → List (ℕ × Device) → Type 0
-Breaks (step.Load addr size) given new = Unit {0}
-Breaks (step.Store addr size value) given new = Unit {0}
-Breaks (step.RegRead off size) given new = Unit {0}
-Breaks (step.RegWrite off size value) given new = Unit {0}
-Breaks step.Command given new = Unit {0}
-Breaks (step.DmaRead did iova len) given new = Unit {0}
-Breaks (step.DmaWrite did iova bytes) given new = Unit {0}
-Breaks (step.DevRead dev off size) given new = Unit {0}
-Breaks (step.DevWrite dev off size value) given new = Unit {0}
 Breaks (step.Device dev) given new = BreaksBy given (slice_get new dev)
+Breaks _ given new = Unit {0}
 
 abbrev pub DeviceGoesOn : State → Step → Answer → List (ℕ × Device) → Type 0
-DeviceGoesOn state (step.Load addr size) given new = Unit {0}
-DeviceGoesOn state (step.Store addr size value) given new = Unit {0}
-DeviceGoesOn state (step.RegRead off size) given new = Unit {0}
-DeviceGoesOn state (step.RegWrite off size value) given new = Unit {0}
-DeviceGoesOn state step.Command given new = Unit {0}
-DeviceGoesOn state (step.DmaRead did iova len) given new = Unit {0}
-DeviceGoesOn state (step.DmaWrite did iova bytes) given new = Unit {0}
-DeviceGoesOn state (step.DevRead dev off size) given new = Unit {0}
-DeviceGoesOn state (step.DevWrite dev off size value) given new = Unit {0}
 DeviceGoesOn state (step.Device dev) given new =
     GoesOnIn state (asked state (step.Device dev)) given (slice_get state.devices dev) (slice_get new dev)
+DeviceGoesOn state _ given new = Unit {0}
 
 -- what a step reaches: the memory and the devices that it may change, and the bytes that its access takes
 pub record Reaches (state : State) (taken : Step) (given : Answer) (new : State) : Type 0 where
@@ -179,10 +132,6 @@ pub record Reaches (state : State) (taken : Step) (given : Answer) (new : State)
 
 -- what stands after the refusals
 abbrev pub Refuses : Answer → State → State → Type 0
-Refuses (answer.Value value) old new = Unit {0}
-Refuses answer.Done old new = Unit {0}
-Refuses (answer.Bytes bytes) old new = Unit {0}
-Refuses answer.Idle old new = Unit {0}
 -- all but the fault queue's registers, ipsr, the bytes of one record, the caches and a device that breaks
 Refuses (answer.Denied cause) old new =
     KeepsOtherRegisters old.machine.registers new.machine.registers
@@ -194,3 +143,5 @@ Refuses answer.BusError old new =
 Refuses answer.BadAccess old new = new ≡ old
 Refuses answer.NoDevice old new = new ≡ old
 Refuses answer.Misuse old new = new ≡ old
+-- it was no refusal
+Refuses _ old new = Unit {0}

@@ -19,6 +19,10 @@ pub record State : Type 0 where
   pub machine : Machine
   pub devices : List (ℕ × Device)
 
+-- the disk of a device
+abbrev pub disk_of : ℕ × Device → List ℕ
+disk_of own = own.1.disk
+
 -- the state with another machine
 abbrev pub with_machine : State → Machine → State
 with_machine s machine = record s { machine = machine }

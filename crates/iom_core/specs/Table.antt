@@ -15,7 +15,8 @@ use Rattle.iom_blk.specs.Registers.{is_legal as is_device_register, read as devi
 use Rattle.iom_blk.specs.declared.want.Moved.{Moved}
 use Rattle.iom_blk.specs.declared.want.Moved.TheVariants as moved
 use Rattle.iom_core.specs.State.{State, Machine, with_device, with_machine}
-use Rattle.iom_core.specs.Access.{Request, request_of, served}
+use Rattle.iom_core.specs.Access.{request_of, served}
+use Rattle.iom_core.specs.declared.access.Request.{Request}
 use Rattle.iom_core.specs.Commands.{after_command, executed_by, fetched, is_taken}
 use Rattle.iom_core.specs.declared.step.Step.{Step}
 use Rattle.iom_core.specs.declared.step.Step.TheVariants as step
@@ -61,17 +62,11 @@ asked_by (Some own) = option_map (asking_for own.0) (asks own.1)
 
 -- What a step asks of the bus; None: it makes no access, or is answered with a misuse.
 unfoldable pub asked : State → Step → Option Asking
-asked state (step.Load addr size) = None
-asked state (step.Store addr size value) = None
-asked state (step.RegRead off size) = None
-asked state (step.RegWrite off size value) = None
-asked state step.Command = None
 asked state (step.DmaRead did iova len) = asking_where (is_device_access did iova len) did (Read iova len)
 asked state (step.DmaWrite did iova bytes) =
     asking_where (is_device_access did iova (length bytes.items)) did (Write iova bytes.items)
-asked state (step.DevRead dev off size) = None
-asked state (step.DevWrite dev off size value) = None
 asked state (step.Device dev) = asked_by (slice_get state.devices dev)
+asked state _ = None
 
 -- what it asks of the IOMMU
 abbrev pub request_in : Asking → Request
@@ -83,16 +78,8 @@ request_of_step state taken = option_map request_in (asked state taken)
 -- The command that a step executes; None: it is no command step, or one that was idle, faulted, met an illegal command, or a
 -- fence whose store could not be done.
 unfoldable pub executed : State → Step → Option Command
-executed state (step.Load addr size) = None
-executed state (step.Store addr size value) = None
-executed state (step.RegRead off size) = None
-executed state (step.RegWrite off size value) = None
 executed state step.Command = executed_by state.machine
-executed state (step.DmaRead did iova len) = None
-executed state (step.DmaWrite did iova bytes) = None
-executed state (step.DevRead dev off size) = None
-executed state (step.DevWrite dev off size value) = None
-executed state (step.Device dev) = None
+executed state _ = None
 
 -- loads and stores of the hart
 abbrev pub value_of : Option (List ℕ) → Answer

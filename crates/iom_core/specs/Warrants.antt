@@ -10,14 +10,15 @@ use Rattle.iom_ddt.specs.declared.context.Context.{Context}
 use Rattle.iom_nested.specs.Nested.{translation}
 use Rattle.iom_nested.specs.declared.translation.Hit.{Hit}
 use Rattle.iom_queue.specs.declared.command.Command.{Command}
-use Rattle.iom_queue.specs.declared.command.Command.TheVariants.{Vma, Gvma, Fence, Iodir}
+use Rattle.iom_queue.specs.declared.command.Command.TheVariants.{Vma, Gvma, Iodir}
 use Rattle.iom_cache.specs.Drops.{drops_page, drops_context}
 use Rattle.iom_cache.specs.Keys.{same_key, same_did, gscid_of}
 use Rattle.iom_cache.specs.Origins.{IsLast, fills, drops_at}
 use Rattle.iom_cache.specs.Places.{NoneLive}
 use Rattle.iom_cache.specs.declared.key.Key.{Key}
 use Rattle.iom_core.specs.State.{State}
-use Rattle.iom_core.specs.Access.{Request, Way, ByRegister, ByContext, Walked, Denied, led, request_key}
+use Rattle.iom_core.specs.Access.{Way, ByRegister, ByContext, Walked, Denied, led, request_key}
+use Rattle.iom_core.specs.declared.access.Request.{Request}
 use Rattle.iom_core.specs.Table.{request_of_step, executed}
 use Rattle.iom_core.specs.Run.{end_of}
 use Rattle.iom_core.specs.declared.step.Step.{Step}
@@ -98,10 +99,8 @@ IsWarrant start steps n request (warrant.Context context) = IsByContext start st
 IsWarrant start steps n request (warrant.Walked context walk current) = IsWalked start steps n request context walk current
 
 abbrev pub IsDenied : Way → Type 0
-IsDenied ByRegister = ⊥
-IsDenied (ByContext context) = ⊥
-IsDenied (Walked context hit) = ⊥
 IsDenied (Denied denial) = Unit {0}
+IsDenied _ = ⊥
 
 -- step n made no access, or one that was denied
 abbrev pub HasNone : State → List Step → ℕ → Option Request → Type 0
@@ -124,25 +123,16 @@ pub record IsUncached (state : State) : Type 0 where
 
 -- IODIR.INVAL_DDT for every device; IOTINVAL.VMA for the host's whole address spaces; IOTINVAL.GVMA for every guest's
 abbrev pub is_iodir_of_all : Option Command → Bool
-is_iodir_of_all None = false
-is_iodir_of_all (Some (Vma av page pscv pscid gv gscid)) = false
-is_iodir_of_all (Some (Gvma av page pscid gv gscid)) = false
-is_iodir_of_all (Some (Fence av wsi pr pw value addr)) = false
 is_iodir_of_all (Some (Iodir dv did)) = not dv
+is_iodir_of_all _ = false
 
 abbrev pub is_vma_of_all : Option Command → Bool
-is_vma_of_all None = false
 is_vma_of_all (Some (Vma av page pscv pscid gv gscid)) = not av && not pscv && not gv
-is_vma_of_all (Some (Gvma av page pscid gv gscid)) = false
-is_vma_of_all (Some (Fence av wsi pr pw value addr)) = false
-is_vma_of_all (Some (Iodir dv did)) = false
+is_vma_of_all _ = false
 
 abbrev pub is_gvma_of_all : Option Command → Bool
-is_gvma_of_all None = false
-is_gvma_of_all (Some (Vma av page pscv pscid gv gscid)) = false
 is_gvma_of_all (Some (Gvma av page pscid gv gscid)) = not av && not gv
-is_gvma_of_all (Some (Fence av wsi pr pw value addr)) = false
-is_gvma_of_all (Some (Iodir dv did)) = false
+is_gvma_of_all _ = false
 
 -- A full invalidation: contexts first, at step i; then translations of both kinds, at steps v and g in either order. Other
 -- steps may stand between. It is complete at n where v and g lie below n.
@@ -162,10 +152,8 @@ IsWalkAfter v g walk (Some gscid) = g < walk
 
 -- the guest, where a walk by both stages led
 abbrev pub guest_on : Way → Option ℕ
-guest_on ByRegister = None
-guest_on (ByContext context) = None
 guest_on (Walked context hit) = gscid_of context
-guest_on (Denied denial) = None
+guest_on _ = None
 
 -- No moment of the warrant lies before the full invalidation.
 abbrev pub IsAfter : ℕ → ℕ → ℕ → Way → Warrant → Type 0
@@ -178,3 +166,15 @@ IsAfter i v g way (warrant.Walked context walk current) =
 abbrev pub IsUpToDate : State → List Step → ℕ → Request → Warrant → Type 0
 IsUpToDate start steps n request found =
     (i v g : ℕ) → IsFullInvalidation start steps i v g n → IsAfter i v g (way_at start steps n request) found
+
+-- The request of step n has a warrant in past states, none of whose moments lies before a full invalidation that is complete.
+pub record HasWarrant (start : State) (steps : List Step) (n : ℕ) (request : Request) : Type 0 where
+  pub warrant : Warrant
+  pub grants : IsWarrant start steps n request warrant
+  pub up_to_date : IsUpToDate start steps n request warrant
+
+-- Whatever a device asks at any step, it is denied or has a warrant.
+abbrev pub AreWarranted : State → List Step → Type 0
+AreWarranted start steps =
+    (n : ℕ) (request : Request) → request_at start steps n ≡ Some request → (IsDenied (way_at start steps n request) → ⊥) →
+    HasWarrant start steps n request

@@ -10,8 +10,7 @@ ghost use Rattle.iom_nested.specs.Nested.{HitFits};
 ghost use Rattle.iom_cache.specs.Places.{find, look};
 ghost use Rattle.std.specs.Bool.{OnFalse};
 ghost use Rattle.iom_virtq.specs.Bus.{Read, Write, is_granted, reply_of};
-ghost use Rattle.iom_core.specs.Access.{address_on, context_look, learnt, led, led_by_context, plain, record_left, refused, request_key, served, translating, with_delivery};
-ghost use Rattle.iom_core.specs.Code.{address_of, denial_of, led_of, request_in};
+ghost use Rattle.iom_core.specs.Access.{address_on, context_look, learnt, led, led_by_context, plain, record_left, request_key, served, translating, with_delivery};
 
 use crate::machine::Machine;
 use iom_bits::{Cause, Kind};
@@ -22,141 +21,32 @@ use iom_queue::{Record, deliver, is_reported};
 use iom_regs::Mode;
 use iom_virtq::Access;
 
-/// What a device asks of the IOMMU.
+/// What a device asks of the IOMMU: an untranslated request (RISC-V IOMMU Architecture 1.0, "Process to translate an IOVA").
 #[derive(Clone, Copy)]
 pub struct Request {
     /// The device's id, below 2^24.
     pub did: u32,
+    /// The IOVA of its first byte, any of 64 bits.
     pub iova: u64,
+    /// Whether it reads or writes.
     pub kind: Kind,
 }
 
 /// Why a request is denied.
 #[derive(Clone, Copy)]
 pub struct Denial {
+    /// The cause of the fault ("Fault/Event-Queue (FQ)", CAUSE).
     pub cause: Cause,
-    /// Of a guest page fault the guest-physical address, else 0.
+    /// Of a guest page fault the guest-physical address, in the form of a fault record's iotval2; else 0.
     pub iotval2: u64,
-    /// Whether it makes a fault record.
+    /// Whether it makes a fault record: always, but for a fault of a stage under a context with DTF = 1.
     pub reported: bool,
 }
 
-/// The way that a request is led.
-#[derive(Clone, Copy)]
-pub enum Way {
-    /// By ddtp, whose mode is Bare: the physical address is the IOVA.
-    ByRegister,
-    /// By the device's context, both of whose stages are Bare: so too.
-    ByContext(Context),
-    /// By the stages of the device's context, to a frame.
-    Walked(Context, Hit),
-    /// Nowhere.
-    Denied(Denial),
-}
-
-/// The way of a request, and what is filled in each cache.
-#[derive(Clone, Copy)]
-pub struct Led {
-    pub way: Way,
-    pub context: Option<(u32, Context)>,
-    pub page: Option<(Key, Hit)>,
-}
-
-impl Led {
-    // A request that is denied before any page table is read; nothing is filled.
-    #[tactic(auto)]
-    fn refused(cause: Cause) -> Led
-        ensures { led_of result ≡ refused cause }
-    {
-        Led {
-            way: Way::Denied(plain(cause)),
-            context: None,
-            page: None,
-        }
-    }
-}
-
 impl Machine {
-    // Where a request leads, and what is to be filled on the way. Nothing changes.
-    #[tactic(auto, unfolding(crate::specs::Access::led))]
-    pub fn lead(&self, request: Request) -> Led
-        requires { request.did < 2 ^ 24 }
-        ensures led { led_of result ≡ led self.now (request_in request) }
-    {
-        match self.registers.mode() {
-            Mode::Off => Led::refused(Cause::Off),
-            Mode::Bare => Led {
-                way: Way::ByRegister,
-                context: None,
-                page: None,
-            },
-            Mode::Levels(_) => self.lead_by_directory(request),
-        }
-    }
-
-    // By the context of the device's id, from its live place or else from the directory.
-    #[tactic(auto, unfolding(crate::specs::Access::context_look), using(crate::proofs::Wide::too_wide_located))]
-    fn lead_by_directory(&self, request: Request) -> Led
-        requires directory { 1 ≤ levels_of (mode_of self.now.registers) }
-        requires width { request.did < 2 ^ 24 }
-        ensures led { led_of result
-            ≡ led_by_context self.now (request_in request)
-            (context_look self.now request.did).filled (context_look self.now request.did).used }
-    {
-        if is_too_wide(&self.registers, request.did) {
-            return Led::refused(Cause::TooWide);
-        }
-        if let Some(context) = self.contexts.find(request.did) {
-            return self.lead_by_context(request, context, None);
-        }
-        match locate(&self.ram, &self.registers, request.did) {
-            Ok(context) => self.lead_by_context(request, context, Some((request.did, context))),
-            Err(cause) => Led::refused(cause),
-        }
-    }
-
-    // By a context, which is to be filled where it is `learnt`.
-    #[tactic(auto, unfolding(crate::specs::Access::page_look))]
-    fn lead_by_context(
-        &self,
-        request: Request,
-        context: Context,
-        learnt: Option<(u32, Context)>,
-    ) -> Led
-        requires well_formed { IsWellFormed context }
-        ensures led { led_of result
-            ≡ led_by_context self.now (request_in request) learnt (Ok context) }
-    {
-        if context.is_bare() {
-            return Led {
-                way: Way::ByContext(context),
-                context: learnt,
-                page: None,
-            };
-        }
-        let key = key_of(&context, request.did, request.iova, request.kind);
-        if let Some(hit) = self.pages.find(&key) {
-            return Led {
-                way: Way::Walked(context, hit),
-                context: learnt,
-                page: None,
-            };
-        }
-        match translate(&self.ram, &context, request.iova, request.kind) {
-            Ok(hit) => Led {
-                way: Way::Walked(context, hit),
-                context: learnt,
-                page: Some((key, hit)),
-            },
-            Err(fault) => Led {
-                way: Way::Denied(translating(&context, fault)),
-                context: learnt,
-                page: None,
-            },
-        }
-    }
-
-    /// Reads the bytes at `iova` for a device into `out`, which is unchanged unless the answer is Ok.
+    /// Reads the bytes from IOVA `iova` on, within one page of 4096 bytes, for device `did`, below 2^24, into `out`, which is
+    /// unchanged unless the answer is Ok. `Denied` where the IOMMU denies it, which may leave a fault record; `Outside` where a
+    /// byte of it lies outside memory.
     #[tactic(auto, unfolding(crate::specs::Access::effect))]
     pub fn read(&mut self, did: u32, iova: u64, out: &mut [u8]) -> Access
         requires { did < 2 ^ 24 }
@@ -176,7 +66,8 @@ impl Machine {
         }
     }
 
-    /// Writes `bytes` at `iova` for a device.
+    /// Writes `bytes` from IOVA `iova` on, within one page of 4096 bytes, for device `did`, below 2^24. The answers are those of
+    /// `read`; unless it is Ok none of the bytes is written.
     #[tactic(auto, unfolding(crate::specs::Access::effect))]
     pub fn write(&mut self, did: u32, iova: u64, bytes: &[u8]) -> Access
         requires { did < 2 ^ 24 }
@@ -200,9 +91,9 @@ impl Machine {
     #[tactic(auto, unfolding(crate::specs::Access::led))]
     fn address(&mut self, request: &Request) -> Result<u64, Denial>
         requires { request.now.did < 2 ^ 24 }
-        ensures address { address_of result
-            ≡ address_on (led self.old (request_in request.now)).way request.now.iova }
-        ensures learnt { self.new ≡ learnt self.old (led self.old (request_in request.now)) }
+        ensures address { result
+            ≡ address_on (led self.old request.now).way request.now.iova }
+        ensures learnt { self.new ≡ learnt self.old (led self.old request.now) }
     {
         match self.registers.mode() {
             Mode::Off => Err(plain(Cause::Off)),
@@ -217,9 +108,9 @@ impl Machine {
     fn address_by_directory(&mut self, request: &Request) -> Result<u64, Denial>
         requires directory { 1 ≤ levels_of (mode_of self.old.registers) }
         requires width { request.now.did < 2 ^ 24 }
-        ensures address { address_of result ≡ address_on (led_by_context self.old (request_in request.now)
+        ensures address { result ≡ address_on (led_by_context self.old request.now
             (context_look self.old request.now.did).filled (context_look self.old request.now.did).used).way request.now.iova }
-        ensures learnt { self.new ≡ learnt self.old (led_by_context self.old (request_in request.now)
+        ensures learnt { self.new ≡ learnt self.old (led_by_context self.old request.now
             (context_look self.old request.now.did).filled (context_look self.old request.now.did).used) }
     {
         if is_too_wide(&self.registers, request.did) {
@@ -238,10 +129,10 @@ impl Machine {
         requires directory { 1 ≤ levels_of (mode_of self.old.registers) }
         requires width { request.now.did < 2 ^ 24 }
         requires new { find (same_did request.now.did) self.old.contexts ≡ None }
-        ensures address { address_of result ≡ address_on (led_by_context self.old (request_in request.now)
+        ensures address { result ≡ address_on (led_by_context self.old request.now
             (look request.now.did None (located self.old.memory self.old.registers request.now.did)).filled
             (located self.old.memory self.old.registers request.now.did)).way request.now.iova }
-        ensures learnt { self.new ≡ learnt self.old (led_by_context self.old (request_in request.now)
+        ensures learnt { self.new ≡ learnt self.old (led_by_context self.old request.now
             (look request.now.did None (located self.old.memory self.old.registers request.now.did)).filled
             (located self.old.memory self.old.registers request.now.did)) }
     {
@@ -260,10 +151,10 @@ impl Machine {
     #[tactic(auto, unfolding(crate::specs::Access::page_look))]
     fn address_by_context(&mut self, request: &Request, context: &Context) -> Result<u64, Denial>
         requires { IsWellFormed context.now }
-        ensures address { address_of result
-            ≡ address_on (led_by_context self.old (request_in request.now) None (Ok context.now)).way request.now.iova }
+        ensures address { result
+            ≡ address_on (led_by_context self.old request.now None (Ok context.now)).way request.now.iova }
         ensures learnt { self.new
-            ≡ learnt self.old (led_by_context self.old (request_in request.now) None (Ok context.now)) }
+            ≡ learnt self.old (led_by_context self.old request.now None (Ok context.now)) }
     {
         if context.is_bare() {
             return Ok(request.iova);
@@ -286,12 +177,12 @@ impl Machine {
     ) -> Result<u64, Denial>
         requires well_formed { IsWellFormed context.now }
         requires staged { is_bare context.now ≡ false }
-        requires key { key ≡ request_key (request_in request.now) context.now }
+        requires key { key ≡ request_key request.now context.now }
         requires new { find (same_key key) self.old.pages ≡ None }
-        ensures address { address_of result
-            ≡ address_on (led_by_context self.old (request_in request.now) None (Ok context.now)).way request.now.iova }
+        ensures address { result
+            ≡ address_on (led_by_context self.old request.now None (Ok context.now)).way request.now.iova }
         ensures learnt { self.new
-            ≡ learnt self.old (led_by_context self.old (request_in request.now) None (Ok context.now)) }
+            ≡ learnt self.old (led_by_context self.old request.now None (Ok context.now)) }
     {
         match translate(&self.ram, context, request.iova, request.kind) {
             Ok(hit) => {
@@ -307,7 +198,7 @@ impl Machine {
     fn deny(&mut self, request: &Request, denial: Denial) -> Access
         requires { request.now.did < 2 ^ 24 }
         ensures answer { result ≡ Access.Denied denial.cause }
-        ensures left { self.new ≡ with_delivery self.old (record_left self.old.registers self.old.memory (request_in request.now) (denial_of denial)) }
+        ensures left { self.new ≡ with_delivery self.old (record_left self.old.registers self.old.memory request.now denial) }
     {
         if denial.reported {
             let Request { did, iova, kind } = *request;
@@ -329,7 +220,7 @@ fn in_frame(hit: &Hit, iova: u64) -> u64
 
 // A fault before any page table is read.
 fn plain(cause: Cause) -> Denial
-    ensures { denial_of result ≡ plain cause }
+    ensures { result ≡ plain cause }
 {
     Denial {
         cause,
@@ -340,7 +231,7 @@ fn plain(cause: Cause) -> Denial
 
 // A fault of a translation under a context.
 fn translating(context: &Context, fault: Fault) -> Denial
-    ensures { denial_of result ≡ translating context.now fault }
+    ensures { result ≡ translating context.now fault }
 {
     Denial {
         cause: fault.cause,

@@ -6,15 +6,15 @@ ghost use Rattle.iom_queue.specs.declared.fetch.Fetch.TheVariants.{Ready};
 ghost use Rattle.iom_bits.specs.Bytes.{bytes_of_number};
 ghost use Rattle.iom_cache.specs.Drops.{drops_context, drops_page};
 ghost use Rattle.iom_cache.specs.Places.{emptied_by};
-ghost use Rattle.iom_core.specs.Code.{is_for_contexts, is_for_pages};
-ghost use Rattle.iom_core.specs.Commands.{after_command, after_fence, can_execute, executed_of, fetched, is_taken, left_by, without_dropped};
+ghost use Rattle.iom_core.specs.Commands.{after_command, after_fence, can_execute, executed_of, fetched, is_for_contexts, is_for_pages, is_taken, left_by, without_dropped};
 
 use crate::machine::Machine;
 use iom_cache::{ContextCache, TransCache};
 use iom_queue::{Command, Fetch, next_command};
 
 impl Machine {
-    /// Takes one command and carries it out whole; false where there is none to take.
+    /// Takes one command of the command queue and carries it out whole; false where there is none to take. One that can't be
+    /// fetched or carried out sets cqmf, an illegal one cmd_ill, and stays at the head ("Command-queue CSR (cqcsr)").
     #[tactic(auto, unfolding(crate::specs::Commands::after_command, crate::specs::Commands::executed_by))]
     pub fn command(&mut self) -> bool
         ensures taken { result ≡ is_taken (fetched self.old) }
@@ -75,6 +75,7 @@ impl Machine {
     }
 }
 
+// Empties the places of the translation cache that a command drops.
 fn drop_pages(pages: &mut TransCache, command: &Command)
     ensures { pages.new ≡ emptied_by drops_page (Some command.now) pages.old }
 {
@@ -83,6 +84,7 @@ fn drop_pages(pages: &mut TransCache, command: &Command)
     }
 }
 
+// Empties the places of the context cache that a command drops.
 fn drop_contexts(contexts: &mut ContextCache, command: &Command)
     ensures { contexts.new ≡ emptied_by drops_context (Some command.now) contexts.old }
 {

@@ -13,7 +13,8 @@ use iom_blk::{Blk, Moved};
 use std::alloc::{AllocError, Global};
 
 impl Platform {
-    // A read of a device's register.
+    /// What the hart's read of `size` bytes of the registers of block device `dev` at offset `off` answers: `Value`, `NoDevice`
+    /// where there is no such device, or `BadAccess` where the registers don't take the access.
     pub(crate) fn dev_read(&self, dev: u64, off: u64, size: u64) -> Answer
         ensures { result ≡ dev_read (slice_get self.now.devices dev) off size }
     {
@@ -26,7 +27,8 @@ impl Platform {
         }
     }
 
-    // A write of a device's register.
+    /// What the hart's write of `value`, `size` bytes, to the registers of block device `dev` at offset `off` answers: `Done`, or
+    /// without a change `NoDevice`, `Misuse` where the value is too wide for the size, or `BadAccess`.
     pub(crate) fn dev_write(&mut self, dev: u64, off: u64, size: u64, value: u64) -> Answer
         ensures answer { result ≡ (dev_written self.old dev (slice_get self.old.devices dev) off size value).answer }
         ensures state { self.new ≡ (dev_written self.old dev (slice_get self.old.devices dev) off size value).state }
@@ -39,7 +41,8 @@ impl Platform {
         written(device, off, size, value)
     }
 
-    // A device goes on by one access.
+    /// What a step of block device `dev` answers: `Done` for an access that was granted, `Idle` where it had none to make,
+    /// `Denied`, `BusError`, or `NoDevice` where there is no such device.
     pub(crate) fn device(&mut self, dev: u64) -> Answer
         ensures answer { result ≡ (device_step self.old dev (slice_get self.old.devices dev)).answer }
         ensures state { self.new ≡ (device_step self.old dev (slice_get self.old.devices dev)).state }
@@ -53,6 +56,7 @@ impl Platform {
     }
 }
 
+// A write of one device's register: what it answers, and what it leaves.
 #[tactic(auto, unfolding(crate::specs::Table::dev_write))]
 fn written(device: &mut Blk, off: u64, size: u64, value: u64) -> Answer
     ensures answer { result ≡ (dev_write device.old off size value).answer }
@@ -85,7 +89,7 @@ fn moved(machine: &mut Machine, did: u32, device: &mut Blk) -> Answer
     }
 }
 
-// The same devices once more.
+/// The same devices once more, each with a disk of its own. The fault is a refused allocation, and then these stand unchanged.
 pub(crate) fn copied(alloc: Global, devices: &[(u32, Blk)]) -> Result<Vec<(u32, Blk)>, AllocError>
     ensures { IfOk result (λ copies. copies.items ≡ devices.now) }
 {

@@ -8,6 +8,8 @@ use crate::step::Answer;
 use iom_bits::le_u64;
 
 impl Machine {
+    /// The number of the `size` bytes of memory from physical address `addr` on, the lowest first, as `Value`. `Misuse` where the
+    /// size is none of 1, 2, 4 and 8 or the address no multiple of it; `BusError` where a byte is outside memory.
     #[tactic(auto, unfolding(crate::specs::Table::load))]
     pub fn load(&self, addr: u64, size: u64) -> Answer
         ensures { result ≡ load self.now.memory addr size }
@@ -23,6 +25,9 @@ impl Machine {
         }
     }
 
+    /// Writes the lowest `size` bytes of `value` to memory from physical address `addr` on, and answers `Done`. `Misuse` where the
+    /// size is none of 1, 2, 4 and 8, the address no multiple of it, or the value too wide for it; `BusError` where a byte is
+    /// outside memory. Then nothing is changed.
     #[tactic(auto, unfolding(crate::specs::Table::store))]
     pub fn store(&mut self, addr: u64, size: u64, value: u64) -> Answer
         ensures answer { result ≡ (store self.old.memory addr size value).answer }
@@ -38,6 +43,8 @@ impl Machine {
         }
     }
 
+    /// The number of the `size` bytes of the IOMMU's registers from offset `off` on, as `Value`; `BadAccess` where the access isn't
+    /// legal: `Regs::read` says what is.
     #[tactic(auto, unfolding(crate::specs::Table::reg_read))]
     pub fn reg_read(&self, off: u64, size: u64) -> Answer
         ensures { result ≡ reg_read self.now.registers off size }
@@ -48,6 +55,9 @@ impl Machine {
         }
     }
 
+    /// Writes the `size` bytes of `value` to the IOMMU's registers from offset `off` on, and answers `Done`. `Misuse` where the
+    /// value is too wide for a size of 1, 2, 4 or 8; `BadAccess` where the access isn't legal: `Regs::read` says what is. Then
+    /// nothing is changed.
     #[tactic(auto, unfolding(crate::specs::Table::reg_write))]
     pub fn reg_write(&mut self, off: u64, size: u64, value: u64) -> Answer
         ensures answer { result ≡ (reg_write self.old.registers off size value).answer }
@@ -65,13 +75,14 @@ impl Machine {
     }
 }
 
+/// Whether a size in bytes is one of 1, 2, 4 and 8.
 pub(crate) fn is_size(size: u64) -> bool
     ensures { result ≡ is_size size }
 {
     matches!(size, 1 | 2 | 4 | 8)
 }
 
-// By a size that is known, no division is needed.
+// Whether an address is a multiple of a size of 1, 2, 4 or 8. Of a size that is known no division is needed.
 fn is_aligned(addr: u64, size: u64) -> bool
     ensures { result ≡ is_aligned addr size }
 {
@@ -84,7 +95,7 @@ fn is_aligned(addr: u64, size: u64) -> bool
     }
 }
 
-// Whether a number fits into that many bytes, 1, 2, 4 or 8.
+/// Whether a number fits into `size` bytes, which are 1, 2, 4 or 8.
 pub(crate) fn fits(value: u64, size: u64) -> bool
     requires { IsTrue (is_size size) }
     ensures { result ≡ fits value size }

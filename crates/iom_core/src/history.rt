@@ -1,28 +1,30 @@
-ghost use Rattle.std.specs.Prelude.{ℕ, ◌≡◌, ◌<◌, ◌^◌, length, Some, IfOk, IfSome};
-ghost use Rattle.std.specs.Option.{option_map};
-ghost use Rattle.iom_cache.specs.Keys.{same_key};
+//! Where the translation comes from that a step used: what a step did is read from its answer and the caches around it.
+
+ghost use Rattle.std.specs.Prelude.{ℕ, ◌≡◌, ◌<◌, ◌^◌, ◌&&◌, not, length, Some, IfOk, IfSome};
 ghost use Rattle.iom_cache.specs.Origins.{IsLast};
-ghost use Rattle.iom_core.specs.Code.{request_in};
-ghost use Rattle.iom_core.specs.Histories.{IsAccess, IsAccessOf, fills_at, fills_entry, later};
+ghost use Rattle.iom_core.specs.Histories.{IsAccess, IsAccessOf, IsLedBy, fills_at, holds, is_denial, later, leading_context};
 ghost use Rattle.iom_core.specs.Run.{end_of};
 ghost use Rattle.iom_core.specs.Table.{request_of_step};
 ghost use Rattle.iom_core.specs.declared.step.Step.TheVariants as step;
-ghost use Rattle.iom_core.specs.Warrants.{Explains, IsUncached};
+ghost use Rattle.iom_core.specs.Warrants.{Explains, IsUncached, request_at, way_at};
 
-use crate::access::{Request, Way};
+use crate::access::Request;
+use crate::machine::Machine;
 use crate::platform::is_device_access;
-use crate::{Platform, Step, Warrant};
+use crate::{Answer, Platform, Step, Warrant};
 use iom_bits::Kind;
 use iom_blk::Want;
 use iom_cache::{Key, key_of};
+use iom_ddt::Context;
+use iom_regs::Mode;
 use std::alloc::{AllocError, Global};
 
-/// What a step of the past may have filled.
+/// An entry of a cache that a step of the past may have filled.
 #[derive(Clone, Copy)]
 pub enum Entry {
-    /// The context of a device id.
+    /// The context of a device id, 24 bits: an entry of the context cache, the DDTC.
     Context(u32),
-    /// The translation of a key.
+    /// The translation of a key: an entry of the translation cache, the IOTLB.
     Page(Key),
 }
 
@@ -40,32 +42,32 @@ pub fn explain(
 {
     match access_at(alloc, start, steps, n)? {
         None => Ok(None),
-        Some((request, way)) => warrant_of(alloc, start, steps, n, request, way),
+        Some((request, context)) => warrant_of(alloc, start, steps, n, request, context),
     }
 }
 
-// The warrant of a request of step `n` that was led this way; None where it was denied.
+// The warrant of a request of step `n`, by the context that it was led by; None: by ddtp alone.
 fn warrant_of(
     alloc: Global,
     start: &Platform,
     steps: &[Step],
     n: usize,
     request: Request,
-    way: Way,
+    by: Option<Context>,
 ) -> Result<Option<Warrant>, AllocError>
     requires below { n < length steps.now }
     requires uncached { IsUncached start.now }
-    requires access { IsAccess start.now steps.now n (Some (request, way)) }
+    requires request { request_at start.now steps.now n ≡ Some request }
+    requires led { IsLedBy (way_at start.now steps.now n request) by }
     ensures { IfOk result (λ found. Explains start.now steps.now n found) }
 {
-    match way {
-        Way::Denied(_) => Ok(None),
-        Way::ByRegister => Ok(Some(Warrant::Register)),
-        Way::ByContext(_) => {
+    match by {
+        None => Ok(Some(Warrant::Register)),
+        Some(now) if now.is_bare() => {
             let context = origin(alloc, start, steps, n, Entry::Context(request.did))?;
             Ok(Some(Warrant::Context { context }))
         }
-        Way::Walked(now, _) => {
+        Some(now) => {
             let key = key_of(&now, request.did, request.iova, request.kind);
             let walk = origin(alloc, start, steps, n, Entry::Page(key))?;
             let current = origin(alloc, start, steps, n, Entry::Context(request.did))?;
@@ -79,17 +81,17 @@ fn warrant_of(
     }
 }
 
-// What step `n` asks of the IOMMU, and the way that it is led.
+// What step `n` asks of the IOMMU, unless it is denied, and the context that it is led by.
 fn access_at(
     alloc: Global,
     start: &Platform,
     steps: &[Step],
     n: usize,
-) -> Result<Option<(Request, Way)>, AllocError>
+) -> Result<Option<(Request, Option<Context>)>, AllocError>
     requires { n < length steps.now }
     ensures { IfOk result (IsAccess start.now steps.now n) }
 {
-    let platform = played(alloc, start, &steps[..n])?;
+    let mut platform = played(alloc, start, &steps[..n])?;
     Ok(platform.access_of(&steps[n]))
 }
 
@@ -119,24 +121,25 @@ fn origin(
     let mut platform = start.try_clone(alloc)?;
     let mut last = None;
     for (k, step) in steps[..=n].iter().enumerate() {
-        last = later(last, k, platform.fills(step, entry));
+        let held = platform.holds(entry);
         platform.step(step);
+        last = later(last, k, held, platform.holds(entry));
     }
     Ok(last.unwrap_or(n))
 }
 
-// The last of the numbers that pass, with one more number.
-fn later(last: Option<usize>, k: usize, passes: bool) -> Option<usize>
-    ensures { result ≡ later last k passes }
+// The last of the steps that filled an entry, with step `k`, before and after which it was held or not.
+fn later(last: Option<usize>, k: usize, held: bool, holds: bool) -> Option<usize>
+    ensures { result ≡ later last k (not held && holds) }
 {
-    if passes { Some(k) } else { last }
+    if !held && holds { Some(k) } else { last }
 }
 
 impl Platform {
     // What a step asks of the IOMMU.
     #[tactic(auto, unfolding(crate::specs::Table::asked))]
     fn request_of(&self, step: &Step) -> Option<Request>
-        ensures request { option_map request_in result ≡ request_of_step self.now step.now }
+        ensures request { result ≡ request_of_step self.now step.now }
         ensures fits { IfSome result (λ request. request.did < 2 ^ 24) }
     {
         let (did, iova, len, kind) = match step {
@@ -158,7 +161,7 @@ impl Platform {
     // What a block device asks of the IOMMU.
     #[tactic(auto, unfolding(crate::specs::Table::asked))]
     fn request_of_device(&self, dev: u64) -> Option<Request>
-        ensures request { option_map request_in result ≡ request_of_step self.now (step.Device dev) }
+        ensures request { result ≡ request_of_step self.now (step.Device dev) }
         ensures fits { IfSome result (λ request. request.did < 2 ^ 24) }
     {
         let n = dev as usize;
@@ -178,31 +181,42 @@ impl Platform {
         })
     }
 
-    // What a step asks of the IOMMU, and the way that it is led.
-    fn access_of(&self, step: &Step) -> Option<(Request, Way)>
-        ensures { IsAccessOf self.now (request_of_step self.now step.now) result }
+    // What a step asks of the IOMMU, unless it is denied, and the context that it is led by. It is carried out.
+    fn access_of(&mut self, step: &Step) -> Option<(Request, Option<Context>)>
+        ensures { IsAccessOf self.old (request_of_step self.old step.now) result }
     {
         let request = self.request_of(step)?;
-        Some((request, self.machine.lead(request).way))
+        if is_denial(&self.step(step)) {
+            return None;
+        }
+        Some((request, self.machine.leading_context(request.did)))
     }
 
-    // Whether a step fills the entry.
-    fn fills(&self, step: &Step, entry: Entry) -> bool
-        ensures { result ≡ fills_entry self.now (request_of_step self.now step.now) entry }
+    // Whether a live place has the entry.
+    fn holds(&self, entry: Entry) -> bool
+        ensures { result ≡ holds self.now entry }
     {
-        let Some(request) = self.request_of(step) else {
-            return false;
-        };
-        let led = self.machine.lead(request);
         match entry {
-            Entry::Context(did) => matches!(led.context, Some((own, _)) if own == did),
-            Entry::Page(key) => matches!(led.page, Some((own, _)) if is_same(&own, &key)),
+            Entry::Context(did) => self.machine.contexts.find(did).is_some(),
+            Entry::Page(key) => self.machine.pages.find(&key).is_some(),
         }
     }
 }
 
-fn is_same(own: &Key, key: &Key) -> bool
-    ensures { result ≡ same_key own.now key.now }
+impl Machine {
+    // The context by which a device that was let through was led; None: ddtp alone led it.
+    fn leading_context(&self, did: u32) -> Option<Context>
+        ensures { result ≡ leading_context self.now did }
+    {
+        match self.registers.mode() {
+            Mode::Bare => None,
+            _ => self.contexts.find(did),
+        }
+    }
+}
+
+fn is_denial(answer: &Answer) -> bool
+    ensures { result ≡ is_denial answer.now }
 {
-    own == key
+    matches!(answer, Answer::Denied(_))
 }

@@ -1,6 +1,7 @@
 //! The platform: memory, the IOMMU and the steps that its actors take.
 #![tactic(auto)]
 
+pub use access::{Denial, Request};
 pub use history::explain;
 pub use law::freshness;
 pub use platform::Platform;

@@ -7,9 +7,13 @@ use std::marker::Model;
 /// Memory, and the IOMMU in front of it: all that an access of a device goes through.
 #[derive(Drop)]
 pub struct Machine {
+    /// Memory, at physical addresses.
     pub ram: Ram,
+    /// The IOMMU's registers.
     pub registers: Regs,
+    /// The context cache: in the standard the DDTC.
     pub contexts: ContextCache,
+    /// The translation cache: in the standard the IOTLB.
     pub pages: TransCache,
 }
 
@@ -33,6 +37,7 @@ impl Model for Machine {
 impl Machine {
     ghost use Rattle.std.specs.Prelude.{◌≡◌, IfOk};
 
+    /// An equal machine with a memory and caches of its own. The fault is a refused allocation, and then this one is as it was.
     pub fn try_clone(&self, alloc: Global) -> Result<Machine, AllocError>
         ensures { IfOk result (λ copy. copy ≡ self.now) }
     {

@@ -18,8 +18,9 @@ use std::marker::Model;
 /// One memory, one IOMMU, and up to eight block devices behind it.
 #[derive(Drop)]
 pub struct Platform {
+    /// Memory, and the IOMMU in front of it.
     pub(crate) machine: Machine,
-    // Each with its id, in the order in which they were handed in.
+    /// The block devices, at most 8: each with its id, below 2^24, in the order in which they were handed in.
     pub(crate) devices: Vec<(u32, Blk)>,
 }
 
@@ -34,22 +35,21 @@ impl Model for Platform {
 }
 
 impl Platform {
-    ghost use Rattle.iom_core.specs.State.{AreDevices, opening};
-    ghost use Rattle.iom_core.specs.Code.{disk_of};
+    ghost use Rattle.iom_core.specs.State.{AreDevices, disk_of, opening};
     ghost use Rattle.iom_core.specs.Table.{next, probed, asking_where};
-    ghost use Rattle.iom_core.specs.Access.{Request};
+    ghost use Rattle.iom_core.specs.declared.access.Request.{Request};
     ghost use Rattle.iom_core.specs.Reach.{Reaches, Refuses};
     ghost use Rattle.iom_core.specs.Run.{answers, states, end_of};
-    ghost use Rattle.iom_core.specs.Warrants.{IsExplained, IsUncached, IsUpToDate, IsWarrant, moment};
+    ghost use Rattle.iom_core.specs.Warrants.{AreWarranted, IsExplained, IsUncached, IsUpToDate, IsWarrant, moment};
     ghost use Rattle.iom_core.specs.declared.step.Step.{Step};
     ghost use Rattle.iom_core.specs.declared.warrant.Warrant.{Warrant};
     ghost use Rattle.iom_cache.specs.Entries.{HoldsContext, HoldsHit};
     ghost use Rattle.iom_cache.specs.Places.{EachLive};
     ghost use Rattle.iom_virtq.specs.Bus.{Read, Write};
 
-    /// A platform with this memory and these block devices, at most 8, each with an id below 2^24 that no other has. Its
-    /// registers are at reset and both caches empty. The fault is want of memory for the caches; all that was handed in is
-    /// dropped then.
+    /// A platform with this memory and these block devices, at most 8, each with an id below 2^24 that no other has. Its registers
+    /// are at reset and both caches empty. The fault is a refused allocation for the caches; all that was handed in is dropped
+    /// then.
     pub fn new(alloc: Global, ram: Ram, devices: Vec<(u32, Blk)>) -> Result<Platform, AllocError>
         requires { AreDevices devices.items }
         ensures { IfOk result (λ platform. platform ≡ opening ram devices.items) }
@@ -65,7 +65,7 @@ impl Platform {
         Ok(Platform { machine, devices })
     }
 
-    /// An equal platform, which goes its own way from here. The fault is want of memory, and then this one is as it was.
+    /// An equal platform, which goes its own way from here. The fault is a refused allocation, and then this one is as it was.
     pub fn try_clone(&self, alloc: Global) -> Result<Platform, AllocError>
         ensures { IfOk result (λ copy. copy ≡ self.now) }
     {
@@ -74,13 +74,21 @@ impl Platform {
         Ok(Platform { machine, devices })
     }
 
+    /// The memory, at physical addresses.
     pub fn ram(&self) -> &Ram
         ensures { result.now ≡ self.now.machine.memory }
     {
         &self.machine.ram
     }
 
-    /// The translation cache.
+    /// The IOMMU's registers ("Memory-mapped register interface").
+    pub fn registers(&self) -> &Regs
+        ensures { result.now ≡ self.now.machine.registers }
+    {
+        &self.machine.registers
+    }
+
+    /// The translation cache: in the standard the IOTLB.
     pub fn trans(&self) -> &TransCache
         ensures cache { result.now ≡ self.now.machine.pages }
         ensures sound { EachLive HoldsHit result.now }
@@ -88,7 +96,7 @@ impl Platform {
         &self.machine.pages
     }
 
-    /// The context cache.
+    /// The context cache: in the standard the DDTC.
     pub fn contexts(&self) -> &ContextCache
         ensures cache { result.now ≡ self.now.machine.contexts }
         ensures sound { EachLive HoldsContext result.now }
@@ -96,7 +104,7 @@ impl Platform {
         &self.machine.contexts
     }
 
-    /// The bytes of the disk of block device `n`, None where there is no such device.
+    /// The bytes of the disk of block device `n`, counted from 0; None where there is no such device.
     pub fn disk(&self, n: usize) -> Option<&[u8]>
         ensures { option_map (λ disk. disk.now) result ≡ option_map disk_of (slice_get self.now.devices n) }
     {
@@ -125,10 +133,12 @@ impl Platform {
         ensures end { self.new ≡ end_of self.old steps.now }
 
         // Where nothing is cached at the start, what each access used has a warrant; a warrant is no older than each full
-        // invalidation that is complete; and each step reaches no other memory than its own.
+        // invalidation that is complete, so that each access is denied or has one that is up to date; and each step reaches
+        // no other memory than its own.
         ensures fresh { IsUncached self.old → (n : ℕ) → IsExplained self.old steps.now n }
         ensures invalidated { (n : ℕ) (request : Request) (warrant : Warrant) →
             IsWarrant self.old steps.now n request warrant → IsUpToDate self.old steps.now n request warrant }
+        ensures accesses { IsUncached self.old → AreWarranted self.old steps.now }
         ensures reach { (n : ℕ) (taken : Step) → slice_get steps.now n ≡ Some taken →
             Reaches (moment self.old steps.now n) taken (next (moment self.old steps.now n) taken).answer
             (moment self.old steps.now (n + 1)) }
@@ -136,6 +146,7 @@ impl Platform {
         self.take_all(steps, out);
     }
 
+    // Steps in their order, the answer to each put at its place.
     fn take_all(&mut self, steps: &[Step], out: &mut [Answer])
         requires { length steps.now ≡ length out.old }
         ensures answers { out.new ≡ answers self.old steps.now }
@@ -196,6 +207,7 @@ impl Platform {
         }
     }
 
+    // A device's write, which is no step where the device may not ask for it.
     fn dma_write(&mut self, did: u64, iova: u64, bytes: &[u8]) -> Answer
         ensures answer { result
             ≡ (probed self.old (asking_where (is_device_access did iova (length bytes.now)) did (Write iova bytes.now))).answer }
@@ -217,6 +229,8 @@ impl Platform {
     }
 }
 
+/// Whether a device may ask for `len` bytes at IOVA `iova`: its id `did` is below 2^24, and the bytes are 1 to 64 within one page
+/// of 4096 bytes.
 pub fn is_device_access(did: u64, iova: u64, len: u64) -> bool
     ensures { result ≡ is_device_access did iova len }
 {

@@ -6,9 +6,11 @@ use iom_virtq::{Access, Bus};
 /// A device's way to memory: the machine, lent to one device id. Only a platform's steps make one.
 #[derive(Drop)]
 pub struct Port<'a> {
+    /// The machine that is lent: memory, registers and caches.
     pub(crate) machine: &'a mut Machine,
-    /// The device's id.
+    /// The device's id, 24 bits.
     pub(crate) did: u32,
+    /// The device's id is below 2^24.
     pub ghost did_fits: { did < 2 ^ 24 },
 }
 

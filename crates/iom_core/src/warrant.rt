@@ -1,9 +1,10 @@
 /// Where the translation comes from that a device's access used, as numbers of steps: moment k is the state before step k.
 #[derive(Clone, Copy, Debug, PartialEq)]
 pub enum Warrant {
-    /// ddtp's mode was Bare: the address was the IOVA.
+    /// ddtp's mode was Bare: the physical address was the IOVA.
     Register,
-    /// Both stages of the device's context were Bare: the address was the IOVA. The directory gave that context at moment `context`.
+    /// Both stages of the device's context were Bare: the physical address was the IOVA. The directory gave that context at moment
+    /// `context`.
     Context {
         context: usize,
     },

@@ -5,25 +5,27 @@ use Rattle.iom_mem.specs.Memory.{Memory, word, words_at}
 use Rattle.iom_regs.specs.Table.{Registers}
 use Rattle.iom_regs.specs.Views.{mode_of, root_of}
 use Rattle.iom_ddt.specs.declared.context.Context.{Context}
-use Rattle.iom_ddt.specs.Directory.{Met, Entry, Leaf, behind, ddi, decided_by, is_too_wide, levels_of, IsContextOf, IsEnd, IsLocated, located, path_from, pointed_by, verdict_on}
+use Rattle.iom_ddt.specs.declared.listing.Met.{Met}
+use Rattle.iom_ddt.specs.declared.listing.Met.TheVariants.{Entry, Leaf}
+use Rattle.iom_ddt.specs.Directory.{behind, ddi, decided_by, is_too_wide, levels_of, IsContextOf, IsEnd, IsLocated, located, path_from, pointed_by, verdict_on}
 
 nothing : 1 ≤ 0 → ⊥
 nothing h = omega (arith, h)
 
-pointer_passes : (entry : Option ℕ) (from : ℕ → List Met) (table : ℕ) →
-    pointed_by entry ≡ Ok table → verdict_on (Entry entry ∷ behind (pointed_by entry) from) ≡ verdict_on (from table)
+pointer_passes : (place : ℕ) (entry : Option ℕ) (from : ℕ → List Met) (table : ℕ) →
+    pointed_by entry ≡ Ok table → verdict_on (Entry place entry ∷ behind (pointed_by entry) from) ≡ verdict_on (from table)
 unfolding verdict_on
-pointer_passes entry from table e = rw e refl
+pointer_passes place entry from table e = rw e refl
 
-fault_stops : (entry : Option ℕ) (more : List Met) (cause : Cause) →
-    pointed_by entry ≡ Err cause → verdict_on (Entry entry ∷ more) ≡ Err cause
+fault_stops : (place : ℕ) (entry : Option ℕ) (more : List Met) (cause : Cause) →
+    pointed_by entry ≡ Err cause → verdict_on (Entry place entry ∷ more) ≡ Err cause
 unfolding verdict_on
-fault_stops entry more cause e = rw e refl
+fault_stops place entry more cause e = rw e refl
 
-context_ends : (words : Option (List ℕ)) (result : Result Context Cause) →
-    decided_by (Leaf words) ≡ Some result → verdict_on (Leaf words ∷ []) ≡ result
+context_ends : (place : ℕ) (words : Option (List ℕ)) (result : Result Context Cause) →
+    decided_by (Leaf place words) ≡ Some result → verdict_on (Leaf place words ∷ []) ≡ result
 unfolding verdict_on
-context_ends words result e = rw e refl
+context_ends place words result e = rw e refl
 
 -- behind a pointer the verdict is that on the path from the next table on
 pub passes : (memory : Memory) (did table level part next : ℕ) (got : Result ℕ Cause) (whole : Result Context Cause) →
@@ -32,7 +34,7 @@ pub passes : (memory : Memory) (did table level part next : ℕ) (got : Result �
 passes memory did table zero part next got whole some index read is left = elim (nothing some) [ ]
 passes memory did table (suc level) part next got whole some index read is left =
     let one_less : suc level - 1 ≡ level = omega arith in
-    rw (one_less, ← left, ← index) (sym (pointer_passes (word memory (table * 4096 + part * 8)) (path_from memory did level) next (sym read ∙ is)))
+    rw (one_less, ← left, ← index) (sym (pointer_passes (table * 4096 + part * 8) (word memory (table * 4096 + part * 8)) (path_from memory did level) next (sym read ∙ is)))
 
 -- a fault is the verdict
 pub stops : (memory : Memory) (did table level part : ℕ) (got : Result ℕ Cause) (cause : Cause) (whole : Result Context Cause) →
@@ -40,14 +42,14 @@ pub stops : (memory : Memory) (did table level part : ℕ) (got : Result ℕ Cau
     verdict_on (path_from memory did level table) ≡ whole → Err cause ≡ whole
 stops memory did table zero part got cause whole some index read is left = elim (nothing some) [ ]
 stops memory did table (suc level) part got cause whole some index read is left =
-    rw (← left, ← index) (sym (fault_stops (word memory (table * 4096 + part * 8)) (behind (pointed_by (word memory (table * 4096 + part * 8))) (path_from memory did level)) cause (sym read ∙ is)))
+    rw (← left, ← index) (sym (fault_stops (table * 4096 + part * 8) (word memory (table * 4096 + part * 8)) (behind (pointed_by (word memory (table * 4096 + part * 8))) (path_from memory did level)) cause (sym read ∙ is)))
 
 -- at the end the context, or what is wrong with it, is the verdict
 pub ends : (memory : Memory) (did table level part : ℕ) (result whole : Result Context Cause) →
-    level ≡ 0 → part ≡ ddi did 0 → decided_by (Leaf (words_at memory (table * 4096 + part * 32) 4)) ≡ Some result →
+    level ≡ 0 → part ≡ ddi did 0 → decided_by (Leaf (table * 4096 + part * 32) (words_at memory (table * 4096 + part * 32) 4)) ≡ Some result →
     verdict_on (path_from memory did level table) ≡ whole → result ≡ whole
 ends memory did table level part result whole last index read left =
-    rw (← left, last, ← index) (sym (context_ends (words_at memory (table * 4096 + part * 32) 4) result read))
+    rw (← left, last, ← index) (sym (context_ends (table * 4096 + part * 32) (words_at memory (table * 4096 + part * 32) 4) result read))
 
 -- an id that isn't too wide is located by the path from the root
 pub located_by_path : (memory : Memory) (registers : Registers) (did levels : ℕ) →

@@ -10,6 +10,8 @@ use Rattle.iom_regs.specs.Views.{mode_of, root_of}
 use Rattle.iom_regs.specs.declared.views.Mode.{Mode}
 use Rattle.iom_regs.specs.declared.views.Mode.TheVariants as mode
 use Rattle.iom_ddt.specs.declared.context.Context.{Context}
+use Rattle.iom_ddt.specs.declared.listing.Met.{Met}
+use Rattle.iom_ddt.specs.declared.listing.Met.TheVariants.{Entry, Leaf}
 use Rattle.iom_ddt.specs.Words.{context_in, IsEncoding}
 
 -- the parts of a device id, bits 6:0, 15:7 and 23:16: the index into the last table, and into those above it
@@ -22,12 +24,6 @@ ddi did (suc (suc above)) = field_of did 16 8
 abbrev pub is_too_wide : ℕ → ℕ → Bool
 is_too_wide levels did =
     nat_lt levels 3 && not (ddi did 2 == 0) || nat_lt levels 2 && not (ddi did 1 == 0)
-
--- What is met from ddtp to the context: entries of tables of 8 bytes each, then the four words of the context; None: a byte of
--- it is outside memory.
-pub data Met : Type 0 where
-  Entry : Option ℕ → Met
-  Leaf : Option (List ℕ) → Met
 
 -- the table that an entry points to, by its PPN, bits 53:10; or the fault that it is: outside memory, V = 0, or a bit set
 -- beside V and the PPN
@@ -43,12 +39,20 @@ abbrev pub behind : Result ℕ Cause → (ℕ → List Met) → List Met
 behind (Ok table) from = from table
 behind (Err cause) from = []
 
--- the path from a table on, with so many levels of tables below it
+-- where the context is met in the last table, and an entry in a table above it
+abbrev pub leaf_place : ℕ → ℕ → ℕ
+leaf_place did table = table * 4096 + ddi did 0 * 32
+
+abbrev pub entry_place : ℕ → ℕ → ℕ → ℕ
+entry_place did level table = table * 4096 + ddi did level * 8
+
+-- the path from a table on, with so many levels of tables below it: entries of tables of 8 bytes each, then the four words of
+-- the context, each at its physical address
 abbrev pub path_from : Memory → ℕ → ℕ → ℕ → List Met
-path_from memory did zero table = Leaf (words_at memory (table * 4096 + ddi did 0 * 32) 4) ∷ []
+path_from memory did zero table = Leaf (leaf_place did table) (words_at memory (leaf_place did table) 4) ∷ []
 path_from memory did (suc level) table =
-    let entry : Option ℕ = word memory (table * 4096 + ddi did (suc level) * 8) in
-    Entry entry ∷ behind (pointed_by entry) (path_from memory did level)
+    let place : ℕ = entry_place did (suc level) table in
+    Entry place (word memory place) ∷ behind (pointed_by (word memory place)) (path_from memory did level)
 
 abbrev pub fault_in : Result ℕ Cause → Option (Result Context Cause)
 fault_in (Ok table) = None
@@ -56,9 +60,9 @@ fault_in (Err cause) = Some (Err cause)
 
 -- what one of them decides; an entry that points on decides nothing
 abbrev pub decided_by : Met → Option (Result Context Cause)
-decided_by (Entry entry) = fault_in (pointed_by entry)
-decided_by (Leaf None) = Some (Err DirAccess)
-decided_by (Leaf (Some words)) = Some (context_in words)
+decided_by (Entry place entry) = fault_in (pointed_by entry)
+decided_by (Leaf place None) = Some (Err DirAccess)
+decided_by (Leaf place (Some words)) = Some (context_in words)
 
 -- The verdict: the first that decides. The last of a path always does.
 abbrev pub first_of : List (Result Context Cause) → Result Context Cause
@@ -73,6 +77,12 @@ abbrev pub levels_of : Mode → ℕ
 levels_of mode.Off = 0
 levels_of mode.Bare = 0
 levels_of (mode.Levels levels) = levels
+
+-- the path of a device id from the root on; one that is too wide has none
+unfoldable pub path_of : Memory → Registers → ℕ → List Met
+path_of memory registers did =
+    if is_too_wide (levels_of (mode_of registers)) did then []
+    else path_from memory did (levels_of (mode_of registers) - 1) (root_of registers)
 
 -- the context of a device id, or the cause of the fault
 unfoldable pub located : Memory → Registers → ℕ → Result Context Cause
@@ -92,9 +102,9 @@ IsContextOf (Some words) (Err cause) =
 -- The last of a path tells what is found: the words of the context, or an entry that is a fault. Those before it point on.
 abbrev pub IsEnd : List Met → Result Context Cause → Type 0
 IsEnd [] found = ⊥
-IsEnd (Leaf words ∷ more) found = IsContextOf words found
-IsEnd (Entry entry ∷ []) found = (cause : Cause) × (pointed_by entry ≡ Err cause) × (found ≡ Err cause)
-IsEnd (Entry entry ∷ next ∷ more) found = IsEnd (next ∷ more) found
+IsEnd (Leaf place words ∷ more) found = IsContextOf words found
+IsEnd (Entry place entry ∷ []) found = (cause : Cause) × (pointed_by entry ≡ Err cause) × (found ≡ Err cause)
+IsEnd (Entry place entry ∷ next ∷ more) found = IsEnd (next ∷ more) found
 
 pub record IsLocated (memory : Memory) (registers : Registers) (did : ℕ) (found : Result Context Cause) : Type 0 where
   pub too_wide : is_too_wide (levels_of (mode_of registers)) did ≡ true → found ≡ Err TooWide

@@ -1,11 +1,11 @@
 -- The four words of a device context: RISC-V IOMMU Architecture 1.0, "Base-format device-context" and "Device-context fields".
 -- A bit that no field names is reserved, and is 0.
-use Rattle.std.specs.Prelude.{ℕ, ◌≡◌, ◌+◌, ◌*◌, ◌^◌, ◌%◌, ◌==◌, ◌&&◌, ◌||◌, Bool, not, List, [], ◌∷◌, get_or, Result, Ok, Err, if◌then◌else◌}
+use Rattle.std.specs.Prelude.{ℕ, ◌≡◌, ◌+◌, ◌*◌, ◌^◌, ◌==◌, ◌&&◌, Bool, not, List, [], ◌∷◌, get_or, Result, Ok, Err, if◌then◌else◌}
 use Rattle.iom_bits.specs.Bits.{has_bit, field_of, flag}
 use Rattle.iom_bits.specs.declared.causes.Cause.{Cause}
 use Rattle.iom_bits.specs.declared.causes.Cause.TheVariants.{DirInvalid, DirBad}
 use Rattle.iom_ddt.specs.declared.context.Context.{Context}
-use Rattle.iom_ddt.specs.Contexts.{is_mode, IsWellFormed}
+use Rattle.iom_ddt.specs.Contexts.{is_well_formed, IsWellFormed}
 
 -- Translation control: V 0, DTF 4, custom 31:24.
 abbrev pub tc : Context → ℕ
@@ -31,11 +31,6 @@ pub record IsEncoding (c : Context) (words : List ℕ) : Type 0 where
   pub well_formed : IsWellFormed c
   pub words_are : words ≡ words_of c
 
--- What words are to the directory: the context that they encode; those that encode none are invalid where V is 0, and
--- misconfigured otherwise.
-abbrev pub is_well_formed : Context → Bool
-is_well_formed c = is_mode c.mode && is_mode c.gmode && (c.gmode == 0 || c.gppn % 4 == 0)
-
 -- the context whose fields stand in some words
 abbrev pub fields_in : List ℕ → Context
 fields_in words = record {
@@ -54,6 +49,8 @@ abbrev pub are_words_of : List ℕ → Context → Bool
 are_words_of words c =
     get_or words 0 0 == tc c && get_or words 1 0 == iohgatp c && get_or words 2 0 == ta c && get_or words 3 0 == fsc c
 
+-- What words are to the directory: the context that they encode; those that encode none are invalid where V is 0, and
+-- misconfigured otherwise.
 unfoldable pub context_in : List ℕ → Result Context Cause
 context_in words =
     if not (has_bit (get_or words 0 0) 0) then Err DirInvalid

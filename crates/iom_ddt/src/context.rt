@@ -30,7 +30,8 @@ pub struct Context {
 impl Context {
     ghost use Rattle.iom_ddt.specs.Contexts.{is_bare, IsWellFormed};
 
-    /// Whether it is well formed: both modes are 0, 8 or 9, the second stage's root is aligned, and each field fits its bits.
+    /// Whether it is well formed: both modes are 0, 8 or 9, the second stage's root is aligned, and each field fits its bits
+    /// ("Device-context configuration checks").
     pub fn is_well_formed(self) -> bool
         ensures { IsTrue result ↔ IsWellFormed self }
     {
@@ -39,7 +40,7 @@ impl Context {
         fits && aligned && matches!(self.gmode, 0 | 8 | 9) && matches!(self.mode, 0 | 8 | 9)
     }
 
-    /// Whether neither stage translates.
+    /// Whether neither stage translates: iohgatp.MODE and fsc.MODE are Bare, and the IOVA is the physical address.
     pub fn is_bare(self) -> bool
         ensures { result ≡ is_bare self }
     {

@@ -2,7 +2,8 @@ ghost use Rattle.std.specs.Prelude.{◌≡◌, ◌<◌, ◌≤◌, ◌^◌, ◌*
 ghost use Rattle.iom_mem.specs.Memory.{word, words_at};
 ghost use Rattle.iom_regs.specs.Views.{mode_of};
 ghost use Rattle.iom_ddt.specs.Contexts.{IsWellFormed};
-ghost use Rattle.iom_ddt.specs.Directory.{ddi, is_too_wide, pointed_by, decided_by, levels_of, located, Leaf, IsContextOf, IsLocated};
+ghost use Rattle.iom_ddt.specs.Directory.{ddi, is_too_wide, pointed_by, decided_by, levels_of, located, IsContextOf, IsLocated};
+ghost use Rattle.iom_ddt.specs.declared.listing.Met.TheVariants.{Leaf};
 
 use crate::{Context, context_of};
 use iom_bits::{Cause, field, has_bit};
@@ -35,7 +36,8 @@ pub fn locate(ram: &Ram, registers: &Regs, did: u32) -> Result<Context, Cause>
     context_at(ram, table * 4096 + ddi(did, 0) * 32)
 }
 
-fn levels_of(mode: Mode) -> u8
+/// How many levels of tables the directory has, 1 to 3; 0 where there is none.
+pub(crate) fn levels_of(mode: Mode) -> u8
     ensures { result ≡ levels_of mode }
 {
     match mode {
@@ -44,7 +46,8 @@ fn levels_of(mode: Mode) -> u8
     }
 }
 
-/// Whether a device id has bits above those that the directory's levels take as indexes.
+/// Whether a device id has bits above those that the directory's levels take as indexes: above bit 6 for one level, above bit 15
+/// for two. Its accesses are denied with cause 260, `TooWide`.
 pub fn is_too_wide(registers: &Regs, did: u32) -> bool
     ensures { result ≡ is_too_wide (levels_of (mode_of registers.now)) did }
 {
@@ -53,8 +56,9 @@ pub fn is_too_wide(registers: &Regs, did: u32) -> bool
     levels < 3 && ddi(did, 2) != 0 || levels < 2 && ddi(did, 1) != 0
 }
 
-// The part of a device id that is the index into a table of this level. The table of level 0 has the contexts.
-fn ddi(did: u64, level: u8) -> u64
+/// The part of a device id that is the index into a table of this level, DDI[0] to DDI[2]: bits 6:0, 15:7 or 23:16. The table of
+/// level 0 has the contexts.
+pub(crate) fn ddi(did: u64, level: u8) -> u64
     ensures part { result ≡ ddi did level }
     ensures fits { result < 2 ^ 9 }
 {
@@ -65,8 +69,10 @@ fn ddi(did: u64, level: u8) -> u64
     }
 }
 
-// The PPN of the table that the entry at this physical address points to.
-fn pointed_by(ram: &Ram, place: u64) -> Result<u64, Cause>
+/// The PPN, 44 bits, of the table that the entry at physical address `place` points to: that address divided by 4096. `DirAccess`
+/// where a byte of the entry is outside memory, `DirInvalid` where V = 0, `DirBad` where a reserved bit is set ("Process to locate
+/// the Device-context").
+pub(crate) fn pointed_by(ram: &Ram, place: u64) -> Result<u64, Cause>
     ensures entry { result ≡ pointed_by (word ram.now place) }
     ensures fits { IfOk result (λ table. table < 2 ^ 44) }
 {
@@ -82,13 +88,24 @@ fn pointed_by(ram: &Ram, place: u64) -> Result<u64, Cause>
 
 // The context at this physical address.
 fn context_at(ram: &Ram, place: u64) -> Result<Context, Cause>
-    ensures verdict { decided_by (Leaf (words_at ram.now place 4)) ≡ Some result }
+    ensures verdict { decided_by (Leaf place (words_at ram.now place 4)) ≡ Some result }
     ensures meaning { IsContextOf (words_at ram.now place 4) result }
     ensures sound { IfOk result (λ context. IsWellFormed context) }
 {
-    let mut words = [0; 4];
-    if !ram.words(place, &mut words) {
-        return Err(Cause::DirAccess);
+    match context_words(ram, place) {
+        Some(words) => context_of(words),
+        None => Err(Cause::DirAccess),
     }
-    context_of(words)
+}
+
+/// The four words of 8 bytes at physical address `place`; None where a byte of them is outside memory.
+pub(crate) fn context_words(ram: &Ram, place: u64) -> Option<[u64; 4]>
+    ensures { result ≡ words_at ram.now place 4 }
+{
+    let mut words = [0; 4];
+    if ram.words(place, &mut words) {
+        Some(words)
+    } else {
+        None
+    }
 }

@@ -15,10 +15,13 @@ mod words;
 /// Why there is no memory of the base and size that were asked for.
 #[derive(Clone, Copy, Debug, PartialEq, Error)]
 pub enum MemFault {
+    /// The base, a physical address, is no multiple of 4096. It is tested first.
     #[error("the base of memory is not a multiple of 4096")]
     BadBase,
+    /// The size is 0, no multiple of 4096 or above 64 MiB, or the end is above 2^56.
     #[error("the size of memory is not a multiple of 4096 up to 64 MiB, or its end is above 2^56")]
     BadSize,
+    /// An allocation was refused. The base and the size are good.
     #[error("out of memory")]
     OutOfMemory,
 }
@@ -29,7 +32,8 @@ const MOST_BYTES: u64 = 1 << 26;
 /// Physical addresses have 56 bits.
 const ADDRESS_END: u64 = 1 << 56;
 
-/// One region of memory. Addresses are physical.
+/// One region of memory, of 4096 bytes to 64 MiB, below 2^56. Its addresses are physical, in bytes; what isn't in it is called
+/// outside.
 #[derive(Debug, Drop)]
 pub struct Ram {
     base: u64,
@@ -88,7 +92,7 @@ impl Ram {
         })
     }
 
-    /// The first physical address.
+    /// The first physical address: a multiple of 4096.
     pub fn base(&self) -> u64
         ensures value { result ≡ self.now.base }
         ensures legal { IsLegal self.now }
@@ -96,7 +100,7 @@ impl Ram {
         self.base
     }
 
-    /// How many bytes there are.
+    /// How many bytes there are: a multiple of 4096 from 4096 to 2^26. `base + size` is at most 2^56.
     #[tactic(auto, using(crate::proofs::WordBytes::words_hold))]
     pub fn size(&self) -> u64
         ensures value { result ≡ size_of self.now }

@@ -24,7 +24,7 @@ fn word_at(words: &[u64], at: usize) -> u64
     word_from(words, at / 8, at % 8)
 }
 
-/// The eight bytes that begin `skipped` bytes into word `first`, as a number.
+/// The eight bytes that begin `skipped` bytes, 0 to 7, into word `first`, as a number, the lowest byte first.
 pub fn word_from(words: &[u64], first: usize, skipped: usize) -> u64
     requires part { skipped < 8 }
     requires within { 8 * first + skipped + 8 ≤ 8 * length words.now }
@@ -63,7 +63,7 @@ fn joined(first: u64, second: u64, skipped: usize) -> u64
     (second << (8 * (8 - skipped))) | (first >> (8 * skipped))
 }
 
-/// Fills `out` with the words from place `at` on.
+/// Fills `out` with the words of 8 bytes from place `at` on, of any alignment.
 pub fn read_words(words: &[u64], at: usize, out: &mut [u64])
     requires { at + 8 * length out.old ≤ 8 * length words.now }
     ensures read { AreWords out.new (bytes_of_words words.now) at (length out.old) }

@@ -11,7 +11,8 @@ use Rattle.iom_walk.proofs.Pages.{one_end}
 use Rattle.iom_nested.specs.declared.translation.Hit.{Hit}
 use Rattle.iom_nested.specs.Faults.{Failure}
 use Rattle.iom_nested.specs.Stages.{first_shape_of, second_shape_of, ram_got, table_got}
-use Rattle.iom_nested.specs.Nested.{Reached, behind_first, first_stage, hit_by, reached_by, second_stage, told_of, translation}
+use Rattle.iom_nested.specs.declared.translation.Reached.{Reached}
+use Rattle.iom_nested.specs.Nested.{behind_first, first_stage, hit_by, reached_by, second_stage, told_of, translation}
 use Rattle.iom_nested.specs.Pages.{OneHitAPage}
 
 told_hit : (kind : Kind) (found : Result Hit Failure) (hit : Hit) → told_of kind found ≡ Ok hit → found ≡ Ok hit

@@ -1,5 +1,4 @@
 pub mod Stages
 pub mod Faults
 pub mod Nested
-pub mod Code
 pub mod Pages

@@ -1,6 +1,6 @@
 -- The translation by both stages of a context: RISC-V IOMMU Architecture 1.0, "Process to translate an IOVA"; RISC-V
 -- Privileged Architecture 1.12, "Two-Stage Address Translation".
-use Rattle.std.specs.Prelude.{ℕ, ◌+◌, ◌*◌, ◌/◌, ◌%◌, ◌^◌, ◌<◌, Bool, false, Option, Some, None, Result, Ok, Err}
+use Rattle.std.specs.Prelude.{ℕ, ◌+◌, ◌*◌, ◌/◌, ◌%◌, ◌^◌, ◌<◌, false, Option, Some, None, Result, Ok, Err}
 use Rattle.iom_bits.specs.declared.causes.Kind.{Kind}
 use Rattle.iom_mem.specs.Memory.{Memory}
 use Rattle.iom_ddt.specs.declared.context.Context.{Context}
@@ -12,14 +12,9 @@ use Rattle.iom_nested.specs.Stages.{first_shape_of, second_shape_of, ram_got, ta
 use Rattle.iom_nested.specs.Faults.{Failure, EntryOutside, FirstStage, SecondForEntry, SecondForAccess, fault_of}
 use Rattle.iom_nested.specs.declared.translation.Fault.{Fault}
 use Rattle.iom_nested.specs.declared.translation.Hit.{Hit}
+use Rattle.iom_nested.specs.declared.translation.Reached.{Reached}
 
--- where the first stage leads: a guest-physical address, or a physical one under a Bare second stage, and the level and
--- global of its leaf
-pub record Reached : Type 0 where
-  pub addr : ℕ
-  pub level : ℕ
-  pub global : Bool
-
+-- where the first stage leads
 abbrev pub reached_by : ℕ → Outcome → Result Reached Failure
 reached_by iova (outcome.Leaf leaf) =
     Ok (record { addr = leaf.frame * 4096 + iova % 4096; level = leaf.level; global = leaf.global })

@@ -2,8 +2,9 @@
 //! IOVA").
 #![tactic(auto)]
 
-pub use second::Second;
-pub use translation::{Fault, Hit, one_hit_a_page, translate};
+pub use physical::Physical;
+pub use second::{Second, second_shape};
+pub use translation::{Fault, Hit, Reached, first_shape, first_stage, one_hit_a_page, translate};
 
 mod physical;
 mod second;

@@ -3,9 +3,10 @@ ghost use Rattle.iom_nested.specs.Stages.{ram_got};
 use iom_mem::Ram;
 use iom_walk::{Got, Words};
 
-/// Memory as a source of words, at physical addresses.
+/// Memory as a source of words, at physical addresses: where entries of tables are fetched that no stage translates.
 #[derive(Clone, Copy)]
 pub struct Physical<'a> {
+    /// The memory.
     pub ram: &'a Ram,
 }
 

@@ -8,8 +8,8 @@ use iom_ddt::Context;
 use iom_mem::Ram;
 use iom_walk::{Got, Outcome, Shape, Words, walk};
 
-/// A guest's memory as a source of words: memory behind the second stage. Addresses are guest-physical, each translated for a
-/// read.
+/// A guest's memory as a source of words: memory behind the second stage. Addresses are guest-physical, each translated for an
+/// implicit read, as of a first-stage table's entry ("Process to translate an IOVA").
 #[derive(Drop)]
 pub struct Second<'a> {
     ram: &'a Ram,
@@ -19,7 +19,7 @@ pub struct Second<'a> {
 }
 
 impl<'a> Second<'a> {
-    /// Lends memory through the second stage of a context that has one.
+    /// Lends memory through the second stage of a context that has one: whose iohgatp.MODE isn't Bare.
     pub fn new(ram: &'a Ram, context: &Context) -> Second<'a>
         requires well_formed { IsWellFormed context.now }
         requires staged { IsSome (second_shape_of context.now) }
@@ -51,7 +51,7 @@ impl Words for Second<'_> {
     }
 }
 
-/// The shape of the second stage's tables; None where it is Bare.
+/// The shape of the second stage's tables, by iohgatp.MODE: 8 is Sv39x4, 9 is Sv48x4; None where it is Bare, 0.
 pub fn second_shape(context: &Context) -> Option<Shape>
     ensures { result ≡ second_shape_of context.now }
 {

@@ -2,7 +2,6 @@ ghost use Rattle.std.specs.Prelude.{◌≡◌, ◌≢◌, ◌<◌, ◌^◌, fals
 ghost use Rattle.iom_ddt.specs.Contexts.{is_bare, IsWellFormed};
 ghost use Rattle.iom_nested.specs.Stages.{first_shape_of, second_shape_of};
 ghost use Rattle.iom_nested.specs.Faults.{fault_of, EntryOutside};
-ghost use Rattle.iom_nested.specs.Code.{reached_in, reached_or_fault};
 ghost use Rattle.iom_nested.specs.Nested.{HitFits, first_stage, second_stage, told_of, translation};
 ghost use Rattle.iom_nested.specs.Pages.{OneHitAPage};
 
@@ -13,7 +12,7 @@ use iom_ddt::Context;
 use iom_mem::Ram;
 use iom_walk::{Outcome, Shape, walk};
 
-/// Where a page leads.
+/// Where a page of IOVAs leads: what an entry of the translation cache, the IOTLB, says.
 #[derive(Clone, Copy, Debug, PartialEq)]
 pub struct Hit {
     /// The PPN of the page's frame, 44 bits: its physical address divided by 4096.
@@ -24,21 +23,26 @@ pub struct Hit {
     pub global: bool,
 }
 
-/// Why a page leads nowhere.
+/// Why an IOVA leads nowhere.
 #[derive(Clone, Copy, Debug, PartialEq)]
 pub struct Fault {
+    /// The cause for the fault record: 5, 7, 13, 15, 21 or 23 as a number.
     pub cause: Cause,
     /// For a guest page fault the guest-physical address with bits 1:0 cleared, and bit 0 set where it is that of an entry
     /// of the first stage; else 0.
     pub iotval2: u64,
 }
 
-// Where the first stage leads: the guest-physical address under a second stage, else the physical one.
-#[derive(Clone, Copy)]
-struct Reached {
-    addr: u64,
-    level: u8,
-    global: bool,
+/// Where the first stage leads an IOVA.
+#[derive(Clone, Copy, Debug, PartialEq)]
+pub struct Reached {
+    /// The guest-physical address under a second stage, else the physical one; the IOVA itself where the first stage is
+    /// Bare.
+    pub addr: u64,
+    /// The level of the first stage's leaf, 0 to 3; 0 where that stage is Bare.
+    pub level: u8,
+    /// Whether the first stage's mapping is global; false where that stage is Bare.
+    pub global: bool,
 }
 
 /// Translates an IOVA by the stages of a context, of which at least one isn't Bare ("Process to translate an IOVA").
@@ -57,16 +61,18 @@ pub fn translate(ram: &Ram, context: &Context, iova: u64, kind: Kind) -> Result<
     second_stage(ram, context, reached, kind)
 }
 
-/// A law of translations: over one memory and under one context, what one address of a page hits, each of them hits. The
-/// function does nothing.
+/// A law of translations: over one memory and under one context, what one IOVA of a page hits, each of them hits. The function does
+/// nothing.
 #[tactic(auto, using(crate::proofs::Pages::one_hit))]
 pub fn one_hit_a_page()
     ensures { OneHitAPage }
 {}
 
-fn first_stage(ram: &Ram, context: &Context, iova: u64, kind: Kind) -> Result<Reached, Fault>
+/// Where the first stage of a context leads an IOVA, as `translate` does it, with the same faults; a Bare one leads to the IOVA
+/// itself.
+pub fn first_stage(ram: &Ram, context: &Context, iova: u64, kind: Kind) -> Result<Reached, Fault>
     requires well_formed { IsWellFormed context.now }
-    ensures reached { reached_or_fault result
+    ensures reached { result
         ≡ told_of kind (first_stage ram.now context.now iova kind (first_shape_of context.now)) }
     ensures fits { IfOk result
         (λ reached. (first_shape_of context.now ≢ None → reached.addr < 2 ^ 56) × (reached.level < 4)) }
@@ -100,12 +106,13 @@ fn first_stage(ram: &Ram, context: &Context, iova: u64, kind: Kind) -> Result<Re
     }
 }
 
+// Where the second stage of a context leads what the first one reached; a Bare one leads to the same address.
 fn second_stage(ram: &Ram, context: &Context, reached: Reached, kind: Kind) -> Result<Hit, Fault>
     requires well_formed { IsWellFormed context.now }
     requires level { reached.level < 4 }
     requires inside { second_shape_of context.now ≡ None → reached.addr < 2 ^ 56 }
     ensures hit { result
-        ≡ told_of kind (second_stage ram.now context.now kind (second_shape_of context.now) (reached_in reached)) }
+        ≡ told_of kind (second_stage ram.now context.now kind (second_shape_of context.now) reached) }
     ensures fits { IfOk result HitFits }
 {
     let frame = match second_shape(context) {
@@ -128,6 +135,7 @@ fn second_stage(ram: &Ram, context: &Context, reached: Reached, kind: Kind) -> R
     })
 }
 
+// The fault of an entry of either stage that is outside memory.
 fn entry_outside(kind: Kind) -> Fault
     ensures { result ≡ fault_of kind EntryOutside }
 {
@@ -137,8 +145,8 @@ fn entry_outside(kind: Kind) -> Fault
     }
 }
 
-// The shape of the first stage's tables; None where it is Bare.
-fn first_shape(context: &Context) -> Option<Shape>
+/// The shape of the first stage's tables, by fsc.MODE: 8 is Sv39, 9 is Sv48; None where it is Bare, 0.
+pub fn first_shape(context: &Context) -> Option<Shape>
     ensures { result ≡ first_shape_of context.now }
 {
     match context.mode {

@@ -5,8 +5,8 @@ ghost use Rattle.iom_queue.specs.Commands.{CommandFits, IsCommandEncoding, first
 use crate::fields::{flag_at, operand};
 use iom_bits::{field, has_bit};
 
-/// A command of the command queue (RISC-V IOMMU Architecture 1.0, "Command-Queue (CQ)"). An operand
-/// whose valid bit is 0 is kept and means nothing.
+/// A command of the command queue, 16 bytes in memory (RISC-V IOMMU Architecture 1.0, "Command-Queue (CQ)"). An operand whose valid
+/// bit is 0 is kept and means nothing.
 #[derive(Clone, Copy, Debug, PartialEq)]
 pub enum Command {
     /// IOTINVAL.VMA ("IOTINVAL"): drops first-stage translations.
@@ -73,7 +73,7 @@ const VMA: u64 = 0;
 
 const GVMA: u64 = 1;
 
-/// The two words that stand for a command, the first at the lower address.
+/// The two words of 8 bytes that stand for a command, the first at the lower address. Each operand fits its field.
 #[tactic(auto, using(crate::proofs::Encodings::command_of_words))]
 pub fn encode_command(command: &Command) -> [u64; 2]
     requires { CommandFits command.now }
@@ -83,6 +83,7 @@ pub fn encode_command(command: &Command) -> [u64; 2]
     [first_word(command), second_word(command)]
 }
 
+// The first word of a command: opcode, func3 and operands.
 fn first_word(command: &Command) -> u64
     requires { CommandFits command.now }
     ensures { result ≡ first_word command.now }
@@ -137,6 +138,7 @@ fn invalidation(func3: u64, av: bool, pscid: u32, gv: bool, gscid: u16) -> u64
         + operand(gscid as u64, 44)
 }
 
+// The second word of a command: an address divided by 4 or a page's number, or 0.
 fn second_word(command: &Command) -> u64
     requires { CommandFits command.now }
     ensures { result ≡ second_word command.now }
@@ -148,7 +150,8 @@ fn second_word(command: &Command) -> u64
     }
 }
 
-/// The command that two words stand for; None where they stand for no command.
+/// The command that two words of 8 bytes stand for; None where they stand for no command: the opcode or func3 is none of this
+/// model, or a reserved bit is set.
 #[tactic(auto, unfolding(crate::specs::Commands::command_of))]
 pub fn decode_command(words: [u64; 2]) -> Option<Command>
     ensures value { result ≡ command_of words }

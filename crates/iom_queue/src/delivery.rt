@@ -22,8 +22,8 @@ const FQOF: u32 = 9;
 // How many bytes a record has.
 const RECORD_SIZE: u64 = 32;
 
-/// Puts a record at the tail of the fault queue (RISC-V IOMMU Architecture 1.0, "Fault/Event-Queue
-/// (FQ)"). It is lost where the queue is off or stopped by fqmf or fqof, where the queue is full, which
+/// Puts a record at the tail of the fault queue (RISC-V IOMMU Architecture 1.0, "Fault/Event-Queue (FQ)"): 32 bytes at physical
+/// address fqb.PPN * 4096 + fqt * 32. It is lost where the queue is off or stopped by fqmf or fqof, where the queue is full, which
 /// sets fqof, and where its place isn't in memory, which sets fqmf.
 #[tactic(auto, unfolding(crate::specs::Delivery::delivered, crate::specs::Delivery::is_stored))]
 pub fn deliver(registers: &mut Regs, ram: &mut Ram, fault: &Record)

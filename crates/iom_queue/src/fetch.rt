@@ -31,7 +31,8 @@ pub enum Fetch {
     Ready(Command),
 }
 
-/// The command at the head of the command queue. Nothing is changed: it stays at the head.
+/// The command at the head of the command queue: the 16 bytes at physical address cqb.PPN * 4096 + cqh * 16. Nothing is changed: it
+/// stays at the head.
 #[tactic(auto, unfolding(crate::specs::Fetching::fetch_of))]
 pub fn next_command(registers: &Regs, ram: &Ram) -> Fetch
     ensures value { result ≡ fetch_of registers.now ram.now }
@@ -51,6 +52,7 @@ pub fn next_command(registers: &Regs, ram: &Ram) -> Fetch
     }
 }
 
+// Whether the command unit has nothing to do: the queue is off, stopped or empty.
 fn is_idle(registers: &Regs) -> bool
     ensures value { result ≡ is_idle registers.now }
     ensures settled { with_pending registers.now ≡ registers.now }

@@ -5,20 +5,20 @@ ghost use Rattle.iom_queue.specs.Denials.{is_reported};
 use crate::fields::{flag_at, operand};
 use iom_bits::{Cause, Kind, field, has_bit};
 
-/// A fault record (RISC-V IOMMU Architecture 1.0, "Fault/Event-Queue (FQ)").
+/// A fault record, 32 bytes in memory (RISC-V IOMMU Architecture 1.0, "Fault/Event-Queue (FQ)").
 #[derive(Clone, Copy, Debug, PartialEq)]
 pub struct Record {
     /// CAUSE, 12 bits.
     pub cause: u16,
-    /// The process id, 20 bits.
+    /// PID, the process id, 20 bits.
     pub pid: u32,
-    /// `pid` is valid.
+    /// PV: `pid` is valid.
     pub pv: bool,
-    /// The access was privileged.
+    /// PRIV: the access was privileged.
     pub privileged: bool,
     /// TTYP, the type of the transaction, 6 bits: 2 is an untranslated read, 3 an untranslated write.
     pub ttyp: u8,
-    /// The device id, 24 bits.
+    /// DID, the device id, 24 bits.
     pub did: u32,
     /// The IOVA of the access.
     pub iotval: u64,
@@ -30,8 +30,8 @@ pub struct Record {
 impl Record {
     ghost use Rattle.iom_queue.specs.Denials.{denial_record};
 
-    /// The record of a denied access of the device with id `did`, below 2^24, at `iova`. `iotval2` is
-    /// the field of that name of a guest page fault; of every other cause that field is 0.
+    /// The record of a denied access of the device with id `did`, below 2^24, at IOVA `iova`. `iotval2` is the field of that name
+    /// of a guest page fault, a guest-physical address; of every other cause that field is 0.
     #[tactic(auto, unfolding(crate::specs::Denials::denial_record))]
     pub fn of_denial(cause: Cause, kind: Kind, did: u32, iova: u64, iotval2: u64) -> Self
         ensures value { result ≡ denial_record cause kind did iova iotval2 }
@@ -56,9 +56,8 @@ impl Record {
     }
 }
 
-/// Whether an access that is denied for this cause makes a record, where DTF of the device context is
-/// `dtf`. DTF = 1 silences faults of the two stages; the causes that come before a device context is
-/// found are always recorded.
+/// Whether an access that is denied for this cause makes a record, where DTF of the device context is `dtf` ("Device-context
+/// fields"). DTF = 1 silences faults of the two stages; the causes that come before a device context is found are always recorded.
 #[tactic(auto, unfolding(crate::specs::Denials::is_reported))]
 pub fn is_reported(cause: Cause, dtf: bool) -> bool
     ensures { result ≡ is_reported cause dtf }
@@ -66,7 +65,7 @@ pub fn is_reported(cause: Cause, dtf: bool) -> bool
     !dtf || !matches!(cause, Cause::Access(_) | Cause::Page(_) | Cause::Guest(_))
 }
 
-/// The four words that stand for a record, the first at the lowest address.
+/// The four words of 8 bytes that stand for a record, the first at the lowest address. Each field fits its bits.
 #[tactic(auto, unfolding(crate::specs::Records::record_of, iom_bits::specs::Bits::has_bit))]
 pub fn encode_record(fault: &Record) -> [u64; 4]
     requires { RecordFits fault.now }
@@ -82,7 +81,7 @@ pub fn encode_record(fault: &Record) -> [u64; 4]
     [first, 0, fault.iotval, fault.iotval2]
 }
 
-/// The record that four words stand for; None where the second is not 0.
+/// The record that four words of 8 bytes stand for; None where the second, which is reserved, is not 0.
 #[tactic(auto, unfolding(crate::specs::Records::record_of, iom_bits::specs::Bits::has_bit))]
 pub fn decode_record(words: [u64; 4]) -> Option<Record>
     ensures value { result ≡ record_of words }

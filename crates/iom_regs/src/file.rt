@@ -16,7 +16,7 @@ const CAPABILITIES: u64 = 0x38_1006_0610;
 // fctl: interrupts by wire.
 const FCTL: u64 = 2;
 
-/// The registers before the rule of pending interrupts: `settle` follows each change.
+/// The register file before the rule of pending interrupts: `settle` follows each change.
 #[derive(Clone, Copy)]
 pub struct File {
     ddtp: u64,
@@ -71,6 +71,7 @@ impl File {
     ghost use Rattle.iom_regs.specs.Queues.{tail_passed};
     ghost use Rattle.iom_regs.specs.Views.{mode_of, root_of, queue_of};
 
+    /// The registers at reset: every register that can change is 0.
     pub fn reset() -> Self
         ensures { result ≡ reset }
     {
@@ -82,6 +83,7 @@ impl File {
         }
     }
 
+    /// What stands between a device and memory: ddtp.iommu_mode ("Device-directory-table pointer (ddtp)").
     pub fn mode(&self) -> Mode
         ensures mode { result ≡ mode_of self.now }
         ensures sound { IsSound self.now }
@@ -93,6 +95,7 @@ impl File {
         }
     }
 
+    /// The PPN of the device directory's root, 44 bits: its physical address divided by 4096. It is ddtp.PPN.
     pub fn root(&self) -> u64
         ensures root { result ≡ root_of self.now }
         ensures sound { IsSound self.now }
@@ -100,6 +103,7 @@ impl File {
         field(self.ddtp, 10, 44)
     }
 
+    /// One of the two queues as its registers tell it: its base, its size, its head and tail, and whether it is on.
     pub fn queue(&self, which: Which) -> Queue
         ensures queue { result ≡ queue_of self.now which }
         ensures entries { result.entries ≤ 2 ^ 32 }
@@ -118,7 +122,7 @@ impl File {
         }
     }
 
-    /// The eight bytes at offset `off`.
+    /// The eight bytes at offset `off`, a multiple of 8, as a number; 0 where there is no register of this model.
     pub fn wide(&self, off: u64) -> u64
         requires { off % 8 ≡ 0 }
         ensures low { result % 2 ^ 32 ≡ shown_at self.now (slot_at off) }
@@ -138,6 +142,7 @@ impl File {
         }
     }
 
+    // ddtp by a written number: one with a mode above 4 changes nothing, and of any other the reserved bits are left out.
     fn set_ddtp(&mut self, value: u64)
         ensures { self.new ≡ written Ddtp value self.old }
     {
@@ -146,6 +151,8 @@ impl File {
         }
     }
 
+    /// Writes eight bytes at offset `off`, where a write of eight bytes is legal: a whole register, or nothing where none stands
+    /// there.
     pub fn set_wide(&mut self, off: u64, value: u64)
         requires { IsTrue (is_legal off 8) }
         ensures { self.new ≡ written_wide (slot_at off) value self.old }
@@ -158,7 +165,8 @@ impl File {
         }
     }
 
-    /// Four bytes: of a whole register, or of half of one.
+    /// Writes four bytes at offset `off`, where a write of four bytes is legal: a whole register, a half of one, or nothing.
+    /// `value` is below 2^32.
     pub fn set_four(&mut self, off: u64, value: u64)
         requires legal { IsTrue (is_legal off 4) }
         requires fits { value < 2 ^ 32 }
@@ -180,6 +188,7 @@ impl File {
         }
     }
 
+    // cqcsr by a written number. Where it turns the queue on, cqh is 0 from then on.
     fn control_commands(&mut self, value: u64)
         ensures { self.new ≡ written Cqcsr value self.old }
     {
@@ -189,6 +198,7 @@ impl File {
         self.commands.control = commands_control(self.commands.control, value);
     }
 
+    // fqcsr by a written number. Where it turns the queue on, fqt is 0 from then on.
     fn control_faults(&mut self, value: u64)
         ensures { self.new ≡ written Fqcsr value self.old }
     {
@@ -198,7 +208,7 @@ impl File {
         self.faults.control = faults_control(self.faults.control, value);
     }
 
-    /// The command queue's head goes on by one entry.
+    /// The command queue's head, cqh, goes on by one entry, from the last to the first.
     pub fn pass_command(&mut self)
         ensures { self.new ≡ record self.old { cqh = (self.old.cqh + 1) % entries_of self.old.cqb } }
     {
@@ -206,7 +216,7 @@ impl File {
         self.commands.set_head(next);
     }
 
-    /// The fault queue's tail goes on by one entry, and fip is set where fie is.
+    /// The fault queue's tail, fqt, goes on by one entry, from the last to the first, and fip is set where fie is.
     pub fn pass_record(&mut self)
         ensures { self.new ≡ tail_passed self.old }
     {
@@ -217,37 +227,43 @@ impl File {
         }
     }
 
+    /// Sets cqmf, bit 8 of cqcsr: the command queue met a memory fault ("Command-queue CSR (cqcsr)").
     pub fn raise_cqmf(&mut self)
         ensures { self.new ≡ record self.old { cqcsr = with_bit self.old.cqcsr 8 } }
     {
         self.commands.raise(8);
     }
 
+    /// Sets cmd_ill, bit 10 of cqcsr: the command at the head is illegal ("Command-queue CSR (cqcsr)").
     pub fn raise_cmd_ill(&mut self)
         ensures { self.new ≡ record self.old { cqcsr = with_bit self.old.cqcsr 10 } }
     {
         self.commands.raise(10);
     }
 
+    /// Sets fence_w_ip, bit 11 of cqcsr: an IOFENCE.C asked for an interrupt ("Command-queue CSR (cqcsr)").
     pub fn raise_fence(&mut self)
         ensures { self.new ≡ record self.old { cqcsr = with_bit self.old.cqcsr 11 } }
     {
         self.commands.raise(11);
     }
 
+    /// Sets fqmf, bit 8 of fqcsr: the fault queue met a memory fault ("Fault queue CSR (fqcsr)").
     pub fn raise_fqmf(&mut self)
         ensures { self.new ≡ record self.old { fqcsr = with_bit self.old.fqcsr 8 } }
     {
         self.faults.raise(8);
     }
 
+    /// Sets fqof, bit 9 of fqcsr: the fault queue was full ("Fault queue CSR (fqcsr)").
     pub fn raise_fqof(&mut self)
         ensures { self.new ≡ record self.old { fqcsr = with_bit self.old.fqcsr 9 } }
     {
         self.faults.raise(9);
     }
 
-    /// The rule of pending interrupts: each is set where its cause stands.
+    /// The rule of pending interrupts: cip and fip of ipsr are each set where a cause of theirs stands and its interrupt is enabled
+    /// ("Interrupt pending status register (ipsr)").
     pub fn settle(&mut self)
         ensures value { self.new ≡ with_pending self.old }
         ensures settled { with_pending self.new ≡ self.new }

@@ -25,14 +25,15 @@ fn flag_after(old: u64, value: u64, bit: u32) -> u64
     }
 }
 
-/// Whether a number that is written to a queue's control turns the queue on.
+/// Whether a number that is written to cqcsr or fqcsr turns the queue on: bit 0 (cqen, fqen) is 1 in it and 0 in `control`.
 pub fn turns_on(control: u64, value: u64) -> bool
     ensures { result ≡ turns_on control value }
 {
     field(value, 0, 1) == 1 && field(control, 0, 1) == 0
 }
 
-/// What a written number makes of the command queue's control and status.
+/// What a written number makes of cqcsr, the command queue's control and status: bits 0 and 1 are taken over, a 1 clears each of
+/// the bits 8 to 11, and cqon (bit 16) is as cqen (bit 0) ("Command-queue CSR (cqcsr)").
 pub fn commands_control(old: u64, value: u64) -> u64
     ensures { result ≡ cqcsr_of old value }
 {
@@ -48,7 +49,8 @@ pub fn commands_control(old: u64, value: u64) -> u64
     low + (field(value, 0, 1) << 16)
 }
 
-/// What a written number makes of the fault queue's control and status.
+/// What a written number makes of fqcsr, the fault queue's control and status: bits 0 and 1 are taken over, a 1 clears each of the
+/// bits 8 and 9, and fqon (bit 16) is as fqen (bit 0) ("Fault queue CSR (fqcsr)").
 pub fn faults_control(old: u64, value: u64) -> u64
     ensures { result ≡ fqcsr_of old value }
 {
@@ -60,14 +62,14 @@ pub fn faults_control(old: u64, value: u64) -> u64
     low + (field(value, 0, 1) << 16)
 }
 
-/// What a written number makes of the pending interrupts.
+/// What a written number makes of ipsr: a 1 clears each of the bits 0 (cip) and 1 (fip).
 pub fn pending_cleared(old: u64, value: u64) -> u64
     ensures { result ≡ flag_after old value 0 + flag_after old value 1 }
 {
     flag_after(old, value, 0) + flag_after(old, value, 1)
 }
 
-/// A pending interrupt: set where its cause stands, else as it was.
+/// Bit `bit` of ipsr, 0 (cip) or 1 (fip), at its place: set where its cause stands, else as it was.
 pub fn pending_after(ipsr: u64, bit: u32, asked: bool) -> u64
     requires { bit < 2 }
     ensures { result ≡ pending_after ipsr bit asked }
@@ -79,7 +81,7 @@ pub fn pending_after(ipsr: u64, bit: u32, asked: bool) -> u64
     }
 }
 
-/// The low half of a register replaced.
+/// A register with its low 32 bits replaced by `value`, which is below 2^32.
 pub fn with_low(word: u64, value: u64) -> u64
     requires { value < 2 ^ 32 }
     ensures { result ≡ value + 2 ^ 32 * (word / 2 ^ 32) }
@@ -87,7 +89,7 @@ pub fn with_low(word: u64, value: u64) -> u64
     value + (field(word, 32, 32) << 32)
 }
 
-/// The high half of a register replaced.
+/// A register with its high 32 bits replaced by `value`, which is below 2^32.
 pub fn with_high(word: u64, value: u64) -> u64
     requires { value < 2 ^ 32 }
     ensures { result ≡ word % 2 ^ 32 + 2 ^ 32 * value }

@@ -7,7 +7,8 @@ use crate::views::{Mode, Queue, Which};
 use iom_bits::field;
 use std::marker::Model;
 
-/// The register file. In every state interrupts are pending where their causes stand.
+/// The IOMMU's register file (RISC-V IOMMU Architecture 1.0, "Memory-mapped register interface"). In every state interrupts are
+/// pending where their causes stand.
 #[derive(Clone, Copy)]
 pub struct Regs {
     file: File,
@@ -33,7 +34,7 @@ impl Regs {
     ghost use Rattle.iom_regs.specs.Sound.{IsSound};
     ghost use Rattle.iom_regs.specs.Views.{mode_of, root_of, queue_of};
 
-    /// The registers at reset: the IOMMU is off, and so are both queues.
+    /// The registers at reset: ddtp's mode is Off, and both queues are off. Every register that can change is 0.
     pub fn reset() -> Self
         ensures { result ≡ reset }
     {
@@ -42,7 +43,12 @@ impl Regs {
         }
     }
 
-    /// The number of the `size` bytes at offset `off`, 4 or 8; None where the access isn't legal.
+    /// The number of the `size` bytes of the registers from offset `off` on, the lowest byte first; None where the access isn't
+    /// legal. `off` counts bytes from the first register on.
+    ///
+    /// An access is legal where `size` is 4 or 8, `off` is a multiple of `size`, and its last byte is below 4096; but eight bytes
+    /// aren't at 8, 32, 48, 72 and 80, where registers of four bytes stand. A place with no register of this model reads 0
+    /// ("Memory-mapped register interface").
     pub fn read(&self, off: u64, size: u64) -> Option<u64>
         ensures { result ≡ read self.now off size }
     {
@@ -57,8 +63,12 @@ impl Regs {
         })
     }
 
-    /// Writes the `size` bytes of `value` at offset `off`, 4 or 8, and answers true; false where the
-    /// access isn't legal, and then nothing is changed.
+    /// Writes the `size` bytes of `value` at offset `off`, and answers true; false where the access isn't legal, and then nothing
+    /// is changed. What is legal `read` says. Of four bytes `value` is below 2^32.
+    ///
+    /// Reserved bits stay 0, and read-only registers and places with no register stay as they are. ddtp doesn't take a mode above
+    /// 4; cqb and fqb change while their queue is off alone; cqt and fqh are taken modulo the queue's entries; flags that a 1
+    /// clears are those of cqcsr, fqcsr and ipsr. The rule of pending interrupts follows.
     pub fn write(&mut self, off: u64, size: u64, value: u64) -> bool
         requires { size ≡ 4 → value < 2 ^ 32 }
         ensures legal { result ≡ is_legal off size }
@@ -83,7 +93,7 @@ impl Regs {
         true
     }
 
-    /// What stands between a device and memory.
+    /// What stands between a device and memory: ddtp.iommu_mode ("Device-directory-table pointer (ddtp)").
     pub fn mode(&self) -> Mode
         ensures mode { result ≡ mode_of self.now }
         ensures sound { IsSound self.now }
@@ -92,7 +102,7 @@ impl Regs {
         self.file.mode()
     }
 
-    /// The PPN of the root of the device directory: its physical address divided by 4096.
+    /// The PPN of the device directory's root, 44 bits: its physical address divided by 4096. It is ddtp.PPN.
     pub fn root(&self) -> u64
         ensures root { result ≡ root_of self.now }
         ensures sound { IsSound self.now }
@@ -101,7 +111,8 @@ impl Regs {
         self.file.root()
     }
 
-    /// A queue as its registers tell it.
+    /// One of the two queues as its registers tell it: its base, its size, its head and tail, and whether it is on ("In-memory
+    /// queue interface").
     pub fn queue(&self, which: Which) -> Queue
         ensures queue { result ≡ queue_of self.now which }
         ensures entries { result.entries ≤ 2 ^ 32 }
@@ -113,7 +124,7 @@ impl Regs {
         self.file.queue(which)
     }
 
-    /// The command at the head is done: the head goes on by one entry.
+    /// The command at the head is done: cqh goes on by one entry, from the last to the first.
     pub fn pass_command(&mut self)
         ensures { self.new ≡ command_passed self.old }
     {
@@ -121,7 +132,7 @@ impl Regs {
         self.file.settle();
     }
 
-    /// The command queue could not be read, or a fence's store not be done: sets cqmf.
+    /// The command queue could not be read, or a fence's store not be done: sets cqmf ("Command-queue CSR (cqcsr)").
     pub fn set_cqmf(&mut self)
         ensures { self.new ≡ with_cqmf self.old }
     {
@@ -129,7 +140,7 @@ impl Regs {
         self.file.settle();
     }
 
-    /// The command at the head is illegal: sets cmd_ill.
+    /// The command at the head is illegal: sets cmd_ill ("Command-queue CSR (cqcsr)").
     pub fn set_cmd_ill(&mut self)
         ensures { self.new ≡ with_cmd_ill self.old }
     {
@@ -137,7 +148,7 @@ impl Regs {
         self.file.settle();
     }
 
-    /// A fence asked for an interrupt: sets fence_w_ip.
+    /// A fence asked for an interrupt: sets fence_w_ip ("Command-queue CSR (cqcsr)").
     pub fn set_fence(&mut self)
         ensures { self.new ≡ with_fence self.old }
     {
@@ -145,7 +156,7 @@ impl Regs {
         self.file.settle();
     }
 
-    /// A fault record is stored: the tail goes on by one entry, and fip is set where fie is.
+    /// A fault record is stored: fqt goes on by one entry, from the last to the first, and fip is set where fie is.
     pub fn pass_record(&mut self)
         ensures { self.new ≡ record_passed self.old }
     {
@@ -153,7 +164,7 @@ impl Regs {
         self.file.settle();
     }
 
-    /// The fault queue is full: sets fqof.
+    /// The fault queue is full: sets fqof ("Fault queue CSR (fqcsr)").
     pub fn set_fqof(&mut self)
         ensures { self.new ≡ with_fqof self.old }
     {
@@ -161,7 +172,7 @@ impl Regs {
         self.file.settle();
     }
 
-    /// The fault queue could not be written: sets fqmf.
+    /// The fault queue could not be written: sets fqmf ("Fault queue CSR (fqcsr)").
     pub fn set_fqmf(&mut self)
         ensures { self.new ≡ with_fqmf self.old }
     {
@@ -170,7 +181,7 @@ impl Regs {
     }
 }
 
-// Whether the registers take an access of `size` bytes at offset `off`.
+// Whether the registers take an access of `size` bytes at offset `off`. Eight bytes aren't at registers of four.
 fn is_legal(off: u64, size: u64) -> bool
     ensures { result ≡ is_legal off size }
 {

@@ -5,16 +5,20 @@ ghost use Rattle.iom_regs.specs.Queues.{with_bit};
 use crate::flags::{with_high, with_low};
 use iom_bits::{field, with_field};
 
-/// The registers of one queue.
+/// The registers of one queue, as they are read: those of the command queue (CQ) or of the fault queue (FQ).
 #[derive(Clone, Copy)]
 pub struct Ring {
+    /// cqb or fqb: in bits 4:0 LOG2SZ-1, in bits 53:10 the PPN of its first byte, a physical address divided by 4096.
     pub base: u64,
+    /// cqh or fqh: the index of the first entry, below the number of entries.
     pub head: u64,
+    /// cqt or fqt: the index after the last entry, below the number of entries.
     pub tail: u64,
+    /// cqcsr or fqcsr, 32 bits.
     pub control: u64,
 }
 
-/// How many entries a queue of this base has.
+/// How many entries a queue of this base has: 2^(LOG2SZ-1 + 1), from 2 to 2^32.
 #[tactic(auto, using(crate::proofs::Shifts::entries_shifted))]
 pub fn entries(base: u64) -> u64
     ensures value { result ≡ entries_of base }
@@ -27,6 +31,7 @@ pub fn entries(base: u64) -> u64
 impl Ring {
     ghost use Rattle.iom_regs.specs.Rings.{with_base};
 
+    /// The registers of a queue at reset: all are 0, and the queue is off.
     pub fn reset() -> Self
         ensures { result ≡ record { base = 0; head = 0; tail = 0; control = 0 } }
     {
@@ -38,12 +43,15 @@ impl Ring {
         }
     }
 
+    /// Whether the queue is on: cqon or fqon, bit 16 of its control and status.
     pub fn is_on(&self) -> bool
         ensures { result ≡ is_on self.now.control }
     {
         field(self.control, 16, 1) == 1
     }
 
+    /// Writes cqb or fqb. A queue that is on keeps its base; else the reserved bits are left out, and head and tail are taken
+    /// modulo the new number of entries.
     pub fn set_base(&mut self, value: u64)
         ensures { self.new ≡ with_base value self.old }
     {
@@ -55,7 +63,7 @@ impl Ring {
         }
     }
 
-    /// Writes the low half of the base.
+    /// Writes the low 32 bits of the base, below 2^32, by the rule of `set_base`.
     pub fn set_base_low(&mut self, value: u64)
         requires { value < 2 ^ 32 }
         ensures { self.new
@@ -65,7 +73,7 @@ impl Ring {
         self.set_base(base);
     }
 
-    /// Writes the high half of the base.
+    /// Writes the high 32 bits of the base, below 2^32, by the rule of `set_base`.
     pub fn set_base_high(&mut self, value: u64)
         requires { value < 2 ^ 32 }
         ensures { self.new
@@ -75,18 +83,21 @@ impl Ring {
         self.set_base(base);
     }
 
+    /// Writes cqh or fqh: the number modulo the number of entries.
     pub fn set_head(&mut self, value: u64)
         ensures { self.new ≡ record self.old { head = value % entries_of self.old.base } }
     {
         self.head = value % entries(self.base);
     }
 
+    /// Writes cqt or fqt: the number modulo the number of entries.
     pub fn set_tail(&mut self, value: u64)
         ensures { self.new ≡ record self.old { tail = value % entries_of self.old.base } }
     {
         self.tail = value % entries(self.base);
     }
 
+    /// Sets bit `bit`, below 64, of the queue's control and status.
     pub fn raise(&mut self, bit: u32)
         requires { bit < 64 }
         ensures { self.new ≡ record self.old { control = with_bit self.old.control bit } }

@@ -1,26 +1,29 @@
-/// What stands between a device and memory ("Device-directory-table pointer").
+/// What stands between a device and memory: ddtp.iommu_mode ("Device-directory-table pointer (ddtp)").
 #[derive(Clone, Copy, Debug, PartialEq)]
 pub enum Mode {
-    /// All accesses are disallowed.
+    /// Off, 0: all inbound transactions are disallowed.
     Off,
-    /// All accesses pass as they are.
+    /// Bare, 1: all accesses pass as they are, and their IOVA is the physical address.
     Bare,
-    /// A device directory of so many levels, 1 to 3.
+    /// 1LVL, 2LVL or 3LVL, 2 to 4: a device directory (DDT) of so many levels, 1 to 3.
     Levels(u8),
 }
 
-/// The two queues that there are.
+/// One of the two queues of this model ("In-memory queue interface").
 #[derive(Clone, Copy)]
 pub enum Which {
+    /// The command queue, CQ: software writes it, and the IOMMU reads it.
     Commands,
+    /// The fault queue, FQ: the IOMMU writes it, and software reads it.
     Faults,
 }
 
-/// A queue as its registers tell it.
+/// A queue as its registers tell it ("In-memory queue interface").
 #[derive(Clone, Copy, Debug, PartialEq)]
 pub struct Queue {
+    /// Whether it is on: cqon or fqon.
     pub on: bool,
-    /// The PPN of its first byte: its physical address divided by 4096.
+    /// The PPN of its first byte, 44 bits: its physical address divided by 4096.
     pub base: u64,
     /// How many entries it has: a power of two from 2 to 2^32.
     pub entries: u64,

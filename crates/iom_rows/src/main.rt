@@ -3,18 +3,15 @@
 //! otherwise.
 #![tactic(auto)]
 
-use iom_tool::Trace;
 use std::alloc::Global;
 use std::process::ExitCode;
 use std::{env, fs, io};
 
 // What a script writes on an image.
 fn written(alloc: Global, image: &[u8], script: &[u8]) -> anyhow::Result<Vec<u8>> {
-    let mut platform = iom_asm::load(alloc, image)?;
-    let mut trace = Trace::new(alloc)?;
     let mut reader = script;
     let mut writer = Vec::new(alloc);
-    iom_tool::run(&mut platform, &mut trace, &mut reader, &mut writer)?;
+    iom_tool::play(alloc, image, &mut reader, &mut writer)?.ended?;
     Ok(writer)
 }
 
@@ -66,6 +63,7 @@ fn is_as_expected(rt: &HostRuntime, name: &str) -> anyhow::Result<bool> {
     Ok(written == expected)
 }
 
+// Plays the scripts of the folder that is given, and ends with status 0 where all answers are the expected ones.
 fn main(rt: HostRuntime) -> anyhow::Result<ExitCode> {
     let Some(folder) = env::args(&rt)?.nth(1) else {
         println!(rt; "usage: iom_rows FOLDER")?;

@@ -8,7 +8,7 @@ use std::test::Fail;
 
 const MEMORY: &[u8] = b"ram 0x80000000 0x100000";
 
-// A disk, the descriptors of a request that reads its first sector, and two single bytes.
+/// A disk, the descriptors of a request that reads its first sector, and two single bytes.
 pub const REQUEST: &[u8] = b"ram 0x80000000 0x100000
 disk 5 2 c0ffee
 at 0x80040000
@@ -189,7 +189,7 @@ fn refused(image: &[u8]) -> Option<LoadFault> {
     judge(image).err()
 }
 
-// The length of the first proper front of an image that isn't told to be cut.
+/// The length of the first proper front of an image that isn't told to be cut.
 pub fn not_cut(image: &[u8]) -> Option<usize> {
     for count in 0..image.len() {
         if refused(&image[..count]) != CUT {
@@ -199,7 +199,7 @@ pub fn not_cut(image: &[u8]) -> Option<usize> {
     None
 }
 
-// An image with another byte at a place.
+/// An image with another byte at a place.
 pub fn with_byte(alloc: Global, image: &[u8], at: usize, byte: u8) -> Result<Vec<u8>, AllocError> {
     let mut other = Vec::from_slice(alloc, image)?;
     if let Some(place) = other.get_mut(at) {
@@ -219,10 +219,10 @@ fn changed(
     Ok(refused(&other))
 }
 
-// An image, a place and another byte there, and why that is refused.
+/// An image, a place and another byte there, and why that is refused.
 pub type Changed<'a> = (&'a [u8], usize, u8, Option<LoadFault>);
 
-// The number of the first change that is refused otherwise.
+/// The number of the first change that is refused otherwise.
 pub fn otherwise_changed(
     alloc: Global,
     changes: &[Changed<'_>],
@@ -235,10 +235,10 @@ pub fn otherwise_changed(
     Ok(None)
 }
 
-// An image, and why it is refused.
+/// An image, and why it is refused.
 pub type Judged<'a> = (&'a [u8], Option<LoadFault>);
 
-// The number of the first image that is refused otherwise.
+/// The number of the first image that is refused otherwise.
 pub fn otherwise_judged(images: &[Judged<'_>]) -> Option<usize> {
     for (i, (image, want)) in images.iter().enumerate() {
         if refused(image) != *want {
@@ -248,7 +248,7 @@ pub fn otherwise_judged(images: &[Judged<'_>]) -> Option<usize> {
     None
 }
 
-// Whether a text is assembled to an image.
+/// Whether a text is assembled to an image.
 pub fn is_assembled(alloc: Global, text: &[u8], image: &[u8]) -> bool {
     match assemble(alloc, text) {
         Ok(bytes) => bytes.as_slice() == image,
@@ -289,6 +289,7 @@ fn image_of_memory_alone(rt: HostRuntime) -> Result<(), Fail> {
 // How many places follow each other at which 0xff gives the same verdict.
 type Places = (usize, Option<LoadFault>);
 
+// Why a front of `at` bytes is refused.
 fn verdict_at(places: &[Places], at: usize) -> Option<LoadFault> {
     let mut left = at;
     for (count, verdict) in places {

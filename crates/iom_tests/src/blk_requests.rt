@@ -71,6 +71,23 @@ const OUT: &[(u64, u64)] = &[
 // for the used ring.
 const ACCESSES: u64 = 21;
 
+// The same IN with its header in two descriptors and its data in one, at the start of a page: what the platform's worked row
+// asks of sector 0.
+const WORKED: &[(u64, u64)] = &[
+    (BASE + 0x08, 0x1_0001_0000_0008),
+    (BASE + 0x10, HEADER + 8),
+    (BASE + 0x18, 0x2_0001_0000_0008),
+    (BASE + 0x20, 0x8000_1000),
+    (BASE + 0x28, 0x3_0003_0000_0200),
+    (BASE + 0x30, STATUS),
+    (BASE + 0x38, 0x2_0000_0001),
+    (HEADER + 8, 0),
+];
+
+// How many accesses it takes: the index, the head, four descriptors, the header's two, eight pieces of data, the status and three
+// for the used ring.
+const WORKED_ACCESSES: u64 = 20;
+
 // Two sectors; byte j is j / 32.
 fn disk(alloc: Global) -> Result<Vec<u8>, AllocError> {
     let mut disk = Vec::new(alloc);
@@ -80,6 +97,7 @@ fn disk(alloc: Global) -> Result<Vec<u8>, AllocError> {
     Ok(disk)
 }
 
+/// A device with a disk of 1024 bytes; None of any other size.
 pub fn with_disk(disk: Vec<u8>) -> Option<Blk> {
     if disk.len() == 1024 {
         Some(Blk::new(disk))
@@ -156,6 +174,7 @@ fn otherwise_at(bench: &Bench, words: &[(u64, u64)]) -> Option<usize> {
     None
 }
 
+// Whether two benches have the same words.
 fn same_memory(one: &Bench, other: &Bench) -> bool {
     for i in 0..0x600 {
         if word(one, BASE + 8 * i) != word(other, BASE + 8 * i) {
@@ -195,6 +214,7 @@ fn is_last(bench: &mut Bench) -> bool {
         && step(bench) == Moved::Idle
 }
 
+// A request that reads the disk, up to its last access and through it.
 #[test]
 fn in_moves_its_data(rt: HostRuntime) -> Result<(), Fail> {
     let mut bench = ready(rt.alloc(), &[IN], PLENTY)?;
@@ -213,6 +233,7 @@ fn breaks(bench: &mut Bench) -> bool {
 // Writes to registers, and the status and the interrupts after each.
 type Shown = (u64, u32, u64, u64);
 
+// Whether the device shows these after each of the writes.
 fn shows_after(bench: &mut Bench, writes: &[Shown]) -> bool {
     for (off, value, status, interrupts) in writes {
         if !wrote(bench, *off, *value) || !shows(bench, *status, *interrupts) {
@@ -226,25 +247,36 @@ fn shows_after(bench: &mut Bench, writes: &[Shown]) -> bool {
 const RESET: &[Shown] = &[(0x70, 0xf, 0x4f, 2), (0x70, 0, 0, 0)];
 
 // Whether a device whose next access is refused after so many is broken, and leaves on the bus what the accesses before left.
-// Afterwards a reset and a new set-up lead to the whole request.
-fn is_refused(alloc: Global, accesses: u64) -> Result<bool, Fail> {
-    let mut short = ready(alloc, &[IN], accesses)?;
+// Afterwards a reset and a new set-up lead to the whole request, which takes so many accesses in all.
+fn is_refused(
+    alloc: Global,
+    words: &[&[(u64, u64)]],
+    all: u64,
+    accesses: u64,
+) -> Result<bool, Fail> {
+    let mut short = ready(alloc, words, accesses)?;
     go(&mut short, accesses);
-    let mut whole = ready(alloc, &[IN], PLENTY)?;
+    let mut whole = ready(alloc, words, PLENTY)?;
     go(&mut whole, accesses);
     if !breaks(&mut short) || !same_memory(&short, &whole) || !shows_after(&mut short, RESET) {
         return Ok(false);
     }
-    short.tape = tape(alloc, &[IN], PLENTY)?;
+    short.tape = tape(alloc, words, PLENTY)?;
     set(&mut short, SETUP);
-    go(&mut short, ACCESSES);
-    Ok(word(&short, RING) == Some(0x1_0000))
+    go(&mut short, all.saturating_sub(1));
+    let is_open = word(&short, RING) == Some(0);
+    step(&mut short);
+    Ok(is_open && word(&short, RING) == Some(0x1_0000))
 }
 
 // How many accesses come before the first that is refused otherwise.
-fn otherwise_refused(alloc: Global) -> Result<Option<u64>, Fail> {
-    for accesses in 0..ACCESSES {
-        if !is_refused(alloc, accesses)? {
+fn otherwise_refused(
+    alloc: Global,
+    words: &[&[(u64, u64)]],
+    all: u64,
+) -> Result<Option<u64>, Fail> {
+    for accesses in 0..all {
+        if !is_refused(alloc, words, all, accesses)? {
             return Ok(Some(accesses));
         }
     }
@@ -253,7 +285,13 @@ fn otherwise_refused(alloc: Global) -> Result<Option<u64>, Fail> {
 
 #[test]
 fn each_access_refused(rt: HostRuntime) -> Result<(), Fail> {
-    assert_eq!(rt; otherwise_refused(rt.alloc())?, None);
+    assert_eq!(rt; otherwise_refused(rt.alloc(), &[IN], ACCESSES)?, None);
+    Ok(())
+}
+
+#[test]
+fn each_access_of_the_worked_row_refused(rt: HostRuntime) -> Result<(), Fail> {
+    assert_eq!(rt; otherwise_refused(rt.alloc(), &[IN, WORKED], WORKED_ACCESSES)?, None);
     Ok(())
 }
 
@@ -334,6 +372,7 @@ const TOLD: &[(u64, u64)] = &[
     (STATUS, 0xffff_ffff_ffff_ff00),
 ];
 
+// A request that writes the disk, and what is told of it.
 #[test]
 fn out_moves_its_data(rt: HostRuntime) -> Result<(), Fail> {
     let mut bench = ready(rt.alloc(), &[IN, OUT], PLENTY)?;
@@ -364,6 +403,7 @@ fn is_answered(bench: &Bench, status: u64, told: u64) -> bool {
         && shows(bench, 0xf, 1)
 }
 
+// The number of the first request that is answered otherwise.
 fn otherwise_answered(alloc: Global, cases: &[Case]) -> Result<Option<usize>, Fail> {
     for (i, (kind, sector, len, features, status, told)) in cases.iter().enumerate() {
         let words = asked(*kind, *sector, *len);

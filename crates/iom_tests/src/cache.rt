@@ -42,6 +42,7 @@ const CONTEXT: Context = Context {
     ppn: 0,
 };
 
+// A key of device 5 under process 3.
 fn process_key(page: u64) -> Key {
     Key {
         did: 5,
@@ -52,6 +53,7 @@ fn process_key(page: u64) -> Key {
     }
 }
 
+// A key of device 5 under guest 7.
 fn guest_key(page: u64) -> Key {
     Key {
         did: 5,
@@ -62,6 +64,7 @@ fn guest_key(page: u64) -> Key {
     }
 }
 
+// An IOTINVAL.VMA of process 3, of no guest.
 fn vma(av: bool, page: u64, pscv: bool) -> Command {
     Command::Vma {
         av,
@@ -73,6 +76,7 @@ fn vma(av: bool, page: u64, pscv: bool) -> Command {
     }
 }
 
+// An IOTINVAL.GVMA without an address.
 fn gvma(gv: bool, gscid: u16) -> Command {
     Command::Gvma {
         av: false,
@@ -121,6 +125,7 @@ fn filled_contexts(alloc: Global, end: u32) -> Result<ContextCache, AllocError> 
 // What stands at some places.
 type Stands<K, V> = (u64, Place<K, V>);
 
+// The number of the first place of a translation cache that is otherwise.
 fn otherwise_at(cache: &TransCache, places: &[Stands<Key, Hit>]) -> Option<usize> {
     for (i, (number, want)) in places.iter().enumerate() {
         if cache.place(*number) != *want {
@@ -130,6 +135,7 @@ fn otherwise_at(cache: &TransCache, places: &[Stands<Key, Hit>]) -> Option<usize
     None
 }
 
+// The number of the first place of a context cache that is otherwise.
 fn otherwise_in(cache: &ContextCache, places: &[Stands<u32, Context>]) -> Option<usize> {
     for (i, (number, want)) in places.iter().enumerate() {
         if cache.place(*number) != *want {
@@ -149,6 +155,7 @@ fn otherwise_filled(
     Ok(otherwise_at(&cache, places))
 }
 
+// Of 65 fills the first has left, and no place is beyond the 64th.
 #[test]
 fn oldest_leaves(rt: HostRuntime) -> Result<(), Fail> {
     let of_none = otherwise_filled(rt.alloc(), 0, &[(0, Place::Beyond)])?;
@@ -163,6 +170,7 @@ fn oldest_leaves(rt: HostRuntime) -> Result<(), Fail> {
     Ok(())
 }
 
+// The place stands empty, and the others stay where they were.
 #[test]
 fn drop_leaves_an_empty_place(rt: HostRuntime) -> Result<(), Fail> {
     let mut cache = filled(rt.alloc(), 3)?;
@@ -180,6 +188,7 @@ fn drop_leaves_an_empty_place(rt: HostRuntime) -> Result<(), Fail> {
 // A command, an entry that is alone in the cache, and whether it is dropped.
 type Case = (Command, Key, Hit, bool);
 
+// The number of the first case that is otherwise.
 fn otherwise(alloc: Global, cases: &[Case]) -> Result<Option<usize>, AllocError> {
     for (i, (command, key, hit, want)) in cases.iter().enumerate() {
         if is_dropped(alloc, *command, *key, *hit)? != *want {
@@ -189,6 +198,7 @@ fn otherwise(alloc: Global, cases: &[Case]) -> Result<Option<usize>, AllocError>
     Ok(None)
 }
 
+// Rows of the table of invalidations, each with an entry that stands alone.
 #[test]
 fn drops_by_the_table(rt: HostRuntime) -> Result<(), Fail> {
     let host = process_key(0x40201);
@@ -231,6 +241,7 @@ fn drop_each(cache: &mut ContextCache, commands: &[Command]) {
     }
 }
 
+// Of 17 fills the first has left; IODIR drops one context, or all.
 #[test]
 fn keeps_sixteen_contexts(rt: HostRuntime) -> Result<(), Fail> {
     let mut cache = filled_contexts(rt.alloc(), 17)?;

@@ -30,6 +30,7 @@ fn chain(limit: u16, read: u16, written: u16) -> Option<Chain> {
     Some(chain)
 }
 
+// The number of the first descriptor that is answered otherwise.
 fn otherwise(cases: &[Case]) -> Option<usize> {
     for (i, (limit, read, written, (addr, len, flags, next), want)) in cases.iter().enumerate() {
         let Some(mut chain) = chain(*limit, *read, *written) else {
@@ -75,6 +76,7 @@ fn refuses_in_order(rt: HostRuntime) {
 // A side, a position below its total, and the piece there.
 type Piece = (Side, u64, (u64, u64));
 
+// The number of the first piece that is otherwise.
 fn otherwise_in(chain: &Chain, pieces: &[Piece]) -> Option<usize> {
     for (i, (side, position, want)) in pieces.iter().enumerate() {
         if *position >= chain.total(*side) || chain.piece(*side, *position) != *want {
@@ -106,6 +108,7 @@ const PIECES: &[Piece] = &[
     (Side::Writable, 3, (0x5000, 1)),
 ];
 
+// Whether a chain takes all these parts.
 fn are_added(chain: &mut Chain, parts: &[Words]) -> bool {
     for (addr, len, flags, next) in parts {
         if chain.add(*addr, *len, *flags, *next).is_err() {

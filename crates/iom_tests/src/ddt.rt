@@ -38,6 +38,7 @@ const FOUR_LEVELS_WORDS: [u64; 4] = [
     0x9000_0000_0000_0030,
 ];
 
+// A context with every field set, and one of four levels.
 #[test]
 fn encodes_and_decodes(rt: HostRuntime) {
     let facts = [
@@ -70,6 +71,7 @@ const CASES: &[Case] = &[
     ([1, 2, 0, 0], None),
 ];
 
+// The number of the first words that are refused otherwise.
 fn otherwise(cases: &[Case]) -> Option<usize> {
     for (i, (words, want)) in cases.iter().enumerate() {
         if context_of(*words).err() != *want {

@@ -79,7 +79,7 @@ const BEFORE_QUEUE: [(u64, u64); 6] = [
 
 const AFTER_QUEUE: [(u64, u64); 3] = [(0x44, 1), (0x70, 0xf), (0x50, 0)];
 
-// Device 5, with a disk of so many bytes of which the first are given. Of another size than 512, 1024 or 12288 there is none.
+/// Device 5, with a disk of so many bytes of which the first are given. Of another size than 512, 1024 or 12288 there is none.
 pub fn devices(alloc: Global, size: usize, start: &[u8]) -> Result<Vec<(u32, Blk)>, Fail>
     ensures { IfOk result (λ devices. AreDevices devices.items) }
 {
@@ -92,6 +92,7 @@ pub fn devices(alloc: Global, size: usize, start: &[u8]) -> Result<Vec<(u32, Blk
     Ok(devices)
 }
 
+// The hart's write of four bytes to the first device's registers.
 fn wrote(off: u64, value: u64) -> Step {
     Step::DevWrite {
         dev: 0,
@@ -101,7 +102,7 @@ fn wrote(off: u64, value: u64) -> Step {
     }
 }
 
-// The driver's writes, for a queue in one page or in three.
+/// The driver's writes, for a queue in one page or in three.
 pub fn notified(platform: &mut Platform, desc: u64, avail: u64, used: u64) {
     for (off, value) in &BEFORE_QUEUE {
         platform.step(&wrote(*off, *value));
@@ -114,7 +115,7 @@ pub fn notified(platform: &mut Platform, desc: u64, avail: u64, used: u64) {
     }
 }
 
-// How many of so many steps of the device are done before one that is answered otherwise.
+/// How many of so many steps of the device are done before one that is answered otherwise.
 pub fn moved(platform: &mut Platform, count: usize) -> usize {
     for n in 0..count {
         if platform.step(&Step::Device { dev: 0 }) != Answer::Done {
@@ -161,6 +162,50 @@ fn requesting(alloc: Global) -> Result<Vec<Step>, AllocError> {
         steps.push(Step::Device { dev: 0 })?;
     }
     Ok(steps)
+}
+
+// Device 5, with a read-only disk of one sector of zeros.
+fn read_only_device(alloc: Global) -> Result<Vec<(u32, Blk)>, Fail>
+    ensures { IfOk result (λ devices. AreDevices devices.items) }
+{
+    let mut devices = Vec::new(alloc);
+    let mut disk = Vec::new(alloc);
+    disk.resize(512, 0)?;
+    if disk.len() == 512 {
+        devices.push((5, Blk::new_read_only(disk)))?;
+    }
+    Ok(devices)
+}
+
+// The first byte of the first device's disk.
+fn first_byte(platform: &Platform) -> Option<u8> {
+    match platform.disk(0) {
+        Some([first, ..]) => Some(*first),
+        _ => None,
+    }
+}
+
+// The piece before the page that isn't mapped was written to the disk.
+#[test]
+fn denied_write_leaves_its_first_pieces(rt: HostRuntime) -> Result<(), Fail> {
+    let ram = memory(rt.alloc(), &WALKED_WRITE)?;
+    let mut platform = Platform::new(rt.alloc(), ram, devices(rt.alloc(), 512, &[])?)?;
+    assert_eq!(rt; first_byte(&platform), Some(0));
+    take(&mut platform, &requesting(rt.alloc())?);
+    assert_eq!(rt; first_byte(&platform), Some(0x5a));
+    Ok(())
+}
+
+#[test]
+fn read_only_disk_stays_behind_page_tables(rt: HostRuntime) -> Result<(), Fail> {
+    let ram = memory(rt.alloc(), &WALKED_WRITE)?;
+    let mut platform = Platform::new(rt.alloc(), ram, read_only_device(rt.alloc())?)?;
+    take(&mut platform, &requesting(rt.alloc())?);
+    assert_eq!(rt; first_byte(&platform), Some(0));
+    // The status is 1, and the used ring has the request.
+    assert_eq!(rt; platform.ram().word(0x8001_0310), Some(1));
+    assert_eq!(rt; platform.ram().word(0x8001_0200), Some(0x1_0000));
+    Ok(())
 }
 
 const WALKED_QUEUE: [(u64, u64); 3] = [
@@ -243,6 +288,7 @@ struct Request {
 
 const NEVER: usize = 1000;
 
+// A request, and what becomes of it.
 fn told(
     pages: u64,
     is_write: bool,
@@ -363,6 +409,7 @@ fn goes(alloc: Global, request: Request) -> Result<bool, Fail> {
     )
 }
 
+// Requests of one page and of three, whose pages are unmapped midway or not.
 #[test]
 fn requests_behind_both_stages(rt: HostRuntime) -> Result<(), Fail> {
     let requests = [

@@ -60,6 +60,7 @@ fn record_on_a_table(rt: HostRuntime) -> Result<(), Fail> {
     Ok(())
 }
 
+// The record of a denied read falls on a table whose page was read before; the translation that is cached serves on.
 #[test]
 fn page_read_before_its_table_was_hit(rt: HostRuntime) -> Result<(), Fail> {
     let steps = [

@@ -30,6 +30,8 @@ mod refused;
 #[cfg(test)]
 mod regs;
 #[cfg(test)]
+mod replaced;
+#[cfg(test)]
 mod script;
 #[cfg(test)]
 mod tape;

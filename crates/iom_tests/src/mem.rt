@@ -9,6 +9,7 @@ const PHYSICAL_END: u64 = 1 << 56;
 // A base and a size, and why there is no such memory.
 type Case = (u64, u64, Option<MemFault>);
 
+// The number of the first memory that is refused otherwise.
 fn otherwise(alloc: Global, cases: &[Case]) -> Option<usize> {
     for (i, (base, size, want)) in cases.iter().enumerate() {
         if Ram::new(alloc, *base, *size).err() != *want {
@@ -78,6 +79,7 @@ fn refuses_words(ram: &Ram, addr: u64) -> bool {
     !ram.words(addr, &mut out) && out == [7; 2]
 }
 
+// Whether an access goes as it should.
 fn goes(ram: &mut Ram, access: &Access<'_>) -> bool {
     match access {
         Access::Write(addr, bytes, is_taken) => ram.write(*addr, bytes) == *is_taken,
@@ -167,6 +169,7 @@ fn agree_at(ram: &mut Ram, list: &mut [u8], offset: u8) -> bool {
     true
 }
 
+// Writes of 1 to 20 bytes, up to 15 bytes from either end of memory, beside a list of bytes.
 #[test]
 fn agrees_with_a_list_of_bytes(rt: HostRuntime) -> Result<(), Fail> {
     let mut ram = Ram::new(rt.alloc(), BASE, 0x1000)?;

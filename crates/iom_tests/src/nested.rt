@@ -94,6 +94,7 @@ fn found_otherwise(ram: &Ram, cases: &[Found]) -> Option<usize> {
     None
 }
 
+// The number of the first translation that fails otherwise.
 fn failing_otherwise(ram: &Ram, cases: &[Failure]) -> Option<usize> {
     for (i, (context, iova, kind, cause, iotval2)) in cases.iter().enumerate() {
         let fault = Fault {
@@ -212,6 +213,7 @@ const OF_WHOLE: &[Failure] = &[
     ),
 ];
 
+// Faults of both stages, where no table is in memory and where all are.
 #[test]
 fn each_failure(rt: HostRuntime) -> Result<(), Fail> {
     let nowhere = (0x8003_0000, 0);
@@ -254,6 +256,7 @@ const BEYOND_SMALL: &[Failure] = &[(
     0x25_7abc,
 )];
 
+// Pages and superpages, under a second stage that is whole, for reads alone or of small pages.
 #[test]
 fn hits(rt: HostRuntime) -> Result<(), Fail> {
     let alloc = rt.alloc();
@@ -347,6 +350,7 @@ fn guest_word(ram: &Ram, addr: u64) -> Option<Got> {
     }
 }
 
+// A word of the guest's memory, one outside memory and one that the second stage doesn't map.
 #[test]
 fn guest_memory(rt: HostRuntime) -> Result<(), Fail> {
     let whole = memory(rt.alloc(), TABLES, SECOND_WHOLE)?;

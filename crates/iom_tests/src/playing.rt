@@ -1,7 +1,8 @@
-//! Steps from an image on.
+//! Scripts from an image on.
 
-use iom_asm::{Item, LoadFault, assemble, built_in, play};
-use iom_core::{Answer, Platform, Step};
+use iom_asm::{Item, LoadFault, assemble, built_in};
+use iom_core::Platform;
+use iom_tool::play;
 use std::alloc::Global;
 use std::test::Fail;
 
@@ -19,70 +20,39 @@ at 0x80010abc
 bytes 1122334455667788
 ";
 
-const DIRECTORY: Step = Step::RegWrite {
-    off: 16,
-    size: 8,
-    value: 0x2000_0402,
-};
-
-const READ: Step = Step::DmaRead {
-    did: 5,
-    iova: 0x4020_1abc,
-    len: 2,
-};
-
-const UNMAP: Step = Step::Store {
-    addr: 0x8000_4008,
-    size: 8,
-    value: 0,
-};
-
-fn is_read(bytes: &[u8]) -> bool {
-    bytes == [0x11, 0x22].as_slice()
-}
-
 // The read before the directory is set is denied; the page serves on after it is unmapped.
-fn are_expected(answers: &[Answer]) -> bool {
-    match answers {
-        [
-            Answer::Denied(256),
-            Answer::Done,
-            Answer::Bytes(first),
-            Answer::Done,
-            Answer::Bytes(second),
-        ] => is_read(first.as_slice()) && is_read(second.as_slice()),
-        _ => false,
-    }
-}
+const SCRIPT: &[u8] = b"dma read 5 0x40201abc 2
+reg write 16 8 0x20000402
+dma read 5 0x40201abc 2
+store 0x80004008 8 0
+dma read 5 0x40201abc 2
+";
+
+const ANSWERS: &[u8] = b"denied 256\ndone\n1122\ndone\n1122\n";
 
 fn is_cached(platform: &Platform) -> bool {
     platform.ram().word(0x8000_4008) == Some(0) && platform.contexts().find(5).is_some()
 }
 
-const STEPS: [Step; 5] = [READ, DIRECTORY, READ, UNMAP, READ];
-
 fn is_played(alloc: Global, image: &[u8]) -> Result<bool, Fail> {
-    let mut out = [
-        Answer::Idle,
-        Answer::Idle,
-        Answer::Idle,
-        Answer::Idle,
-        Answer::Idle,
-    ];
-    let platform = play(alloc, image, &STEPS, &mut out)?;
-    Ok(are_expected(&out) && is_cached(&platform))
+    let mut script = SCRIPT;
+    let mut answers = Vec::new(alloc);
+    let played = play(alloc, image, &mut script, &mut answers)?;
+    played.ended?;
+    Ok(answers.as_slice() == ANSWERS && is_cached(&played.platform))
 }
 
 #[test]
-fn steps_are_played_from_an_image(rt: HostRuntime) -> Result<(), Fail> {
+fn script_is_played_from_an_image(rt: HostRuntime) -> Result<(), Fail> {
     let image = assemble(rt.alloc(), MAPPED)?;
     assert!(rt; is_played(rt.alloc(), &image)?);
     Ok(())
 }
 
 fn is_refused(alloc: Global, bytes: &[u8], want: LoadFault) -> bool {
-    let mut out = [];
-    matches!(play(alloc, bytes, &[], &mut out), Err(fault) if fault == want)
+    let mut script = SCRIPT;
+    let mut answers = Vec::new(alloc);
+    matches!(play(alloc, bytes, &mut script, &mut answers), Err(fault) if fault == want)
 }
 
 #[test]
@@ -112,6 +82,7 @@ const NAMES: &[(&[u8], Option<Item>)] = &[
     (b"", None),
 ];
 
+// The number of the first name that names another item.
 fn named_otherwise(names: &[(&[u8], Option<Item>)]) -> Option<usize> {
     for (i, (name, item)) in names.iter().enumerate() {
         if Item::named(name) != *item {

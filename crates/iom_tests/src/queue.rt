@@ -58,6 +58,7 @@ const ORDERED_WORDS: [u64; 2] = [0x1802, 0x3fff_ffff_ffff_ffff];
 
 const IODIR_WORDS: [u64; 2] = [0x502_0000_0003, 0];
 
+// The number of the first words that stand for another command.
 fn otherwise(encodings: &[(Command, [u64; 2])]) -> Option<usize> {
     for (i, (command, words)) in encodings.iter().enumerate() {
         if decode_command(*words) != Some(*command) {
@@ -111,6 +112,7 @@ const REFUSED: &[[u64; 2]] = &[
     [3, 1],
 ];
 
+// Each command with its two words, both ways.
 #[test]
 fn commands_are_their_words(rt: HostRuntime) {
     let facts = [
@@ -172,6 +174,7 @@ const CAUSES: &[(Cause, bool)] = &[
     (Cause::TooWide, true),
 ];
 
+// Records with their four words, both ways, and words that stand for none.
 #[test]
 fn records_are_their_words(rt: HostRuntime) {
     let words = [0x8008_0000_0104, 0, 0x1000, 0];
@@ -284,6 +287,7 @@ enum Change {
     Fault,
 }
 
+// Makes a change to the registers.
 fn make(registers: &mut Regs, change: Change) {
     match change {
         Change::Write(off, value) => set(registers, off, 4, value),
@@ -328,6 +332,7 @@ const CHANGES: &[(Change, Fetch)] = &[
     (Change::Pass(1), Fetch::Fault),
 ];
 
+// What the command unit finds after each change of the registers.
 #[test]
 fn commands_are_fetched(rt: HostRuntime) -> Result<(), Fail> {
     let mut ram = Ram::new(rt.alloc(), BASE, 0x1000)?;

@@ -6,12 +6,12 @@ use crate::blk_requests::with_disk;
 use crate::devices::devices;
 use crate::first_wrong;
 use crate::warrants::{MAPPED, otherwise, read, started, stored, take, walked, written};
-use iom_asm::{Item, assemble, list, load, play, upgrade};
+use iom_asm::{Item, assemble, list, load, upgrade};
 use iom_blk::Blk;
 use iom_cache::{ContextCache, Place, TransCache};
 use iom_core::{Answer, Platform, Step};
 use iom_mem::Ram;
-use iom_tool::Trace;
+use iom_tool::{Trace, play};
 use std::alloc::{AllocError, Global};
 use std::test::Fail;
 
@@ -25,6 +25,7 @@ fn spend(alloc: Global, count: usize) -> Result<(), AllocError> {
 
 const BASE: u64 = 0x8000_0000;
 
+// Whether the answers are those of a read of what was stored.
 fn are_expected(answers: &[Answer]) -> bool {
     match answers {
         [Answer::Done, Answer::Done, Answer::Bytes(bytes)] => {
@@ -117,6 +118,7 @@ fn copy_for_the_context_of_the_walk(rt: HostRuntime) -> Result<(), Fail> {
     Ok(())
 }
 
+// Device 5 reads through its tables, and its page is mapped no more.
 fn read_and_unmap(platform: &mut Platform) {
     let steps = [
         written(16, 8, 0x2000_0402),
@@ -237,12 +239,13 @@ fn caches_are_made_for_an_image(rt: HostRuntime) -> Result<(), Fail> {
 
 fn is_played_after(alloc: Global, spent: usize) -> Result<bool, Fail> {
     spend(alloc, spent)?;
-    let mut out = [Answer::Done];
-    let _platform = play(alloc, IMAGE, &[Step::Command], &mut out)?;
-    Ok(matches!(out, [Answer::Idle]))
+    let mut script: &[u8] = b"";
+    let mut answers = Vec::new(alloc);
+    let played = play(alloc, IMAGE, &mut script, &mut answers)?;
+    Ok(played.ended.is_ok())
 }
 
-// Playing takes what loading takes.
+// Playing takes what loading takes, and the trace.
 #[test]
 fn image_is_played(rt: HostRuntime) -> Result<(), Fail> {
     assert!(rt; is_played_after(rt.alloc(), 12)?);
@@ -250,8 +253,8 @@ fn image_is_played(rt: HostRuntime) -> Result<(), Fail> {
 }
 
 #[test]
-fn caches_are_made_for_a_played_image(rt: HostRuntime) -> Result<(), Fail> {
-    assert!(rt; is_played_after(rt.alloc(), 10)?);
+fn caches_and_a_trace_are_made_for_a_played_image(rt: HostRuntime) -> Result<(), Fail> {
+    assert!(rt; is_played_after(rt.alloc(), 9)?);
     Ok(())
 }
 
@@ -293,6 +296,7 @@ fn items_are_listed(rt: HostRuntime) -> Result<(), Fail> {
     Ok(())
 }
 
+// Whether a copy of the memory is the same.
 fn is_memory_copied(alloc: Global, platform: &Platform) -> Result<bool, AllocError> {
     let copy = platform.ram().try_clone(alloc)?;
     Ok(
@@ -320,6 +324,7 @@ fn are_contexts_copied(alloc: Global, platform: &Platform) -> Result<bool, Alloc
     Ok(same_contexts(&copy, platform.contexts()))
 }
 
+// Whether copies of memory and caches are the same.
 fn are_parts_copied(alloc: Global) -> Result<bool, Fail> {
     let platform = read_once(alloc)?;
     Ok(

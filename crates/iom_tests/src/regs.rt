@@ -18,6 +18,7 @@ fn access(regs: &mut Regs, is_write: bool, off: u64, size: u64, value: u64) -> O
 // An offset, a size, what is written there, and what is read there then.
 type Written = (u64, u64, u64, u64);
 
+// The number of the first write after which something else is read.
 fn otherwise_written(regs: &mut Regs, writes: &[Written]) -> Option<usize> {
     for (i, (off, size, value, want)) in writes.iter().enumerate() {
         access(regs, true, *off, *size, *value);
@@ -54,6 +55,7 @@ enum Event {
     Fqmf,
 }
 
+// Makes a change to the registers.
 fn happen(regs: &mut Regs, event: Event) {
     match event {
         Event::Write(off, value) => {
@@ -78,6 +80,7 @@ fn shows(regs: &Regs, [cqcsr, fqcsr, ipsr, cqh, fqt]: [u64; 5]) -> bool {
         && regs.read(52, 4) == Some(fqt)
 }
 
+// The number of the first event after which the registers show something else.
 fn otherwise_shown(regs: &mut Regs, events: &[(Event, [u64; 5])]) -> Option<usize> {
     for (i, (event, want)) in events.iter().enumerate() {
         happen(regs, *event);

@@ -19,6 +19,7 @@ fn feed_all(feeder: &mut Feeder, pieces: &[&[u8]], writer: &mut Sink) -> Result<
     Ok(())
 }
 
+// How a script ends that is given in these pieces, and what it wrote.
 fn feed_pieces(alloc: Global, pieces: &[&[u8]]) -> Result<Fed, Fail> {
     let mut platform = small(alloc)?;
     let mut trace = Trace::new(alloc)?;
@@ -43,6 +44,7 @@ fn is_fed(alloc: Global, pieces: &[&[u8]], answers: &[u8]) -> Result<bool, Fail>
     Ok(all.ended.is_ok() && all.written.as_slice() == answers)
 }
 
+// A script in two pieces is answered as it is whole.
 #[test]
 fn cut_in_two_at_every_byte(rt: HostRuntime) -> Result<(), Fail> {
     for at in 0..=SCRIPT.len() {
@@ -55,6 +57,7 @@ fn cut_in_two_at_every_byte(rt: HostRuntime) -> Result<(), Fail> {
     Ok(())
 }
 
+// A script byte by byte is answered as it is whole.
 #[test]
 fn cut_into_single_bytes(rt: HostRuntime) -> Result<(), Fail> {
     let mut pieces = Vec::new(rt.alloc());
@@ -115,6 +118,7 @@ fn stays_failed(mut feeder: Feeder<'_>, writer: &mut Sink) -> bool {
         && writer.calls == MANY
 }
 
+// A feeder whose writer failed refuses each later piece.
 #[test]
 fn refused_from_then_on(rt: HostRuntime) -> Result<(), Fail> {
     let mut platform = small(rt.alloc())?;

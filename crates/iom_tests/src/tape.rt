@@ -3,9 +3,12 @@
 use iom_mem::Ram;
 use iom_virtq::{Access, Bus};
 
+/// A bus over a memory whose physical addresses are the IOVAs.
 #[derive(Drop)]
 pub struct Tape {
+    /// The memory.
     pub ram: Ram,
+    /// How many accesses it still takes.
     pub left: u64,
 }
 

@@ -7,13 +7,18 @@ use std::alloc::Global;
 use std::io::{self, Error, ErrorKind, Read, Write};
 use std::test::Fail;
 
-// A reader that gives some bytes and then many of one, so many a call, and fails once so many calls are done.
+/// A reader that gives some bytes and then many of one, so many a call, and fails once so many calls are done.
 #[derive(Drop)]
 pub struct Source<'a> {
+    /// The bytes that are given first and are left.
     pub left: &'a [u8],
+    /// The byte that is given after them.
     pub fill: u8,
+    /// How many of it are left.
     pub filled: usize,
+    /// How many calls are done before one fails.
     pub calls: usize,
+    /// How many bytes a call gives at most.
     pub piece: usize,
 }
 
@@ -34,11 +39,14 @@ impl Read for Source<'_> {
     }
 }
 
-// A writer into memory that fails once so many calls are done, and takes at most so many bytes a call.
+/// A writer into memory that fails once so many calls are done, and takes at most so many bytes a call.
 #[derive(Drop)]
 pub struct Sink {
+    /// The bytes that were written.
     pub held: Vec<u8>,
+    /// How many calls are done before one fails.
     pub calls: usize,
+    /// How many bytes a call takes at most.
     pub most: usize,
 }
 
@@ -62,35 +70,39 @@ impl Write for Sink {
     }
 }
 
-// More calls than any script makes.
+/// More calls than any script makes.
 pub const MANY: usize = 100_000_000;
 
 // How many bytes a read gives.
 const PIECES: [usize; 6] = [1, 2, 3, 4, 5, 4096];
 
+/// Ten lines, of which each has an answer.
 pub const SCRIPT: &[u8] =
     b"reg write 16 8 1\nstore 0x80000000 8 0x0807060504030201\ndma read 5 0x80000000 8\ndma write 5 0x80001ffc aabbccdd\nload 0x80001ffc 4\ndma read 5 0x80002000 8\ndma read 5 0x80000ffc 8\ndma read 5 0xffffffffffffffff 1\ndma read 0x1000000 0x80000000 1\njump\n";
 
+/// The answers to them.
 pub const ANSWERS: &[u8] =
     b"done\ndone\n0102030405060708\ndone\n0xddccbbaa\nbus error\nmisuse\nbus error\nmisuse\nbad\n";
 
-// A small memory, since many runs make one.
+/// A small memory, since many runs make one.
 pub fn small(alloc: Global) -> Result<Platform, Fail> {
     let ram = Ram::new(alloc, 0x8000_0000, 0x2000)?;
     Ok(Platform::new(alloc, ram, Vec::new(alloc))?)
 }
 
-// How a run ended, what it wrote, and the words at two addresses afterwards: the one that the script's second line stores,
-// and the one in which its fourth writes.
+/// How a run ended, what it wrote, and the words at two addresses afterwards: the one that the script's second line stores,
+/// and the one in which its fourth writes.
 #[derive(Drop)]
 pub struct Outcome {
+    /// How the run ended.
     pub ended: Result<(), RunFault>,
+    /// What it wrote.
     pub written: Vec<u8>,
     stored: Option<u64>,
     moved: Option<u64>,
 }
 
-// The limits of a reader and a writer that don't fail.
+/// The limits of a reader and a writer that don't fail.
 pub const WELL: Limits = Limits {
     reads: MANY,
     piece: MANY,
@@ -98,15 +110,20 @@ pub const WELL: Limits = Limits {
     most: MANY,
 };
 
-// How many reads and writes are done before one fails, how many bytes a read gives, and how many a write takes.
+/// How many reads and writes are done before one fails, how many bytes a read gives, and how many a write takes.
 #[derive(Clone, Copy)]
 pub struct Limits {
+    /// How many reads are done before one fails.
     pub reads: usize,
+    /// How many bytes a read gives.
     pub piece: usize,
+    /// How many writes are done before one fails.
     pub writes: usize,
+    /// How many bytes a write takes.
     pub most: usize,
 }
 
+/// The outcome of a script within limits.
 pub fn run(alloc: Global, script: &[u8], limits: Limits) -> Result<Outcome, Fail> {
     run_filled(alloc, script, b'\n', 0, limits)
 }
@@ -189,6 +206,7 @@ fn is_cut_at_read(alloc: Global, reads: usize, piece: usize) -> Result<bool, Fai
     Ok(is_cut(&part, RunFault::Read, whole, whole))
 }
 
+// A run of which each read in turn fails, by pieces of each size.
 #[test]
 fn each_read_fails(rt: HostRuntime) -> Result<(), Fail> {
     for piece in PIECES {
@@ -255,6 +273,7 @@ const MOST_LINES: Longest<'static> = (b"reg read 8 4\n", b'\n', (1 << 20) - 1, b
 
 const MOST_BYTES: Longest<'static> = (b"reg read 8 4#", b'x', (1 << 26) - 13, b"bad\n");
 
+// Scripts of the most lines and of the most bytes, and with one more.
 #[test]
 fn each_limit(rt: HostRuntime) -> Result<(), Fail> {
     assert!(rt; fits(rt.alloc(), &MOST_LINES)?);
@@ -280,7 +299,7 @@ fn is_front(alloc: Global, writes: usize) -> Result<bool, Fail> {
     Ok(part.ended == Err(RunFault::Write) && has_front)
 }
 
-// Whether a run within these limits ends well, with all answers written.
+/// Whether a run within these limits ends well, with all answers written.
 pub fn is_whole(alloc: Global, limits: Limits) -> Result<bool, Fail> {
     let all = run(alloc, SCRIPT, limits)?;
     Ok(all.ended.is_ok() && all.written.as_slice() == ANSWERS)
@@ -298,7 +317,7 @@ fn each_byte_fails(rt: HostRuntime) -> Result<(), Fail> {
     Ok(())
 }
 
-// Whether a run of which the second read fails has written these answers.
+/// Whether a run of which the second read fails has written these answers.
 pub fn is_read_once(alloc: Global, script: &[u8], answers: &[u8]) -> Result<bool, Fail> {
     let part = run(alloc, script, Limits { reads: 1, ..WELL })?;
     Ok(part.ended == Err(RunFault::Read) && part.written.as_slice() == answers)
@@ -356,6 +375,7 @@ fn is_replied(session: &mut Session, line: &[u8], want: &[u8]) -> bool {
     session.line(line).as_slice() == want
 }
 
+// The number of the first line that a session answers otherwise.
 fn otherwise(
     platform: &mut Platform,
     trace: &mut Trace,

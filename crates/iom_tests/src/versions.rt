@@ -141,6 +141,7 @@ fn image_with(alloc: Global, disk: &[u8], upgraded: bool) -> Result<Vec<u8>, Fai
     Ok(image)
 }
 
+// Lets accesses pass as they are, and notifies the device.
 fn notify(platform: &mut Platform) {
     platform.step(&Step::RegWrite {
         off: 16,
@@ -151,7 +152,7 @@ fn notify(platform: &mut Platform) {
 }
 
 // The platform of an image, notified of its request.
-fn notified_on(alloc: Global, image: &[u8]) -> Result<Platform, Fail> {
+pub fn notified_on(alloc: Global, image: &[u8]) -> Result<Platform, Fail> {
     let mut platform = load(alloc, image)?;
     notify(&mut platform);
     Ok(platform)
@@ -161,6 +162,7 @@ fn notified_on(alloc: Global, image: &[u8]) -> Result<Platform, Fail> {
 // status byte, and the disk's first byte.
 type Ending = (usize, u64, u64, u8);
 
+// Whether so many steps end so.
 fn ends(platform: &mut Platform, (steps, offered, status, first): Ending) -> bool {
     let features = Step::DevRead {
         dev: 0,
@@ -180,6 +182,7 @@ fn ends(platform: &mut Platform, (steps, offered, status, first): Ending) -> boo
 // A disk, whether its image is upgraded, whether its platform is copied, and how the request ends.
 type Written<'a> = (&'a [u8], bool, bool, Ending);
 
+// Whether an image ends as a case says.
 fn is_written(alloc: Global, case: &Written<'_>) -> Result<bool, Fail> {
     let (disk, upgraded, copied, ending) = case;
     let image = image_with(alloc, disk, *upgraded)?;
@@ -190,6 +193,7 @@ fn is_written(alloc: Global, case: &Written<'_>) -> Result<bool, Fail> {
     Ok(ends(&mut platform, *ending))
 }
 
+// The number of the first case that is otherwise.
 fn otherwise_written(alloc: Global, cases: &[Written<'_>]) -> Result<Option<usize>, Fail> {
     for (i, case) in cases.iter().enumerate() {
         if !is_written(alloc, case)? {

@@ -51,6 +51,7 @@ fn word_at(place: u64, word: u64) -> Entry {
     Entry { place, word }
 }
 
+// Tables of three levels with these entries.
 fn holding(first: Entry, second: Entry, third: Entry) -> Tables {
     Tables {
         first,
@@ -118,6 +119,7 @@ struct Case {
     want: Outcome,
 }
 
+// The number of the first walk that ends otherwise.
 fn otherwise(cases: &[Case]) -> Option<usize> {
     for (i, case) in cases.iter().enumerate() {
         if walk(&case.tables, case.shape, 0x80000, case.addr, case.kind) != case.want {
@@ -127,6 +129,7 @@ fn otherwise(cases: &[Case]) -> Option<usize> {
     None
 }
 
+// A read of an address, and how its walk ends.
 fn read_at(shape: Shape, addr: u64, tables: Tables, want: Outcome) -> Case {
     Case {
         tables,
@@ -148,6 +151,7 @@ fn write(tables: Tables, want: Outcome) -> Case {
     }
 }
 
+// Leaves of the levels 0 to 2, global or not, aligned or not, for reads and for writes.
 #[test]
 fn finds_leaves(rt: HostRuntime) {
     let global = leaf(0x80010, 0, true);
@@ -183,6 +187,7 @@ fn finds_leaves(rt: HostRuntime) {
     assert_eq!(rt; otherwise(&cases), None);
 }
 
+// An entry of each level that is outside memory, or that the guest's memory refuses.
 #[test]
 fn ends_at_entries_that_cannot_be_read(rt: HostRuntime) {
     let cases = [
@@ -196,6 +201,7 @@ fn ends_at_entries_that_cannot_be_read(rt: HostRuntime) {
     assert_eq!(rt; otherwise(&cases), None);
 }
 
+// Addresses of three levels, narrow, wide and too wide.
 #[test]
 fn divides_addresses_by_shape(rt: HostRuntime) {
     // the index into the wide root is 0x403
@@ -220,6 +226,7 @@ fn divides_addresses_by_shape(rt: HostRuntime) {
     assert_eq!(rt; otherwise(&cases), None);
 }
 
+// Addresses of four levels, narrow, wide and too wide.
 #[test]
 fn walks_four_levels(rt: HostRuntime) {
     let three = holding(ROOT, MIDDLE, LAST);

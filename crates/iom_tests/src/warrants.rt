@@ -8,7 +8,7 @@ use iom_mem::Ram;
 use std::alloc::Global;
 use std::test::Fail;
 
-// Device 5 has a first stage, whose tables map 0x40201000 to the frame at 0x80010000, and a byte to read there.
+/// Device 5 has a first stage, whose tables map 0x40201000 to the frame at 0x80010000, and a byte to read there.
 pub const MAPPED: [(u64, u64); 6] = [
     (0x8000_10a0, 1),
     (0x8000_10b8, 0x8000_0000_0008_0002),
@@ -21,7 +21,7 @@ pub const MAPPED: [(u64, u64); 6] = [
 // A context of device 5 both of whose stages are Bare.
 const BARE: [(u64, u64); 1] = [(0x8000_10a0, 1)];
 
-// A memory with these words at these addresses.
+/// A memory with these words at these addresses.
 pub fn memory(alloc: Global, words: &[(u64, u64)]) -> Result<Ram, Fail> {
     let mut ram = Ram::new(alloc, 0x8000_0000, 0x10_0000)?;
     for (addr, word) in words {
@@ -30,10 +30,12 @@ pub fn memory(alloc: Global, words: &[(u64, u64)]) -> Result<Ram, Fail> {
     Ok(ram)
 }
 
+/// The hart's write of `size` bytes to the IOMMU's registers.
 pub fn written(off: u64, size: u64, value: u64) -> Step {
     Step::RegWrite { off, size, value }
 }
 
+/// The hart's store of 8 bytes at a physical address.
 pub fn stored(addr: u64, value: u64) -> Step {
     Step::Store {
         addr,
@@ -42,6 +44,7 @@ pub fn stored(addr: u64, value: u64) -> Step {
     }
 }
 
+/// A read of one byte by device 5, at an IOVA.
 pub fn read(iova: u64) -> Step {
     Step::DmaRead {
         did: 5,
@@ -50,24 +53,24 @@ pub fn read(iova: u64) -> Step {
     }
 }
 
-// A platform with such a memory, on which nothing happened yet.
+/// A platform with such a memory, on which nothing happened yet.
 pub fn started(alloc: Global, words: &[(u64, u64)]) -> Result<Platform, Fail> {
     let ram = memory(alloc, words)?;
     Ok(Platform::new(alloc, ram, Vec::new(alloc))?)
 }
 
-// Carries out steps, and leaves their answers aside.
+/// Carries out steps, and leaves their answers aside.
 pub fn take(platform: &mut Platform, steps: &[Step]) {
     for step in steps {
         platform.step(step);
     }
 }
 
-// A step, and the warrant of its access.
+/// A step, and the warrant of its access.
 pub type Case = (usize, Option<Warrant>);
 
-// Whether step n has this warrant, of steps carried out from a memory with these words on. Of a disk of no bytes there is no
-// device.
+/// Whether step n has this warrant, of steps carried out from a memory with these words on. Of a disk of no bytes there is no
+/// device.
 pub fn is_warranted(
     alloc: Global,
     words: &[(u64, u64)],
@@ -80,7 +83,7 @@ pub fn is_warranted(
     Ok(n < steps.len() && explain(alloc, &start, steps, n)? == want)
 }
 
-// The number of the first case that is otherwise, of steps carried out from a memory with these words on.
+/// The number of the first case that is otherwise, of steps carried out from a memory with these words on.
 pub fn otherwise(
     alloc: Global,
     words: &[(u64, u64)],
@@ -95,6 +98,7 @@ pub fn otherwise(
     Ok(None)
 }
 
+/// The warrant of an access that page tables led, by the numbers of three steps.
 pub fn walked(context: usize, walk: usize, current: usize) -> Option<Warrant> {
     Some(Warrant::Walked {
         context,
@@ -145,6 +149,7 @@ fn stale_translation(rt: HostRuntime) -> Result<(), Fail> {
     Ok(())
 }
 
+// A read while ddtp's mode is Bare.
 #[test]
 fn by_the_register(rt: HostRuntime) -> Result<(), Fail> {
     let steps = [
@@ -183,6 +188,7 @@ fn by_a_context(rt: HostRuntime) -> Result<(), Fail> {
 // The page of a key of device 5, whether a look-up finds it, and how many keys that compares.
 type Compared = (u64, bool, u32);
 
+// The number of the first look-up that is otherwise.
 fn compared_otherwise(platform: &Platform, cases: &[Compared]) -> Option<usize> {
     for (i, (page, is_there, count)) in cases.iter().enumerate() {
         let key = Key {
@@ -212,7 +218,8 @@ const COMPARED: &[Compared] = &[
     (0x4_0200, false, 2),
 ];
 
-// Of 65 pages read the first has left the cache. A look-up compares the keys of one bucket, the newest first: those of every 32nd page.
+// Of 65 pages read the first has left the cache. A look-up compares the keys of one bucket, the newest first: those of every
+// 32nd page.
 #[test]
 fn look_ups_compare_one_bucket(rt: HostRuntime) -> Result<(), Fail> {
     let mut platform = started(rt.alloc(), &MAPPED)?;

@@ -9,7 +9,7 @@ use arrayvec::ArrayVec;
 /// One word more than any line has, of a script or of an assembler text.
 pub const MOST_WORDS: usize = 11;
 
-/// The words of a line, as many as are worth a look.
+/// The first words of a line, at most eleven: a line with more is refused.
 pub type Words<'a> = ArrayVec<&'a [u8], 11>;
 
 // Whether a byte parts words: a space, a tab or a CR.
@@ -20,6 +20,7 @@ fn is_blank(c: u8) -> bool
     matches!(c, b' ' | b'\t' | b'\r')
 }
 
+// Whether a byte ends a word: a blank, or the `#` of a comment.
 #[inline(always)]
 fn is_end(c: u8) -> bool
     ensures { result ≡ is_end c }
@@ -27,6 +28,7 @@ fn is_end(c: u8) -> bool
     matches!(c, b' ' | b'\t' | b'\r' | b'#')
 }
 
+// Where the first byte stands that isn't a blank.
 #[inline(always)]
 fn word_at(text: &[u8]) -> Option<usize>
     ensures { result ≡ position (λ c. not (is_blank c)) text.now }
@@ -34,6 +36,7 @@ fn word_at(text: &[u8]) -> Option<usize>
     text.iter().position(|c| !is_blank(*c))
 }
 
+// Where the first byte stands that ends a word.
 #[inline(always)]
 fn end_at(text: &[u8]) -> Option<usize>
     ensures { result ≡ position is_end text.now }
@@ -96,7 +99,7 @@ pub fn is_over(text: &[u8]) -> bool
     take_word(text).is_none()
 }
 
-/// The first words of a line, at most eleven.
+/// The first words of a line, at most eleven; none of a blank line.
 pub fn words(text: &[u8]) -> Words<'_>
     ensures { map (λ word. word.now) result.items ≡ take 11 (words_of text.now) }
 {
@@ -184,7 +187,7 @@ fn number_in(radix: u64, word: &[u8]) -> Option<u64>
     if rest.is_empty() { Some(value) } else { None }
 }
 
-/// The number that a word writes: decimal digits, or hex digits of either case after `0x`, below 2^64.
+/// The number that a word writes: decimal digits, or hex digits of either case after `0x`, below 2^64; None where it writes none.
 #[tactic(auto, unfolding(crate::specs::Words::number))]
 pub fn number(word: &[u8]) -> Option<u64>
     ensures { result ≡ number word.now }

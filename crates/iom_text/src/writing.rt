@@ -5,9 +5,10 @@ ghost use Rattle.iom_text.specs.Texts.{digits_in, numeral, hexed};
 
 use arrayvec::ArrayVec;
 
-/// The text of a number below 2^64.
+/// The text of a number below 2^64, at most 20 bytes.
 pub type Numeral = ArrayVec<u8, 20>;
 
+// The hex digit in lower case of a number below 16.
 fn glyph(digit: u64) -> u8
     requires { digit < 16 }
     ensures { result ≡ digit_glyph false digit }
@@ -30,6 +31,7 @@ fn push_digits(out: &mut Numeral, number: u64)
     }
 }
 
+// Appends a number as decimal digits.
 #[tactic(auto, using(crate::proofs::Digits::twenty_digits))]
 fn push_numeral(out: &mut Numeral, number: u64)
     requires { length out.old.items ≡ 0 }
@@ -42,7 +44,7 @@ fn push_numeral(out: &mut Numeral, number: u64)
     }
 }
 
-/// A number as decimal digits.
+/// A number below 2^64 as decimal digits, at most 20.
 #[tactic(auto, using(crate::proofs::Digits::twenty_digits, crate::proofs::Digits::short_decimal))]
 pub fn decimal(number: u64) -> Numeral
     ensures text { result.items ≡ numeral 10 number }
@@ -77,7 +79,7 @@ fn put_digits(places: &mut [u8], number: u64)
     }
 }
 
-/// Puts a number as hex digits in lower case at the front of 16 places; how many it takes.
+/// Puts a number as hex digits in lower case at the front of 16 places, and answers how many it takes, 1 to 16.
 #[inline(always)]
 #[tactic(auto, using(crate::proofs::Digits::zero_put))]
 pub fn put_hex(places: &mut [u8], number: u64) -> usize
@@ -94,7 +96,7 @@ pub fn put_hex(places: &mut [u8], number: u64) -> usize
     count
 }
 
-/// A number as `0x` and hex digits in lower case.
+/// A number below 2^64 as `0x` and hex digits in lower case, at most 18 bytes.
 pub fn hexed(number: u64) -> Numeral
     ensures text { result.items ≡ hexed number }
     ensures short { length result.items ≤ 18 }

@@ -249,7 +249,7 @@ all_lines start now kept lines bytes text h many =
     inr (omega (arith, h.counts_lines, h.within.lines, length-append (ended_lines text) (last_line (open_line text))))
 
 -- the end of the input
-pub last_fails : (start now : Progress) (kept : List ℕ) (lines bytes : ℕ) (text : List ℕ) (console : Console) (written : Option (List ℕ)) →
+last_fails : (start now : Progress) (kept : List ℕ) (lines bytes : ℕ) (text : List ℕ) (console : Console) (written : Option (List ℕ)) →
     Fed start now kept lines bytes text → console ≡ after now.console (last_line kept) →
     WritesFront now.written written (output_of now.console (last_line kept)) →
     HalfAnswered start (progress written console) (lines_of text)
@@ -258,7 +258,7 @@ last_fails start now kept lines bytes text console written h moved wrote =
     (moved ∙ last_steps kept (open_line text) now.console h.keeps)
     (subst (WritesFront now.written written) (last_output kept (open_line text) now.console h.keeps) wrote)
 
-pub last_answered : (start now : Progress) (kept : List ℕ) (lines bytes : ℕ) (text : List ℕ) (console : Console) (written : Option (List ℕ)) →
+last_answered : (start now : Progress) (kept : List ℕ) (lines bytes : ℕ) (text : List ℕ) (console : Console) (written : Option (List ℕ)) →
     Fed start now kept lines bytes text → console ≡ after now.console (last_line kept) →
     Appends now.written written (output_of now.console (last_line kept)) →
     Answered start (progress written console) (lines_of text)
@@ -266,6 +266,34 @@ last_answered start now kept lines bytes text console written h moved wrote =
     more_answered start now (ended_lines text) (last_line (open_line text)) console written h.answered
     (moved ∙ last_steps kept (open_line text) now.console h.keeps)
     (subst (Appends now.written written) (last_output kept (open_line text) now.console h.keeps) wrote)
+
+-- a last line is what is kept, where that has a byte
+pub end_fails : (start now : Progress) (kept : List ℕ) (lines bytes : ℕ) (text : List ℕ) (console : Console) (written : Option (List ℕ)) →
+    Fed start now kept lines bytes text → false ≡ (length kept == 0) → console ≡ console_after now.console (steps_of kept) →
+    WritesFront now.written written (output_to now.console kept) →
+    HalfAnswered start (progress written console) (lines_of text)
+end_fails start now [] lines bytes text console written h some moved wrote = absurd (cc some)
+end_fails start now (byte ∷ more) lines bytes text console written h some moved wrote =
+    last_fails start now (byte ∷ more) lines bytes text console written h
+    (moved ∙ sym (after_one now.console (byte ∷ more)))
+    (subst (WritesFront now.written written) (sym (output_of_one now.console (byte ∷ more))) wrote)
+
+pub end_answered : (start now : Progress) (kept : List ℕ) (lines bytes : ℕ) (text : List ℕ) (console : Console) (written : Option (List ℕ)) →
+    Fed start now kept lines bytes text → false ≡ (length kept == 0) → console ≡ console_after now.console (steps_of kept) →
+    Appends now.written written (output_to now.console kept) →
+    Answered start (progress written console) (lines_of text)
+end_answered start now [] lines bytes text console written h some moved wrote = absurd (cc some)
+end_answered start now (byte ∷ more) lines bytes text console written h some moved wrote =
+    last_answered start now (byte ∷ more) lines bytes text console written h
+    (moved ∙ sym (after_one now.console (byte ∷ more)))
+    (subst (Appends now.written written) (sym (output_of_one now.console (byte ∷ more))) wrote)
+
+pub end_is_last : (start now : Progress) (kept : List ℕ) (lines bytes : ℕ) (text : List ℕ) → Fed start now kept lines bytes text →
+    kept ≡ [] → Answered start (progress now.written now.console) (lines_of text)
+end_is_last start now kept lines bytes text h none =
+    last_answered start now kept lines bytes text now.console now.written h
+    (ap (λ k. after now.console (last_line k)) (sym none))
+    (subst (λ k. Appends now.written now.written (output_of now.console (last_line k))) (sym none) (Appends-nil now.written))
 
 -- a flush that failed left all written
 all_answered : (start now : Progress) (lines : List (List ℕ)) → Answered start now lines → HalfAnswered start now lines

@@ -6,3 +6,4 @@ pub mod Values
 pub mod Outputs
 pub mod Feeding
 pub mod Runs
+pub mod Plays

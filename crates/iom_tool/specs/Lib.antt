@@ -6,3 +6,4 @@ pub mod Console
 pub mod Debugger
 pub mod Output
 pub mod Running
+pub mod Playing

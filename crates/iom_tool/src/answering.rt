@@ -14,32 +14,18 @@ use crate::trace::Trace;
 use iom_core::{Platform, Step};
 use iom_text::take_word;
 
-/// Carries out the line of this text, and puts its answer in place of what `out` holds. Whether there is one; to a
-/// blank line there is none.
-#[tactic(auto, unfolding(crate::specs::Script::line_of))]
-pub fn answer_to(platform: &mut Platform, trace: &mut Trace, text: &[u8], out: &mut Draft) -> bool
-    ensures reply { out.new ≡ unwrap_or (reply (console platform.old trace.old) (line_of text.now)) [] }
-    ensures said { result ≡ is_some (reply (console platform.old trace.old) (line_of text.now)) }
-    ensures room { length out.new < 320 }
-    ensures state { platform.new ≡ end_of platform.old (steps_of text.now) }
-    ensures trace { trace.new ≡ trace_after trace.old platform.old (steps_of text.now) }
+/// A text without a line end that is the same line: this text where it has none, and else one that is bad as it is.
+pub fn cut_line(text: &[u8]) -> &[u8]
+    ensures cut { list_any (λ c. c == 10) result.now ≡ false }
+    ensures same { line_of result.now ≡ line_of text.now }
 {
-    if text.contains(&b'\n') {
-        out.clear();
-        push_text(out, b"bad");
-        return true;
-    }
-    answer_to_cut(platform, trace, text, out)
+    if text.contains(&b'\n') { b"bad" } else { text }
 }
 
-/// The same for a text that was cut off at its line end, and so isn't searched for one.
+/// Carries out the line of this text, which has no line end, puts its answer, below 320 bytes, in place of what `out` holds, and
+/// answers whether there is one: a blank line has none.
 #[tactic(auto, unfolding(crate::specs::Script::line_of, crate::specs::Script::meaning))]
-pub fn answer_to_cut(
-    platform: &mut Platform,
-    trace: &mut Trace,
-    text: &[u8],
-    out: &mut Draft,
-) -> bool
+pub fn answer_to(platform: &mut Platform, trace: &mut Trace, text: &[u8], out: &mut Draft) -> bool
     requires { list_any (λ c. c == 10) text.now ≡ false }
     ensures reply { out.new ≡ unwrap_or (reply (console platform.old trace.old) (line_of text.now)) [] }
     ensures said { result ≡ is_some (reply (console platform.old trace.old) (line_of text.now)) }

@@ -15,7 +15,7 @@ use iom_ddt::Context;
 use iom_mem::Ram;
 use iom_nested::Hit;
 
-/// Puts the text of the answer to a question, without a line end.
+/// Puts the text of the answer to a question, below 320 bytes and without a line end. Nothing is changed but `out`.
 #[inline(never)]
 pub fn push_answer_in(out: &mut Draft, platform: &Platform, trace: &Trace, question: Question)
     requires { length out.old ≡ 0 }
@@ -30,6 +30,7 @@ pub fn push_answer_in(out: &mut Draft, platform: &Platform, trace: &Trace, quest
     }
 }
 
+// Puts what stands at a place of the translation cache.
 #[tactic(auto, unfolding(crate::specs::Debugger::place_text))]
 fn push_place(out: &mut Draft, place: Place<Key, Hit>)
     requires { length out.old ≡ 0 }
@@ -43,6 +44,7 @@ fn push_place(out: &mut Draft, place: Place<Key, Hit>)
     }
 }
 
+// Puts what stands at a place of the context cache.
 #[tactic(auto, unfolding(crate::specs::Debugger::context_place_text))]
 fn push_context_place(out: &mut Draft, place: Place<u32, Context>)
     requires { length out.old ≡ 0 }
@@ -60,6 +62,7 @@ fn push_context_place(out: &mut Draft, place: Place<u32, Context>)
     push_text(out, context_line(&context).as_slice());
 }
 
+// Puts the line of an item, or that a byte of it is outside memory.
 fn push_item(out: &mut Draft, ram: &Ram, kind: Item, addr: u64)
     requires { length out.old ≡ 0 }
     ensures text { out.new ≡ out.old ++ item_text ram.now kind addr }
@@ -71,6 +74,7 @@ fn push_item(out: &mut Draft, ram: &Ram, kind: Item, addr: u64)
     }
 }
 
+// Puts an entry of the translation cache: its key and where it leads.
 fn push_page(out: &mut Draft, key: Key, hit: Hit)
     requires { length out.old ≡ 0 }
     ensures text { out.new ≡ out.old ++ page_text key hit }
@@ -87,6 +91,7 @@ fn push_page(out: &mut Draft, key: Key, hit: Hit)
     push_named(out, b"global", hit.global as u64);
 }
 
+// Appends a blank, a name, `=` and a number in hex.
 fn push_named(out: &mut Draft, name: &[u8], number: u64)
     requires { length out.old + length name.now + 20 < 320 }
     ensures text { out.new ≡ out.old ++ named name.now (hexed number) }
@@ -98,6 +103,7 @@ fn push_named(out: &mut Draft, name: &[u8], number: u64)
     push_hexed(out, number);
 }
 
+// The same for an id; `-` where the entry has none.
 fn push_id(out: &mut Draft, name: &[u8], id: Option<u32>)
     requires { length out.old + length name.now + 20 < 320 }
     ensures text { out.new ≡ out.old ++ named name.now (id_text id) }
@@ -113,6 +119,7 @@ fn push_id(out: &mut Draft, name: &[u8], id: Option<u32>)
     }
 }
 
+// Appends what an entry's access does.
 fn push_kind(out: &mut Draft, kind: Kind)
     requires { length out.old + 11 < 320 }
     ensures text { out.new ≡ out.old ++ named (codes "kind") (kind_text kind) }

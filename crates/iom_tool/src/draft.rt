@@ -7,7 +7,7 @@ ghost use Rattle.iom_text.specs.Texts.{hexed, numeral};
 use iom_text::put_hex;
 use std::marker::Model;
 
-/// Room for any answer. To empty it writes nothing but its length.
+/// Room for any answer, 320 bytes. To empty it writes nothing but its length.
 #[derive(Drop)]
 pub struct Draft {
     bytes: [u8; 320],
@@ -25,6 +25,7 @@ impl Model for Draft {
 }
 
 impl Draft {
+    /// An empty text.
     pub fn new() -> Draft
         ensures { result ≡ [] }
     {
@@ -34,12 +35,14 @@ impl Draft {
         }
     }
 
+    /// Empties the text.
     pub fn clear(&mut self)
         ensures { self.new ≡ [] }
     {
         self.len = 0;
     }
 
+    /// The bytes of the text, at most 320.
     #[inline(always)]
     pub fn as_slice(&self) -> &[u8]
         ensures { result.now ≡ self.now }
@@ -47,6 +50,7 @@ impl Draft {
         &self.bytes[..self.len]
     }
 
+    /// Appends a byte, for which there is room.
     #[inline(always)]
     pub fn push(&mut self, byte: u8)
         requires { length self.old < 320 }
@@ -56,7 +60,7 @@ impl Draft {
         self.len += 1;
     }
 
-    /// Appends bytes.
+    /// Appends bytes, for which there is room.
     #[inline(always)]
     pub fn append(&mut self, text: &[u8])
         requires { length self.old + length text.now ≤ 320 }
@@ -67,7 +71,7 @@ impl Draft {
         self.len = end;
     }
 
-    /// Appends a number as `0x` and hex digits in lower case.
+    /// Appends a number as `0x` and hex digits in lower case, at most 18 bytes.
     #[inline(always)]
     pub fn append_hexed(&mut self, number: u64)
         requires { length self.old + 18 < 320 }
@@ -90,7 +94,7 @@ impl Draft {
         self.len += count;
     }
 
-    /// Appends bytes as hex digits in lower case, two a byte.
+    /// Appends at most 64 bytes as hex digits in lower case, two for each.
     pub fn append_hex(&mut self, bytes: &[u8])
         requires few { length bytes.now ≤ 64 }
         requires room { length self.old + 128 ≤ 320 }

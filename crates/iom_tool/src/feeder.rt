@@ -23,6 +23,7 @@ pub struct Feeder<'a> {
 }
 
 impl<'a> Feeder<'a> {
+    /// A feeder for this platform and this trace, to which no piece was given yet.
     pub fn new(platform: &'a mut Platform, trace: &'a mut Trace) -> Feeder<'a>
         ensures same_platform { result.platform.ghost_name ≡ platform.entry.ghost_name }
         ensures same_trace { result.trace.ghost_name ≡ trace.entry.ghost_name }
@@ -81,7 +82,7 @@ impl<'a> Feeder<'a> {
         self.refusal = Some(fault);
     }
 
-    /// Answers a last line that lacks its line end, and flushes.
+    /// Answers a last line that lacks its line end, and flushes. The fault is `Write`, or what was refused before.
     pub fn finish<W: Write>(self, writer: &mut W) -> Result<(), RunFault>
         ensures fed { self.entry.refusal ≡ None → (start : Progress) (text : List ℕ)
             → Fed start (progress (W.contents writer.old) (console self.entry.platform.now self.entry.trace.now))

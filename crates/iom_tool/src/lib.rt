@@ -3,6 +3,7 @@
 
 pub use fault::RunFault;
 pub use feeder::Feeder;
+pub use playing::{Played, play};
 pub use rest::Rest;
 pub use running::run;
 pub use session::{Reply, Session};
@@ -14,6 +15,7 @@ mod draft;
 mod fault;
 mod feeder;
 mod operands;
+mod playing;
 mod rest;
 mod running;
 mod script;

@@ -9,6 +9,7 @@ use crate::words::bytes_of;
 use arrayvec::ArrayVec;
 use iom_text::{is_over, past_blanks, take_number, take_word};
 
+/// The one number that a text is; None where it has another number of words, or a word that is no number below 2^64.
 #[inline(always)]
 #[tactic(auto, using(crate::proofs::Forms::one_none, crate::proofs::Forms::one_some, crate::proofs::Forms::one_more))]
 pub fn one(text: &[u8]) -> Option<u64>
@@ -18,6 +19,7 @@ pub fn one(text: &[u8]) -> Option<u64>
     if is_over(rest) { Some(value) } else { None }
 }
 
+/// The two numbers that a text is; None where it has another number of words, or a word that is no number below 2^64.
 #[inline(always)]
 #[tactic(auto, using(crate::proofs::Forms::first_none, crate::proofs::Forms::first_some))]
 pub fn two(text: &[u8]) -> Option<(u64, u64)>
@@ -27,6 +29,7 @@ pub fn two(text: &[u8]) -> Option<(u64, u64)>
     Some((first, one(rest)?))
 }
 
+/// The three numbers that a text is; None where it has another number of words, or a word that is no number below 2^64.
 #[inline(always)]
 #[tactic(auto, using(crate::proofs::Forms::first_none, crate::proofs::Forms::first_some))]
 pub fn three(text: &[u8]) -> Option<(u64, (u64, u64))>
@@ -36,6 +39,7 @@ pub fn three(text: &[u8]) -> Option<(u64, (u64, u64))>
     Some((first, two(rest)?))
 }
 
+/// The four numbers that a text is; None where it has another number of words, or a word that is no number below 2^64.
 #[inline(always)]
 #[tactic(auto, using(crate::proofs::Forms::first_none, crate::proofs::Forms::first_some))]
 pub fn four(text: &[u8]) -> Option<(u64, (u64, (u64, u64)))>
@@ -45,6 +49,7 @@ pub fn four(text: &[u8]) -> Option<(u64, (u64, (u64, u64)))>
     Some((first, three(rest)?))
 }
 
+// The bytes that the only word of a text writes.
 #[inline(never)]
 #[tactic(auto, using(crate::proofs::Forms::data_none, crate::proofs::Forms::data_some, crate::proofs::Forms::data_more))]
 fn word_of_data(text: &[u8]) -> Option<ArrayVec<u8, 64>>
@@ -66,6 +71,8 @@ fn data_in(text: &[u8]) -> Option<ArrayVec<u8, 64>>
     }
 }
 
+/// The two numbers and the 1 to 64 bytes that a text is; None where it has another number of words, or one of them writes no such
+/// thing.
 #[inline(always)]
 #[tactic(auto, using(crate::proofs::Forms::first_none, crate::proofs::Forms::first_some))]
 pub fn numbers_and_data(text: &[u8]) -> Option<(u64, (u64, ArrayVec<u8, 64>))>

@@ -2,10 +2,10 @@ ghost use Rattle.std.specs.Prelude.{◌≡◌, ◌==◌, ◌+◌, ◌<◌, ◌�
 ghost use Rattle.std.specs.List.{list_any, position};
 ghost use Rattle.std.specs.Io.KnownBytes.{Appends, Keeps};
 ghost use Rattle.iom_tool.specs.Console.{console, console_after};
-ghost use Rattle.iom_tool.specs.Output.{steps_of, output_to, after, output_of, last_line};
+ghost use Rattle.iom_tool.specs.Output.{steps_of, output_to};
 ghost use Rattle.iom_tool.specs.Running.{Progress, progress, WritesFront, Fed, AfterLines, AfterPiece, AfterEnd, is_write};
 
-use crate::answering::{answer_to, answer_to_cut};
+use crate::answering::{answer_to, cut_line};
 use crate::draft::Draft;
 use crate::fault::RunFault;
 use crate::trace::Trace;
@@ -58,33 +58,8 @@ fn write_answer<W: Write>(
     write_out(writer, out.as_slice())
 }
 
-// Carries out a line and writes its answer.
+// Carries out a line that has no line end, and writes its answer.
 fn answer<W: Write>(
-    platform: &mut Platform,
-    trace: &mut Trace,
-    line: &[u8],
-    out: &mut Draft,
-    writer: &mut WatchedWriter<'_, W>,
-) -> Result<(), RunFault>
-    requires { writer.old.failed ≡ false }
-    ensures console { console platform.new trace.new
-        ≡ console_after (console platform.old trace.old) (steps_of line.now) }
-    ensures ok { OnOk result (Appends (W.contents writer.old.inner.now) (W.contents writer.new.inner.now)
-        (output_to (console platform.old trace.old) line.now)) }
-    ensures front { WritesFront (W.contents writer.old.inner.now) (W.contents writer.new.inner.now)
-        (output_to (console platform.old trace.old) line.now) }
-    ensures fault { IfErr result (λ fault. fault ≡ RunFault.Write) }
-    ensures told { writer.new.failed ≡ is_err result }
-    ensures same_writer { writer.new.inner.ghost_name ≡ writer.old.inner.ghost_name }
-{
-    if !answer_to(platform, trace, line, out) {
-        return Ok(());
-    }
-    write_answer(out, writer)
-}
-
-// The same for a line that was cut off at its end, and so isn't searched for one.
-fn answer_cut<W: Write>(
     platform: &mut Platform,
     trace: &mut Trace,
     line: &[u8],
@@ -103,37 +78,13 @@ fn answer_cut<W: Write>(
     ensures told { writer.new.failed ≡ is_err result }
     ensures same_writer { writer.new.inner.ghost_name ≡ writer.old.inner.ghost_name }
 {
-    if !answer_to_cut(platform, trace, line, out) {
+    if !answer_to(platform, trace, line, out) {
         return Ok(());
     }
     write_answer(out, writer)
 }
 
-// Carries out and answers a last line that lacks its line end; where it has no byte there is none.
-fn answer_last<W: Write>(
-    platform: &mut Platform,
-    trace: &mut Trace,
-    line: &[u8],
-    out: &mut Draft,
-    writer: &mut WatchedWriter<'_, W>,
-) -> Result<(), RunFault>
-    requires { writer.old.failed ≡ false }
-    ensures console { console platform.new trace.new
-        ≡ after (console platform.old trace.old) (last_line line.now) }
-    ensures ok { OnOk result (Appends (W.contents writer.old.inner.now) (W.contents writer.new.inner.now)
-        (output_of (console platform.old trace.old) (last_line line.now))) }
-    ensures front { WritesFront (W.contents writer.old.inner.now) (W.contents writer.new.inner.now)
-        (output_of (console platform.old trace.old) (last_line line.now)) }
-    ensures fault { IfErr result (λ fault. fault ≡ RunFault.Write) }
-    ensures told { writer.new.failed ≡ is_err result }
-    ensures same_writer { writer.new.inner.ghost_name ≡ writer.old.inner.ghost_name }
-{
-    if line.is_empty() {
-        return Ok(());
-    }
-    answer(platform, trace, line, out, writer)
-}
-
+// Flushes the writer.
 fn flush<W: Write>(writer: &mut WatchedWriter<'_, W>) -> Result<(), RunFault>
     requires { writer.old.failed ≡ false }
     ensures kept { Keeps (W.contents writer.old.inner.now) (W.contents writer.new.inner.now) }
@@ -160,17 +111,18 @@ fn line_end(text: &[u8]) -> Option<usize>
 /// What is kept of a script between its pieces.
 #[derive(Drop)]
 pub struct Rest {
-    /// The first bytes of the line that is open, enough to tell that it is too long.
+    /// The first bytes of the line that is open: 513 of them tell that it is too long.
     pub line: ArrayVec<u8, 513>,
-    /// The lines that have their end.
+    /// How many lines have their end: at most 2^20.
     pub lines: u64,
-    /// The bytes of all pieces.
+    /// How many bytes all pieces have: at most 2^26 are taken.
     pub bytes: u64,
     // where an answer is put together
     draft: Draft,
 }
 
 impl Rest {
+    /// What is kept before the first piece: nothing.
     pub fn new() -> Self
         ensures line { result.line.items ≡ [] }
         ensures lines { result.lines ≡ 0 }
@@ -218,13 +170,13 @@ impl Rest {
     {
         self.lines += 1;
         if self.line.is_empty() {
-            return answer_cut(platform, trace, part, &mut self.draft, writer);
+            return answer(platform, trace, part, &mut self.draft, writer);
         }
         self.keep(part);
         answer(
             platform,
             trace,
-            self.line.as_slice(),
+            cut_line(self.line.as_slice()),
             &mut self.draft,
             writer,
         )?;
@@ -263,8 +215,8 @@ impl Rest {
         Ok(from)
     }
 
-    /// Takes a piece of a script, and answers each line that it ends before it goes on. Whichever way
-    /// a text is cut into pieces, the same is answered.
+    /// Takes a piece of a script, and answers each line that it ends before it goes on. Whichever way a text is cut into pieces,
+    /// the same is answered. The faults are `Write` and `TooLong`.
     pub fn feed<W: Write>(
         &mut self,
         platform: &mut Platform,
@@ -295,7 +247,7 @@ impl Rest {
         Ok(())
     }
 
-    /// Answers a last line that lacks its line end, and flushes.
+    /// Answers a last line that lacks its line end, where it has a byte, and flushes. The fault is `Write`.
     pub fn finish<W: Write>(
         &mut self,
         platform: &mut Platform,
@@ -311,10 +263,13 @@ impl Rest {
         ensures flushed { OnOk result (writer.new.flushed ≡ true) }
         ensures same_writer { writer.new.inner.ghost_name ≡ writer.old.inner.ghost_name }
     {
-        answer_last(
+        if self.line.is_empty() {
+            return flush(writer);
+        }
+        answer(
             platform,
             trace,
-            self.line.as_slice(),
+            cut_line(self.line.as_slice()),
             &mut self.draft,
             writer,
         )?;

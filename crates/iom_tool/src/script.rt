@@ -10,11 +10,11 @@ use iom_text::{is_over, take_word};
 /// A question about the platform or the trace. It is no step.
 #[derive(Drop)]
 pub enum Question {
-    /// What stands at this place of the translation cache; the oldest is place 0.
+    /// What stands at this place of the translation cache, the IOTLB; the oldest is place 0.
     Page(u64),
-    /// What stands at this place of the context cache; the oldest is place 0.
+    /// What stands at this place of the context cache, the DDTC; the oldest is place 0.
     Context(u64),
-    /// The item at this physical address.
+    /// The item at this physical address, of any alignment.
     Show(Item, u64),
     /// Which step stands at this place of the trace, and its answer; the oldest is at place 0.
     Trace(u64),
@@ -23,6 +23,7 @@ pub enum Question {
 /// The longest line, in bytes without its end.
 pub const MOST_BYTES_OF_A_LINE: usize = 512;
 
+// What follows `load`: physical address and size.
 #[inline(always)]
 #[tactic(auto, using(crate::proofs::Forms::load_none, crate::proofs::Forms::load_some))]
 fn load(text: &[u8]) -> Option<Step>
@@ -32,6 +33,7 @@ fn load(text: &[u8]) -> Option<Step>
     Some(Step::Load { addr, size })
 }
 
+// What follows `store`: physical address, size and value.
 #[inline(always)]
 #[tactic(auto, using(crate::proofs::Forms::store_none, crate::proofs::Forms::store_some))]
 fn store(text: &[u8]) -> Option<Step>
@@ -41,6 +43,7 @@ fn store(text: &[u8]) -> Option<Step>
     Some(Step::Store { addr, size, value })
 }
 
+// What follows `reg read`: offset and size.
 #[inline(always)]
 #[tactic(auto, using(crate::proofs::Forms::reg_read_none, crate::proofs::Forms::reg_read_some))]
 fn reg_read(text: &[u8]) -> Option<Step>
@@ -50,6 +53,7 @@ fn reg_read(text: &[u8]) -> Option<Step>
     Some(Step::RegRead { off, size })
 }
 
+// What follows `reg write`: offset, size and value.
 #[inline(always)]
 #[tactic(auto, using(crate::proofs::Forms::reg_write_none, crate::proofs::Forms::reg_write_some))]
 fn reg_write(text: &[u8]) -> Option<Step>
@@ -59,6 +63,7 @@ fn reg_write(text: &[u8]) -> Option<Step>
     Some(Step::RegWrite { off, size, value })
 }
 
+// What follows `reg`: `read` or `write` and its operands.
 #[inline(always)]
 #[tactic(auto, unfolding(crate::specs::Script::reg))]
 fn reg(text: &[u8]) -> Option<Step>
@@ -81,6 +86,7 @@ fn put_reg(text: &[u8], place: &mut Step) -> bool
     put(reg(text), place)
 }
 
+// What follows `cmd`: nothing.
 #[inline(always)]
 #[tactic(auto, unfolding(crate::specs::Script::cmd))]
 fn cmd(text: &[u8]) -> Option<Step>
@@ -93,6 +99,7 @@ fn cmd(text: &[u8]) -> Option<Step>
     }
 }
 
+// What follows `dma read`: device id, IOVA and length.
 #[inline(always)]
 #[tactic(auto, using(crate::proofs::Forms::dma_read_none, crate::proofs::Forms::dma_read_some))]
 fn dma_read(text: &[u8]) -> Option<Step>
@@ -102,6 +109,7 @@ fn dma_read(text: &[u8]) -> Option<Step>
     Some(Step::DmaRead { did, iova, len })
 }
 
+// What follows `dma write`: device id, IOVA and bytes.
 #[inline(always)]
 #[tactic(auto, using(crate::proofs::Forms::dma_write_none, crate::proofs::Forms::dma_write_some))]
 fn dma_write(text: &[u8]) -> Option<Step>
@@ -125,6 +133,7 @@ fn put(parsed: Option<Step>, place: &mut Step) -> bool
     true
 }
 
+// Puts the step of a line `dma write`.
 #[inline(never)]
 fn put_dma_write(text: &[u8], place: &mut Step) -> bool
     ensures some { result ≡ true → dma_write (words_of text.now) ≡ Some place.new }
@@ -133,6 +142,7 @@ fn put_dma_write(text: &[u8], place: &mut Step) -> bool
     put(dma_write(text), place)
 }
 
+// Puts the step of a line `dma`.
 #[inline(always)]
 #[tactic(auto, unfolding(crate::specs::Script::dma))]
 fn put_dma(text: &[u8], place: &mut Step) -> bool
@@ -149,6 +159,7 @@ fn put_dma(text: &[u8], place: &mut Step) -> bool
     }
 }
 
+// What follows `dev read`: device, offset and size.
 #[inline(always)]
 #[tactic(auto, using(crate::proofs::Forms::dev_read_none, crate::proofs::Forms::dev_read_some))]
 fn dev_read(text: &[u8]) -> Option<Step>
@@ -158,6 +169,7 @@ fn dev_read(text: &[u8]) -> Option<Step>
     Some(Step::DevRead { dev, off, size })
 }
 
+// What follows `dev write`: device, offset, size and value.
 #[inline(always)]
 #[tactic(auto, using(crate::proofs::Forms::dev_write_none, crate::proofs::Forms::dev_write_some))]
 fn dev_write(text: &[u8]) -> Option<Step>
@@ -172,6 +184,7 @@ fn dev_write(text: &[u8]) -> Option<Step>
     })
 }
 
+// What follows `dev step`: the device.
 #[inline(always)]
 #[tactic(auto, using(crate::proofs::Forms::dev_step_none, crate::proofs::Forms::dev_step_some))]
 fn dev_step(text: &[u8]) -> Option<Step>
@@ -180,6 +193,7 @@ fn dev_step(text: &[u8]) -> Option<Step>
     Some(Step::Device { dev: one(text)? })
 }
 
+// What follows `dev`: `read`, `write` or `step` and its operands.
 #[inline(always)]
 #[tactic(auto, unfolding(crate::specs::Script::dev))]
 fn dev(text: &[u8]) -> Option<Step>
@@ -194,6 +208,7 @@ fn dev(text: &[u8]) -> Option<Step>
     }
 }
 
+// Puts the step of a line `dev`.
 #[inline(never)]
 fn put_dev(text: &[u8], place: &mut Step) -> bool
     ensures some { result ≡ true → dev (words_of text.now) ≡ Some place.new }
@@ -202,6 +217,7 @@ fn put_dev(text: &[u8], place: &mut Step) -> bool
     put(dev(text), place)
 }
 
+// What follows `place page`: the place.
 #[inline(always)]
 #[tactic(auto, using(crate::proofs::Forms::place_page_none, crate::proofs::Forms::place_page_some))]
 fn place_page(text: &[u8]) -> Option<Question>
@@ -210,6 +226,7 @@ fn place_page(text: &[u8]) -> Option<Question>
     Some(Question::Page(one(text)?))
 }
 
+// What follows `place context`: the place.
 #[tactic(auto, using(crate::proofs::Forms::place_context_none, crate::proofs::Forms::place_context_some))]
 fn place_context(text: &[u8]) -> Option<Question>
     ensures { result ≡ place_context (words_of text.now) }
@@ -217,6 +234,7 @@ fn place_context(text: &[u8]) -> Option<Question>
     Some(Question::Context(one(text)?))
 }
 
+// What follows `place`: `page` or `context`, and the place.
 #[inline(always)]
 #[tactic(auto, unfolding(crate::specs::Script::place))]
 fn place(text: &[u8]) -> Option<Question>
@@ -230,6 +248,7 @@ fn place(text: &[u8]) -> Option<Question>
     }
 }
 
+// What follows `show` and the kind of an item: its physical address.
 #[tactic(auto, using(crate::proofs::Forms::shown_none, crate::proofs::Forms::shown_some))]
 fn shown(kind: Item, text: &[u8]) -> Option<Question>
     ensures { result ≡ shown kind (words_of text.now) }
@@ -237,6 +256,7 @@ fn shown(kind: Item, text: &[u8]) -> Option<Question>
     Some(Question::Show(kind, one(text)?))
 }
 
+// What follows `show`: the kind of an item and its physical address.
 #[tactic(auto, unfolding(crate::specs::Script::show))]
 fn show(text: &[u8]) -> Option<Question>
     ensures { result ≡ show (words_of text.now) }
@@ -245,6 +265,7 @@ fn show(text: &[u8]) -> Option<Question>
     shown(Item::named(kind)?, text)
 }
 
+// What follows `trace`: which step.
 #[inline(always)]
 #[tactic(auto, using(crate::proofs::Forms::trace_none, crate::proofs::Forms::trace_some))]
 fn trace(text: &[u8]) -> Option<Question>
@@ -253,7 +274,8 @@ fn trace(text: &[u8]) -> Option<Question>
     Some(Question::Trace(one(text)?))
 }
 
-/// Puts the step that a line is, by its first word and what follows it; whether it is one.
+/// Puts the step that a line is, by its first word and what follows it, and answers whether it is one. Where it is none, `place`
+/// may hold anything.
 #[inline(never)]
 #[tactic(auto, unfolding(crate::specs::Script::step_of))]
 pub fn put_step_of(verb: &[u8], text: &[u8], place: &mut Step) -> bool
@@ -271,7 +293,7 @@ pub fn put_step_of(verb: &[u8], text: &[u8], place: &mut Step) -> bool
     }
 }
 
-/// The question that a line is, by its first word and what follows it.
+/// The question that a line is, by its first word and what follows it; None where it is none.
 #[tactic(auto, unfolding(crate::specs::Script::question_of))]
 pub fn question_of(verb: &[u8], text: &[u8]) -> Option<Question>
     ensures { result ≡ question_of verb.now (words_of text.now) }

@@ -5,13 +5,13 @@ ghost use Rattle.iom_tool.specs.Script.{line_of};
 ghost use Rattle.iom_tool.specs.Console.{console, trace_after};
 ghost use Rattle.iom_tool.specs.Output.{reply, steps_of};
 
-use crate::answering::answer_to;
+use crate::answering::{answer_to, cut_line};
 use crate::draft::Draft;
 use crate::trace::Trace;
 use arrayvec::ArrayVec;
 use iom_core::Platform;
 
-/// The text of one answer, without a line end.
+/// The text of one answer, at most 320 bytes, without a line end.
 pub type Reply = ArrayVec<u8, 320>;
 
 /// A script given a line at a time.
@@ -24,6 +24,7 @@ pub struct Session<'a> {
 }
 
 impl<'a> Session<'a> {
+    /// A session for this platform and this trace, to which no line was given yet.
     pub fn new(platform: &'a mut Platform, trace: &'a mut Trace) -> Session<'a>
         ensures same_platform { result.platform.ghost_name ≡ platform.entry.ghost_name }
         ensures same_trace { result.trace.ghost_name ≡ trace.entry.ghost_name }
@@ -45,7 +46,7 @@ impl<'a> Session<'a> {
         ensures same_trace { self.new.trace.ghost_name ≡ self.old.trace.ghost_name }
     {
         let mut draft = Draft::new();
-        let _said = answer_to(self.platform, self.trace, text, &mut draft);
+        let _said = answer_to(self.platform, self.trace, cut_line(text), &mut draft);
         let mut reply = Reply::new();
         let _fits = reply.try_extend_from_slice(draft.as_slice());
         reply

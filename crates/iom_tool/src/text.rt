@@ -8,7 +8,7 @@ use crate::draft::Draft;
 use crate::trace::Entry;
 use iom_core::{Answer, Step};
 
-/// Appends bytes.
+/// Appends bytes, for which there is room.
 pub fn push_text(out: &mut Draft, text: &[u8])
     requires { length out.old + length text.now ≤ 320 }
     ensures text { out.new ≡ out.old ++ text.now }
@@ -27,7 +27,7 @@ fn push_bytes(out: &mut Draft, bytes: &[u8])
     out.append_hex(bytes);
 }
 
-/// Appends a number as `0x` and hex digits in lower case.
+/// Appends a number as `0x` and hex digits in lower case, at most 18 bytes.
 pub fn push_hexed(out: &mut Draft, number: u64)
     requires { length out.old + 18 < 320 }
     ensures text { out.new ≡ out.old ++ hexed number }
@@ -36,6 +36,7 @@ pub fn push_hexed(out: &mut Draft, number: u64)
     out.append_hexed(number);
 }
 
+// Appends the text of a denial: its cause in decimal.
 fn push_denied(out: &mut Draft, cause: u16)
     requires { length out.old + 27 < 320 }
     ensures text { out.new ≡ out.old ++ codes "denied " ++ numeral 10 cause }
@@ -45,7 +46,7 @@ fn push_denied(out: &mut Draft, cause: u16)
     push_text(out, iom_text::decimal(u64::from(cause)).as_slice());
 }
 
-/// Appends the text of an answer.
+/// Appends the text of an answer, at most 128 bytes.
 #[tactic(auto, unfolding(crate::specs::Texts::text_of))]
 pub fn push_answer(out: &mut Draft, answer: &Answer)
     requires { length out.old + 128 < 320 }
@@ -78,6 +79,7 @@ fn push_form(out: &mut Draft, words: &[u8], numbers: &[u64])
     }
 }
 
+// Puts a device's write as its line of a script.
 fn push_device_write(out: &mut Draft, did: u64, iova: u64, bytes: &[u8])
     requires few { length bytes.now ≤ 64 }
     requires room { length out.old ≡ 0 }
@@ -117,7 +119,7 @@ fn push_step(out: &mut Draft, step: &Step)
     }
 }
 
-/// Puts the text of a step of a trace, and its answer.
+/// Puts the text of a step of a trace, and its answer; `none` where there is no such step.
 #[tactic(auto, unfolding(crate::specs::Texts::entry_text))]
 pub fn push_entry(out: &mut Draft, entry: Option<&Entry>)
     requires { length out.old ≡ 0 }

@@ -9,7 +9,9 @@ const MOST_ENTRIES: usize = 32;
 /// A step that was carried out, and its answer.
 #[derive(Drop)]
 pub struct Entry {
+    /// The step.
     pub step: Step,
+    /// What it answered.
     pub answer: Answer,
 }
 
@@ -35,7 +37,7 @@ impl Trace {
     ghost use Rattle.std.specs.Option.{option_copied};
     ghost use Rattle.iom_tool.specs.Console.{traced};
 
-    /// A trace with no step yet. It takes the memory of all steps, and no other call takes any.
+    /// A trace with no step yet. It takes the memory of all steps, and no other call takes any. The fault is a refused allocation.
     pub fn new(alloc: Global) -> Result<Trace, AllocError>
         ensures { IfOk result (λ trace. trace ≡ []) }
     {
@@ -51,7 +53,7 @@ impl Trace {
         let _oldest = self.entries.push_back(Entry { step, answer });
     }
 
-    /// The step at place `i`, any number; the oldest is at place 0.
+    /// The step at place `i`, any number; the oldest is at place 0. None where there are so many steps or fewer.
     pub fn entry(&self, i: u64) -> Option<&Entry>
         ensures { option_copied result ≡ slice_get self.now i }
     {

@@ -7,11 +7,14 @@ use std::io::{Read, Write};
 /// A reader that notes whether a read of it failed. After that it isn't called again.
 #[derive(Drop)]
 pub struct WatchedReader<'a, R> {
+    /// The reader that is watched.
     pub inner: &'a mut R,
+    /// Whether a read failed.
     pub failed: bool,
 }
 
 impl<'a, R: Read> WatchedReader<'a, R> {
+    /// A reader of which no read failed yet.
     pub fn new(inner: &'a mut R) -> WatchedReader<'a, R>
         ensures same_reader { result.inner.ghost_name ≡ inner.entry.ghost_name }
         ensures inner { result.inner.now ≡ inner.old }
@@ -50,12 +53,16 @@ impl<'a, R: Read> WatchedReader<'a, R> {
 /// failed it isn't called again.
 #[derive(Drop)]
 pub struct WatchedWriter<'a, W> {
+    /// The writer that is watched.
     pub inner: &'a mut W,
+    /// Whether a write or a flush failed.
     pub failed: bool,
+    /// Whether all that was written is flushed.
     pub flushed: bool,
 }
 
 impl<'a, W: Write> WatchedWriter<'a, W> {
+    /// A writer of which no call failed yet.
     pub fn new(inner: &'a mut W) -> WatchedWriter<'a, W>
         ensures same_writer { result.inner.ghost_name ≡ inner.entry.ghost_name }
         ensures inner { result.inner.now ≡ inner.old }
@@ -88,7 +95,7 @@ impl<'a, W: Write> WatchedWriter<'a, W> {
         }
     }
 
-    /// Flushes; whether that went well.
+    /// Flushes, and answers whether that went well.
     pub fn flush(&mut self) -> bool
         requires { self.old.failed ≡ false }
         ensures bytes { Keeps (W.contents self.old.inner.now) (W.contents self.new.inner.now) }

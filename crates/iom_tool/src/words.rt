@@ -28,6 +28,7 @@ static VALUES: [u8; 256] = [
     16, 16, 16, 16, 16, 16, 16, 16, 16, 16, 16, 16, 16, 16, 16, 16,
 ];
 
+// The value of a hex digit; 16 or above of any other byte.
 #[inline(always)]
 fn value_of(c: u8) -> u8
     ensures digit { result < 16 → hex_digit_value c ≡ Some result }
@@ -36,7 +37,7 @@ fn value_of(c: u8) -> u8
     VALUES[usize::from(c)]
 }
 
-// Puts the bytes that pairs of hex digits write; whether all are digits, which is told by all their values together.
+// Puts the bytes that pairs of hex digits write, and answers whether all are digits, which all their values together tell.
 #[inline(never)]
 fn decode(word: &[u8], bytes: &mut [u8]) -> bool
     requires { length word.now ≡ 2 * length bytes.old }
@@ -53,7 +54,7 @@ fn decode(word: &[u8], bytes: &mut [u8]) -> bool
     met < 16
 }
 
-/// The bytes that a word of 2 to 128 hex digits writes.
+/// The 1 to 64 bytes that a word of 2 to 128 hex digits writes; None of any other word.
 #[inline(always)]
 #[tactic(auto, unfolding(crate::specs::Words::bytes_of))]
 pub fn bytes_of(word: &[u8]) -> Option<ArrayVec<u8, 64>>

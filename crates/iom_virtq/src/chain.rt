@@ -26,7 +26,7 @@ const NO_PART: Part = Part {
     len: 0,
 };
 
-/// A chain of descriptors: the parts that were added, in their order.
+/// A descriptor chain: the buffers that were added, in their order (VIRTIO 1.2, "The Virtqueue Descriptor Table").
 #[derive(Drop)]
 pub struct Chain {
     limit: u16,
@@ -53,7 +53,7 @@ impl Chain {
     ghost use Rattle.iom_virtq.specs.Chains.{bytes_on, address_of, run_length, IsPiece, fits};
     ghost use Rattle.iom_virtq.specs.Adding.{add_result, with_part, refusal_of, is_on, IsBelow};
 
-    /// A chain with no part yet, in a queue of `limit` descriptors: 1 to 64.
+    /// A chain with no part yet, in a queue of `limit` descriptors, the queue size: 1 to 64.
     pub fn new(limit: u16) -> Chain
         requires some { 1 ≤ limit }
         requires most { limit ≤ 64 }
@@ -66,11 +66,15 @@ impl Chain {
         }
     }
 
-    /// Adds the descriptor of these words as the chain's last part, and answers what comes next. A part of length 0 has no
-    /// byte. Of the flags only NEXT, WRITE and INDIRECT count; `next` counts where NEXT is set.
+    /// Adds a descriptor as the chain's last part, and answers what comes next: the index of a further descriptor, below the
+    /// chain's limit, or that the chain is complete (VIRTIO 1.2, "The Virtqueue Descriptor Table").
     ///
-    /// The refusals, in the order in which they are tested: `Indirect`, `ReadAfterWrite`, `TooLong`, `BadNext`, `Wraps`
-    /// (`addr + len` above 2^64). After a refusal the chain is unchanged.
+    /// `addr` is the IOVA of the part's first byte, any of 64 bits, and `len` its bytes, from 0 to 2^32 - 1; a part of length 0 has
+    /// no byte. Of `flags`, 16 bits, only NEXT (bit 0), WRITE (bit 1) and INDIRECT (bit 2) count. `next` is an index into the
+    /// descriptor table, and counts where NEXT is set.
+    ///
+    /// The refusals, in the order in which they are tested: `Indirect`, `ReadAfterWrite`, `TooLong`, `BadNext`, `Wraps` (`addr +
+    /// len` above 2^64). After a refusal the chain is unchanged.
     #[tactic(auto, unfolding(crate::specs::Adding::add_result))]
     pub fn add(&mut self, addr: u64, len: u32, flags: u16, next: u16) -> Result<More, ChainFault>
         ensures result { result ≡ add_result self.old addr len flags next }
@@ -85,7 +89,7 @@ impl Chain {
         Ok(more_of(flags, next))
     }
 
-    /// How many bytes the chain has on a side.
+    /// How many bytes the chain has on a side: at most 64 * (2^32 - 1).
     pub fn total(&self, side: Side) -> u64
         ensures total { result ≡ length (bytes_on self.now side) }
         ensures few { result ≤ 64 * 4294967295 }
@@ -148,6 +152,7 @@ impl Chain {
             .any(|part| matches!(part.side, Side::Writable))
     }
 
+    // Puts a part behind the others; there is room for it.
     #[tactic(auto, using(std::proofs::lemmas::List::take_more_set))]
     fn push(&mut self, part: Part)
         requires room { length self.old.parts < self.old.limit }

@@ -9,8 +9,8 @@ use Rattle.iom_walk.specs.declared.shape.Shape.{Shape}
 use Rattle.iom_walk.specs.declared.shape.Shape.TheVariants.{Sv39, Sv39x4, Sv48, Sv48x4}
 use Rattle.iom_walk.specs.declared.outcome.Outcome.TheVariants as outcome
 use Rattle.iom_walk.specs.Shape.{index_of, index_width, is_in_width, levels}
-use Rattle.iom_walk.specs.Verdict.{Verdict}
-use Rattle.iom_walk.specs.Verdict as verdict
+use Rattle.iom_walk.specs.declared.entry.Verdict.{Verdict}
+use Rattle.iom_walk.specs.declared.entry.Verdict.TheVariants as verdict
 use Rattle.iom_walk.specs.Path.{Entry, entry_at, next_table, path_from, verdict_on}
 use Rattle.iom_walk.specs.Outcome.{conclude, conclude_at, outcome_of, verdict_on_path}
 use Rattle.iom_walk.specs.Pages.{OneEndAPage}

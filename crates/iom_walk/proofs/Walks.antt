@@ -5,11 +5,12 @@ use Rattle.iom_bits.specs.declared.causes.Kind.{Kind}
 use Rattle.iom_bits.specs.declared.causes.Kind.TheVariants.{Read}
 use Rattle.iom_walk.specs.declared.source.Got.{Got}
 use Rattle.iom_walk.specs.declared.shape.Shape.{Shape}
-use Rattle.iom_walk.specs.Verdict as verdict
+use Rattle.iom_walk.specs.declared.entry.Verdict.TheVariants as verdict
 use Rattle.iom_walk.specs.declared.outcome.Outcome.{Outcome}
 use Rattle.iom_walk.specs.declared.outcome.Outcome.TheVariants as outcome
 use Rattle.iom_walk.specs.Shape.{levels, index_of}
-use Rattle.iom_walk.specs.Verdict.{Verdict, verdict_of, is_pointer, is_global, ppn, word_of}
+use Rattle.iom_walk.specs.declared.entry.Verdict.{Verdict}
+use Rattle.iom_walk.specs.Verdict.{verdict_of, is_pointer, is_global, ppn, word_of}
 use Rattle.iom_walk.specs.Path.{Entry, entry_at, verdict_on, next_table, path_from, path_of}
 use Rattle.iom_walk.specs.Outcome.{conclude, conclude_at, verdict_on_path}
 use Rattle.iom_walk.proofs.Entries.{pointer_for_each, pointer_word}

@@ -6,12 +6,13 @@ use Rattle.std.specs.List.{find, list_any}
 use Rattle.iom_bits.specs.declared.causes.Kind.{Kind}
 use Rattle.iom_walk.specs.declared.source.Got.{Got}
 use Rattle.iom_walk.specs.declared.shape.Shape.{Shape}
-use Rattle.iom_walk.specs.Verdict as verdict
+use Rattle.iom_walk.specs.declared.entry.Verdict.TheVariants as verdict
 use Rattle.iom_walk.specs.declared.outcome.Leaf.{Leaf}
 use Rattle.iom_walk.specs.declared.outcome.Outcome.{Outcome}
 use Rattle.iom_walk.specs.declared.outcome.Outcome.TheVariants as outcome
 use Rattle.iom_walk.specs.Shape.{levels, is_in_width}
-use Rattle.iom_walk.specs.Verdict.{Verdict, is_pointer, is_global, ppn, word_of}
+use Rattle.iom_walk.specs.declared.entry.Verdict.{Verdict}
+use Rattle.iom_walk.specs.Verdict.{is_pointer, is_global, ppn, word_of}
 use Rattle.iom_walk.specs.Path.{Entry, verdict_on, path_of, IsLongestPath}
 
 -- the frame of an address under a leaf: the leaf's PPN, and below it the low 9 * level bits of the address's page number

@@ -6,7 +6,8 @@ use Rattle.iom_bits.specs.declared.causes.Kind.TheVariants.{Read}
 use Rattle.iom_walk.specs.declared.source.Got.{Got}
 use Rattle.iom_walk.specs.declared.shape.Shape.{Shape}
 use Rattle.iom_walk.specs.Shape.{levels, index_of}
-use Rattle.iom_walk.specs.Verdict.{Verdict, verdict_of, is_pointer, ppn, word_of}
+use Rattle.iom_walk.specs.declared.entry.Verdict.{Verdict}
+use Rattle.iom_walk.specs.Verdict.{verdict_of, is_pointer, ppn, word_of}
 
 -- an entry that is met: its level, its address and what was read there
 pub record Entry : Type 0 where

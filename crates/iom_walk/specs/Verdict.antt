@@ -7,19 +7,10 @@ use Rattle.iom_bits.specs.declared.causes.Kind.{Kind}
 use Rattle.iom_bits.specs.declared.causes.Kind.TheVariants.{Read, Write}
 use Rattle.iom_walk.specs.declared.source.Got.{Got}
 use Rattle.iom_walk.specs.declared.source.Got.TheVariants as got
-
--- what an entry says to a walk
-pub data Verdict : Type 0 where
-  -- it lies outside memory
-  Outside : Verdict
-  -- it is in a guest's memory, where it couldn't be read
-  Guest : Verdict
-  -- it ends the walk in a page fault
-  Fault : Verdict
-  -- this word points to a table of the next level
-  Pointer : ℕ → Verdict
-  -- this word maps the address
-  Leaf : ℕ → Verdict
+use Rattle.iom_walk.specs.declared.entry.Verdict.{Verdict}
+use Rattle.iom_walk.specs.declared.entry.Verdict.TheVariants as verdict
+use Rattle.iom_walk.specs.declared.entry.Ruling.{Ruling}
+use Rattle.iom_walk.specs.declared.entry.Ruling.TheVariants as ruling
 
 -- the fields of an entry: flags, bits 9:8 for software, the PPN, ten reserved bits
 abbrev pub is_valid : ℕ → Bool
@@ -56,18 +47,21 @@ reserved word = field_of word 54 10
 abbrev pub has_no_access : ℕ → Bool
 has_no_access word = not (is_readable word) && not (is_writable word) && not (is_executable word)
 
--- of an entry with R = W = X = 0: A, D or U is set, or there is no next level
-abbrev pub is_bad_pointer : ℕ → ℕ → Bool
-is_bad_pointer level word = is_accessed word || is_dirty word || is_user word || level == 0
+-- of an entry with R = W = X = 0: A, D or U is set, which are reserved in a pointer
+abbrev pub has_leaf_bits : ℕ → Bool
+has_leaf_bits word = is_accessed word || is_dirty word || is_user word
 
 -- the PPN of a leaf that maps 2^(9 * level) pages isn't a multiple of that number
 abbrev pub is_misaligned : ℕ → ℕ → Bool
 is_misaligned level word = not (ppn word % 2 ^ (9 * level) == 0)
 
--- a leaf doesn't allow an access of user mode, or A or D would have to be set for it
-abbrev pub refuses : Kind → ℕ → Bool
-refuses Read word = not (is_user word) || not (is_readable word) || not (is_accessed word)
-refuses Write word = not (is_user word) || not (is_writable word) || not (is_accessed word) || not (is_dirty word)
+abbrev pub is_read : Kind → Bool
+is_read Read = true
+is_read Write = false
+
+abbrev pub is_write : Kind → Bool
+is_write Read = false
+is_write Write = true
 
 -- a word that was read, and whether one was
 abbrev pub word_of : Got → ℕ
@@ -85,46 +79,79 @@ is_guest (got.Word word) = false
 is_guest got.Outside = false
 is_guest got.Guest = true
 
--- a row of the table: when it applies, by the kind of the access, the entry's level and what was read; and what it gives
+-- a row of the table: when it applies, by the kind of the access, the entry's level and what was read; and its name
 pub record Row : Type 0 where
   pub applies : Kind → ℕ → Got → Bool
-  pub gives : ℕ → Verdict
+  pub ruling : Ruling
 
 -- a row on a word that was read
-abbrev pub on_word : (Kind → ℕ → ℕ → Bool) → (ℕ → Verdict) → Row
-on_word test gives = record { applies = λ kind level got. test kind level (word_of got); gives = gives }
+abbrev pub on_word : (Kind → ℕ → ℕ → Bool) → Ruling → Row
+on_word test name = record { applies = λ kind level got. test kind level (word_of got); ruling = name }
 
-abbrev pub fault : ℕ → Verdict
-fault word = Fault
-
--- the table: what couldn't be read (step 2); V = 0, R = 0 with W = 1, reserved bits (step 3); R = W = X = 0, of which A, D and
--- U are reserved (step 4); a leaf that is misaligned (step 6) or refuses the access (steps 5 and 7); a leaf
-abbrev pub rows : List Row
-rows =
-    record { applies = λ _ _ got. is_outside got; gives = λ _. Outside }
-    ∷ record { applies = λ _ _ got. is_guest got; gives = λ _. Guest }
-    ∷ on_word (λ _ _ word. not (is_valid word)) fault
-    ∷ on_word (λ _ _ word. not (is_readable word) && is_writable word) fault
-    ∷ on_word (λ _ _ word. not (reserved word == 0)) fault
-    ∷ on_word (λ _ level word. has_no_access word && is_bad_pointer level word) fault
-    ∷ on_word (λ _ _ word. has_no_access word) Pointer
-    ∷ on_word (λ _ level word. is_misaligned level word) fault
-    ∷ on_word (λ kind _ word. refuses kind word) fault
-    ∷ on_word (λ _ _ _. true) Leaf
+-- a leaf: one that is misaligned (step 6), that doesn't allow an access of user mode (step 5), or for which A or D would have
+-- to be set (step 7); or it maps the address
+abbrev pub leaf_rows : List Row
+leaf_rows =
+    on_word (λ _ level word. is_misaligned level word) ruling.Misaligned
+    ∷ on_word (λ _ _ word. not (is_user word)) ruling.NotUser
+    ∷ on_word (λ kind _ word. is_read kind && not (is_readable word)) ruling.NotReadable
+    ∷ on_word (λ kind _ word. is_write kind && not (is_writable word)) ruling.NotWritable
+    ∷ on_word (λ _ _ word. not (is_accessed word)) ruling.NotAccessed
+    ∷ on_word (λ kind _ word. is_write kind && not (is_dirty word)) ruling.NotDirty
+    ∷ on_word (λ _ _ _. true) ruling.Leaf
     ∷ []
 
+-- before it R = W = X = 0, where A, D and U are reserved and there must be a next level (step 4)
+abbrev pub pointer_rows : List Row
+pointer_rows =
+    on_word (λ _ _ word. has_no_access word && has_leaf_bits word) ruling.ReservedInPointer
+    ∷ on_word (λ _ level word. has_no_access word && level == 0) ruling.LastLevel
+    ∷ on_word (λ _ _ word. has_no_access word) ruling.Pointer
+    ∷ leaf_rows
+
+-- the table: before these, what couldn't be read (step 2), V = 0, R = 0 with W = 1 and reserved bits (step 3)
+abbrev pub rows : List Row
+rows =
+    record { applies = λ _ _ got. is_outside got; ruling = ruling.Outside }
+    ∷ record { applies = λ _ _ got. is_guest got; ruling = ruling.Guest }
+    ∷ on_word (λ _ _ word. not (is_valid word)) ruling.Invalid
+    ∷ on_word (λ _ _ word. not (is_readable word) && is_writable word) ruling.WriteOnly
+    ∷ on_word (λ _ _ word. not (reserved word == 0)) ruling.Reserved
+    ∷ pointer_rows
+
 -- the first row that applies decides
-abbrev pub first_of : List Row → Kind → ℕ → Got → Verdict
-first_of [] kind level got = Fault
+abbrev pub first_of : List Row → Kind → ℕ → Got → Ruling
+first_of [] kind level got = ruling.Invalid
 first_of (row ∷ more) kind level got =
-    if row.applies kind level got then row.gives (word_of got) else first_of more kind level got
+    if row.applies kind level got then row.ruling else first_of more kind level got
+
+unfoldable pub ruling_of : Kind → ℕ → Got → Ruling
+ruling_of = first_of rows
+
+-- what an entry with this word says by each row
+abbrev pub consequence : Ruling → ℕ → Verdict
+consequence ruling.Outside word = verdict.Outside
+consequence ruling.Guest word = verdict.Guest
+consequence ruling.Pointer word = verdict.Pointer word
+consequence ruling.Leaf word = verdict.Leaf word
+consequence ruling.Invalid word = verdict.Fault
+consequence ruling.WriteOnly word = verdict.Fault
+consequence ruling.Reserved word = verdict.Fault
+consequence ruling.ReservedInPointer word = verdict.Fault
+consequence ruling.LastLevel word = verdict.Fault
+consequence ruling.Misaligned word = verdict.Fault
+consequence ruling.NotUser word = verdict.Fault
+consequence ruling.NotReadable word = verdict.Fault
+consequence ruling.NotWritable word = verdict.Fault
+consequence ruling.NotAccessed word = verdict.Fault
+consequence ruling.NotDirty word = verdict.Fault
 
 unfoldable pub verdict_of : Kind → ℕ → Got → Verdict
-verdict_of = first_of rows
+verdict_of kind level got = consequence (ruling_of kind level got) (word_of got)
 
 abbrev pub is_pointer : Verdict → Bool
-is_pointer Outside = false
-is_pointer Guest = false
-is_pointer Fault = false
-is_pointer (Pointer word) = true
-is_pointer (Leaf word) = false
+is_pointer verdict.Outside = false
+is_pointer verdict.Guest = false
+is_pointer verdict.Fault = false
+is_pointer (verdict.Pointer word) = true
+is_pointer (verdict.Leaf word) = false

@@ -1,8 +1,9 @@
 //! One entry of a page table, and what it says to a walk.
 
-ghost use Rattle.std.specs.Prelude.{◌≡◌, ◌*◌, ◌<◌, ◌^◌};
-ghost use Rattle.iom_walk.specs.Code.{verdict_in};
-ghost use Rattle.iom_walk.specs.Verdict.{verdict_of, ppn, has_no_access, is_bad_pointer, refuses};
+ghost use Rattle.std.specs.Prelude.{◌≡◌, ◌*◌, ◌<◌, ◌^◌, true};
+ghost use Rattle.iom_bits.specs.declared.causes.Kind.{Kind};
+ghost use Rattle.iom_walk.specs.declared.source.Got.TheVariants.{Word};
+ghost use Rattle.iom_walk.specs.Verdict.{consequence, first_of, has_no_access, leaf_rows, pointer_rows, ppn, ruling_of, verdict_of, word_of};
 
 use crate::source::Got;
 use iom_bits::{Kind, field, has_bit};
@@ -18,14 +19,14 @@ const EXECUTABLE: u32 = 3;
 
 const USER: u32 = 4;
 
-/// The bit that makes a mapping global.
+/// The bit of an entry that makes a mapping global: G, bit 5.
 pub const GLOBAL: u32 = 5;
 
 const ACCESSED: u32 = 6;
 
 const DIRTY: u32 = 7;
 
-/// What an entry says to a walk.
+/// What a page-table entry (PTE) says to a walk.
 #[derive(Clone, Copy)]
 pub enum Verdict {
     /// It lies outside memory.
@@ -40,7 +41,43 @@ pub enum Verdict {
     Leaf(u64),
 }
 
-/// The PPN of an entry: the address of a frame or of a table, divided by 4096.
+/// The row of the table of entries that decides of an entry. But for the first two, `Pointer` and `Leaf` each is a page fault.
+#[derive(Clone, Copy, Debug, PartialEq)]
+pub enum Ruling {
+    /// The entry lies outside memory.
+    Outside,
+    /// It is in a guest's memory, where it couldn't be read.
+    Guest,
+    /// V is 0.
+    Invalid,
+    /// R is 0 and W is 1.
+    WriteOnly,
+    /// One of the reserved bits 63:54 is set.
+    Reserved,
+    /// R, W and X are 0, and A, D or U is set, which are reserved in a pointer.
+    ReservedInPointer,
+    /// R, W and X are 0 at level 0, where a pointer has no next table.
+    LastLevel,
+    /// A pointer to a table of the next level.
+    Pointer,
+    /// A leaf whose PPN isn't a multiple of the number of pages that it maps.
+    Misaligned,
+    /// A leaf with U = 0.
+    NotUser,
+    /// A leaf with R = 0, for a read.
+    NotReadable,
+    /// A leaf with W = 0, for a write.
+    NotWritable,
+    /// A leaf with A = 0.
+    NotAccessed,
+    /// A leaf with D = 0, for a write.
+    NotDirty,
+    /// A leaf that maps the address.
+    Leaf,
+}
+
+/// The PPN of an entry, bits 53:10, below 2^44: the address of a frame or of a table, divided by 4096; guest-physical or physical
+/// as the walk's source is.
 pub fn ppn_of(word: u64) -> u64
     ensures value { result ≡ ppn word }
     ensures fits { result < 2 ^ 44 }
@@ -48,7 +85,7 @@ pub fn ppn_of(word: u64) -> u64
     field(word, 10, 44)
 }
 
-/// How many pages a leaf of this level maps: 1, 2^9, 2^18 or 2^27.
+/// How many pages of 4096 bytes a leaf of this level, 0 to 3, maps: 1, 2^9, 2^18 or 2^27.
 pub fn pages_of(level: u8) -> u64
     requires { level < 4 }
     ensures { result ≡ 2 ^ (9 * level) }
@@ -56,60 +93,117 @@ pub fn pages_of(level: u8) -> u64
     1 << (9 * level as u32)
 }
 
-/// What an entry of this level says to a walk, where `got` was read at its address and `kind` is the access.
-#[tactic(auto, unfolding(crate::specs::Verdict::verdict_of))]
-pub fn judge(got: Got, level: u8, kind: Kind) -> Verdict
+/// The row of the table of entries that decides of an entry of this level, 0 to 3, where `got` was read at its address and `kind`
+/// is the access ("Virtual Address Translation Process").
+#[tactic(auto, unfolding(crate::specs::Verdict::ruling_of))]
+pub fn judged_by(got: Got, level: u8, kind: Kind) -> Ruling
     requires { level < 4 }
-    ensures { verdict_in result ≡ verdict_of kind level got }
+    ensures { result ≡ ruling_of kind level got }
 {
-    let word = match got {
-        Got::Word(word) => word,
-        Got::Outside => return Verdict::Outside,
-        Got::Guest => return Verdict::Guest,
-    };
-    if !has_bit(word, VALID)
-        || (has_bit(word, WRITABLE) && !has_bit(word, READABLE))
-        || field(word, 54, 10) != 0
-    {
-        return Verdict::Fault;
-    }
-    if has_no_access(word) {
-        return if is_bad_pointer(word, level) {
-            Verdict::Fault
-        } else {
-            Verdict::Pointer(word)
-        };
-    }
-    if ppn_of(word) % pages_of(level) != 0 || refuses(word, kind) {
-        Verdict::Fault
-    } else {
-        Verdict::Leaf(word)
+    match got {
+        Got::Word(word) => word_judged_by(word, level, kind),
+        Got::Outside => Ruling::Outside,
+        Got::Guest => Ruling::Guest,
     }
 }
 
-// Whether an entry allows no access of any kind, and so is no leaf.
+// The row that decides of a word that was read.
+#[tactic(auto, unfolding(crate::specs::Verdict::ruling_of))]
+fn word_judged_by(word: u64, level: u8, kind: Kind) -> Ruling
+    requires { level < 4 }
+    ensures { result ≡ ruling_of kind level (Word word) }
+{
+    if !has_bit(word, VALID) {
+        Ruling::Invalid
+    } else if !has_bit(word, READABLE) && has_bit(word, WRITABLE) {
+        Ruling::WriteOnly
+    } else if field(word, 54, 10) != 0 {
+        Ruling::Reserved
+    } else if has_no_access(word) {
+        pointer_judged_by(word, level)
+    } else {
+        leaf_judged_by(word, level, kind)
+    }
+}
+
+// The row that decides of an entry that allows no access of any kind, and so is no leaf.
+fn pointer_judged_by(word: u64, level: u8) -> Ruling
+    requires { has_no_access word ≡ true }
+    ensures { (kind : Kind) → result ≡ first_of pointer_rows kind level (Word word) }
+{
+    if has_bit(word, ACCESSED) || has_bit(word, DIRTY) || has_bit(word, USER) {
+        Ruling::ReservedInPointer
+    } else if level == 0 {
+        Ruling::LastLevel
+    } else {
+        Ruling::Pointer
+    }
+}
+
+// The row that decides of an entry that allows an access, and so is a leaf.
+fn leaf_judged_by(word: u64, level: u8, kind: Kind) -> Ruling
+    requires { level < 4 }
+    ensures { result ≡ first_of leaf_rows kind level (Word word) }
+{
+    let is_write = matches!(kind, Kind::Write);
+    if ppn_of(word) % pages_of(level) != 0 {
+        Ruling::Misaligned
+    } else if !has_bit(word, USER) {
+        Ruling::NotUser
+    } else if !is_write && !has_bit(word, READABLE) {
+        Ruling::NotReadable
+    } else if is_write && !has_bit(word, WRITABLE) {
+        Ruling::NotWritable
+    } else if !has_bit(word, ACCESSED) {
+        Ruling::NotAccessed
+    } else if is_write && !has_bit(word, DIRTY) {
+        Ruling::NotDirty
+    } else {
+        Ruling::Leaf
+    }
+}
+
+// Whether an entry allows no access of any kind.
 fn has_no_access(word: u64) -> bool
     ensures { result ≡ has_no_access word }
 {
     !has_bit(word, READABLE) && !has_bit(word, WRITABLE) && !has_bit(word, EXECUTABLE)
 }
 
-// Whether an entry that is no leaf can't be a pointer.
-fn is_bad_pointer(word: u64, level: u8) -> bool
-    ensures { result ≡ is_bad_pointer level word }
+/// What an entry of this level, 0 to 3, says to a walk, where `got` was read at its address and `kind` is the access ("Virtual
+/// Address Translation Process").
+#[tactic(auto, unfolding(crate::specs::Verdict::verdict_of))]
+pub fn judge(got: Got, level: u8, kind: Kind) -> Verdict
+    requires { level < 4 }
+    ensures { result ≡ verdict_of kind level got }
 {
-    has_bit(word, ACCESSED) || has_bit(word, DIRTY) || has_bit(word, USER) || level == 0
+    let ruling = judged_by(got, level, kind);
+    let word = match got {
+        Got::Word(word) => word,
+        Got::Outside | Got::Guest => 0,
+    };
+    consequence(ruling, word)
 }
 
-// Whether a leaf refuses an access.
-fn refuses(word: u64, kind: Kind) -> bool
-    ensures { result ≡ refuses kind word }
+// What an entry with this word says by each row.
+fn consequence(ruling: Ruling, word: u64) -> Verdict
+    ensures { result ≡ consequence ruling word }
 {
-    if !has_bit(word, USER) || !has_bit(word, ACCESSED) {
-        return true;
-    }
-    match kind {
-        Kind::Read => !has_bit(word, READABLE),
-        Kind::Write => !has_bit(word, WRITABLE) || !has_bit(word, DIRTY),
+    match ruling {
+        Ruling::Outside => Verdict::Outside,
+        Ruling::Guest => Verdict::Guest,
+        Ruling::Pointer => Verdict::Pointer(word),
+        Ruling::Leaf => Verdict::Leaf(word),
+        Ruling::Invalid
+        | Ruling::WriteOnly
+        | Ruling::Reserved
+        | Ruling::ReservedInPointer
+        | Ruling::LastLevel
+        | Ruling::Misaligned
+        | Ruling::NotUser
+        | Ruling::NotReadable
+        | Ruling::NotWritable
+        | Ruling::NotAccessed
+        | Ruling::NotDirty => Verdict::Fault,
     }
 }

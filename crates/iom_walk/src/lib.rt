@@ -2,12 +2,15 @@
 //! Translation Process"). The source says what stands at each address; the walk reads one entry a level.
 #![tactic(auto)]
 
+pub use entry::{Ruling, Verdict};
+pub use listing::{PathEntries, PathEntry, path};
 pub use outcome::{Leaf, Outcome};
 pub use shape::Shape;
 pub use source::{Got, Words};
 pub use walking::{one_end_a_page, walk};
 
 mod entry;
+mod listing;
 mod outcome;
 mod shape;
 mod source;

@@ -33,7 +33,8 @@ pub enum Outcome {
     Fault,
 }
 
-/// The mapping of `addr` by the leaf `word`; `global` says whether an entry before it has G set.
+/// The mapping of `addr`, an IOVA or a guest-physical address, by the leaf `word` of this level, 0 to 3; `global` says whether an
+/// entry before it has G set.
 #[tactic(auto, using(crate::proofs::Frames::frame_fits))]
 pub fn leaf_of(word: u64, addr: u64, level: u8, global: bool) -> Leaf
     requires shallow { level < 4 }

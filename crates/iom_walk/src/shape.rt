@@ -4,7 +4,8 @@ ghost use Rattle.std.specs.Prelude.{◌≡◌, ◌<◌, ◌≤◌, ◌^◌};
 
 use iom_bits::{field, has_bit};
 
-/// How many levels of tables there are, how an address is divided into indexes, and how wide it may be.
+/// The mode of a page table: how many levels there are, how an address is divided into indexes, and how wide it may be (RISC-V
+/// Privileged Architecture, "Sv39", "Sv48" and "Two-Stage Address Translation").
 #[derive(Clone, Copy)]
 pub enum Shape {
     /// Three levels. Bits 63:39 of an address repeat bit 38.
@@ -44,8 +45,8 @@ impl Shape {
         }
     }
 
-    /// The index of the entry that `addr` is met at in a table of level `level`: below 2^11 in a root of
-    /// Sv39x4 or Sv48x4, below 2^9 in all other tables.
+    /// The index of the entry that `addr`, an IOVA or a guest-physical address, is met at in a table of level `level`, VPN[level]
+    /// in the standard: below 2^11 in a root of Sv39x4 or Sv48x4, below 2^9 in all other tables.
     #[tactic(auto, unfolding(crate::specs::Shape::index_of))]
     pub(crate) fn index(self, addr: u64, level: u8) -> u64
         requires { level < levels self }
@@ -60,9 +61,10 @@ impl Shape {
         }
     }
 
-    /// Whether `addr` is within the width that the shape allows.
+    /// Whether `addr`, an IOVA or a guest-physical address, is within the width that the shape allows; one that isn't ends in a
+    /// page fault.
     #[tactic(auto, unfolding(crate::specs::Shape::is_in_width))]
-    pub(crate) fn covers(self, addr: u64) -> bool
+    pub fn covers(self, addr: u64) -> bool
         ensures { result ≡ is_in_width self addr }
     {
         match self {

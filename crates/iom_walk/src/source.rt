@@ -3,7 +3,7 @@
 ghost use Rattle.std.specs.Prelude.{◌≡◌, ℕ};
 ghost use Rattle.iom_walk.specs.declared.source.Got.{Got};
 
-/// What a source of words has at an address.
+/// What a source of words has at an address: what a fetch of a page-table entry comes back with.
 #[derive(Clone, Copy, Debug, PartialEq)]
 pub enum Got {
     /// The eight bytes there as a number, the lowest byte first.
@@ -14,12 +14,13 @@ pub enum Got {
     Guest,
 }
 
-/// A source of words: physical memory, or a guest's memory, whose addresses the second stage translates.
+/// Where a walk fetches page-table entries: physical memory, or a guest's memory, whose guest-physical addresses the second stage
+/// translates.
 pub trait Words {
     /// What it has at each address.
     ghost at: { Self → ℕ → Got };
 
-    /// What it has at `addr`, a physical or a guest-physical address.
+    /// What it has at `addr`, a physical or a guest-physical address in bytes. Eight bytes are read, the lowest first.
     fn word(&self, addr: u64) -> Got
         ensures { result ≡ at self.now addr };
 }

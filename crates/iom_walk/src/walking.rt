@@ -11,9 +11,9 @@ use crate::shape::Shape;
 use crate::source::Words;
 use iom_bits::{Kind, has_bit};
 
-/// Walks page tables of this shape for an access of kind `kind` to `addr`, an IOVA or a guest-physical
-/// address. `root` is the PPN of the root: its address divided by 4096. That address and the entries' are addresses
-/// in `words`, each below 2^56 + 2^14.
+/// How a walk of page tables of this shape ends, for an access of kind `kind` to `addr`, an IOVA or a guest-physical address
+/// (RISC-V Privileged Architecture, "Virtual Address Translation Process"). `root` is the PPN of the root, below 2^44: its address
+/// divided by 4096. That address and the entries' are addresses in `words`, each below 2^56 + 2^14.
 #[tactic(auto, using(crate::proofs::Paths::is_outcome), unfolding(crate::specs::Outcome::outcome_of))]
 pub fn walk<W: Words>(words: &W, shape: Shape, root: u64, addr: u64, kind: Kind) -> Outcome
     requires { root < 2 ^ 44 }

@@ -7,27 +7,37 @@ use thiserror::Error;
 /// Why the program ends, if not well.
 #[derive(Debug, Drop, Error)]
 pub enum Fault<'a> {
+    /// A word of the command line isn't UTF-8.
     #[error("a word isn't UTF-8")]
     BadWord,
+    /// A word isn't the kind of an item.
     #[error("{word}: KIND is cmd, fault, context, dir, pte or u64")]
     BadKind { word: &'a str },
+    /// The word of the operand `name` is no number below 2^64.
     #[error("{word}: {name} is decimal, or hex after 0x, below 2^64")]
     BadNumber { name: &'static str, word: &'a str },
     /// Help or version that was asked for, or what clap finds wrong.
     #[error("{0}")]
     Words(clap::Error),
+    /// The file of this name can't be read, or has more than 2^30 bytes.
     #[error("cannot read {0}")]
     CannotRead(&'a str),
+    /// The file of this name can't be written.
     #[error("cannot write {0}")]
     CannotWrite(&'a str),
+    /// A text is refused by the assembler.
     #[error("{0}")]
     Assemble(AsmFault),
+    /// Bytes are refused as an image.
     #[error("{0}")]
     Load(LoadFault),
+    /// There is no listing.
     #[error("{0}")]
     List(ListFault),
+    /// A run of a script ended before its end, or an output can't be written.
     #[error("{0}")]
     Run(RunFault),
+    /// An allocation was refused.
     #[error("out of memory")]
     OutOfMemory,
 }

@@ -8,7 +8,7 @@ use std::io::{ErrorKind, Read};
 /// The most bytes of a file that is read.
 const MOST_BYTES: u64 = 1 << 30;
 
-/// The bytes of a file of at most 2^30 bytes.
+/// The bytes of a file of at most 2^30 bytes. The faults are `CannotRead` and `OutOfMemory`.
 pub fn read<'a>(rt: &impl Files, alloc: Global, name: &'a str) -> Result<Vec<u8>, Fault<'a>> {
     let file = File::open(rt, name).map_err(|_| Fault::CannotRead(name))?;
     let mut bytes = Vec::new(alloc);
@@ -19,7 +19,7 @@ pub fn read<'a>(rt: &impl Files, alloc: Global, name: &'a str) -> Result<Vec<u8>
     }
 }
 
-/// Puts bytes into a file, in place of what it has.
+/// Puts bytes into a file, in place of what it has. The fault is `CannotWrite`.
 pub fn write<'a>(rt: &impl Files, name: &'a str, bytes: &[u8]) -> Result<(), Fault<'a>> {
     fs::write(rt, name, bytes).map_err(|_| Fault::CannotWrite(name))
 }

@@ -24,6 +24,11 @@ that were read, done, idle, denied CAUSE, bus error, bad access, no device,
 misuse, the item, the place, the step with its answer, or bad for what is
 no line.
 
+cmd answers done also where it stops the command queue, and idle from then
+on: reg read 72 4 (cqcsr) then has bit 8 (cqmf) or 10 (cmd_ill). dev step N
+answers done also where the device refuses a chain, and idle from then on:
+dev read N 0x70 4 (Status) then has bit 6. man rviommu has the registers.
+
 Without words memory is 1 MiB at 0x80000000, all 0. An example:
 
   $ printf '%s\\n' 'reg write 16 8 1' 'dma write 5 0x80000000 aabb' \\
@@ -38,7 +43,7 @@ A line is one statement; '#' starts a comment. Numbers are decimal, or hex
 after 0x.
 
   ram BASE SIZE                 the memory; the first statement
-  at ADDR                       where the next data stand
+  at ADDR                       the physical address of the next data
   u64 VALUE ..                  one to eight words
   bytes HEX                     bytes
   cmd NAME KEY=NUMBER ..        a command: vma, gvma, fence or iodir

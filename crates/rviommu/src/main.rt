@@ -3,7 +3,7 @@
 
 use fault::Fault;
 use iom_asm::Item;
-use iom_tool::{RunFault, Trace};
+use iom_tool::RunFault;
 use std::alloc::Global;
 use std::cell::RefCell;
 use std::env;
@@ -33,8 +33,6 @@ fn run<'a>(
     input: impl Read + Drop,
     output: impl Write + Drop,
 ) -> Result<(), Fault<'a>> {
-    let mut platform = iom_asm::load(alloc, image)?;
-    let mut trace = Trace::new(alloc)?;
     let writer = BufWriter::with_capacity(alloc, WRITE_BLOCK, output).map_err(
         |_| Fault::OutOfMemory,
     )?;
@@ -45,10 +43,10 @@ fn run<'a>(
         |_| Fault::OutOfMemory,
     )?;
     let mut writer = Shared { output };
-    let ended = iom_tool::run(&mut platform, &mut trace, &mut reader, &mut writer);
+    let played = iom_tool::play(alloc, image, &mut reader, &mut writer)?;
     // The answers before a fault are written too.
     writer.flush().map_err(|_| RunFault::Write)?;
-    Ok(ended?)
+    Ok(played.ended?)
 }
 
 // The image is written only where the whole text is assembled.
@@ -75,6 +73,7 @@ fn upgrade<'a>(
     files::write(rt, new, bytes.as_slice())
 }
 
+// Writes the listing of so many items of the memory that an image starts.
 fn list<'a>(
     alloc: Global,
     image: &[u8],
@@ -92,6 +91,7 @@ fn list<'a>(
     Ok(())
 }
 
+// Does what the words of the command line ask for.
 fn carry_out<'a>(
     rt: &impl Files,
     alloc: Global,
@@ -140,6 +140,7 @@ fn shown(rt: &(impl Print + Eprint), error: &clap::Error) -> u8 {
     error.exit_code() as u8
 }
 
+// Writes a fault to standard error, and answers the status to end with.
 fn told(rt: &impl Eprint, fault: &Fault<'_>) -> u8 {
     let _ = rt.eprintln(format_args!("rviommu: {fault}"));
     fault.status()
@@ -154,6 +155,7 @@ fn status_of(rt: &(impl Print + Eprint), ended: Result<(), Fault<'_>>) -> ExitCo
     }
 }
 
+// The whole program over an input and an output.
 fn program(
     rt: &(impl Env + Files + Alloc<A = Global> + Print + Eprint),
     alloc: Global,

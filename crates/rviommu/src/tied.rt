@@ -5,7 +5,9 @@ use std::io::{self, Error, ErrorKind, Read, Write};
 /// next line is read.
 #[derive(Drop)]
 pub struct Tied<'a, R, W> {
+    /// The reader that is read.
     pub input: R,
+    /// The output that is flushed first.
     pub output: &'a RefCell<W>,
 }
 
@@ -18,9 +20,10 @@ impl<R: Read, W: Write> Read for Tied<'_, R, W> {
     }
 }
 
-/// The output, for who writes the answers.
+/// The same output as a writer, for what writes the answers.
 #[derive(Drop)]
 pub struct Shared<'a, W> {
+    /// The output.
     pub output: &'a RefCell<W>,
 }
 

@@ -30,7 +30,7 @@ pub enum Task<'a> {
         image: &'a str,
         new: &'a str,
     },
-    /// Items in the memory that the image in a file starts, from physical address `addr` on.
+    /// `count` items in the memory that the image in a file starts, from physical address `addr` on.
     List {
         image: &'a str,
         item: Item,
@@ -118,6 +118,7 @@ const VERBS: [Verb; 4] = [
     },
 ];
 
+// An operand, as clap takes it.
 fn arg<'a>(alloc: Global, operand: &Operand) -> Arg<'a> {
     let arg = Arg::new(alloc, operand.name)
         .required(true)
@@ -128,6 +129,7 @@ fn arg<'a>(alloc: Global, operand: &Operand) -> Arg<'a> {
     arg
 }
 
+// A subcommand, as clap takes it.
 fn subcommand<'a>(alloc: Global, verb: &Verb) -> Result<Command<'a>, AllocError> {
     let mut command = Command::new(alloc, verb.name)
         .about(verb.about)
@@ -138,9 +140,10 @@ fn subcommand<'a>(alloc: Global, verb: &Verb) -> Result<Command<'a>, AllocError>
     Ok(command)
 }
 
+// The command line, as clap takes it.
 fn command<'a>(alloc: Global) -> Result<Command<'a>, AllocError> {
     let mut command = Command::new(alloc, "rviommu")
-        .version("0.1.0")
+        .version("0.2.0")
         .about("A model of the RISC-V IOMMU: without words it runs the script on standard input")
         .after_help(help::SCRIPT);
     for verb in &VERBS {
@@ -154,11 +157,13 @@ fn value<'a>(found: &ArgMatches<'a>, name: &str) -> &'a str {
     found.get_str(name).unwrap_or("")
 }
 
+// The number of an operand that has to be there.
 fn number<'a>(found: &ArgMatches<'a>, name: &'static str) -> Result<u64, Fault<'a>> {
     let word = value(found, name);
     iom_text::number(word.as_bytes()).ok_or(Fault::BadNumber { name, word })
 }
 
+// What the operands of `list` ask for.
 fn listing<'a>(found: &ArgMatches<'a>) -> Result<Task<'a>, Fault<'a>> {
     let kind = value(found, KIND);
     Ok(Task::List {
@@ -169,6 +174,7 @@ fn listing<'a>(found: &ArgMatches<'a>) -> Result<Task<'a>, Fault<'a>> {
     })
 }
 
+// What words that clap accepts ask for.
 fn task_in<'a>(matches: &ArgMatches<'a>) -> Result<Task<'a>, Fault<'a>> {
     match matches.subcommand() {
         Some(("asm", found)) => Ok(Task::Assemble {

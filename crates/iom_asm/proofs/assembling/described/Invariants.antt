@@ -1,6 +1,6 @@
 use Rattle.std.proofs.Common.{◌≡◌, ◌+◌, ◌≤◌, length, None}
 use Rattle.std.specs.Prelude.{IfSome}
-use Rattle.iom_asm.specs.Image.{IsImage}
+use Rattle.iom_image.specs.Image.{IsImage}
 use Rattle.iom_asm.specs.Assembly.{lines_of, after_lines}
 use Rattle.iom_asm.specs.Drafts.{draft_seen, found_seen}
 use Rattle.iom_asm.proofs.assembling.described.Given as goal

@@ -1,5 +1,5 @@
 use Rattle.std.proofs.Common.{◌≡◌, false}
-use Rattle.iom_core.specs.Code.{is_for_contexts}
+use Rattle.iom_core.specs.Commands.{is_for_contexts}
 use Rattle.iom_core.proofs.Untouched.{contexts_untouched}
 use Rattle.iom_core.proofs.command.drop_contexts.Goals as goal
 

@@ -1,5 +1,5 @@
 use Rattle.std.proofs.Common.{◌≡◌, false}
-use Rattle.iom_core.specs.Code.{is_for_pages}
+use Rattle.iom_core.specs.Commands.{is_for_pages}
 use Rattle.iom_core.proofs.Untouched.{pages_untouched}
 use Rattle.iom_core.proofs.command.drop_pages.Goals as goal
 

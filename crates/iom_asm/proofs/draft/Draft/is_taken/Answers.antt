@@ -5,9 +5,9 @@ use Rattle.iom_asm.proofs.draft.Draft.is_taken.Goals as goal
 pub returns-in-Some : goal.returns-in-Some
 returns-in-Some c =
     let len : c.len.result ≡ length c.in-Some.bytes.now.items = c.len.ensures ∙ c.in-Some.bytes.now.ok.0 in
-    let last = last_meets c.args.self.now.place c.args.len _ _ _ _ c.args.self.now.chunks.entries c.requires.good.chunks (sym (c.range.ensures.between tt) ∙ c.in-Some.ensures.steps) in
+    let last = last_meets c.args.self.now.place c.args.len _ _ _ _ c.args.self.now.image.chunks.entries c.requires.good.chunks (sym (c.range.ensures.between tt) ∙ c.in-Some.ensures.steps) in
     rw len (sym last)
 
 pub returns-in-None : goal.returns-in-None
 returns-in-None c =
-    sym (none_meets c.args.self.now.place c.args.len c.args.self.now.chunks.entries (sym (c.range.ensures.between tt) ∙ c.in-None.ensures.steps.0))
+    sym (none_meets c.args.self.now.place c.args.len c.args.self.now.image.chunks.entries (sym (c.range.ensures.between tt) ∙ c.in-None.ensures.steps.0))

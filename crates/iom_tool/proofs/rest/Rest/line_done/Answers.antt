@@ -13,10 +13,10 @@ returns-then-is_empty-clause-fed g c start text h short =
     let begun = unbegun c.args.self.now.line.items (open_line text) h.keeps nothing.0 in
     line_answered start (progress (g.W.Write.contents c.args.writer.now.inner.now) (console c.args.platform.now c.args.trace.now))
     c.args.self.now.line.items c.args.part.now c.args.self.now.line.items c.args.self.now.lines text c.args.part.now
-    (console c.answer_cut.new.platform c.answer_cut.new.trace) (g.W.Write.contents c.answer_cut.new.writer.inner.now) c.answer_cut.result
+    (console c.answer.new.platform c.answer.new.trace) (g.W.Write.contents c.answer.new.writer.inner.now) c.answer.result
     h c.requires.one short c.requires.few
     (ap (λ l. line_of (l ++ c.args.part.now)) (sym begun))
-    c.answer_cut.ensures.console c.answer_cut.ensures.ok c.answer_cut.ensures.front c.answer_cut.ensures.fault nothing.1
+    c.answer.ensures.console c.answer.ensures.ok c.answer.ensures.front c.answer.ensures.fault nothing.1
 
 pub returns-in_err-answer-clause-fed : goal.returns-in_err-answer-clause-fed
 returns-in_err-answer-clause-fed g c start text h short =
@@ -24,21 +24,21 @@ returns-in_err-answer-clause-fed g c start text h short =
     rw (p.1, p.2, c.in_err-answer.ensures.fault) (
     line_fails start (progress (g.W.Write.contents c.args.writer.now.inner.now) (console c.args.platform.now c.args.trace.now))
     c.args.self.now.line.items c.keep.new.self.line.items c.args.self.now.lines text c.args.part.now
-    (console c.answer.new.platform c.answer.new.trace) (g.W.Write.contents c.answer.new.writer.inner.now)
+    (console c.answer-2.new.platform c.answer-2.new.trace) (g.W.Write.contents c.answer-2.new.writer.inner.now)
     h c.requires.one short c.requires.few
     (kept_line c.keep.new.self.line.items (open_line text ++ c.args.part.now)
     (kept_grows c.args.self.now.line.items (open_line text) c.args.part.now c.keep.new.self.line.items h.keeps c.keep.ensures.line))
-    (rw c.as_slice.ensures.value at c.in_err-answer.ensures.console)
-    (rw c.as_slice.ensures.value at c.in_err-answer.ensures.front))
+    (rw (c.cut_line.ensures.same, c.as_slice.ensures.value) at c.in_err-answer.ensures.console)
+    (rw (c.cut_line.ensures.same, c.as_slice.ensures.value) at c.in_err-answer.ensures.front))
 
 pub returns-clause-fed : goal.returns-clause-fed
 returns-clause-fed g c start text h short =
     rw (c.clear.ensures, c.keep.ensures.lines) (
     line_ends start (progress (g.W.Write.contents c.args.writer.now.inner.now) (console c.args.platform.now c.args.trace.now))
     c.args.self.now.line.items c.keep.new.self.line.items c.args.self.now.lines text c.args.part.now
-    (console c.answer.new.platform c.answer.new.trace) (g.W.Write.contents c.answer.new.writer.inner.now)
+    (console c.answer-2.new.platform c.answer-2.new.trace) (g.W.Write.contents c.answer-2.new.writer.inner.now)
     h c.requires.one short c.requires.few
     (kept_line c.keep.new.self.line.items (open_line text ++ c.args.part.now)
     (kept_grows c.args.self.now.line.items (open_line text) c.args.part.now c.keep.new.self.line.items h.keeps c.keep.ensures.line))
-    (rw c.as_slice.ensures.value at c.in_ok-answer.ensures.console)
-    (rw c.as_slice.ensures.value at c.in_ok-answer.ensures.ok))
+    (rw (c.cut_line.ensures.same, c.as_slice.ensures.value) at c.in_ok-answer.ensures.console)
+    (rw (c.cut_line.ensures.same, c.as_slice.ensures.value) at c.in_ok-answer.ensures.ok))

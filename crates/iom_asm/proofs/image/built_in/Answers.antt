@@ -1,7 +1,0 @@
-use Rattle.std.proofs.Common.{refl}
-use Rattle.iom_asm.specs.Image.{image_bytes}
-use Rattle.iom_asm.proofs.image.built_in.Goals as goal
-
-pub returns : goal.returns
-unfolding image_bytes
-returns c = refl

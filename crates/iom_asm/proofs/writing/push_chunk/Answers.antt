@@ -1,5 +1,0 @@
-use Rattle.iom_asm.proofs.Pushes.{three}
-use Rattle.iom_asm.proofs.writing.push_chunk.Goals as goal
-
-pub returns : goal.returns
-returns c = three _ _ _ _ _ _ _ c.in_ok-push_eight.ensures c.in_ok-push_four.ensures c.in_ok-extend_from_slice.ensures.items

@@ -1,0 +1,10 @@
+pub mod Bytes
+pub mod Loops
+pub mod Filling
+pub mod Fitting
+pub mod Pushes
+pub mod Images
+pub mod Found
+pub mod Flags
+pub mod Started
+pub mod Upgraded

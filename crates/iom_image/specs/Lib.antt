@@ -1,0 +1,5 @@
+pub mod Image
+pub mod Reading
+pub mod Loading
+pub mod Own
+pub mod Upgrading

@@ -1,0 +1,158 @@
+-- Reading an image from its first byte on: each field is judged once it is whole, and the first check that fails names the
+-- refusal.
+use Rattle.std.specs.Prelude.{ℕ, zero, suc, ◌≡◌, ◌≢◌, ◌↔◌, ◌+◌, ◌*◌, ◌==◌, ◌&&◌, ◌||◌, ◌++◌, Bool, true, false, List, [], ◌∷◌, length, take, drop, bytes_eq, map, replicate, ◌-◌, nat_lt, nat_le, Result, Ok, Err, IsOk, if◌then◌else◌}
+use Rattle.iom_bits.specs.Bytes.{number_of_bytes}
+use Rattle.iom_mem.specs.Memory.{Memory}
+use Rattle.iom_mem.specs.Sizes.{is_paged, is_good_size, zeroed}
+use Rattle.iom_image.specs.declared.fault.LoadFault.{LoadFault}
+use Rattle.iom_image.specs.declared.fault.LoadFault.TheVariants.{BadMagic, Truncated, Trailing, BadRam, BadChunk, BadDevice, OutOfMemory}
+use Rattle.iom_image.specs.Image.{Chunk, Disk, Image, end_of, is_new_id, is_disk_size, magic_of, with_chunks, IsImageOf, AreBytes}
+
+-- a value, and the bytes after it
+abbrev pub Read : Type 0 → Type 0
+Read A = Result (A × List ℕ) LoadFault
+
+infixl 10 ◌>>=◌
+abbrev pub ◌>>=◌ : {A B : Type 0} → Result A LoadFault → (A → Result B LoadFault) → Result B LoadFault
+(Ok x) >>= f = f x
+(Err e) >>= f = Err e
+
+-- what follows a check
+abbrev pub checked : {A : Type 0} → Bool → LoadFault → Result A LoadFault → Result A LoadFault
+checked holds fault next = if holds then next else Err fault
+
+unfoldable pub part_at : ℕ → List ℕ → Read (List ℕ)
+part_at count bytes = checked (nat_le count (length bytes)) Truncated (Ok (take count bytes, drop count bytes))
+
+-- a number of so many bytes
+unfoldable pub number_at : ℕ → List ℕ → Read ℕ
+number_at count bytes = do
+  part ← part_at count bytes
+  Ok (number_of_bytes part.0, part.1)
+
+pub record Head : Type 0 where
+  pub has_flags : Bool
+  pub base : ℕ
+  pub size : ℕ
+  pub chunks : ℕ
+  pub disks : ℕ
+
+unfoldable pub head_at : List ℕ → Read Head
+head_at bytes = do
+  magic ← part_at 8 bytes
+  checked (bytes_eq magic.0 (magic_of false) || bytes_eq magic.0 (magic_of true)) BadMagic (do
+    base ← number_at 8 magic.1
+    size ← number_at 8 base.1
+    chunks ← number_at 4 size.1
+    disks ← number_at 4 chunks.1
+    checked (is_paged base.0 && is_good_size base.0 size.0) BadRam (checked (nat_le disks.0 8) BadDevice
+        (Ok (
+          record {
+            has_flags = bytes_eq magic.0 (magic_of true);
+            base = base.0;
+            size = size.0;
+            chunks = chunks.0;
+            disks = disks.0;
+          },
+          disks.1,
+        ))))
+
+-- a chunk of a memory that is not below `end`
+unfoldable pub chunk_at : ℕ → ℕ → ℕ → List ℕ → Read Chunk
+chunk_at base size end bytes = do
+  addr ← number_at 8 bytes
+  checked (nat_le end addr.0) BadChunk (do
+    len ← number_at 4 addr.1
+    checked (nat_lt 0 len.0 && (nat_le base addr.0 && nat_le (addr.0 + len.0) (base + size))) BadChunk (do
+      text ← part_at len.0 len.1
+      Ok (record { addr = addr.0; bytes = text.0 }, text.1)))
+
+unfoldable pub chunks_at : ℕ → ℕ → ℕ → ℕ → List ℕ → Read (List Chunk)
+chunks_at base size end zero bytes = Ok ([], bytes)
+chunks_at base size end (suc count) bytes = do
+  first ← chunk_at base size end bytes
+  others ← chunks_at base size (end_of first.0) count first.1
+  Ok (first.0 ∷ others.0, others.1)
+
+-- whether a disk may only be read: bit 0 of its flags, where it has any; no other bit may be set
+unfoldable pub flags_at : Bool → List ℕ → Read Bool
+flags_at false bytes = Ok (false, bytes)
+flags_at true bytes = do
+  flags ← number_at 4 bytes
+  checked (nat_le flags.0 1) BadDevice (Ok (flags.0 == 1, flags.1))
+
+-- a disk whose id is not among `ids`
+unfoldable pub disk_at : Bool → List ℕ → List ℕ → Read Disk
+disk_at has_flags ids bytes = do
+  id ← number_at 4 bytes
+  checked (is_new_id ids id.0) BadDevice (do
+    sectors ← number_at 4 id.1
+    checked (is_disk_size sectors.0) BadDevice (do
+      read_only ← flags_at has_flags sectors.1
+      len ← number_at 4 read_only.1
+      checked (nat_le len.0 (sectors.0 * 512)) BadDevice (do
+        text ← part_at len.0 len.1
+        Ok (record { id = id.0; sectors = sectors.0; read_only = read_only.0; bytes = text.0 }, text.1))))
+
+unfoldable pub disks_at : Bool → List ℕ → ℕ → List ℕ → Read (List Disk)
+disks_at has_flags ids zero bytes = Ok ([], bytes)
+disks_at has_flags ids (suc count) bytes = do
+  first ← disk_at has_flags ids bytes
+  others ← disks_at has_flags (ids ++ first.0.id ∷ []) count first.1
+  Ok (first.0 ∷ others.0, others.1)
+
+-- the image that all of the bytes are, or the refusal
+unfoldable pub image_of : List ℕ → Result Image LoadFault
+image_of bytes = do
+  head ← head_at bytes
+  chunks ← chunks_at head.0.base head.0.size 0 head.0.chunks head.1
+  disks ← disks_at head.0.has_flags [] head.0.disks chunks.1
+  checked (length disks.1 == 0) Trailing (Ok (record {
+    has_flags = head.0.has_flags;
+    base = head.0.base;
+    size = head.0.size;
+    chunks = chunks.0;
+    disks = disks.0;
+  }))
+
+-- what a function returned, as `view` sees it, is what reading gives; it takes no memory
+abbrev pub Reads : {X Y : Type 0} → (X → Y) → Result X LoadFault → Result Y LoadFault → Type 0
+Reads view (Ok x) read = read ≡ Ok (view x)
+Reads view (Err fault) read = (read ≡ Err fault) × (fault ≢ OutOfMemory)
+
+-- the same of a function that takes memory
+abbrev pub Gives : {X Y : Type 0} → (X → Y) → Result X LoadFault → Result Y LoadFault → Type 0
+Gives view (Ok x) read = read ≡ Ok (view x)
+Gives view (Err fault) read = fault ≢ OutOfMemory → read ≡ Err fault
+
+-- the bytes that are left after a value
+abbrev pub rest_of : {A : Type 0} → Read A → Result (List ℕ) LoadFault
+rest_of read = read >>= λ x. Ok x.1
+
+-- what a function that only judges returned is what reading gives; it takes no memory
+abbrev pub Judges : {X Y : Type 0} → Result X LoadFault → Result Y LoadFault → Type 0
+Judges (Ok x) read = IsOk read
+Judges (Err fault) read = (read ≡ Err fault) × (fault ≢ OutOfMemory)
+
+-- What an image starts: memory with the chunks, and of each block device its id, its disk, and whether this may only be read.
+pub record Start : Type 0 where
+  pub memory : Memory
+  pub disks : List (ℕ × List ℕ × Bool)
+
+abbrev pub started : Disk → ℕ × List ℕ × Bool
+started disk = (disk.id, disk.bytes ++ replicate (disk.sectors * 512 - length disk.bytes) 0, disk.read_only)
+
+unfoldable pub opening_of : Image → Start
+opening_of image = record { memory = with_chunks (zeroed image.base image.size) image.chunks; disks = map started image.disks }
+
+-- what is made of what was read
+abbrev pub mapped : {A B : Type 0} → (A → B) → Result A LoadFault → Result B LoadFault
+mapped f read = read >>= λ x. Ok (f x)
+
+-- a memory with the chunks that were read
+abbrev pub filled : Memory → Read (List Chunk) → Result (Memory × List ℕ) LoadFault
+filled memory read = read >>= λ x. Ok (with_chunks memory x.0, x.1)
+
+-- Reading bytes gives an image exactly where they are the bytes of that image.
+abbrev pub ReadsImages : Type 0
+ReadsImages = (bytes : List ℕ) (image : Image) → AreBytes bytes → (image_of bytes ≡ Ok image) ↔ IsImageOf image bytes

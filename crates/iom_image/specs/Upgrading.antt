@@ -1,0 +1,26 @@
+-- An image of version 1 as one of version 2.
+use Rattle.std.specs.Prelude.{ℕ, ◌≡◌, ◌++◌, true, List, Result, Ok}
+use Rattle.iom_image.specs.declared.fault.LoadFault.{LoadFault}
+use Rattle.iom_image.specs.Image.{Chunk, Disk, Image, chunks_bytes, disks_bytes, image_bytes}
+use Rattle.iom_image.specs.Reading.{◌>>=◌, Read, image_of}
+
+-- The same memory, chunks and disks in version 2. One of version 2 is its own.
+abbrev pub upgraded : Image → Image
+upgraded image = record image { has_flags = true }
+
+abbrev pub upgraded_bytes : Image → List ℕ
+upgraded_bytes image = image_bytes (upgraded image)
+
+-- these bytes are an image of version 2 already
+pub record IsUpgraded (bytes : List ℕ) : Type 0 where
+  pub image : Image
+  pub read : image_of bytes ≡ Ok image
+  pub has_flags : image.has_flags ≡ true
+
+-- bytes, and behind them those of the chunks that were read
+abbrev pub chunks_behind : List ℕ → Read (List Chunk) → Result (List ℕ × List ℕ) LoadFault
+chunks_behind before read = read >>= λ x. Ok (before ++ chunks_bytes x.0, x.1)
+
+-- bytes, and behind them those of the disks that were read, with flags
+abbrev pub disks_behind : List ℕ → Read (List Disk) → Result (List ℕ) LoadFault
+disks_behind before read = read >>= λ x. Ok (before ++ disks_bytes true x.0)

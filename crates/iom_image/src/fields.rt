@@ -1,0 +1,219 @@
+//! The fields of an image, read from the front.
+
+ghost use Rattle.std.specs.Prelude.{◌≡◌, ◌+◌, ◌*◌, ◌≤◌, ◌<◌, ◌^◌, ◌&&◌, IfOk, length, nat_le};
+ghost use Rattle.iom_mem.specs.Sizes.{is_paged, is_good_size};
+ghost use Rattle.iom_image.specs.Image.{is_new_id};
+ghost use Rattle.iom_image.specs.Reading.{Reads, part_at, number_at, head_at, chunk_at, flags_at, disk_at};
+
+use crate::fault::LoadFault;
+use iom_bits::{le_u32, le_u64};
+
+/// The first 32 bytes of an image: what stands before the chunks.
+#[derive(Clone, Copy)]
+pub struct Header {
+    /// Whether disks have flags: version 2, else version 1.
+    pub has_flags: bool,
+    /// The physical address of the first byte of memory: a multiple of 4096.
+    pub base: u64,
+    /// How many bytes memory has: a multiple of 4096 from 4096 to 2^26, with `base + size` at most 2^56.
+    pub size: u64,
+    /// How many chunks follow.
+    pub chunks: u32,
+    /// How many disks follow them: at most 8.
+    pub disks: u32,
+}
+
+/// A chunk: bytes that stand in memory at the start.
+#[derive(Clone, Copy)]
+pub struct ChunkPart<'a> {
+    /// The physical address of its first byte.
+    pub addr: u64,
+    /// Its bytes, 1 to 2^32 - 1, all in memory.
+    pub bytes: &'a [u8],
+}
+
+/// A block device's disk and its first bytes.
+#[derive(Clone, Copy)]
+pub struct DiskPart<'a> {
+    /// The id of its device, below 2^24.
+    pub id: u32,
+    /// How many sectors of 512 bytes it has: 1 to 65,536.
+    pub sectors: u32,
+    /// Whether it may only be read.
+    pub read_only: bool,
+    /// Its first bytes, as many as there is room for or fewer. The others are 0.
+    pub bytes: &'a [u8],
+}
+
+// The first `len` bytes, and those after them.
+#[tactic(auto, unfolding(crate::specs::Reading::part_at))]
+fn front(len: usize, bytes: &[u8]) -> Result<(&[u8], &[u8]), LoadFault>
+    ensures read { Reads (λ x. (x.0.now, x.1.now)) result (part_at len bytes.now) }
+    ensures len { IfOk result (λ x. length x.0.now ≡ len) }
+{
+    if bytes.len() < len {
+        return Err(LoadFault::Truncated);
+    }
+    Ok(bytes.split_at(len))
+}
+
+// The number of the first four bytes, the lowest first, and the bytes after them.
+#[tactic(auto, unfolding(crate::specs::Reading::number_at), using(crate::proofs::Bytes::four))]
+fn u32_of(bytes: &[u8]) -> Result<(u32, &[u8]), LoadFault>
+    ensures { Reads (λ x. (x.0, x.1.now)) result (number_at 4 bytes.now) }
+{
+    let (number, rest) = front(4, bytes)?;
+    Ok((le_u32([number[0], number[1], number[2], number[3]]), rest))
+}
+
+// The number of the first eight bytes, the lowest first, and the bytes after them.
+#[tactic(auto, unfolding(crate::specs::Reading::number_at), using(crate::proofs::Bytes::eight))]
+fn u64_of(bytes: &[u8]) -> Result<(u64, &[u8]), LoadFault>
+    ensures { Reads (λ x. (x.0, x.1.now)) result (number_at 8 bytes.now) }
+{
+    let (number, rest) = front(8, bytes)?;
+    let number = le_u64([
+        number[0], number[1], number[2], number[3], number[4], number[5], number[6], number[7],
+    ]);
+    Ok((number, rest))
+}
+
+/// Whether there may be a memory of this base, a physical address, and this size in bytes: both are multiples of 4096, the size is
+/// 4096 to 2^26, and the end is 2^56 or below.
+pub fn is_ram(base: u64, size: u64) -> bool
+    ensures { result ≡ (is_paged base && is_good_size base size) }
+{
+    base % 4096 == 0 && size != 0 && size % 4096 == 0 && size <= 1 << 26 && base <= (1 << 56) - size
+}
+
+/// The first 32 bytes of an image, and the bytes after them. The refusals are `Truncated`, `BadMagic`, `BadRam` and `BadDevice` for
+/// more than 8 disks.
+#[tactic(auto, unfolding(crate::specs::Reading::head_at))]
+pub fn header_of(bytes: &[u8]) -> Result<(Header, &[u8]), LoadFault>
+    ensures read { Reads
+        (λ x. (record { has_flags = x.0.has_flags; base = x.0.base; size = x.0.size; chunks = x.0.chunks; disks = x.0.disks }, x.1.now))
+        result (head_at bytes.now) }
+    ensures end { IfOk result (λ x. x.0.base + x.0.size ≤ 2 ^ 56) }
+    ensures few { IfOk result (λ x. x.0.disks ≤ 8) }
+{
+    let (magic, rest) = front(8, bytes)?;
+    let has_flags = magic == b"RVIOMMU2".as_slice();
+    if magic != b"RVIOMMU1".as_slice() && !has_flags {
+        return Err(LoadFault::BadMagic);
+    }
+    let (base, rest) = u64_of(rest)?;
+    let (size, rest) = u64_of(rest)?;
+    let (chunks, rest) = u32_of(rest)?;
+    let (disks, rest) = u32_of(rest)?;
+    if !is_ram(base, size) {
+        return Err(LoadFault::BadRam);
+    }
+    if disks > 8 {
+        return Err(LoadFault::BadDevice);
+    }
+    let header = Header {
+        has_flags,
+        base,
+        size,
+        chunks,
+        disks,
+    };
+    Ok((header, rest))
+}
+
+impl Header {
+    // Whether `len` bytes from physical address `addr` on are memory.
+    fn covers(&self, addr: u64, len: u64) -> bool
+        requires { self.now.base + self.now.size ≤ 2 ^ 56 }
+        ensures { result ≡ (nat_le self.now.base addr && nat_le (addr + len) (self.now.base + self.now.size)) }
+    {
+        let end = self.base + self.size;
+        self.base <= addr && addr <= end && len <= end - addr
+    }
+}
+
+/// A chunk of the memory that `header` tells, and the bytes after it. It isn't below physical address `end`. The refusals are
+/// `Truncated` and `BadChunk`.
+#[tactic(auto, unfolding(crate::specs::Reading::chunk_at))]
+pub fn chunk<'a>(
+    header: &Header,
+    end: u64,
+    bytes: &'a [u8],
+) -> Result<(ChunkPart<'a>, &'a [u8]), LoadFault>
+    requires { header.now.base + header.now.size ≤ 2 ^ 56 }
+    ensures read { Reads (λ x. (record { addr = x.0.addr; bytes = x.0.bytes.now }, x.1.now)) result
+        (chunk_at header.now.base header.now.size end bytes.now) }
+    ensures above { IfOk result (λ x. header.now.base ≤ x.0.addr) }
+    ensures few { IfOk result (λ x. length x.0.bytes.now < 2 ^ 32) }
+    ensures below { IfOk result
+        (λ x. x.0.addr + length x.0.bytes.now ≤ header.now.base + header.now.size) }
+{
+    let (addr, rest) = u64_of(bytes)?;
+    if addr < end {
+        return Err(LoadFault::BadChunk);
+    }
+    let (len, rest) = u32_of(rest)?;
+    if len == 0 || !header.covers(addr, len as u64) {
+        return Err(LoadFault::BadChunk);
+    }
+    let (bytes, rest) = front(len as usize, rest)?;
+    Ok((ChunkPart { addr, bytes }, rest))
+}
+
+fn is_new_id(ids: &[u32], id: u32) -> bool
+    ensures { result ≡ is_new_id ids.now id }
+{
+    id < 1 << 24 && !ids.contains(&id)
+}
+
+// Whether a disk may only be read: what its flags say, where it has any.
+#[tactic(auto, unfolding(crate::specs::Reading::flags_at))]
+fn read_only(has_flags: bool, bytes: &[u8]) -> Result<(bool, &[u8]), LoadFault>
+    ensures { Reads (λ x. (x.0, x.1.now)) result (flags_at has_flags bytes.now) }
+{
+    if !has_flags {
+        return Ok((false, bytes));
+    }
+    let (flags, rest) = u32_of(bytes)?;
+    if flags > 1 {
+        return Err(LoadFault::BadDevice);
+    }
+    Ok((flags == 1, rest))
+}
+
+/// A disk whose id is not among `ids`, with flags or without, and the bytes after it. The refusals are `Truncated` and `BadDevice`.
+#[tactic(auto, unfolding(crate::specs::Reading::disk_at))]
+pub fn disk<'a>(
+    has_flags: bool,
+    ids: &[u32],
+    bytes: &'a [u8],
+) -> Result<(DiskPart<'a>, &'a [u8]), LoadFault>
+    ensures read { Reads
+        (λ x. (record { id = x.0.id; sectors = x.0.sectors; read_only = x.0.read_only; bytes = x.0.bytes.now }, x.1.now)) result
+        (disk_at has_flags ids.now bytes.now) }
+    ensures room { IfOk result (λ x. length x.0.bytes.now ≤ x.0.sectors * 512) }
+    ensures some { IfOk result (λ x. 1 ≤ x.0.sectors) }
+    ensures most { IfOk result (λ x. x.0.sectors ≤ 65536) }
+{
+    let (id, rest) = u32_of(bytes)?;
+    if !is_new_id(ids, id) {
+        return Err(LoadFault::BadDevice);
+    }
+    let (sectors, rest) = u32_of(rest)?;
+    if sectors == 0 || sectors > 65_536 {
+        return Err(LoadFault::BadDevice);
+    }
+    let (read_only, rest) = read_only(has_flags, rest)?;
+    let (len, rest) = u32_of(rest)?;
+    if len > sectors * 512 {
+        return Err(LoadFault::BadDevice);
+    }
+    let (bytes, rest) = front(len as usize, rest)?;
+    let part = DiskPart {
+        id,
+        sectors,
+        read_only,
+        bytes,
+    };
+    Ok((part, rest))
+}

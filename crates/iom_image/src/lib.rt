@@ -1,0 +1,21 @@
+//! Images: which bytes are one, and the platform that it starts.
+#![tactic(auto)]
+
+pub use fault::LoadFault;
+pub use fields::is_ram;
+pub use image::built_in;
+pub use judging::{images_are_what_is_read, judge};
+pub use loading::load;
+pub use own::{OwnDisk, OwnImage};
+pub use upgrading::upgrade;
+pub use writing::image_bytes;
+
+mod fault;
+mod fields;
+mod image;
+mod judging;
+mod loading;
+mod opening;
+mod own;
+mod upgrading;
+mod writing;

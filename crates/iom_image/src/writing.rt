@@ -1,0 +1,166 @@
+//! The bytes of an image.
+
+ghost use Rattle.std.specs.Prelude.{◌≡◌, ◌++◌, ◌^◌, ◌<◌, map, length, OnOk, IfOk};
+ghost use Rattle.iom_bits.specs.Bytes.{bytes_of_number};
+ghost use Rattle.iom_image.specs.Image.{IsImage, magic_of, chunk_bytes, chunks_bytes, flags_bytes, disk_bytes, disks_bytes, head_bytes, image_bytes};
+ghost use Rattle.iom_image.specs.Own.{chunk_seen, disk_seen, image_seen, Fits, AllFit, FewBytes};
+
+use crate::own::{OwnDisk, OwnImage};
+use iom_bits::flag;
+use std::alloc::{AllocError, Global};
+use std::collections::BTreeMap;
+
+// Appends the four bytes of a number, the lowest first.
+fn push_four(out: &mut Vec<u8>, number: u64) -> Result<(), AllocError>
+    requires { number < 2 ^ 32 }
+    ensures { OnOk result (out.new.items ≡ out.old.items ++ bytes_of_number 4 number) }
+{
+    let number = number as u32;
+    out.extend_from_slice(&number.to_le_bytes())
+}
+
+// Appends the eight bytes of a number, the lowest first.
+fn push_eight(out: &mut Vec<u8>, number: u64) -> Result<(), AllocError>
+    ensures { OnOk result (out.new.items ≡ out.old.items ++ bytes_of_number 8 number) }
+{
+    out.extend_from_slice(&number.to_le_bytes())
+}
+
+// Appends the eight bytes that name the version.
+fn push_magic(out: &mut Vec<u8>, has_flags: bool) -> Result<(), AllocError>
+    ensures { OnOk result (out.new.items ≡ out.old.items ++ magic_of has_flags) }
+{
+    if has_flags {
+        out.extend_from_slice(b"RVIOMMU2")
+    } else {
+        out.extend_from_slice(b"RVIOMMU1")
+    }
+}
+
+/// Appends the first 32 bytes of an image: magic, base, size, and the numbers of chunks and disks, both below 2^32. The fault is a
+/// refused allocation.
+pub fn push_head(
+    out: &mut Vec<u8>,
+    has_flags: bool,
+    base: u64,
+    size: u64,
+    chunks: u64,
+    disks: u64,
+) -> Result<(), AllocError>
+    requires chunks { chunks < 2 ^ 32 }
+    requires disks { disks < 2 ^ 32 }
+    ensures { OnOk result (out.new.items ≡ out.old.items ++ head_bytes has_flags base size chunks disks) }
+{
+    push_magic(out, has_flags)?;
+    push_eight(out, base)?;
+    push_eight(out, size)?;
+    push_four(out, chunks)?;
+    push_four(out, disks)?;
+    Ok(())
+}
+
+/// Appends a chunk: physical address, length and fewer than 2^32 bytes. The fault is a refused allocation.
+pub fn push_chunk(out: &mut Vec<u8>, addr: u64, bytes: &[u8]) -> Result<(), AllocError>
+    requires { length bytes.now < 2 ^ 32 }
+    ensures { OnOk result (out.new.items ≡ out.old.items ++ chunk_bytes (record { addr = addr; bytes = bytes.now })) }
+{
+    push_eight(out, addr)?;
+    push_four(out, bytes.len() as u64)?;
+    out.extend_from_slice(bytes)?;
+    Ok(())
+}
+
+// Appends the chunks in the order of their addresses.
+fn push_chunks(out: &mut Vec<u8>, chunks: &BTreeMap<u64, Vec<u8>>) -> Result<(), AllocError>
+    requires { FewBytes (map chunk_seen chunks.now.entries) }
+    ensures { OnOk result (out.new.items ≡ out.old.items ++ chunks_bytes (map chunk_seen chunks.now.entries)) }
+{
+    for (addr, bytes) in chunks {
+        push_chunk(out, *addr, bytes)?;
+    }
+    Ok(())
+}
+
+// Appends the flags of a disk in an image that has them.
+fn push_flags(out: &mut Vec<u8>, has_flags: bool, read_only: bool) -> Result<(), AllocError>
+    ensures { OnOk result (out.new.items ≡ out.old.items ++ flags_bytes has_flags read_only) }
+{
+    if has_flags {
+        push_four(out, flag(read_only))
+    } else {
+        Ok(())
+    }
+}
+
+/// Appends a disk, with flags or without: its id and how many sectors it has, both below 2^32, and fewer than 2^32 bytes. The fault
+/// is a refused allocation.
+pub fn push_disk(
+    out: &mut Vec<u8>,
+    has_flags: bool,
+    id: u64,
+    sectors: u64,
+    read_only: bool,
+    bytes: &[u8],
+) -> Result<(), AllocError>
+    requires id { id < 2 ^ 32 }
+    requires sectors { sectors < 2 ^ 32 }
+    requires bytes { length bytes.now < 2 ^ 32 }
+    ensures { OnOk result (out.new.items ≡ out.old.items
+        ++ disk_bytes has_flags (record { id = id; sectors = sectors; read_only = read_only; bytes = bytes.now })) }
+{
+    push_four(out, id)?;
+    push_four(out, sectors)?;
+    push_flags(out, has_flags, read_only)?;
+    push_four(out, bytes.len() as u64)?;
+    out.extend_from_slice(bytes)?;
+    Ok(())
+}
+
+// Appends a disk that an image has.
+fn push_own_disk(out: &mut Vec<u8>, has_flags: bool, disk: &OwnDisk) -> Result<(), AllocError>
+    requires { Fits (disk_seen disk.now) }
+    ensures { OnOk result (out.new.items ≡ out.old.items ++ disk_bytes has_flags (disk_seen disk.now)) }
+{
+    push_disk(
+        out,
+        has_flags,
+        disk.id,
+        disk.sectors,
+        disk.read_only,
+        &disk.bytes,
+    )
+}
+
+// Appends the disks in their order.
+fn push_disks(out: &mut Vec<u8>, has_flags: bool, disks: &[OwnDisk]) -> Result<(), AllocError>
+    requires { AllFit (map disk_seen disks.now) }
+    ensures { OnOk result (out.new.items ≡ out.old.items ++ disks_bytes has_flags (map disk_seen disks.now)) }
+{
+    match disks {
+        [] => Ok(()),
+        [first, rest @ ..] => {
+            push_own_disk(out, has_flags, first)?;
+            push_disks(out, has_flags, rest)?;
+            Ok(())
+        }
+    }
+}
+
+/// The bytes of an image. The fault is a refused allocation.
+pub fn image_bytes(alloc: Global, image: &OwnImage) -> Result<Vec<u8>, AllocError>
+    requires { IsImage (image_seen image.now) }
+    ensures { IfOk result (λ bytes. bytes.items ≡ image_bytes (image_seen image.now)) }
+{
+    let mut out = Vec::new(alloc);
+    push_head(
+        &mut out,
+        image.has_flags,
+        image.base,
+        image.size,
+        image.chunks.len() as u64,
+        image.disks.len() as u64,
+    )?;
+    push_chunks(&mut out, &image.chunks)?;
+    push_disks(&mut out, image.has_flags, &image.disks)?;
+    Ok(out)
+}

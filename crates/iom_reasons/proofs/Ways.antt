@@ -1,0 +1,56 @@
+-- What the ways of a machine with empty caches are, and that a way is known by what is told of it.
+use Rattle.std.proofs.Common.{◌≡◌, ◌∙◌, ℕ, true, false, None, Some, Ok, Err, if◌then◌else◌, refl, sym, ap}
+use Rattle.iom_bits.specs.declared.causes.Cause.{Cause}
+use Rattle.iom_regs.specs.Views.{mode_of}
+use Rattle.iom_ddt.specs.Directory.{is_too_wide, levels_of, located}
+use Rattle.iom_ddt.specs.declared.context.Context.{Context}
+use Rattle.iom_cache.specs.Places.{Look, look}
+use Rattle.iom_core.specs.State.{Machine}
+use Rattle.iom_core.specs.Access.{context_look, led_by_context}
+use Rattle.iom_core.specs.declared.access.Request.{Request}
+use Rattle.iom_core.proofs.Learnt.{apart}
+use Rattle.iom_core.specs.Access as access
+use Rattle.iom_reasons.specs.Stale.{told, uncached}
+use Rattle.iom_reasons.specs.declared.way.Way.{Way}
+use Rattle.iom_reasons.specs.declared.way.Way.TheVariants as way
+
+pub looked_uncached : (m : Machine) (did : ℕ) → context_look (uncached m) did ≡ look did None (located m.memory m.registers did)
+unfolding context_look
+looked_uncached m did = elim (is_too_wide (levels_of (mode_of m.registers)) did) as (λ wide.
+    look did (if wide then None else None) (located m.memory m.registers did) ≡ look did None (located m.memory m.registers did)) [
+      | true ↦ refl
+      | false ↦ refl
+    ]
+
+-- the way that something is told of
+abbrev way_told : Way → access.Way
+way_told way.Register = access.ByRegister
+way_told (way.Context context) = access.ByContext context
+way_told (way.Walked context hit) = access.Walked context hit
+way_told (way.Denied denial) = access.Denied denial
+
+way_told_of : (w : access.Way) → way_told (told w) ≡ w
+way_told_of access.ByRegister = refl
+way_told_of (access.ByContext context) = refl
+way_told_of (access.Walked context hit) = refl
+way_told_of (access.Denied denial) = refl
+
+pub told_apart : (w v : access.Way) → told w ≡ told v → w ≡ v
+told_apart w v same = sym (way_told_of w) ∙ ap way_told same ∙ way_told_of v
+
+-- the way by the directory where nothing is cached, by what the directory has
+abbrev by_look : Machine → Request → Look ℕ Context Cause → access.Way
+by_look m request l = (led_by_context m request l.filled l.used).way
+
+pub by_located : (m : Machine) (request : Request) (context : Context) → located m.memory m.registers request.did ≡ Ok context →
+    (led_by_context (uncached m) request None (Ok context)).way
+    ≡ (led_by_context (uncached m) request (context_look (uncached m) request.did).filled (context_look (uncached m) request.did).used).way
+by_located m request context is =
+    sym (ap (by_look (uncached m) request) (looked_uncached m request.did ∙ ap (look request.did None) is)
+    ∙ (apart (uncached m) request (Some (request.did, context)) context).way)
+
+pub by_refusal : (m : Machine) (request : Request) (why : Cause) → located m.memory m.registers request.did ≡ Err why →
+    (led_by_context (uncached m) request None (Err why)).way
+    ≡ (led_by_context (uncached m) request (context_look (uncached m) request.did).filled (context_look (uncached m) request.did).used).way
+by_refusal m request why is =
+    sym (ap (by_look (uncached m) request) (looked_uncached m request.did ∙ ap (look request.did None) is))

@@ -1,0 +1,163 @@
+ghost use Rattle.std.specs.Prelude.{◌≡◌, ◌↔◌, ◌<◌, ◌≤◌, ◌^◌, IsTrue, IfSome, is_some, None, Some, Ok, Err, false};
+ghost use Rattle.iom_regs.specs.Views.{mode_of};
+ghost use Rattle.iom_ddt.specs.Directory.{levels_of, located};
+ghost use Rattle.iom_ddt.specs.Contexts.{IsWellFormed, is_bare};
+ghost use Rattle.iom_nested.specs.Nested.{translation};
+ghost use Rattle.iom_cache.specs.Places.{look};
+ghost use Rattle.iom_core.specs.Access.{context_look, led, led_by_context, led_by_page, plain, translating};
+ghost use Rattle.iom_reasons.specs.Stale.{IsStale, told, uncached};
+
+use crate::Way;
+use crate::way::is_same;
+use iom_bits::Cause;
+use iom_cache::key_of;
+use iom_core::{Denial, Platform, Request};
+use iom_ddt::{Context, is_too_wide, locate};
+use iom_mem::Ram;
+use iom_nested::{Fault, translate};
+use iom_queue::is_reported;
+use iom_regs::Mode;
+
+/// What the tables say now of a request whose way is another, since a cache has it otherwise; None where the request isn't
+/// stale. Nothing is cached, reported or changed. The device id is below 2^24, the IOVA any.
+#[tactic(auto, using(crate::proofs::Ways::told_apart))]
+pub fn stale(platform: &Platform, request: &Request) -> Option<Way>
+    requires { request.now.did < 2 ^ 24 }
+    ensures stale { IsTrue (is_some result) ↔ IsStale platform.now.machine request.now }
+    ensures tables { IfSome result (λ way. way ≡ told (led (uncached platform.now.machine) request.now).way) }
+{
+    let tables = way_by_tables(platform, request);
+    if is_same(&way_now(platform, request), &tables) {
+        None
+    } else {
+        Some(tables)
+    }
+}
+
+/// The way that a request is led now, from the caches first and else from the tables ("Process to translate an IOVA"), as a step
+/// leads it. Nothing is cached, reported or changed. The device id is below 2^24, the IOVA any.
+#[tactic(auto, unfolding(iom_core::specs::Access::led))]
+pub fn way_now(platform: &Platform, request: &Request) -> Way
+    requires { request.now.did < 2 ^ 24 }
+    ensures { result ≡ told (led platform.now.machine request.now).way }
+{
+    match platform.registers().mode() {
+        Mode::Off => Way::Denied(plain(Cause::Off)),
+        Mode::Bare => Way::Register,
+        Mode::Levels(_) => way_by_directory(platform, request),
+    }
+}
+
+// The same by the directory, where ddtp's mode has one.
+#[tactic(auto, unfolding(iom_core::specs::Access::context_look), using(iom_core::proofs::Wide::too_wide_located, iom_core::proofs::Learnt::apart))]
+fn way_by_directory(platform: &Platform, request: &Request) -> Way
+    requires directory { 1 ≤ levels_of (mode_of platform.now.machine.registers) }
+    requires width { request.now.did < 2 ^ 24 }
+    ensures { result ≡ told (led_by_context platform.now.machine request.now
+        (context_look platform.now.machine request.now.did).filled
+        (context_look platform.now.machine request.now.did).used).way }
+{
+    if is_too_wide(platform.registers(), request.did) {
+        return Way::Denied(plain(Cause::TooWide));
+    }
+    if let Some(context) = platform.contexts().find(request.did) {
+        return way_by_context(platform, request, &context);
+    }
+    match locate(platform.ram(), platform.registers(), request.did) {
+        Ok(context) => way_by_context(platform, request, &context),
+        Err(cause) => Way::Denied(plain(cause)),
+    }
+}
+
+// The same by a context, from the page's live place or else by the stages.
+#[tactic(auto, unfolding(iom_core::specs::Access::page_look))]
+fn way_by_context(platform: &Platform, request: &Request, context: &Context) -> Way
+    requires { IsWellFormed context.now }
+    ensures { result ≡ told (led_by_context platform.now.machine request.now None (Ok context.now)).way }
+{
+    if context.is_bare() {
+        return Way::Context(*context);
+    }
+    let key = key_of(context, request.did, request.iova, request.kind);
+    match platform.trans().find(&key) {
+        Some(hit) => Way::Walked(*context, hit),
+        None => way_by_walk(platform.ram(), request, context),
+    }
+}
+
+/// The way that the tables say now: that of a request where nothing is cached. Nothing is cached, reported or changed. The device
+/// id is below 2^24, the IOVA any.
+#[tactic(auto, unfolding(iom_core::specs::Access::led))]
+pub fn way_by_tables(platform: &Platform, request: &Request) -> Way
+    requires { request.now.did < 2 ^ 24 }
+    ensures { result ≡ told (led (uncached platform.now.machine) request.now).way }
+{
+    match platform.registers().mode() {
+        Mode::Off => Way::Denied(plain(Cause::Off)),
+        Mode::Bare => Way::Register,
+        Mode::Levels(_) => way_by_new_directory(platform, request),
+    }
+}
+
+// The same by the directory, where ddtp's mode has one.
+#[tactic(auto, using(crate::proofs::Ways::looked_uncached, iom_core::proofs::Learnt::apart))]
+fn way_by_new_directory(platform: &Platform, request: &Request) -> Way
+    requires directory { 1 ≤ levels_of (mode_of platform.now.machine.registers) }
+    requires width { request.now.did < 2 ^ 24 }
+    ensures { result ≡ told (led_by_context (uncached platform.now.machine) request.now
+        (context_look (uncached platform.now.machine) request.now.did).filled
+        (context_look (uncached platform.now.machine) request.now.did).used).way }
+{
+    match locate(platform.ram(), platform.registers(), request.did) {
+        Ok(context) => way_by_new_context(platform, request, &context),
+        Err(why) => Way::Denied(plain(why)),
+    }
+}
+
+// The same by a context.
+#[tactic(auto, unfolding(iom_core::specs::Access::page_look))]
+fn way_by_new_context(platform: &Platform, request: &Request, context: &Context) -> Way
+    requires { IsWellFormed context.now }
+    ensures { result ≡ told (led_by_context (uncached platform.now.machine) request.now None (Ok context.now)).way }
+{
+    if context.is_bare() {
+        Way::Context(*context)
+    } else {
+        way_by_walk(platform.ram(), request, context)
+    }
+}
+
+// The way by the stages of a context.
+fn way_by_walk(ram: &Ram, request: &Request, context: &Context) -> Way
+    requires well_formed { IsWellFormed context.now }
+    requires staged { is_bare context.now ≡ false }
+    ensures { result ≡ told (led_by_page context.now None None
+        (translation ram.now context.now request.now.iova request.now.kind)).way }
+{
+    match translate(ram, context, request.iova, request.kind) {
+        Ok(hit) => Way::Walked(*context, hit),
+        Err(fault) => Way::Denied(translating(context, fault)),
+    }
+}
+
+// A fault before any page table is read.
+fn plain(cause: Cause) -> Denial
+    ensures { result ≡ plain cause }
+{
+    Denial {
+        cause,
+        iotval2: 0,
+        reported: true,
+    }
+}
+
+// A fault of a translation under a context.
+fn translating(context: &Context, fault: Fault) -> Denial
+    ensures { result ≡ translating context.now fault }
+{
+    Denial {
+        cause: fault.cause,
+        iotval2: fault.iotval2,
+        reported: is_reported(fault.cause, context.dtf),
+    }
+}

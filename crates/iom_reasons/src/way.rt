@@ -1,0 +1,39 @@
+ghost use Rattle.std.specs.Prelude.{◌≡◌, ◌↔◌, IsTrue};
+
+use iom_core::Denial;
+use iom_ddt::Context;
+use iom_nested::Hit;
+
+/// The way that a request is led.
+#[derive(Clone, Copy)]
+pub enum Way {
+    /// By ddtp, whose mode is Bare: the physical address is the IOVA.
+    Register,
+    /// By this context of the device, both of whose stages are Bare: the physical address is the IOVA.
+    Context(Context),
+    /// By the stages of this context of the device, which lead the IOVA's page to this frame.
+    Walked(Context, Hit),
+    /// Nowhere.
+    Denied(Denial),
+}
+
+// Whether two ways are one.
+pub fn is_same(way: &Way, other: &Way) -> bool
+    ensures { IsTrue result ↔ (way.now ≡ other.now) }
+{
+    match (way, other) {
+        (Way::Register, Way::Register) => true,
+        (Way::Context(context), Way::Context(other)) => context == other,
+        (Way::Walked(context, hit), Way::Walked(other, found)) => context == other && hit == found,
+        (Way::Denied(denial), Way::Denied(other)) => is_same_denial(denial, other),
+        _ => false,
+    }
+}
+
+fn is_same_denial(denial: &Denial, other: &Denial) -> bool
+    ensures { IsTrue result ↔ (denial.now ≡ other.now) }
+{
+    denial.cause == other.cause
+        && denial.iotval2 == other.iotval2
+        && denial.reported == other.reported
+}

@@ -1,0 +1,146 @@
+#!/usr/bin/env -S python3 -B
+"""package.py PROGRAM    Packs the built program, installs each package into an empty root, uses it from there, and removes it.
+
+Prints one line a check, and 'package: N passed, M failed' at the end. The status is 1 where a check failed.
+"""
+import os
+import shutil
+import subprocess
+import sys
+import tarfile
+import tempfile
+
+TOP = os.path.normpath(os.path.join(os.path.dirname(os.path.abspath(__file__)), os.pardir))
+PACKAGE = os.path.join(TOP, "packaging", "package.py")
+
+
+class Failure(Exception):
+    pass
+
+
+class Skip(Exception):
+    pass
+
+
+def run(words, **how):
+    done = subprocess.run(words, stdout=subprocess.PIPE, stderr=subprocess.STDOUT, check=False, **how)
+    if done.returncode:
+        raise Failure(f"{' '.join(words)} ended with {done.returncode}: {done.stdout.decode(errors='replace')[-500:]}")
+    return done.stdout
+
+
+def pack(kind, program):
+    return os.path.join(TOP, run([PACKAGE, kind, program]).decode().strip())
+
+
+def needs(name):
+    if not shutil.which(name):
+        raise Skip(f"there is no {name} on the path")
+
+
+def is_packed_alike(kind, program):
+    def data():
+        with open(pack(kind, program), "rb") as file:
+            return file.read()
+
+    if data() != data():
+        raise Failure("two packings of one program differ")
+
+
+def answers_an_example(program, examples):
+    with open(os.path.join(examples, "stale_translation.script"), "rb") as script:
+        seen = run([program], stdin=script)
+    with open(os.path.join(examples, "stale_translation.answers"), "rb") as answers:
+        if seen != answers.read():
+            raise Failure("the installed program answers examples/stale_translation.script differently")
+    with tempfile.TemporaryDirectory() as here:
+        image = os.path.join(here, "disk.image")
+        run([program, "asm", os.path.join(examples, "disk.asm"), image])
+        with open(os.path.join(examples, "disk.script"), "rb") as script:
+            seen = run([program, "run", image], stdin=script)
+    with open(os.path.join(examples, "disk.answers"), "rb") as answers:
+        if seen != answers.read():
+            raise Failure("the installed program answers examples/disk.script differently")
+
+
+def shows_its_page(page):
+    if not shutil.which("man"):
+        return
+    if b"rviommu" not in run(["man", "-l", page], env={**os.environ, "MANPAGER": "cat", "MANWIDTH": "80"}):
+        raise Failure("the man page doesn't name the program")
+
+
+def archive_is_used(program):
+    with tempfile.TemporaryDirectory() as root:
+        with tarfile.open(pack("dist", program)) as archive:
+            archive.extractall(root)
+        (top,) = os.listdir(root)
+        top = os.path.join(root, top)
+        answers_an_example(os.path.join(top, "rviommu"), os.path.join(top, "examples"))
+        shows_its_page(os.path.join(top, "rviommu.1"))
+        for name in ("README.md", "CHANGELOG.md", "completions/_rviommu", "completions/rviommu.bash"):
+            if not os.path.isfile(os.path.join(top, name)):
+                raise Failure(f"the archive has no {name}")
+
+
+def files_of(root):
+    found = (os.path.join(folder, name) for folder, _, files in os.walk(root) for name in files)
+    return sorted(os.path.relpath(path, root) for path in found)
+
+
+def package_is_installed_and_removed(program):
+    needs("dpkg")
+    package = pack("deb", program)
+    with tempfile.TemporaryDirectory() as root:
+        admin = os.path.join(root, "var/lib/dpkg")
+        for folder in ("info", "updates", "triggers"):
+            os.makedirs(os.path.join(admin, folder))
+        for file in ("status", "available"):
+            open(os.path.join(admin, file), "w", encoding="utf-8").close()
+        log = os.path.join(root, "dpkg.log")
+        dpkg = ["dpkg", f"--root={root}", f"--log={log}", "--force-not-root", "--force-depends"]
+        before = files_of(root)
+        run([*dpkg, "--install", package])
+        docs = os.path.join(root, "usr/share/doc/rviommu/examples")
+        answers_an_example(os.path.join(root, "usr/bin/rviommu"), docs)
+        shows_its_page(os.path.join(root, "usr/share/man/man1/rviommu.1.gz"))
+        run([*dpkg, "--purge", "rviommu"])
+        left = [name for name in files_of(root) if name not in before and not name.startswith(("var/", "dpkg.log"))]
+        if left:
+            raise Failure(f"removed, it leaves {left}")
+
+
+def lintian_has_no_errors(program):
+    needs("lintian")
+    run(["lintian", "--allow-root", "--fail-on", "error", pack("deb", program)])
+
+
+CHECKS = [
+    ("the archive is packed alike twice", lambda program: is_packed_alike("dist", program)),
+    ("the archive's program, examples and man page are used", archive_is_used),
+    ("the Debian package is packed alike twice", lambda program: (needs("dpkg-deb"), is_packed_alike("deb", program))),
+    ("the Debian package is installed into an empty root, used and removed", package_is_installed_and_removed),
+    ("lintian finds no error in the Debian package", lintian_has_no_errors),
+]
+
+
+def main():
+    if len(sys.argv) != 2:
+        sys.exit(__doc__)
+    program, passed, failed = os.path.abspath(sys.argv[1]), 0, 0
+    for name, function in CHECKS:
+        try:
+            function(program)
+            print(f"{name}: ok")
+            passed += 1
+        except Skip as why:
+            print(f"{name}: not tried, {why}")
+        except Failure as why:
+            print(f"{name}: FAILED, {why}")
+            failed += 1
+    print(f"package: {passed} passed, {failed} failed")
+    sys.exit(1 if failed else 0)
+
+
+if __name__ == "__main__":
+    main()

@@ -1,0 +1,113 @@
+"""A QEMU with its RISC-V IOMMU and five devices behind it, driven over qtest."""
+import os
+import socket
+import subprocess
+
+from model import BASE, SIZE
+
+QEMU = "qemu-system-riscv64"
+DEVICE = "riscv-iommu-pci"
+# Slots of the devices on the bus; a device's function number is eight times its slot.
+SLOTS = [2, 5, 16, 30, 31]
+CONFIGURATION, WINDOW = 0x30000000, 0x40000000
+IOMMU = WINDOW
+# Registers of an edu device: the source, the target and the length of a transfer, and its command.
+SOURCE, TARGET, LENGTH, COMMAND = 0x80, 0x88, 0x90, 0x98
+FROM_MEMORY, TO_MEMORY = 1, 3
+# An edu's buffer: what it writes in the first half, what it reads in the second, 64 bytes a place.
+BUFFER, HALF, PLACE = 0x40000, 2048, 64
+PLACES = HALF // PLACE
+# Two pages that no case uses: a command queue, and room for a buffer.
+QUEUE, ROOM = BASE + SIZE - 0x2000, BASE + SIZE - 0x1000
+
+
+def pattern(device):
+    """What a device writes, place after place: no two bytes of a place are as others at hand."""
+    return bytes((at * 37 + at // 64 * 11 + device * 53 + 1) & 255 for at in range(HALF))
+
+
+class Qemu:
+    def __init__(self, bus):
+        """Starts a QEMU whose devices' ids have the bits of `bus` from bit 8 on."""
+        self.ids = [bus << 8 | slot << 3 for slot in SLOTS]
+        ours, its = socket.socketpair()
+        words = [QEMU, "-M", "virt", "-m", str(SIZE >> 20), "-nodefaults", "-display", "none", "-bios", "none"]
+        # the hart sleeps, so the delay of an edu's transfer passes at once
+        words += ["-accel", "tcg", "-icount", "shift=0,sleep=off", "-global", "riscv-cpu.start-powered-off=on"]
+        words += ["-chardev", f"socket,id=q,fd={its.fileno()}", "-qtest", "chardev:q", "-qtest-log", "none"]
+        words += ["-global", f"riscv-iommu.bus={bus:#x}", "-device", f"{DEVICE},intremap=off,ats=off,hpm-counters=0,addr=1"]
+        for slot in SLOTS:
+            words += ["-device", f"edu,addr={slot:#x},dma_mask={(1 << 64) - 1}"]
+        self.process = subprocess.Popen(words, pass_fds=[its.fileno()], stdin=subprocess.DEVNULL, stderr=subprocess.DEVNULL)
+        its.close()
+        self.socket = ours
+        self.lines = ours.makefile("rb")
+        self.set_up()
+
+    def end(self):
+        self.process.terminate()
+        self.process.wait()
+
+    def ask(self, commands):
+        """Sends commands of qtest, and returns what each answers."""
+        self.socket.sendall("".join(command + "\n" for command in commands).encode())
+        answers = []
+        while len(answers) < len(commands):
+            line = self.lines.readline().decode().split()
+            if not line:
+                raise OSError("QEMU ended")
+            if line[0] == "OK":
+                answers.append(line[1] if len(line) > 1 else "")
+            elif line[0] != "IRQ":
+                raise OSError("qtest: " + " ".join(line))
+        return answers
+
+    def set_up(self):
+        for at, slot in enumerate([1, *SLOTS]):
+            place, window = CONFIGURATION + (slot << 15), WINDOW + (at << 20)
+            self.ask([f"writel {place + 0x10:#x} {window:#x}", f"writel {place + 4:#x} 6"])
+        self.settle([(BASE, SIZE)])
+        self.ask([f"writeq {IOMMU + 16:#x} 1"])
+        for device in range(len(SLOTS)):
+            self.ask([f"write {ROOM:#x} {HALF:#x} 0x{pattern(device).hex()}"])
+            self.transfer(device, ROOM, BUFFER, HALF, FROM_MEMORY)
+        self.settle([(ROOM, HALF)])
+
+    def transfer(self, device, source, target, length, command):
+        registers = WINDOW + (device + 1 << 20)
+        words = [(SOURCE, source), (TARGET, target), (LENGTH, length), (COMMAND, command)]
+        self.ask([f"writeq {registers + offset:#x} {value:#x}" for offset, value in words])
+        while int(self.ask([f"readq {registers + COMMAND:#x}"])[0], 0) & 1:
+            pass
+
+    def access(self, device, iova, length, place, is_write):
+        if is_write:
+            self.transfer(device, BUFFER + place * PLACE, iova, length, TO_MEMORY)
+        else:
+            self.transfer(device, iova, BUFFER + HALF + place * PLACE, length, FROM_MEMORY)
+
+    def empty_caches(self):
+        words = [0x3, 0, 0x1, 0, 0x81, 0]
+        stores = [f"writeq {QUEUE + 8 * at:#x} {word:#x}" for at, word in enumerate(words)]
+        lines = [(24, "q", (QUEUE >> 12) << 10 | 3), (72, "l", 1), (36, "l", 3), (72, "l", 0), (72, "l", 1), (72, "l", 0), (24, "q", 0)]
+        self.ask(stores + [f"write{size} {IOMMU + offset:#x} {value:#x}" for offset, size, value in lines])
+
+    def settle(self, ranges):
+        """Brings all to the state of a reset, with nothing cached, and memory to 0 in these ranges."""
+        self.ask([f"writel {IOMMU + 72:#x} 0", f"writel {IOMMU + 76:#x} 0"])
+        self.empty_caches()
+        lines = [(16, "q", 0), (40, "q", 0), (76, "l", 1), (76, "l", 0), (84, "l", 3), (8, "l", 0), (56, "q", 0), (0x2F8, "q", 0)]
+        self.ask([f"write{size} {IOMMU + offset:#x} {value:#x}" for offset, size, value in lines])
+        self.ask([f"memset {address:#x} {length:#x} 0" for address, length in [*ranges, (QUEUE, 64)]])
+
+    def buffers(self, devices):
+        """What the devices have read, place after place, for each of these."""
+        self.ask([f"writel {IOMMU + 72:#x} 0", f"writel {IOMMU + 76:#x} 0"])
+        self.empty_caches()
+        self.ask([f"writeq {IOMMU + 16:#x} 0", f"writeq {IOMMU + 16:#x} 1"])
+        found = {}
+        for device in devices:
+            self.transfer(device, BUFFER + HALF, ROOM, HALF, TO_MEMORY)
+            found[device] = bytes.fromhex(self.ask([f"read {ROOM:#x} {HALF:#x}"])[0][2:])
+        self.ask([f"memset {ROOM:#x} {HALF:#x} 0", f"memset {QUEUE:#x} 64 0"])
+        return found
