@@ -291,7 +291,10 @@ fn each_access_refused(rt: HostRuntime) -> Result<(), Fail> {
 
 #[test]
 fn each_access_of_the_worked_row_refused(rt: HostRuntime) -> Result<(), Fail> {
-    assert_eq!(rt; otherwise_refused(rt.alloc(), &[IN, WORKED], WORKED_ACCESSES)?, None);
+    assert_eq!(rt;
+        otherwise_refused(rt.alloc(), &[IN, WORKED], WORKED_ACCESSES)?,
+        None
+    );
     Ok(())
 }
 
