@@ -26,22 +26,22 @@ AreWords [] = Unit {0}
 AreWords (word ∷ words) = (word < 2 ^ 64) × AreWords words
 
 -- what follows a value that has a property
-and_then : {A B : Type 0} (P : A → Type 0) (Q : B → Type 0) (found : Option A) (f : A → Option B) → IfSome found P →
+pub and_then : {A B : Type 0} (P : A → Type 0) (Q : B → Type 0) (found : Option A) (f : A → Option B) → IfSome found P →
     ((x : A) → P x → IfSome (f x) Q) → IfSome (found >>= f) Q
 and_then P Q None f is more = tt
 and_then P Q (Some x) f is more = more x is
 
-where_ : {A : Type 0} (Q : A → Type 0) (b : Bool) (found : Option A) → IfSome found Q → IfSome (where_so b found) Q
+pub where_ : {A : Type 0} (Q : A → Type 0) (b : Bool) (found : Option A) → IfSome found Q → IfSome (where_so b found) Q
 where_ Q b found is = cond_both b found None (λ found. IfSome found Q) (λ _. is) (λ _. tt)
 
 is_below : (limit n : ℕ) → IfSome (below limit n) (λ n. n < limit)
 is_below limit n = cond_both (nat_lt n limit) (Some n) None (λ found. IfSome found (λ n. n < limit)) (λ lt. ltb-true n limit lt) (λ _. tt)
 
-any : {A : Type 0} (found : Option A) → IfSome found (λ _. Unit {0})
+pub any : {A : Type 0} (found : Option A) → IfSome found (λ _. Unit {0})
 any None = tt
 any (Some x) = tt
 
-limited_below : (key : List ℕ) (limit : ℕ) (words : List (List ℕ)) → IfSome (limited key limit words) (λ n. n < limit)
+pub limited_below : (key : List ℕ) (limit : ℕ) (words : List (List ℕ)) → IfSome (limited key limit words) (λ n. n < limit)
 unfolding limited
 limited_below key limit words = and_then (λ _. Unit {0}) (λ n. n < limit) (value_of key words) (below limit) (any (value_of key words)) (λ n _. is_below limit n)
 
@@ -50,11 +50,11 @@ bit true = omega arith
 bit false = omega arith
 
 -- an operand with a limit, and a flag, before others
-op : {B : Type 0} (Q : B → Type 0) (key : List ℕ) (limit : ℕ) (words : List (List ℕ)) (f : ℕ → Option B) →
+pub op : {B : Type 0} (Q : B → Type 0) (key : List ℕ) (limit : ℕ) (words : List (List ℕ)) (f : ℕ → Option B) →
     ((n : ℕ) → n < limit → IfSome (f n) Q) → IfSome (limited key limit words >>= f) Q
 op Q key limit words f more = and_then (λ n. n < limit) Q (limited key limit words) f (limited_below key limit words) more
 
-fl : {B : Type 0} (Q : B → Type 0) (key : List ℕ) (words : List (List ℕ)) (f : Bool → Option B) →
+pub fl : {B : Type 0} (Q : B → Type 0) (key : List ℕ) (words : List (List ℕ)) (f : Bool → Option B) →
     ((b : Bool) → flag b ≤ 1 → IfSome (f b) Q) → IfSome (flag_for key words >>= f) Q
 fl Q key words f more = and_then (λ _. Unit {0}) Q (flag_for key words) f (any (flag_for key words)) (λ b _. more b (bit b))
 

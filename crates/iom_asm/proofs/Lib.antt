@@ -6,6 +6,7 @@ pub mod Going
 pub mod Spans
 pub mod Plain
 pub mod Standing
+pub mod Stating
 pub mod Bounds
 pub mod Lasting
 pub mod Retold

@@ -1,5 +1,5 @@
 -- The words of items, and items of one word.
-use Rattle.std.specs.Prelude.{ℕ, ◌+◌, ◌*◌, ◌^◌, ◌==◌, ◌&&◌, List, codes, bytes_eq, Option, Some, None, if◌then◌else◌}
+use Rattle.std.specs.Prelude.{ℕ, ◌≡◌, ◌+◌, ◌*◌, ◌^◌, ◌<◌, ◌==◌, ◌&&◌, List, codes, bytes_eq, Option, Some, None, if◌then◌else◌}
 use Rattle.iom_bits.specs.Bits.{field_of}
 use Rattle.iom_asm.specs.declared.item.Item.{Item}
 use Rattle.iom_asm.specs.declared.item.Item.TheVariants as item
@@ -40,6 +40,11 @@ dir_word ppn = 1 + 2 ^ 10 * ppn
 abbrev pub dir_of : ℕ → Option ℕ
 dir_of word = if field_of word 0 10 == 1 && field_of word 54 10 == 0 then Some (field_of word 10 44) else None
 
+-- the word stands for the entry with this PPN
+pub record IsDirEncoding (ppn word : ℕ) : Type 0 where
+  pub fits : ppn < 2 ^ 44
+  pub word_is : word ≡ dir_word ppn
+
 -- An entry of a page table: flags 9:0, PPN 53:10, all other bits 0 (RISC-V Privileged Architecture, "Sv39"). PPN and flags,
 -- where a word is one.
 abbrev pub pte_word : ℕ → ℕ → ℕ
@@ -52,3 +57,9 @@ pub record Entry : Type 0 where
 abbrev pub pte_of : ℕ → Option Entry
 pte_of word =
     if field_of word 54 10 == 0 then Some (record { ppn = field_of word 10 44; flags = field_of word 0 10 }) else None
+
+-- the word stands for the entry
+pub record IsPteEncoding (entry : Entry) (word : ℕ) : Type 0 where
+  pub ppn_fits : entry.ppn < 2 ^ 44
+  pub flags_fit : entry.flags < 2 ^ 10
+  pub word_is : word ≡ pte_word entry.ppn entry.flags

@@ -1,6 +1,8 @@
 ghost use Rattle.std.specs.Prelude.{◌≡◌, ◌+◌, ◌*◌, ◌++◌, ◌<◌, ◌≤◌, [], ◌∷◌, length};
 ghost use Rattle.std.specs.Option.{option_map};
 ghost use Rattle.iom_text.specs.Texts.{hexed};
+ghost use Rattle.iom_ddt.specs.Contexts.{IsWellFormed};
+ghost use Rattle.iom_ddt.specs.Words.{words_of};
 ghost use Rattle.iom_asm.specs.declared.item.Item.TheVariants as item;
 ghost use Rattle.iom_asm.specs.Lines.{operand, command_text, record_text, context_text, numbers_text, words_text, line_of, item_line};
 
@@ -126,9 +128,10 @@ fn record_line(fault: &Record) -> Line
     line
 }
 
-/// The line of a context: `context` and its operands, without a line end.
+/// The line of a context: `context` and its operands, without a line end. For a well-formed context it is the line of its words.
 pub fn context_line(context: &Context) -> Line
-    ensures { result.items ≡ context_text context.now }
+    ensures text { result.items ≡ context_text context.now }
+    ensures words { IsWellFormed context.now → result.items ≡ line_of item.Context (words_of context.now) }
 {
     let mut line = begun(b"context");
     push_operand(&mut line, b"dtf", flag(context.dtf));

@@ -87,7 +87,7 @@ with_status d value =
     if value == 0 then at_reset d.disk d.read_only
     else record d { status = status_after d.read_only d.status d.features value }
 
--- InterruptACK: a written 1 clears a bit; no bit but 0 and 1 is ever set
+-- InterruptACK: a written 1 clears a bit of the two that there are
 unfoldable pub acknowledged : ℕ → ℕ → ℕ
 acknowledged interrupts value =
     (if has_bit value 0 then 0 else field_of interrupts 0 1) + 2 * (if has_bit value 1 then 0 else field_of interrupts 1 1)

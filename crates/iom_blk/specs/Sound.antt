@@ -43,3 +43,4 @@ pub record IsSound (d : Device) : Type 0 where
   pub disk : IsDisk d.disk
   pub queue : d.ready ≡ true → IsGoodQueue d.size d.desc d.avail d.ring
   pub phase : HoldsIn d.ready d.size d.chain d.header (sectors d.disk) d.read_only d.phase
+  pub interrupts : d.interrupts < 4

@@ -112,11 +112,11 @@ impl Model for Blk {
 }
 
 impl Blk {
-    ghost use Rattle.iom_virtq.specs.Bus.{Reply, IsShortAsk};
+    ghost use Rattle.iom_virtq.specs.Bus.{Reply, IsShortAsk, is_granted};
     ghost use Rattle.iom_blk.specs.Device.{at_reset, sectors};
     ghost use Rattle.iom_blk.specs.Phases.{is_active, is_broken, ask_of, asks, used_entry, took, moved_of};
     ghost use Rattle.iom_blk.specs.Sound.{IsDisk};
-    ghost use Rattle.iom_blk.specs.Wants.{wanted};
+    ghost use Rattle.iom_blk.specs.Wants.{wanted, Answers};
     ghost use Rattle.iom_blk.specs.declared.want.Moved.TheVariants as moved;
 
     /// A device at reset, with this disk of 1 to 65,536 whole sectors of 512 bytes.
@@ -185,15 +185,16 @@ impl Blk {
         }
     }
 
-    /// One step: at most one access of `bus`. It asks what `want` says, and goes on as `take` with the answer. An access that isn't
-    /// granted breaks the device: DEVICE_NEEDS_RESET is set, and it asks for nothing until it is reset (VIRTIO 1.2, "Device Status
-    /// Field").
+    /// One step: at most one access of `bus`. It asks what `want` says, and goes on as `take` with the answer; a granted read brings
+    /// as many bytes as were asked. An access that isn't granted breaks the device: DEVICE_NEEDS_RESET is set, and it asks for
+    /// nothing until it is reset (VIRTIO 1.2, "Device Status Field").
     pub fn step<B: Bus>(&mut self, bus: &mut B) -> Moved
         ensures idle { IfNone (asks self.old)
             ((result ≡ moved.Idle) × (self.new ≡ self.old) × (bus.new ≡ bus.old)) }
         ensures moved { IfSome (asks self.old)
             (λ ask. (reply : Reply) × B.answers bus.old ask reply bus.new
-            × (self.new ≡ took self.old reply) × (result ≡ moved_of reply.access)) }
+            × (self.new ≡ took self.old reply) × (result ≡ moved_of reply.access)
+            × OnTrue (is_granted reply.access) (Answers reply.bytes ask)) }
         ensures disk { OnTrue self.old.read_only (self.new.disk ≡ self.old.disk) }
     {
         match self.want() {

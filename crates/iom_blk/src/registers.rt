@@ -271,7 +271,8 @@ fn status_after(read_only: bool, status: u64, features: u64, value: u64) -> u64
 // InterruptStatus without the bits that a written number clears.
 #[tactic(auto, unfolding(crate::specs::Registers::acknowledged))]
 fn acknowledged(interrupts: u64, value: u64) -> u64
-    ensures { result ≡ acknowledged interrupts value }
+    ensures value { result ≡ acknowledged interrupts value }
+    ensures small { result < 4 }
 {
     let used = if has_bit(value, 0) {
         0

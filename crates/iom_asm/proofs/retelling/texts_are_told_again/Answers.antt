@@ -1,5 +1,6 @@
 use Rattle.iom_asm.proofs.Following.{follow_items}
 use Rattle.iom_asm.proofs.Retold.{reads_again, tells_items, lists_items}
+use Rattle.iom_asm.proofs.Stating.{tells_operands, reads_dirs, reads_ptes}
 use Rattle.iom_asm.proofs.retelling.texts_are_told_again.Goals as goal
 
 pub returns-clause-reads : goal.returns-clause-reads
@@ -7,6 +8,15 @@ returns-clause-reads c = reads_again
 
 pub returns-clause-tells : goal.returns-clause-tells
 returns-clause-tells c = tells_items
+
+pub returns-clause-operands : goal.returns-clause-operands
+returns-clause-operands c = tells_operands
+
+pub returns-clause-dirs : goal.returns-clause-dirs
+returns-clause-dirs c = reads_dirs
+
+pub returns-clause-ptes : goal.returns-clause-ptes
+returns-clause-ptes c = reads_ptes
 
 pub returns-clause-lists : goal.returns-clause-lists
 returns-clause-lists c = lists_items

@@ -7,4 +7,5 @@ invariant_of-self-then-is_queue c = record {
   disk = c.self.invariant.disk;
   queue = λ _. search rules;
   phase = still _ _ _ _ _ _ _ c.self.invariant.phase;
+  interrupts = c.self.invariant.interrupts;
 }

@@ -12,4 +12,5 @@ invariant_of-self-2 c =
       queue = c.self.invariant.queue;
       phase = judged_holds _ _ _ _ _ _ _ _ _ c.self.invariant.phase (ap (λ (d : Device). d.phase) c.self.view_is ∙ c.requires.phase)
           (omega (arith, c.len.ensures.value, c.len.ensures.fits)) (rw (← size) c.judge-self-inside.ensures.phase);
+      interrupts = c.self.invariant.interrupts;
     }
