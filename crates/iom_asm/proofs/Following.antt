@@ -13,7 +13,7 @@ use Rattle.iom_asm.specs.Items.{Entry, name_of, words_in, dir_word, pte_word}
 use Rattle.iom_asm.specs.Forms as forms
 use Rattle.iom_asm.specs.Forms.{where_so, words_for}
 use Rattle.iom_asm.specs.Operands.{◌>>=◌}
-use Rattle.iom_asm.specs.Assembly.{Draft, with_bytes, then_so, after_words, after_line, after_lines, lines_of, described}
+use Rattle.iom_asm.specs.Assembly.{Draft, with_bytes, then_so, after_words, after_lines, lines_of, described}
 use Rattle.iom_asm.specs.Retelling.{StandsIn, AreStated, items_of, items_on, items_in}
 use Rattle.iom_asm.proofs.Bounds.{length_of_words}
 use Rattle.iom_image.proofs.Found.{same_bytes}
@@ -48,7 +48,7 @@ line_in : (line : List ℕ) (lines : List (List ℕ)) (text : List ℕ) (draft :
 line_in line lines text draft stand = record { before = stand.before; after = lines ++ stand.after; parts = stand.parts; made = stand.made }
 
 lines_after : (line : List ℕ) (lines : List (List ℕ)) (text : List ℕ) (draft next : Draft) (stand : StandsIn (line ∷ lines) text draft) →
-    after_line (1 + length stand.before) (Some draft) (words_of line) ≡ Ok (Some next) → StandsIn lines text next
+    after_words (1 + length stand.before) (Some draft) (words_of line) ≡ Ok (Some next) → StandsIn lines text next
 unfolding after_lines
 lines_after line lines text draft next stand is = record {
   before = stand.before ++ line ∷ [];
@@ -138,9 +138,9 @@ Later text kind lines others = (draft : Draft) → StandsIn lines text draft →
 
 blank_states : (text line : List ℕ) (draft : Draft) (kind : Item) (lines first others : List (List ℕ)) → StandsIn (line ∷ lines) text draft →
     words_of line ≡ [] → found [] ≡ Some first → Later text kind lines others → AreStated text kind (first ++ others) draft.place
-unfolding after_line after_words
+unfolding after_words
 blank_states text line draft kind lines first others stand parts none later =
-    let same : after_line (1 + length stand.before) (Some draft) (words_of line) ≡ Ok (Some draft) = rw parts refl in
+    let same : after_words (1 + length stand.before) (Some draft) (words_of line) ≡ Ok (Some draft) = rw parts refl in
     subst (λ (first : List (List ℕ)). AreStated text kind (first ++ others) draft.place) (some_is [] first none)
     (later draft (lines_after line lines text draft draft stand same))
 
@@ -152,9 +152,9 @@ line_states : (text line : List ℕ) (draft last : Draft) (kind : Item) (operand
 unfolding after_lines
 line_states text line draft last kind operands lines others words stand made parts are later =
     let number = 1 + length stand.before in
-    let step = step_ok (after_line number (Some draft) (words_of line)) (λ next. after_lines (number + 1) next (lines ++ stand.after)) (Some last) made in
+    let step = step_ok (after_words number (Some draft) (words_of line)) (λ next. after_lines (number + 1) next (lines ++ stand.after)) (Some last) made in
     let next : Draft = with_bytes draft (bytes_of_words words) in
-    let goes : after_line number (Some draft) (words_of line) ≡ Ok (Some next) =
+    let goes : after_words number (Some draft) (words_of line) ≡ Ok (Some next) =
     step.1 ∙ ap (λ next. Ok next) (sym (after_item kind number draft step.0 words line operands parts are step.1)) in
     statement_states text line draft kind operands words others (line_in line lines text draft stand) parts are
     (subst (λ (n : ℕ). AreStated text kind others (draft.place + n)) (length_of_words words) (later next (lines_after line lines text draft next stand goes)))

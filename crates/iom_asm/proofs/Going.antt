@@ -3,13 +3,13 @@ use Rattle.std.proofs.Common.{◌≡◌, ℕ, ◌+◌, List, [], ◌∷◌, Opti
 use Rattle.std.specs.Prelude.{IfSome}
 use Rattle.iom_text.specs.Words.{words_of}
 use Rattle.iom_asm.specs.declared.asm_fault.AsmFault.{AsmFault}
-use Rattle.iom_asm.specs.Assembly.{Draft, lines_of, then_so, after_line, after_lines, ended, described}
+use Rattle.iom_asm.specs.Assembly.{Draft, lines_of, then_so, after_words, after_lines, ended, described}
 use Rattle.iom_asm.specs.declared.draft.Draft as kept
 use Rattle.iom_asm.specs.Drafts.{draft_seen, found_seen}
-use Rattle.iom_asm.proofs.Keeping.{Good, Fine, line_good}
+use Rattle.iom_asm.proofs.Keeping.{Good, Fine, words_good}
 
 pub goes_on : (line : ℕ) (draft next : Option Draft) (rest first others : List ℕ) (all : Result (Option Draft) AsmFault) →
-    lines_of rest ≡ first ∷ lines_of others → after_line line draft (words_of first) ≡ Ok next →
+    lines_of rest ≡ first ∷ lines_of others → after_words line draft (words_of first) ≡ Ok next →
     after_lines line draft (lines_of rest) ≡ all → after_lines (line + 1) next (lines_of others) ≡ all
 unfolding after_lines
 goes_on line draft next rest first others all cut made so_far =
@@ -17,7 +17,7 @@ goes_on line draft next rest first others all cut made so_far =
     sym one ∙ so_far
 
 pub stops : (line : ℕ) (draft : Option Draft) (rest first others text : List ℕ) (fault : AsmFault) →
-    lines_of rest ≡ first ∷ lines_of others → after_line line draft (words_of first) ≡ Err fault →
+    lines_of rest ≡ first ∷ lines_of others → after_words line draft (words_of first) ≡ Err fault →
     after_lines line draft (lines_of rest) ≡ after_lines 1 None (lines_of text) → described text ≡ Err fault
 unfolding after_lines described
 stops line draft rest first others text fault cut made so_far =
@@ -41,5 +41,5 @@ good_seen None good = tt
 good_seen (Some draft) good = good
 
 pub still_good : (line : ℕ) (draft next : Option kept.Draft) (words : List (List ℕ)) → IfSome draft (λ draft. Good (draft_seen draft)) →
-    after_line line (found_seen draft) words ≡ Ok (found_seen next) → IfSome next (λ next. Good (draft_seen next))
-still_good line draft next words good made = seen_good next (rw made at (line_good line (found_seen draft) words (good_seen draft good)))
+    after_words line (found_seen draft) words ≡ Ok (found_seen next) → IfSome next (λ next. Good (draft_seen next))
+still_good line draft next words good made = seen_good next (rw made at (words_good line (found_seen draft) words (good_seen draft good)))

@@ -11,7 +11,7 @@ use Rattle.iom_asm.specs.declared.asm_fault.AsmFault.TheVariants.{BadLine, Outsi
 use Rattle.iom_image.specs.Image.{Chunk, Disk, IsChunk, AreChunks, IsDisk, AreDisks, IsImage, end_of, is_new_id, is_disk_size}
 use Rattle.iom_asm.specs.Forms.{where_so}
 use Rattle.iom_asm.specs.Operands.{◌>>=◌}
-use Rattle.iom_asm.specs.Assembly.{Draft, meets, insert, is_inside, with_bytes, placed, is_next_disk, with_disk, disk_for, joined, moved_to, moved, empty_draft, ram_draft, opened, bytes_for, or_bad, then_so, stated, started, after_words, after_line, after_lines}
+use Rattle.iom_asm.specs.Assembly.{Draft, meets, insert, is_inside, with_bytes, placed, is_next_disk, with_disk, disk_for, joined, moved_to, moved, empty_draft, ram_draft, opened, bytes_for, or_bad, then_so, stated, started, after_words, after_lines}
 use Rattle.iom_image.proofs.Flags.{with_flags}
 use Rattle.iom_asm.proofs.Full.{some_byte}
 
@@ -190,16 +190,11 @@ some_good : (made : Result Draft AsmFault) → OkGood made → OkFine (then_so m
 some_good (Ok draft) good = good
 some_good (Err fault) good = tt
 
-words_good : (line : ℕ) (draft : Option Draft) (words : List (List ℕ)) → Fine draft → OkFine (after_words line draft words)
+pub words_good : (line : ℕ) (draft : Option Draft) (words : List (List ℕ)) → Fine draft → OkFine (after_words line draft words)
 unfolding after_words
 words_good line draft [] good = good
 words_good line None (name ∷ operands) good = some_good (started line name operands) (started_good line name operands)
 words_good line (Some draft) (name ∷ operands) good = some_good (stated line draft name operands) (stated_good line draft name operands good)
-
-pub line_good : (line : ℕ) (draft : Option Draft) (words : List (List ℕ)) → Fine draft → OkFine (after_line line draft words)
-unfolding after_line
-line_good line draft words good =
-    cond_both (nat_lt 10 (length words)) (Err (BadLine line)) (after_words line draft words) OkFine (λ _. tt) (λ _. words_good line draft words good)
 
 next_good : (line : ℕ) (made : Result (Option Draft) AsmFault) (texts : List (List ℕ)) → OkFine made →
     ((draft : Option Draft) → Fine draft → OkFine (after_lines (line + 1) draft texts)) →
@@ -211,5 +206,5 @@ pub lines_good : (line : ℕ) (draft : Option Draft) (texts : List (List ℕ)) �
 unfolding after_lines
 lines_good line draft [] good = good
 lines_good line draft (text ∷ texts) good =
-    next_good line (after_line line draft (words_of text)) texts (line_good line draft (words_of text) good)
+    next_good line (after_words line draft (words_of text)) texts (words_good line draft (words_of text) good)
     (λ next good. lines_good (line + 1) next texts good)

@@ -10,7 +10,7 @@ use Rattle.iom_asm.specs.declared.asm_fault.AsmFault.TheVariants.{BadLine, Outsi
 use Rattle.iom_image.specs.Image.{Chunk, Disk}
 use Rattle.iom_asm.specs.Forms.{where_so}
 use Rattle.iom_asm.specs.Operands as maybe
-use Rattle.iom_asm.specs.Assembly.{Draft, meets, insert, is_inside, with_bytes, placed, is_next_disk, with_disk, disk_for, joined, moved_to, moved, bytes_for, or_bad, then_so, stated, after_words, after_line, after_lines}
+use Rattle.iom_asm.specs.Assembly.{Draft, meets, insert, is_inside, with_bytes, placed, is_next_disk, with_disk, disk_for, joined, moved_to, moved, bytes_for, or_bad, then_so, stated, after_words, after_lines}
 use Rattle.iom_asm.proofs.Standing.{IsIn}
 
 -- a chunk that was placed stays
@@ -93,11 +93,6 @@ unfolding after_words
 words_has chunk line draft [] has = has
 words_has chunk line draft (name ∷ operands) has = some_has chunk (stated line draft name operands) (stated_has chunk line draft name operands has)
 
-line_has : (chunk : Chunk) (line : ℕ) (draft : Draft) (words : List (List ℕ)) → Has chunk draft → IfOk (after_line line (Some draft) words) (There chunk)
-unfolding after_line
-line_has chunk line draft words has =
-    cond_both (nat_lt 10 (length words)) (Err (BadLine line)) (after_words line (Some draft) words) (λ made. IfOk made (There chunk)) (λ _. tt) (λ _. words_has chunk line draft words has)
-
 next_has : (chunk : Chunk) (line : ℕ) (made : Result (Option Draft) AsmFault) (texts : List (List ℕ)) → IfOk made (There chunk) →
     ((draft : Draft) → Has chunk draft → IfOk (after_lines (line + 1) (Some draft) texts) (There chunk)) →
     IfOk (then_so made (λ next. after_lines (line + 1) next texts)) (There chunk)
@@ -109,5 +104,5 @@ pub lines_has : (chunk : Chunk) (line : ℕ) (draft : Draft) (texts : List (List
 unfolding after_lines
 lines_has chunk line draft [] has = has
 lines_has chunk line draft (text ∷ texts) has =
-    next_has chunk line (after_line line (Some draft) (words_of text)) texts (line_has chunk line draft (words_of text) has)
+    next_has chunk line (after_words line (Some draft) (words_of text)) texts (words_has chunk line draft (words_of text) has)
     (λ next has. lines_has chunk (line + 1) next texts has)

@@ -1,5 +1,6 @@
 pub mod Places
 pub mod Full
+pub mod Most
 pub mod Cuts
 pub mod Keeping
 pub mod Going

@@ -16,7 +16,7 @@ use Rattle.iom_asm.specs.Forms.{words_for}
 use Rattle.iom_asm.specs.Lines.{line_of, item_line}
 use Rattle.iom_asm.specs.Listing.{listed}
 use Rattle.iom_image.specs.Reading.{image_of, opening_of}
-use Rattle.iom_asm.specs.Assembly.{Draft, meets, is_inside, with_bytes, placed, bytes_for, or_bad, then_so, stated, after_words, after_line, after_lines, lines_of, ended, described}
+use Rattle.iom_asm.specs.Assembly.{Draft, meets, is_inside, with_bytes, placed, bytes_for, or_bad, then_so, stated, after_words, after_lines, lines_of, ended, described}
 use Rattle.iom_asm.specs.Retelling.{StandsIn, IsStated, AreStated, lines_told}
 use Rattle.iom_asm.proofs.Keeping.{Good, lines_good}
 use Rattle.iom_image.proofs.Images.{read_again}
@@ -29,10 +29,6 @@ use Rattle.iom_asm.proofs.Spans.{words_stand}
 pub step_ok : {A B : Type 0} (made : Result A AsmFault) (f : A → Result B AsmFault) (y : B) → then_so made f ≡ Ok y → (x : A) × (made ≡ Ok x) × (f x ≡ Ok y)
 step_ok (Ok x) f y is = (x, refl, is)
 step_ok (Err fault) f y is = absurd cc
-
-test_ok : {A : Type 0} (b : Bool) (fault : AsmFault) (made : Result A AsmFault) (y : A) → (if b then Err fault else made) ≡ Ok y → made ≡ Ok y
-test_ok true fault made y is = absurd cc
-test_ok false fault made y is = is
 
 abbrev good : {A : Type 0} → A → Result A AsmFault
 good x = Ok x
@@ -73,12 +69,11 @@ placed_next line draft next words is =
 -- the statement of an item on a line: its words are placed
 pub after_item : (kind : Item) (line : ℕ) (draft : Draft) (next : Option Draft) (words text : List ℕ) (operands : List (List ℕ)) →
     words_of text ≡ name_of kind ∷ operands → words_for (name_of kind) operands ≡ Some words →
-    after_line line (Some draft) (words_of text) ≡ Ok next → Some (with_bytes draft (bytes_of_words words)) ≡ next
-unfolding after_line after_words
+    after_words line (Some draft) (words_of text) ≡ Ok next → Some (with_bytes draft (bytes_of_words words)) ≡ next
+unfolding after_words
 after_item kind line draft next words text operands parts are is =
-    let first : after_line line (Some draft) (name_of kind ∷ operands) ≡ Ok next = rw parts at is in
-    let second = test_ok (nat_lt 10 (length (name_of kind ∷ operands))) (BadLine line) (after_words line (Some draft) (name_of kind ∷ operands)) next first in
-    placed_next line draft next words (rw (stated_is kind line draft operands, are) at second)
+    let first : after_words line (Some draft) (name_of kind ∷ operands) ≡ Ok next = rw parts at is in
+    placed_next line draft next words (rw (stated_is kind line draft operands, are) at first)
 
 -- the lines behind it go on from there
 pub goes_past : (kind : Item) (line : ℕ) (draft last : Draft) (words text : List ℕ) (operands others : List (List ℕ)) →
@@ -87,7 +82,7 @@ pub goes_past : (kind : Item) (line : ℕ) (draft last : Draft) (words text : Li
     after_lines (line + 1) (Some (with_bytes draft (bytes_of_words words))) others ≡ Ok (Some last)
 unfolding after_lines
 goes_past kind line draft last words text operands others parts are made =
-    let step = step_ok (after_line line (Some draft) (words_of text)) (λ next. after_lines (line + 1) next others) (Some last) made in
+    let step = step_ok (after_words line (Some draft) (words_of text)) (λ next. after_lines (line + 1) next others) (Some last) made in
     rw (after_item kind line draft step.0 words text operands parts are step.1) step.2
 
 -- words among others, and their bytes
@@ -140,7 +135,7 @@ pub lines_then : (line : ℕ) (draft : Option Draft) (before after : List (List 
 unfolding after_lines
 lines_then line draft [] after = let same : line + 0 ≡ line = omega arith in rw same refl
 lines_then line draft (text ∷ before) after =
-    next_then line (after_line line draft (words_of text)) before after (λ next. lines_then (line + 1) next before after)
+    next_then line (after_words line draft (words_of text)) before after (λ next. lines_then (line + 1) next before after)
 
 -- the draft that a text ends with
 end_is : (made : Result (Option Draft) AsmFault) (next : Option Draft) (image : Image) → made ≡ Ok next → ended next ≡ Ok image →

@@ -150,21 +150,17 @@ stated line draft name operands =
 unfoldable pub started : ℕ → List ℕ → List (List ℕ) → Result Draft AsmFault
 started line name operands = or_bad line (where_so (bytes_eq name (codes "ram")) (opened operands))
 
--- The words of a line, after nothing or after what the statements before make. A line without words is no statement, and no
--- statement has more than ten.
+-- The words of a line, after nothing or after what the statements before make. A line without words is no statement.
 unfoldable pub after_words : ℕ → Option Draft → List (List ℕ) → Result (Option Draft) AsmFault
 after_words line draft [] = Ok draft
 after_words line None (name ∷ operands) = then_so (started line name operands) (λ draft. Ok (Some draft))
 after_words line (Some draft) (name ∷ operands) = then_so (stated line draft name operands) (λ draft. Ok (Some draft))
 
-unfoldable pub after_line : ℕ → Option Draft → List (List ℕ) → Result (Option Draft) AsmFault
-after_line line draft words = if nat_lt 10 (length words) then Err (BadLine line) else after_words line draft words
-
 -- the lines of a text, the first of them line `line`, or the first fault
 unfoldable pub after_lines : ℕ → Option Draft → List (List ℕ) → Result (Option Draft) AsmFault
 after_lines line draft [] = Ok draft
 after_lines line draft (text ∷ texts) =
-    then_so (after_line line draft (words_of text)) (λ next. after_lines (line + 1) next texts)
+    then_so (after_words line draft (words_of text)) (λ next. after_lines (line + 1) next texts)
 
 abbrev pub ended : Option Draft → Result Image AsmFault
 ended None = Err (BadLine 0)

@@ -2,7 +2,7 @@
 
 ghost use Rattle.std.specs.Prelude.{◌≡◌, ◌++◌, ◌<◌, ◌+◌, map, IfOk, IfSome, OnOk};
 ghost use Rattle.std.specs.Option.{option_map};
-ghost use Rattle.iom_asm.specs.Assembly.{Draft as AsmDraft, moved_to, hex, one_hex, bytes_for, ram_draft, opened, moved, disk_of, disk_for, first_bytes, joined, stated, started, after_words, after_line, or_bad, Makes};
+ghost use Rattle.iom_asm.specs.Assembly.{Draft as AsmDraft, moved_to, hex, one_hex, bytes_for, ram_draft, opened, moved, disk_of, disk_for, first_bytes, joined, stated, started, after_words, or_bad, Makes};
 ghost use Rattle.iom_text.specs.Words.{words_of};
 ghost use Rattle.iom_image.specs.Image.{IsImage};
 ghost use Rattle.iom_image.specs.Own.{disk_seen};
@@ -261,7 +261,7 @@ fn after_words(
 }
 
 /// What the statements before and line `line` make; None while there is no statement. The faults name that line.
-#[tactic(auto, unfolding(crate::specs::Assembly::after_line))]
+#[tactic(auto, using(crate::proofs::Most::too_many))]
 pub fn after_line(
     alloc: Global,
     line: u64,
@@ -269,9 +269,10 @@ pub fn after_line(
     text: &[u8],
 ) -> Result<Option<Draft>, AsmFault>
     requires { IfSome draft (λ draft. IsImage (draft_seen draft).image) }
-    ensures { Makes found_seen result (after_line line (found_seen draft) (words_of text.now)) }
+    ensures { Makes found_seen result (after_words line (found_seen draft) (words_of text.now)) }
 {
     let words = words(text);
+    // No statement has more than ten words.
     if words.len() > 10 {
         return Err(AsmFault::BadLine(line));
     }
