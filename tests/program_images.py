@@ -33,6 +33,16 @@ def _():
         want_words(["run", image], COMMAND + b"outside\n", given=b"show cmd 0x80000ff0\nshow cmd 0x80001000\n")
 
 
+@check("control characters of a name or a word are told escaped, so that a fault is one line")
+def _():
+    with folder() as here:
+        name, told = os.path.join(here, "a\nb\t\x1b"), os.path.join(here, "a\\nb\\t\\u{1b}")
+        source = put(here, "source", TEXT)
+        want_words(["run", name], b"", cannot(b"read", told))
+        want_words(["asm", source, os.path.join(name, "x")], b"", cannot(b"write", os.path.join(told, "x")))
+        want_words(["list", source, "a\nb", "0", "1"], b"", (2, b"rviommu: a\\nb: KIND is cmd, fault, context, dir, pte or u64\n"))
+
+
 @check("asm: the image of the built-in memory, in place of what the file had")
 def _():
     with folder() as here:

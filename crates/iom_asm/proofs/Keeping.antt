@@ -7,7 +7,7 @@ use Rattle.std.proofs.lemmas.Bool.{cond_both, and_parts, or_parts, ltb-true, ltb
 use Rattle.iom_text.specs.Words.{number, words_of}
 use Rattle.iom_mem.specs.Sizes.{is_paged, is_good_size}
 use Rattle.iom_asm.specs.declared.asm_fault.AsmFault.{AsmFault}
-use Rattle.iom_asm.specs.declared.asm_fault.AsmFault.TheVariants.{BadLine, Outside, Overlap}
+use Rattle.iom_asm.specs.declared.asm_fault.AsmFault.TheVariants.{Outside, Overlap}
 use Rattle.iom_image.specs.Image.{Chunk, Disk, IsChunk, AreChunks, IsDisk, AreDisks, IsImage, end_of, is_new_id, is_disk_size}
 use Rattle.iom_asm.specs.Forms.{where_so}
 use Rattle.iom_asm.specs.Operands.{◌>>=◌}

@@ -1,6 +1,7 @@
 -- No statement has more than ten words.
-use Rattle.std.proofs.Common.{◌≡◌, ℕ, suc, ◌+◌, ◌≤◌, ◌<◌, ◌&&◌, ◌||◌, Bool, true, false, not, if◌then◌else◌, nat_le, List, [], ◌∷◌, length, codes, bytes_eq, Option, Some, None, Result, Ok, Err, refl, ap, arith}
+use Rattle.std.proofs.Common.{◌≡◌, ℕ, zero, suc, ◌+◌, ◌≤◌, ◌<◌, ◌&&◌, ◌||◌, Bool, true, false, not, nat_le, List, [], ◌∷◌, length, map, take, codes, bytes_eq, Option, Some, None, Result, Err, refl, ap, arith}
 use Rattle.std.proofs.lemmas.Bool.{cond_both}
+use Rattle.std.proofs.lemmas.Grind.{common_steps}
 use Rattle.std.specs.Option.{option_map}
 use Rattle.iom_bits.specs.Bits.{flag}
 use Rattle.iom_text.specs.Words.{number}
@@ -10,14 +11,13 @@ use Rattle.iom_queue.specs.Records.{record_words}
 use Rattle.iom_mem.specs.Words.{bytes_of_words}
 use Rattle.iom_asm.specs.declared.asm_fault.AsmFault.{AsmFault}
 use Rattle.iom_asm.specs.declared.asm_fault.AsmFault.TheVariants.{BadLine}
-use Rattle.iom_image.specs.Image.{Disk}
 use Rattle.iom_asm.specs.Items.{Entry, dir_word, pte_word}
-use Rattle.iom_asm.specs.Operands.{Operand, operand_of, has_key, is_given, is_one_of, are_operands, ◌>>=◌}
+use Rattle.iom_asm.specs.Operands.{operand_of, has_key, is_given, is_one_of, are_operands, ◌>>=◌}
 use Rattle.iom_asm.specs.Forms.{where_so, vma_keys, gvma_keys, fence_keys, fault_keys, context_keys, vma, gvma, fence, iodir, command, fault, context, dir, pte, each_number, numbers, words_for}
 use Rattle.iom_asm.specs.Assembly.{Draft, one_hex, bytes_for, opened, moved, first_bytes, disk_of, disk_for, joined, or_bad, then_so, placed, stated, started, after_words}
 
 -- how many of some keys are given
-given_among : List (List ℕ) → List (List ℕ) → ℕ
+abbrev given_among : List (List ℕ) → List (List ℕ) → ℕ
 given_among [] words = 0
 given_among (key ∷ keys) words = flag (is_given key words) + given_among keys words
 
@@ -67,8 +67,8 @@ as_many keys (word ∷ words) is =
 
 -- more words than keys are no operands
 closed : {A : Type 0} (b : Bool) (found : Option A) → (b ≡ true → ⊥) → where_so b found ≡ None
-closed true found no = absurd (no refl)
-closed false found no = refl
+closed true found never = absurd (never refl)
+closed false found never = refl
 
 too_many_for : {A : Type 0} (keys words : List (List ℕ)) (found : Option A) → length keys < length words → where_so (are_operands keys words) found ≡ None
 too_many_for keys words found lt =
@@ -179,3 +179,15 @@ unfolding after_words
 too_many line draft [] lt = absurd (omega (arith, lt))
 too_many line None (name ∷ words) lt = stops line (started line name words) _ (started_bad line name words (omega (arith, lt)))
 too_many line (Some draft) (name ∷ words) lt = stops line (stated line draft name words) _ (stated_bad line draft name words (omega (arith, lt)))
+
+-- of words that were taken, more than ten are more than ten of all
+take_le : {A : Type 0} (n : ℕ) (items : List A) → length (take n items) ≤ length items
+take_le zero items = omega arith
+take_le (suc n) [] = omega arith
+take_le (suc n) (item ∷ items) = let le = take_le n items in omega (arith, le)
+
+pub long : {A : Type 0} (f : A → List ℕ) (items : List A) (words : List (List ℕ)) → map f items ≡ take 11 words → 10 < length items → 10 < length words
+long f items words is lt =
+    let same : length (map f items) ≡ length items = grind (arith, common_steps) in
+    let taken = take_le 11 words in
+    let eleven : length (map f items) ≡ length (take 11 words) = ap (λ words. length words) is in omega (arith, same, taken, eleven, lt)

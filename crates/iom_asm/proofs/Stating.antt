@@ -1,8 +1,7 @@
 -- What a statement says stands in its words, field by field.
-use Rattle.std.proofs.Common.{◌≡◌, ◌≢◌, ℕ, ◌+◌, ◌*◌, ◌%◌, ◌≤◌, ◌<◌, ◌^◌, ◌==◌, ◌&&◌, ◌||◌, if◌then◌else◌, Bool, true, false, not, IsTrue, List, [], ◌∷◌, codes, bytes_eq, Option, Some, None, Ok, Err, get_or, refl, sym, ap, ◌∙◌, arith}
+use Rattle.std.proofs.Common.{◌≡◌, ◌≢◌, ℕ, ◌%◌, ◌≤◌, ◌<◌, ◌^◌, ◌==◌, ◌&&◌, ◌||◌, if◌then◌else◌, Bool, true, false, not, IsTrue, List, [], ◌∷◌, codes, bytes_eq, Option, Some, None, Ok, Err, get_or, refl, sym, ap, ◌∙◌, arith}
 use Rattle.std.specs.Prelude.{IfSome}
 use Rattle.std.specs.Option.{option_map}
-use Rattle.std.specs.Result.{result_ok}
 use Rattle.std.proofs.lemmas.Bool.{cond_both, and_parts}
 use Rattle.std.proofs.lemmas.Grind.{common_steps}
 use Rattle.iom_bits.specs.Bits.{has_bit, flag, field_of}
@@ -10,7 +9,6 @@ use Rattle.iom_ddt.specs.declared.context.Context.{Context}
 use Rattle.iom_ddt.specs.Contexts.{is_mode, is_well_formed, IsWellFormed}
 use Rattle.iom_ddt.specs.Words.{tc, iohgatp, ta, fsc, words_of, fields_in, are_words_of, context_in}
 use Rattle.iom_bits.specs.declared.causes.Cause.TheVariants.{DirInvalid, DirBad}
-use Rattle.iom_queue.specs.declared.command.Command.{Command}
 use Rattle.iom_queue.specs.declared.command.Command.TheVariants.{Fence}
 use Rattle.iom_queue.specs.declared.record.Record.{Record}
 use Rattle.iom_queue.specs.Commands.{CommandFits, command_words}
@@ -19,8 +17,7 @@ use Rattle.iom_queue.proofs.Encodings.{command_of_words}
 use Rattle.iom_asm.specs.declared.item.Item.{Item}
 use Rattle.iom_asm.specs.declared.item.Item.TheVariants as item
 use Rattle.iom_asm.specs.Items.{name_of, Entry, dir_word, dir_of, pte_word, pte_of, IsDirEncoding, IsPteEncoding}
-use Rattle.iom_asm.specs.Forms.{where_so, vma, gvma, fence, iodir, command, fault, formed, context, dir, pte, numbers, words_for}
-use Rattle.iom_asm.specs.Operands.{limited}
+use Rattle.iom_asm.specs.Forms.{vma, gvma, fence, iodir, command, fault, context, dir, pte, numbers, words_for}
 use Rattle.iom_asm.specs.Lines.{command_text, record_text, context_text, dir_text, pte_text, words_text, line_of}
 use Rattle.iom_asm.specs.Retelling.{told}
 use Rattle.iom_asm.proofs.Bounds.{where_, op, fl, limited_below}

@@ -261,7 +261,6 @@ fn after_words(
 }
 
 /// What the statements before and line `line` make; None while there is no statement. The faults name that line.
-#[tactic(auto, using(crate::proofs::Most::too_many))]
 pub fn after_line(
     alloc: Global,
     line: u64,

@@ -2,7 +2,25 @@ use clap::error::ErrorKind;
 use iom_asm::{AsmFault, ListFault, LoadFault};
 use iom_tool::RunFault;
 use std::alloc::AllocError;
+use std::fmt::{self, Display, Formatter, Write};
 use thiserror::Error;
+
+// A word of the command line, its control characters escaped, so that a fault is one line.
+#[derive(Clone, Copy)]
+struct Told<'a>(&'a str);
+
+impl Display for Told<'_> {
+    fn fmt<W: Write>(&self, f: &mut Formatter<W>) -> fmt::Result {
+        for c in self.0.chars() {
+            if c.is_control() {
+                Display::fmt(&c.escape_default(), f)?;
+            } else {
+                f.write_char(c)?;
+            }
+        }
+        Ok(())
+    }
+}
 
 /// Why the program ends, if not well.
 #[derive(Debug, Drop, Error)]
@@ -11,19 +29,19 @@ pub enum Fault<'a> {
     #[error("a word isn't UTF-8")]
     BadWord,
     /// A word isn't the kind of an item.
-    #[error("{word}: KIND is cmd, fault, context, dir, pte or u64")]
+    #[error("{}: KIND is cmd, fault, context, dir, pte or u64", Told(*.word))]
     BadKind { word: &'a str },
     /// The word of the operand `name` is no number below 2^64.
-    #[error("{word}: {name} is decimal, or hex after 0x, below 2^64")]
+    #[error("{}: {name} is decimal, or hex after 0x, below 2^64", Told(*.word))]
     BadNumber { name: &'static str, word: &'a str },
     /// Help or version that was asked for, or what clap finds wrong.
     #[error("{0}")]
     Words(clap::Error),
     /// The file of this name can't be read, or has more than 2^30 bytes.
-    #[error("cannot read {0}")]
+    #[error("cannot read {}", Told(*.0))]
     CannotRead(&'a str),
     /// The file of this name can't be written.
-    #[error("cannot write {0}")]
+    #[error("cannot write {}", Told(*.0))]
     CannotWrite(&'a str),
     /// A text is refused by the assembler.
     #[error("{0}")]
