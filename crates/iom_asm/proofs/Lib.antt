@@ -12,3 +12,4 @@ pub mod Bounds
 pub mod Lasting
 pub mod Retold
 pub mod Following
+pub mod Operating

@@ -1,6 +1,7 @@
 pub mod Items
 pub mod Lines
 pub mod Operands
+pub mod Given
 pub mod Forms
 pub mod Assembly
 pub mod Drafts

@@ -4,6 +4,7 @@
 pub use asm_fault::AsmFault;
 pub use assembling::assemble;
 pub use forms::words_for;
+pub use given::operands_are_what_is_given;
 pub use iom_image::{LoadFault, built_in, images_are_what_is_read, judge, load, upgrade};
 pub use item::Item;
 pub use lines::{Line, context_line, item_line};
@@ -15,6 +16,7 @@ mod asm_fault;
 mod assembling;
 mod draft;
 mod forms;
+mod given;
 mod item;
 mod lines;
 mod list_fault;
