@@ -40,7 +40,8 @@ def _():
         source = put(here, "source", TEXT)
         want_words(["run", name], b"", cannot(b"read", told))
         want_words(["asm", source, os.path.join(name, "x")], b"", cannot(b"write", os.path.join(told, "x")))
-        want_words(["list", source, "a\nb", "0", "1"], b"", (2, b"rviommu: a\\nb: KIND is cmd, fault, context, dir, pte or u64\n"))
+        told = b"rviommu: a\\nb: ADDR is decimal, or hex after 0x, below 2^64\n"
+        want_words(["list", source, "u64", "a\nb", "1"], b"", (2, told))
 
 
 @check("asm: the image of the built-in memory, in place of what the file had")
