@@ -171,6 +171,34 @@ impl Blk {
         &self.disk
     }
 
+    /// What its next access is for, where it makes one.
+    pub fn phase(&self) -> Phase
+        ensures { result ≡ self.now.phase }
+    {
+        self.phase
+    }
+
+    /// The head of the request that is under way, the index of its first descriptor; where none is, that of the one before.
+    pub fn head(&self) -> u16
+        ensures { result ≡ self.now.head }
+    {
+        self.request.head
+    }
+
+    /// How many requests it took from the available ring, modulo 2^16 ("The Virtqueue Available Ring").
+    pub fn seen(&self) -> u16
+        ensures { result ≡ self.now.seen }
+    {
+        self.seen
+    }
+
+    /// How many requests it gave back, modulo 2^16: the idx of the used ring ("The Virtqueue Used Ring").
+    pub fn used(&self) -> u16
+        ensures { result ≡ self.now.used }
+    {
+        self.used
+    }
+
     /// What the next step asks the bus for: nothing, or one access of 1 to 64 bytes within one page, at an IOVA.
     #[tactic(auto, unfolding(crate::specs::Phases::asks), using(crate::proofs::Broken::broken_asks_nothing))]
     pub fn want(&self) -> Want

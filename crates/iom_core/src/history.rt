@@ -136,9 +136,9 @@ fn later(last: Option<usize>, k: usize, held: bool, holds: bool) -> Option<usize
 }
 
 impl Platform {
-    // What a step asks of the IOMMU.
+    /// What a step asks of the IOMMU, if it is the next one: a device's access, a block device's too. None where it makes none.
     #[tactic(auto, unfolding(crate::specs::Table::asked))]
-    fn request_of(&self, step: &Step) -> Option<Request>
+    pub fn request_of(&self, step: &Step) -> Option<Request>
         ensures request { result ≡ request_of_step self.now step.now }
         ensures fits { IfSome result (λ request. request.did < 2 ^ 24) }
     {

@@ -112,6 +112,13 @@ impl Platform {
         Some(device.disk())
     }
 
+    /// The device id and the block device of number `n`, counted from 0; None where there is no such device.
+    pub fn block_device(&self, n: usize) -> Option<&(u32, Blk)>
+        ensures { option_map (λ own. own.now) result ≡ slice_get self.now.devices n }
+    {
+        self.devices.get(n)
+    }
+
     /// Carries out one step, and answers what the step table says. It takes no memory.
     pub fn step(&mut self, step: &Step) -> Answer
         ensures answer { result ≡ (next self.old step.now).answer }
