@@ -1,1 +1,3 @@
 pub mod Stale
+pub mod Parts
+pub mod Standing

@@ -21,3 +21,7 @@ told access.ByRegister = way.Register
 told (access.ByContext context) = way.Context context
 told (access.Walked context hit) = way.Walked context hit
 told (access.Denied denial) = way.Denied denial
+
+-- the way where nothing is cached, as it is told: what the tables say
+abbrev pub by_tables : Machine → Request → Way
+by_tables m request = told (led (uncached m) request).way

@@ -1,9 +1,17 @@
-//! Reasons: where a request is led, where it would be led if nothing were cached, and whether these differ (RISC-V IOMMU
-//! Architecture 1.0, "Caching in-memory data structures").
+//! Reasons: where a request is led, where it would be led if nothing were cached, by which entries, and whether these differ; and
+//! whether the tables still say what a cache holds (RISC-V IOMMU Architecture 1.0, "Caching in-memory data structures").
 #![tactic(auto)]
 
+pub use listing::{Parts, parts};
+pub use part::Part;
+pub use places::{stale_context, stale_page};
 pub use staleness::{stale, way_by_tables, way_now};
+pub use standing::{Located, Standing};
 pub use way::Way;
 
+mod listing;
+mod part;
+mod places;
 mod staleness;
+mod standing;
 mod way;

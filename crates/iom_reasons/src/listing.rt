@@ -1,0 +1,166 @@
+//! The parts of a walk.
+
+ghost use Rattle.std.specs.Prelude.{◌≡◌, ◌++◌, ◌+◌, ◌<◌, ◌≤◌, ◌^◌, ◌-◌, map, flat_map, slice_get, Some};
+ghost use Rattle.arrayvec.specs.ArrayVec.{array_vec_len};
+ghost use Rattle.iom_regs.specs.Views.{mode_of};
+ghost use Rattle.iom_ddt.specs.Contexts.{IsWellFormed};
+ghost use Rattle.iom_ddt.specs.Directory.{levels_of, located, path_of};
+ghost use Rattle.iom_nested.specs.Nested.{first_stage};
+ghost use Rattle.iom_nested.specs.Stages.{first_shape_of};
+ghost use Rattle.iom_reasons.specs.Parts.{access_parts, entry_parts, first_parts, parts_of, read_at, second_parts, stage_parts};
+ghost use Rattle.iom_reasons.specs.declared.part.Part.TheVariants.{Directory, End};
+ghost use Rattle.iom_reasons.specs.Stale.{by_tables};
+
+use crate::Part;
+use crate::staleness::way_by_tables;
+use arrayvec::ArrayVec;
+use iom_bits::Kind;
+use iom_core::{Platform, Request};
+use iom_ddt::{Context, locate};
+use iom_mem::Ram;
+use iom_nested::{Physical, Second, first_shape, first_stage, second_shape};
+use iom_regs::Mode;
+use iom_walk::{Outcome, PathEntries, PathEntry, walk};
+
+/// The parts of a walk, in order: at most ddtp, three of the directory, four entries of the first stage and five times four of the
+/// second, and the end.
+pub type Parts = ArrayVec<Part, 29>;
+
+/// All that is looked at to lead a request where nothing is cached, in order ("Process to translate an IOVA").
+///
+/// ddtp comes first, then the directory down to the device's context, then the first stage: before each of its entries those of the
+/// second stage that translate the entry's place, for a read. The second stage for the access itself is next, for the access's kind,
+/// and the end is the way that the request is led. A device id that is too wide has no directory, and an address that breaks the width
+/// rule no entries. The device id is below 2^24, the IOVA any. No memory is taken.
+#[tactic(auto, unfolding(crate::specs::Parts::parts_of))]
+pub fn parts(platform: &Platform, request: &Request) -> Parts
+    requires { request.now.did < 2 ^ 24 }
+    ensures parts { result.items ≡ parts_of platform.now.machine request.now }
+    ensures end { slice_get result.items (array_vec_len result - 1) ≡ Some (End (by_tables platform.now.machine request.now)) }
+    ensures some { 2 ≤ array_vec_len result }
+    ensures most { array_vec_len result ≤ 29 }
+{
+    let registers = platform.registers();
+    let mode = registers.mode();
+    let root = registers.root();
+    let mut out = Parts::new();
+    out.push(Part::Ddtp { mode, root });
+    if let Mode::Levels(_) = mode {
+        push_directory(&mut out, platform, request.did);
+        push_located(&mut out, platform, request);
+    }
+    out.push(Part::End(way_by_tables(platform, request)));
+    out
+}
+
+// The items of the directory.
+fn push_directory(out: &mut Parts, platform: &Platform, did: u32)
+    requires directory { 1 ≤ levels_of (mode_of platform.now.machine.registers) }
+    requires width { did < 2 ^ 24 }
+    requires room { array_vec_len out.old ≤ 26 }
+    ensures items { out.new.items ≡ out.old.items ++ map Directory (path_of platform.now.machine.memory platform.now.machine.registers did) }
+    ensures len { array_vec_len out.new ≤ array_vec_len out.old + 3 }
+{
+    let path = iom_ddt::path(platform.ram(), platform.registers(), did);
+    for met in path.iter() {
+        out.push(Part::Directory(*met));
+    }
+}
+
+// Both stages of the context that the directory has for the request.
+fn push_located(out: &mut Parts, platform: &Platform, request: &Request)
+    requires directory { 1 ≤ levels_of (mode_of platform.now.machine.registers) }
+    requires width { request.now.did < 2 ^ 24 }
+    requires room { array_vec_len out.old ≤ 5 }
+    ensures items { out.new.items ≡ out.old.items ++ stage_parts platform.now.machine.memory request.now.iova request.now.kind
+        (located platform.now.machine.memory platform.now.machine.registers request.now.did) }
+    ensures len { array_vec_len out.new ≤ array_vec_len out.old + 24 }
+{
+    let ram = platform.ram();
+    if let Ok(context) = locate(ram, platform.registers(), request.did) {
+        push_first(out, ram, &context, request.iova, request.kind);
+        push_access(out, ram, &context, request.iova, request.kind);
+    }
+}
+
+// The first stage, entry by entry.
+#[tactic(auto, unfolding(crate::specs::Parts::first_parts))]
+fn push_first(out: &mut Parts, ram: &Ram, context: &Context, iova: u64, kind: Kind)
+    requires well_formed { IsWellFormed context.now }
+    requires room { array_vec_len out.old ≤ 9 }
+    ensures items { out.new.items ≡ out.old.items ++ first_parts ram.now context.now iova kind }
+    ensures len { array_vec_len out.new ≤ array_vec_len out.old + 20 }
+{
+    if let Some(shape) = first_shape(context) {
+        let entries = match second_shape(context) {
+            Some(_) => iom_walk::path(&Second::new(ram, context), shape, context.ppn, iova, kind),
+            None => iom_walk::path(&Physical { ram }, shape, context.ppn, iova, kind),
+        };
+        push_entries(out, ram, context, &entries);
+    }
+}
+
+// Entries of the first stage, each behind those of the second.
+fn push_entries(out: &mut Parts, ram: &Ram, context: &Context, entries: &PathEntries)
+    requires well_formed { IsWellFormed context.now }
+    requires few { array_vec_len entries.now ≤ 4 }
+    requires room { array_vec_len out.old ≤ 9 }
+    ensures items { out.new.items ≡ out.old.items ++ flat_map (entry_parts ram.now context.now) entries.now.items }
+    ensures len { array_vec_len out.new ≤ array_vec_len out.old + 20 }
+{
+    for entry in entries.iter() {
+        push_second(out, ram, context, entry.place, Kind::Read);
+        out.push(Part::First {
+            entry: *entry,
+            addr: read_at(ram, context, entry.place),
+        });
+    }
+}
+
+// The second stage for the access itself, where the first one leads its IOVA.
+fn push_access(out: &mut Parts, ram: &Ram, context: &Context, iova: u64, kind: Kind)
+    requires well_formed { IsWellFormed context.now }
+    requires room { array_vec_len out.old ≤ 25 }
+    ensures items { out.new.items ≡ out.old.items
+        ++ access_parts ram.now context.now kind (first_stage ram.now context.now iova kind (first_shape_of context.now)) }
+    ensures len { array_vec_len out.new ≤ array_vec_len out.old + 4 }
+{
+    if let Ok(reached) = first_stage(ram, context, iova, kind) {
+        push_second(out, ram, context, reached.addr, kind);
+    }
+}
+
+// The entries of the second stage on the way from a guest-physical address.
+#[tactic(auto, unfolding(crate::specs::Parts::second_parts))]
+fn push_second(out: &mut Parts, ram: &Ram, context: &Context, guest: u64, kind: Kind)
+    requires well_formed { IsWellFormed context.now }
+    requires room { array_vec_len out.old ≤ 25 }
+    ensures items { out.new.items ≡ out.old.items ++ second_parts ram.now context.now kind guest }
+    ensures len { array_vec_len out.new ≤ array_vec_len out.old + 4 }
+{
+    let entries = match second_shape(context) {
+        Some(shape) => iom_walk::path(&Physical { ram }, shape, context.gppn, guest, kind),
+        None => PathEntries::new(),
+    };
+    for entry in entries.iter() {
+        out.push(Part::Second {
+            guest,
+            entry: *entry,
+        });
+    }
+}
+
+// The physical address that an entry of the first stage is read at.
+#[tactic(auto, unfolding(crate::specs::Parts::read_at))]
+fn read_at(ram: &Ram, context: &Context, place: u64) -> Option<u64>
+    requires { IsWellFormed context.now }
+    ensures { result ≡ read_at ram.now context.now place }
+{
+    let Some(shape) = second_shape(context) else {
+        return Some(place);
+    };
+    match walk(&Physical { ram }, shape, context.gppn, place, Kind::Read) {
+        Outcome::Leaf(leaf) => Some(leaf.frame * 4096 + place % 4096),
+        Outcome::Outside | Outcome::Guest(_) | Outcome::Fault => None,
+    }
+}
