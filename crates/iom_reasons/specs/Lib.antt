@@ -1,3 +1,4 @@
 pub mod Stale
 pub mod Parts
+pub mod Fetches
 pub mod Standing

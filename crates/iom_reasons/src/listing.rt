@@ -1,6 +1,6 @@
 //! The parts of a walk.
 
-ghost use Rattle.std.specs.Prelude.{◌≡◌, ◌++◌, ◌+◌, ◌<◌, ◌≤◌, ◌^◌, ◌-◌, map, flat_map, slice_get, Some};
+ghost use Rattle.std.specs.Prelude.{◌≡◌, ◌++◌, ◌+◌, ◌<◌, ◌≤◌, ◌^◌, ◌-◌, map, flat_map, slice_get, All, Some};
 ghost use Rattle.arrayvec.specs.ArrayVec.{array_vec_len};
 ghost use Rattle.iom_regs.specs.Views.{mode_of};
 ghost use Rattle.iom_ddt.specs.Contexts.{IsWellFormed};
@@ -8,6 +8,7 @@ ghost use Rattle.iom_ddt.specs.Directory.{levels_of, located, path_of};
 ghost use Rattle.iom_nested.specs.Nested.{first_stage};
 ghost use Rattle.iom_nested.specs.Stages.{first_shape_of};
 ghost use Rattle.iom_reasons.specs.Parts.{access_parts, entry_parts, first_parts, parts_of, read_at, second_parts, stage_parts};
+ghost use Rattle.iom_reasons.specs.Fetches.{IsRead};
 ghost use Rattle.iom_reasons.specs.declared.part.Part.TheVariants.{Directory, End};
 ghost use Rattle.iom_reasons.specs.Stale.{by_tables};
 
@@ -36,6 +37,7 @@ pub type Parts = ArrayVec<Part, 29>;
 pub fn parts(platform: &Platform, request: &Request) -> Parts
     requires { request.now.did < 2 ^ 24 }
     ensures parts { result.items ≡ parts_of platform.now.machine request.now }
+    ensures read { All (IsRead platform.now.machine.memory) result.items }
     ensures end { slice_get result.items (array_vec_len result - 1) ≡ Some (End (by_tables platform.now.machine request.now)) }
     ensures some { 2 ≤ array_vec_len result }
     ensures most { array_vec_len result ≤ 29 }
@@ -109,11 +111,13 @@ fn push_entries(out: &mut Parts, ram: &Ram, context: &Context, entries: &PathEnt
     ensures len { array_vec_len out.new ≤ array_vec_len out.old + 20 }
 {
     for entry in entries.iter() {
-        push_second(out, ram, context, entry.place, Kind::Read);
-        out.push(Part::First {
+        let addr = read_at(ram, context, entry.place);
+        let first = Part::First {
             entry: *entry,
-            addr: read_at(ram, context, entry.place),
-        });
+            addr,
+        };
+        push_second(out, ram, context, entry.place, Kind::Read);
+        out.push(first);
     }
 }
 
@@ -142,11 +146,8 @@ fn push_second(out: &mut Parts, ram: &Ram, context: &Context, guest: u64, kind: 
         Some(shape) => iom_walk::path(&Physical { ram }, shape, context.gppn, guest, kind),
         None => PathEntries::new(),
     };
-    for entry in entries.iter() {
-        out.push(Part::Second {
-            guest,
-            entry: *entry,
-        });
+    for met in entries.iter() {
+        out.push(Part::Second { guest, entry: *met });
     }
 }
 
