@@ -1,0 +1,133 @@
+-- A line that `debug` has more is no line of `run`.
+use Rattle.std.proofs.Common.{◌≡◌, ◌∙◌, ◌||◌, ◌==◌, ℕ, List, [], ◌∷◌, Bool, true, false, Option, Some, None, codes, length, nat_lt, refl, sym, ap, if◌then◌else◌}
+use Rattle.std.specs.Prelude.{bytes_eq}
+use Rattle.std.specs.List.{list_any}
+use Rattle.std.proofs.lemmas.Slice.Eq.{bytes_eq-Decides}
+use Rattle.iom_core.specs.declared.step.Step.{Step}
+use Rattle.iom_text.specs.Words.{words_of}
+use Rattle.iom_tool.specs.Script.{Line, Blank, Bad, Does, Asks, line_by, line_of, meaning, step_of, question_of}
+use Rattle.iom_tool.specs.Script as run
+use Rattle.iom_debug.specs.Script.{DebugLine, Plain, debug_line_of, form_by, form_in, form_of, or_form, reg, reg_read, reg_write, dev, dev_read, dev_write}
+
+same_word : (word name : List ℕ) → bytes_eq word name ≡ true → word ≡ name
+same_word word name is = (bytes_eq-Decides word name).0 is
+
+reg_read_apart : (words : List (List ℕ)) (line : DebugLine) → reg_read words ≡ Some line → run.reg_read words ≡ None
+unfolding reg_read run.reg_read
+reg_read_apart [] line is = refl
+reg_read_apart (a ∷ []) line is = refl
+reg_read_apart (a ∷ b ∷ []) line is = absurd (cc is)
+reg_read_apart (a ∷ b ∷ c ∷ more) line is = refl
+
+reg_write_apart : (words : List (List ℕ)) (line : DebugLine) → reg_write words ≡ Some line → run.reg_write words ≡ None
+unfolding reg_write run.reg_write
+reg_write_apart [] line is = refl
+reg_write_apart (a ∷ []) line is = refl
+reg_write_apart (a ∷ b ∷ []) line is = refl
+reg_write_apart (a ∷ b ∷ c ∷ []) line is = absurd (cc is)
+reg_write_apart (a ∷ b ∷ c ∷ d ∷ more) line is = refl
+
+dev_read_apart : (words : List (List ℕ)) (line : DebugLine) → dev_read words ≡ Some line → run.dev_read words ≡ None
+unfolding dev_read run.dev_read
+dev_read_apart [] line is = refl
+dev_read_apart (a ∷ []) line is = refl
+dev_read_apart (a ∷ b ∷ []) line is = refl
+dev_read_apart (a ∷ b ∷ c ∷ []) line is = absurd (cc is)
+dev_read_apart (a ∷ b ∷ c ∷ d ∷ more) line is = refl
+
+dev_write_apart : (words : List (List ℕ)) (line : DebugLine) → dev_write words ≡ Some line → run.dev_write words ≡ None
+unfolding dev_write run.dev_write
+dev_write_apart [] line is = refl
+dev_write_apart (a ∷ []) line is = refl
+dev_write_apart (a ∷ b ∷ []) line is = refl
+dev_write_apart (a ∷ b ∷ c ∷ []) line is = refl
+dev_write_apart (a ∷ b ∷ c ∷ d ∷ []) line is = absurd (cc is)
+dev_write_apart (a ∷ b ∷ c ∷ d ∷ e ∷ more) line is = refl
+
+-- the first test that holds chooses on both sides
+chosen : (b : Bool) (mine other : Option DebugLine) (its rest : Option Step) (line : DebugLine) → (mine ≡ Some line → its ≡ None) →
+    (other ≡ Some line → rest ≡ None) → (if b then mine else other) ≡ Some line → (if b then its else rest) ≡ None
+chosen true mine other its rest line first second is = first is
+chosen false mine other its rest line first second is = second is
+
+reg_apart : (words : List (List ℕ)) (line : DebugLine) → reg words ≡ Some line → run.reg words ≡ None
+unfolding reg run.reg
+reg_apart [] line is = refl
+reg_apart (way ∷ words) line is =
+    chosen (bytes_eq way (codes "read")) _ _ _ _ line (reg_read_apart words line)
+    (chosen (bytes_eq way (codes "write")) _ _ _ _ line (reg_write_apart words line) (λ none. absurd (cc none))) is
+
+dev_apart : (words : List (List ℕ)) (line : DebugLine) → dev words ≡ Some line → run.dev words ≡ None
+unfolding dev run.dev
+dev_apart [] line is = refl
+dev_apart (way ∷ words) line is =
+    chosen (bytes_eq way (codes "read")) _ _ _ _ line (dev_read_apart words line)
+    (chosen (bytes_eq way (codes "write")) _ _ _ _ line (dev_write_apart words line) (λ none. absurd (cc none))) is
+
+-- a form's first word with what follows it
+abbrev run_line : List ℕ → List (List ℕ) → Line
+run_line verb words = line_by (step_of verb words) (question_of verb words)
+
+abbrev Apart : List ℕ → List (List ℕ) → Type 0
+Apart verb words = (line : DebugLine) → form_by verb words ≡ Some line → run_line verb words ≡ Bad
+
+at_reg : (words : List (List ℕ)) → Apart (codes "reg") words
+unfolding form_by step_of question_of
+at_reg words line is = ap (λ step. line_by step None) (reg_apart words line is)
+
+at_dev : (words : List (List ℕ)) → Apart (codes "dev") words
+unfolding form_by step_of question_of
+at_dev words line is = ap (λ step. line_by step None) (dev_apart words line is)
+
+at_queue : (words : List (List ℕ)) → Apart (codes "queue") words
+unfolding form_by step_of question_of
+at_queue words line is = refl
+
+at_dump : (words : List (List ℕ)) → Apart (codes "dump") words
+unfolding form_by step_of question_of
+at_dump words line is = refl
+
+at_disk : (words : List (List ℕ)) → Apart (codes "disk") words
+unfolding form_by step_of question_of
+at_disk words line is = refl
+
+-- a word is this name, or it is another
+tried : (verb : List ℕ) (words : List (List ℕ)) (name : List ℕ) → Apart name words → (bytes_eq verb name ≡ false → Apart verb words) → Apart verb words
+tried verb words name at others = by (bytes_eq verb name) refl where
+  by : (b : Bool) → bytes_eq verb name ≡ b → Apart verb words
+  by true same = rw (same_word verb name same) at
+  by false other = others other
+
+form_apart : (verb : List ℕ) (words : List (List ℕ)) → Apart verb words
+unfolding form_by
+form_apart verb words =
+    tried verb words (codes "reg") (at_reg words) (λ no_reg.
+    tried verb words (codes "dev") (at_dev words) (λ no_dev.
+    tried verb words (codes "queue") (at_queue words) (λ no_queue.
+    tried verb words (codes "dump") (at_dump words) (λ no_dump.
+    tried verb words (codes "disk") (at_disk words) (λ no_disk.
+    λ line is. absurd (cc (rw (no_reg, no_dev, no_queue, no_dump, no_disk) at is)))))))
+
+in_words : (words : List (List ℕ)) (line : DebugLine) → form_in words ≡ Some line → meaning words ≡ Bad
+unfolding meaning
+in_words [] line is = absurd (cc is)
+in_words (verb ∷ words) line is = form_apart verb words line is
+
+apart : (text : List ℕ) (line : DebugLine) → form_of text ≡ Some line → line_of text ≡ Bad
+unfolding form_of line_of
+apart text line is = by (nat_lt 512 (length text) || list_any (λ c. c == 10) text) is where
+  by : (b : Bool) → (if b then None else form_in (words_of text)) ≡ Some line → (if b then Bad else meaning (words_of text)) ≡ Bad
+  by true none = refl
+  by false is = in_words (words_of text) line is
+
+no_form : (line : Line) → or_form line None ≡ Plain line
+no_form Blank = refl
+no_form Bad = refl
+no_form (Does step) = refl
+no_form (Asks question) = refl
+
+pub as_run : (text : List ℕ) → form_of text ≡ None → debug_line_of text ≡ Plain (line_of text)
+as_run text none = rw none (no_form (line_of text))
+
+pub more : (text : List ℕ) (line : DebugLine) → form_of text ≡ Some line → debug_line_of text ≡ line
+more text line is = rw (is, apart text line is) refl

@@ -1,0 +1,4 @@
+pub mod Forms
+pub mod Apart
+pub mod Blanks
+pub mod Bounds

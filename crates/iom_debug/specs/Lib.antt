@@ -1,0 +1,7 @@
+pub mod Names
+pub mod Script
+pub mod Forms
+pub mod Texts
+pub mod Answers
+pub mod Output
+pub mod Wanted

@@ -1,0 +1,30 @@
+-- What is answered to a line, and which steps it is.
+use Rattle.std.specs.Prelude.{ℕ, ◌≡◌, ◌≢◌, List, [], Option, Some}
+use Rattle.std.specs.Option.{unwrap_or}
+use Rattle.iom_core.specs.State.{State}
+use Rattle.iom_core.specs.Run.{end_of}
+use Rattle.iom_core.specs.declared.step.Step.{Step}
+use Rattle.iom_tool.specs.declared.trace.Entry.{Entry}
+use Rattle.iom_tool.specs.Console.{Console, console_after}
+use Rattle.iom_tool.specs.Output.{reply, steps_in, steps_of}
+use Rattle.iom_tool.specs.Script.{line_of}
+use Rattle.iom_debug.specs.Script.{DebugLine, Plain, Inquires, debug_line_of}
+use Rattle.iom_debug.specs.Answers.{inquired}
+
+-- None: nothing
+abbrev pub debug_reply : Console → DebugLine → Option (List ℕ)
+debug_reply now (Plain line) = reply now line
+debug_reply now (Inquires inquiry) = Some (inquired now inquiry)
+
+-- the steps that a line is
+abbrev pub debug_steps : State → DebugLine → List Step
+debug_steps state (Plain line) = steps_in line
+debug_steps state (Inquires inquiry) = []
+
+abbrev pub debug_steps_of : State → List ℕ → List Step
+debug_steps_of state text = debug_steps state (debug_line_of text)
+
+-- an answer, empty where there is none, and what stands after it, are those that `run` has
+pub record IsAsRun (now : Console) (text given : List ℕ) (left : Console) : Type 0 where
+  pub answered : given ≡ unwrap_or (reply now (line_of text)) []
+  pub stepped : left ≡ console_after now (steps_of text)

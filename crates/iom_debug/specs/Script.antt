@@ -1,0 +1,129 @@
+-- What a line of `debug` says: what it says to `run`, and where it says nothing there, one thing more.
+use Rattle.std.specs.Prelude.{ℕ, ◌==◌, ◌&&◌, ◌||◌, Bool, nat_lt, nat_le, List, [], ◌∷◌, length, codes, bytes_eq, Option, Some, None, if◌then◌else◌}
+use Rattle.std.specs.List.{list_any}
+use Rattle.iom_text.specs.Words.{words_of, number}
+use Rattle.iom_regs.specs.declared.views.Which.{Which}
+use Rattle.iom_regs.specs.declared.views.Which.TheVariants.{Commands, Faults}
+use Rattle.iom_core.specs.declared.step.Step.{Step}
+use Rattle.iom_core.specs.declared.step.Step.TheVariants as step
+use Rattle.iom_asm.specs.Forms.{where_so}
+use Rattle.iom_tool.specs.Script.{◌>>=◌, Line, Blank, Bad, Does, Asks, line_of}
+use Rattle.iom_debug.specs.Names.{register_named, mmio_named}
+use Rattle.iom_debug.specs.declared.form.Inquiry.{Inquiry}
+use Rattle.iom_debug.specs.declared.form.Inquiry.TheVariants as inquiry
+
+pub data DebugLine : Type 0 where
+  -- what `run` has too: nothing, a step, a question, or no line that there is
+  Plain : Line → DebugLine
+  -- a question that `debug` alone has
+  Inquires : Inquiry → DebugLine
+
+-- how many bytes a question tells: 1 to 64
+abbrev pub is_count : ℕ → Bool
+is_count count = nat_le 1 count && nat_le count 64
+
+-- reg read NAME
+unfoldable pub reg_read : List (List ℕ) → Option DebugLine
+reg_read (name ∷ []) = do
+  at ← register_named name
+  Some (Plain (Does (step.RegRead at.0 at.1)))
+reg_read _ = None
+
+-- reg write NAME VALUE
+unfoldable pub reg_write : List (List ℕ) → Option DebugLine
+reg_write (name ∷ value ∷ []) = do
+  at ← register_named name
+  value ← number value
+  Some (Plain (Does (step.RegWrite at.0 at.1 value)))
+reg_write _ = None
+
+unfoldable pub reg : List (List ℕ) → Option DebugLine
+reg [] = None
+reg (way ∷ operands) =
+    if bytes_eq way (codes "read") then reg_read operands
+    else if bytes_eq way (codes "write") then reg_write operands
+    else None
+
+-- dev read N NAME
+unfoldable pub dev_read : List (List ℕ) → Option DebugLine
+dev_read (dev ∷ name ∷ []) = do
+  dev ← number dev
+  off ← mmio_named name
+  Some (Plain (Does (step.DevRead dev off 4)))
+dev_read _ = None
+
+-- dev write N NAME VALUE
+unfoldable pub dev_write : List (List ℕ) → Option DebugLine
+dev_write (dev ∷ name ∷ value ∷ []) = do
+  dev ← number dev
+  off ← mmio_named name
+  value ← number value
+  Some (Plain (Does (step.DevWrite dev off 4 value)))
+dev_write _ = None
+
+unfoldable pub dev : List (List ℕ) → Option DebugLine
+dev [] = None
+dev (way ∷ operands) =
+    if bytes_eq way (codes "read") then dev_read operands
+    else if bytes_eq way (codes "write") then dev_write operands
+    else None
+
+unfoldable pub queue_named : List ℕ → Option Which
+queue_named name =
+    if bytes_eq name (codes "cmd") then Some Commands
+    else if bytes_eq name (codes "fault") then Some Faults
+    else None
+
+-- queue cmd, queue fault
+unfoldable pub queue : List (List ℕ) → Option DebugLine
+queue (name ∷ []) = do
+  which ← queue_named name
+  Some (Inquires (inquiry.Queue which))
+queue _ = None
+
+-- dump ADDR LEN
+unfoldable pub dump : List (List ℕ) → Option DebugLine
+dump (addr ∷ count ∷ []) = do
+  addr ← number addr
+  count ← number count
+  where_so (is_count count) (Some (Inquires (inquiry.Dump addr count)))
+dump _ = None
+
+-- disk N BYTE LEN
+unfoldable pub disk : List (List ℕ) → Option DebugLine
+disk (dev ∷ at ∷ count ∷ []) = do
+  dev ← number dev
+  at ← number at
+  count ← number count
+  where_so (is_count count) (Some (Inquires (inquiry.Disk dev at count)))
+disk _ = None
+
+-- what `debug` has more, by the first word
+unfoldable pub form_by : List ℕ → List (List ℕ) → Option DebugLine
+form_by verb operands =
+    if bytes_eq verb (codes "reg") then reg operands
+    else if bytes_eq verb (codes "dev") then dev operands
+    else if bytes_eq verb (codes "queue") then queue operands
+    else if bytes_eq verb (codes "dump") then dump operands
+    else if bytes_eq verb (codes "disk") then disk operands
+    else None
+
+abbrev pub form_in : List (List ℕ) → Option DebugLine
+form_in [] = None
+form_in (verb ∷ operands) = form_by verb operands
+
+-- of a line of at most 512 bytes, without its end
+unfoldable pub form_of : List ℕ → Option DebugLine
+form_of text =
+    if nat_lt 512 (length text) || list_any (λ c. c == 10) text then None else form_in (words_of text)
+
+-- a line that `run` answers otherwise than `bad` is the same line here
+abbrev pub or_form : Line → Option DebugLine → DebugLine
+or_form Bad (Some line) = line
+or_form Bad None = Plain Bad
+or_form Blank form = Plain Blank
+or_form (Does step) form = Plain (Does step)
+or_form (Asks question) form = Plain (Asks question)
+
+abbrev pub debug_line_of : List ℕ → DebugLine
+debug_line_of text = or_form (line_of text) (form_of text)

@@ -1,0 +1,44 @@
+-- The texts of answers.
+use Rattle.std.specs.Prelude.{ℕ, ◌+◌, ◌*◌, ◌++◌, Bool, nat_le, List, length, take, drop, codes, Option, Some, None, if◌then◌else◌}
+use Rattle.hex.specs.Hex.{encode_lower}
+use Rattle.iom_bits.specs.Bits.{flag, has_bit}
+use Rattle.iom_text.specs.Texts.{hexed}
+use Rattle.iom_mem.specs.Memory.{Memory, bytes_at}
+use Rattle.iom_regs.specs.Table.{Registers}
+use Rattle.iom_regs.specs.Views.{queue_of}
+use Rattle.iom_regs.specs.declared.views.Queue.{Queue}
+use Rattle.iom_regs.specs.declared.views.Which.{Which}
+use Rattle.iom_regs.specs.declared.views.Which.TheVariants.{Commands, Faults}
+use Rattle.iom_blk.specs.Device.{Device}
+use Rattle.iom_core.specs.State.{disk_of}
+use Rattle.iom_asm.specs.Lines.{operand}
+
+-- What stopped a queue. RISC-V IOMMU Architecture 1.0, "Command-queue CSR (cqcsr)": cmd_ill, bit 10, and cqmf, bit 8; "Fault queue CSR
+-- (fqcsr)": fqof, bit 9, and fqmf, bit 8
+unfoldable pub stop_text : Registers → Which → List ℕ
+stop_text r Commands =
+    if has_bit r.cqcsr 10 then codes "illegal" else if has_bit r.cqcsr 8 then codes "fault" else codes "none"
+stop_text r Faults =
+    if has_bit r.fqcsr 9 then codes "full" else if has_bit r.fqcsr 8 then codes "fault" else codes "none"
+
+-- a queue by its registers; its base is a physical address
+unfoldable pub view_text : Queue → List ℕ
+view_text queue =
+    codes "on=" ++ hexed (flag queue.on) ++ operand (codes "base") (4096 * queue.base) ++ operand (codes "entries") queue.entries
+    ++ operand (codes "head") queue.head ++ operand (codes "tail") queue.tail
+
+abbrev pub queue_text : Registers → Which → List ℕ
+queue_text r which = view_text (queue_of r which) ++ codes " stop=" ++ stop_text r which
+
+-- bytes, where all of them are there
+abbrev pub bytes_text : Option (List ℕ) → List ℕ
+bytes_text None = codes "outside"
+bytes_text (Some bytes) = encode_lower bytes
+
+-- so many bytes of a disk from byte `at` on; None: one of them is past its end
+abbrev pub part_of : List ℕ → ℕ → ℕ → Option (List ℕ)
+part_of disk at count = if nat_le (at + count) (length disk) then Some (take count (drop at disk)) else None
+
+abbrev pub disk_text : Option (ℕ × Device) → ℕ → ℕ → List ℕ
+disk_text None at count = codes "none"
+disk_text (Some own) at count = bytes_text (part_of (disk_of own) at count)

@@ -1,0 +1,137 @@
+//! The answers to questions.
+
+ghost use Rattle.std.specs.Prelude.{◌≡◌, ◌+◌, ◌++◌, ◌≤◌, ◌<◌, ◌^◌, length, slice_get};
+ghost use Rattle.std.specs.Option.{option_map};
+ghost use Rattle.hex.specs.Hex.{encode_lower};
+ghost use Rattle.iom_mem.specs.Memory.{bytes_at};
+ghost use Rattle.iom_tool.specs.Console.{console};
+ghost use Rattle.iom_debug.specs.Answers.{inquired};
+ghost use Rattle.iom_debug.specs.Forms.{InRange};
+ghost use Rattle.iom_debug.specs.Texts.{bytes_text, disk_text, part_of, queue_text, stop_text, view_text};
+
+use crate::form::Inquiry;
+use crate::text::{push_bytes, push_hexed, push_operand, push_text};
+use iom_bits::{flag, has_bit};
+use iom_core::Platform;
+use iom_mem::Ram;
+use iom_regs::{Queue, Regs, Which};
+use iom_tool::{Reply, Trace};
+
+/// The answer to a question. Nothing is changed.
+pub fn answer_to(platform: &Platform, trace: &Trace, inquiry: &Inquiry) -> Reply
+    requires { InRange inquiry.now }
+    ensures { result.items ≡ inquired (console platform.now trace.now) inquiry.now }
+{
+    match *inquiry {
+        Inquiry::Queue(which) => queue_line(platform.registers(), which),
+        Inquiry::Dump(addr, count) => memory_line(platform.ram(), addr, count),
+        Inquiry::Disk(dev, at, count) => disk_line(platform, dev, at, count),
+    }
+}
+
+// A reply that is a text.
+fn said(text: &[u8]) -> Reply
+    requires { length text.now ≤ 320 }
+    ensures { result.items ≡ text.now }
+{
+    let mut out = Reply::new();
+    push_text(&mut out, text);
+    out
+}
+
+// At most 64 bytes in hex.
+fn bytes_line(bytes: &[u8]) -> Reply
+    requires { length bytes.now ≤ 64 }
+    ensures { result.items ≡ encode_lower bytes.now }
+{
+    let mut out = Reply::new();
+    push_bytes(&mut out, bytes);
+    out
+}
+
+// Appends a queue by its registers.
+#[tactic(auto, unfolding(crate::specs::Texts::view_text))]
+fn push_view(out: &mut Reply, queue: &Queue)
+    requires room { length out.old.items ≡ 0 }
+    requires base { queue.now.base < 2 ^ 44 }
+    ensures text { out.new.items ≡ out.old.items ++ view_text queue.now }
+    ensures room { length out.new.items ≤ 128 }
+{
+    push_text(out, b"on=");
+    push_hexed(out, flag(queue.on));
+    push_operand(out, b"base", 4096 * queue.base);
+    push_operand(out, b"entries", queue.entries);
+    push_operand(out, b"head", queue.head);
+    push_operand(out, b"tail", queue.tail);
+}
+
+// What stopped a queue, by its control and status register.
+#[tactic(auto, unfolding(crate::specs::Texts::stop_text))]
+fn stop_text(registers: &Regs, which: Which) -> &'static [u8]
+    ensures text { result.now ≡ stop_text registers.now which }
+    ensures short { length result.now ≤ 7 }
+{
+    match which {
+        Which::Commands => match registers.read(72, 4) {
+            Some(control) if has_bit(control, 10) => b"illegal",
+            Some(control) if has_bit(control, 8) => b"fault",
+            _ => b"none",
+        },
+        Which::Faults => match registers.read(76, 4) {
+            Some(control) if has_bit(control, 9) => b"full",
+            Some(control) if has_bit(control, 8) => b"fault",
+            _ => b"none",
+        },
+    }
+}
+
+// A queue, and what stopped it.
+#[tactic(auto, using(crate::proofs::Bounds::base_small))]
+fn queue_line(registers: &Regs, which: Which) -> Reply
+    ensures { result.items ≡ queue_text registers.now which }
+{
+    let mut out = Reply::new();
+    push_view(&mut out, &registers.queue(which));
+    push_text(&mut out, b" stop=");
+    push_text(&mut out, stop_text(registers, which));
+    out
+}
+
+// Bytes of memory.
+fn memory_line(ram: &Ram, addr: u64, count: u64) -> Reply
+    requires { count ≤ 64 }
+    ensures { result.items ≡ bytes_text (bytes_at ram.now addr count) }
+{
+    let mut buffer = [0; 64];
+    let bytes = &mut buffer[..count as usize];
+    if ram.read(addr, bytes) {
+        bytes_line(bytes)
+    } else {
+        said(b"outside")
+    }
+}
+
+// Bytes of a disk.
+fn disk_line(platform: &Platform, dev: u64, at: u64, count: u64) -> Reply
+    requires { count ≤ 64 }
+    ensures { result.items ≡ disk_text (slice_get platform.now.devices dev) at count }
+{
+    let Some(disk) = platform.disk(dev as usize) else {
+        return said(b"none");
+    };
+    match part_of(disk, at, count) {
+        Some(bytes) => bytes_line(bytes),
+        None => said(b"outside"),
+    }
+}
+
+// So many bytes of a disk from a byte on; None where one of them is past its end.
+fn part_of(disk: &[u8], at: u64, count: u64) -> Option<&[u8]>
+    ensures { option_map (λ bytes. bytes.now) result ≡ part_of disk.now at count }
+{
+    let end = at.checked_add(count)?;
+    if end > disk.len() as u64 {
+        return None;
+    }
+    Some(&disk[at as usize..end as usize])
+}

@@ -1,0 +1,83 @@
+ghost use Rattle.std.specs.Prelude.{◌≡◌, ◌≢◌, []};
+ghost use Rattle.std.specs.Option.{unwrap_or};
+ghost use Rattle.iom_core.specs.Run.{end_of};
+ghost use Rattle.iom_core.specs.Table.{next};
+ghost use Rattle.iom_tool.specs.Script.{Bad, line_of};
+ghost use Rattle.iom_tool.specs.Console.{console, trace_after, traced};
+ghost use Rattle.iom_tool.specs.Output.{reply, steps_of};
+ghost use Rattle.iom_tool.specs.Texts.{text_of};
+ghost use Rattle.iom_debug.specs.Script.{debug_line_of};
+ghost use Rattle.iom_debug.specs.Output.{IsAsRun, debug_reply, debug_steps_of};
+
+use crate::answers::answer_to;
+use crate::form::{Form, form_of};
+use crate::text::push_answer;
+use iom_core::{Platform, Step};
+use iom_tool::{Reply, Session, Trace};
+
+/// A script of `debug`, given a line at a time.
+#[derive(Drop)]
+pub struct Debugger<'a> {
+    /// The platform that its lines drive.
+    pub platform: &'a mut Platform,
+    /// The trace that keeps its steps.
+    pub trace: &'a mut Trace,
+}
+
+impl<'a> Debugger<'a> {
+    /// A debugger of this platform with this trace, to which no line was given yet.
+    pub fn new(platform: &'a mut Platform, trace: &'a mut Trace) -> Debugger<'a>
+        ensures same_platform { result.platform.ghost_name ≡ platform.entry.ghost_name }
+        ensures same_trace { result.trace.ghost_name ≡ trace.entry.ghost_name }
+        ensures platform { result.platform.now ≡ platform.old }
+        ensures trace { result.trace.now ≡ trace.old }
+    {
+        Debugger { platform, trace }
+    }
+
+    /// Carries out a line, given without its line end, and answers its text: empty for a blank line, `bad` for what is no line, as
+    /// where the text is above 512 bytes or holds a line end. A line that `run` answers otherwise than `bad` is answered so here
+    /// too, and leaves the same.
+    pub fn line(&mut self, text: &[u8]) -> Reply
+        ensures reply { result.items
+            ≡ unwrap_or (debug_reply (console self.old.platform.now self.old.trace.now) (debug_line_of text.now)) [] }
+        ensures state { self.new.platform.now
+            ≡ end_of self.old.platform.now (debug_steps_of self.old.platform.now text.now) }
+        ensures trace { self.new.trace.now
+            ≡ trace_after self.old.trace.now self.old.platform.now (debug_steps_of self.old.platform.now text.now) }
+        ensures as_run { line_of text.now ≢ Bad →
+            IsAsRun (console self.old.platform.now self.old.trace.now) text.now
+            result.items (console self.new.platform.now self.new.trace.now) }
+        ensures same_platform { self.new.platform.ghost_name ≡ self.old.platform.ghost_name }
+        ensures same_trace { self.new.trace.ghost_name ≡ self.old.trace.ghost_name }
+    {
+        answer_line(self.platform, self.trace, text)
+    }
+}
+
+// Carries out a line.
+#[tactic(auto, using(crate::proofs::Apart::as_run, crate::proofs::Apart::more))]
+fn answer_line(platform: &mut Platform, trace: &mut Trace, text: &[u8]) -> Reply
+    ensures reply { result.items ≡ unwrap_or (debug_reply (console platform.old trace.old) (debug_line_of text.now)) [] }
+    ensures state { platform.new ≡ end_of platform.old (debug_steps_of platform.old text.now) }
+    ensures trace { trace.new ≡ trace_after trace.old platform.old (debug_steps_of platform.old text.now) }
+{
+    match form_of(text) {
+        None => Session::new(platform, trace).line(text),
+        Some(Form::Does(step)) => take(platform, trace, step),
+        Some(Form::Inquires(inquiry)) => answer_to(platform, trace, &inquiry),
+    }
+}
+
+// Carries out a step.
+fn take(platform: &mut Platform, trace: &mut Trace, step: Step) -> Reply
+    ensures reply { result.items ≡ text_of (next platform.old step).answer }
+    ensures state { platform.new ≡ (next platform.old step).state }
+    ensures trace { trace.new ≡ traced trace.old step (next platform.old step).answer }
+{
+    let answer = platform.step(&step);
+    let mut out = Reply::new();
+    push_answer(&mut out, &answer);
+    trace.keep(step, answer);
+    out
+}

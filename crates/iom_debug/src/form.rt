@@ -1,0 +1,233 @@
+//! What `debug` has more than `run`.
+
+ghost use Rattle.std.specs.Prelude.{◌≡◌, ◌==◌, ◌≤◌, map, length, IfSome};
+ghost use Rattle.std.specs.Option.{option_map};
+ghost use Rattle.iom_debug.specs.Forms.{Fits, line_in};
+ghost use Rattle.iom_text.specs.Words.{words_of};
+ghost use Rattle.iom_debug.specs.Script.{is_count, reg_read, reg_write, reg, dev_read, dev_write, dev, queue_named, queue, dump, disk, form_by, form_in, form_of};
+
+use crate::names::{mmio_named, register_named};
+use iom_core::Step;
+use iom_regs::Which;
+use iom_text::{number, take_word, words};
+
+/// A question that `debug` alone has. It is no step.
+#[derive(Clone, Copy)]
+pub enum Inquiry {
+    /// What a queue's registers tell, and what stopped it.
+    Queue(Which),
+    /// So many bytes, 1 to 64, of memory from this physical address on: `Dump(addr, count)`.
+    Dump(u64, u64),
+    /// So many bytes, 1 to 64, of the disk of a block device from this byte on: `Disk(dev, at, count)`.
+    Disk(u64, u64, u64),
+}
+
+/// A line that `run` doesn't know.
+#[derive(Drop)]
+pub enum Form {
+    /// A step.
+    Does(Step),
+    /// A question.
+    Inquires(Inquiry),
+}
+
+/// The longest line, in bytes without its end.
+const MOST_BYTES_OF_A_LINE: usize = 512;
+
+// Whether a question may tell so many bytes.
+fn is_count(count: u64) -> bool
+    ensures { result ≡ is_count count }
+{
+    count >= 1 && count <= 64
+}
+
+// What follows `reg read`: a register's name.
+#[tactic(auto, unfolding(crate::specs::Script::reg_read))]
+fn reg_read(operands: &[&[u8]]) -> Option<Form>
+    ensures line { option_map line_in result ≡ reg_read (map (λ word. word.now) operands.now) }
+    ensures fits { IfSome result Fits }
+{
+    let [name] = operands else {
+        return None;
+    };
+    let (off, size) = register_named(name)?;
+    Some(Form::Does(Step::RegRead { off, size }))
+}
+
+// What follows `reg write`: a register's name and a value.
+#[tactic(auto, unfolding(crate::specs::Script::reg_write))]
+fn reg_write(operands: &[&[u8]]) -> Option<Form>
+    ensures line { option_map line_in result ≡ reg_write (map (λ word. word.now) operands.now) }
+    ensures fits { IfSome result Fits }
+{
+    let [name, value] = operands else {
+        return None;
+    };
+    let (off, size) = register_named(name)?;
+    let value = number(value)?;
+    Some(Form::Does(Step::RegWrite { off, size, value }))
+}
+
+// What follows `reg`.
+#[tactic(auto, unfolding(crate::specs::Script::reg))]
+fn reg(operands: &[&[u8]]) -> Option<Form>
+    ensures line { option_map line_in result ≡ reg (map (λ word. word.now) operands.now) }
+    ensures fits { IfSome result Fits }
+{
+    let [way, operands @ ..] = operands else {
+        return None;
+    };
+    match *way {
+        b"read" => reg_read(operands),
+        b"write" => reg_write(operands),
+        _ => None,
+    }
+}
+
+// What follows `dev read`: a block device and a register's name.
+#[tactic(auto, unfolding(crate::specs::Script::dev_read))]
+fn dev_read(operands: &[&[u8]]) -> Option<Form>
+    ensures line { option_map line_in result ≡ dev_read (map (λ word. word.now) operands.now) }
+    ensures fits { IfSome result Fits }
+{
+    let [dev, name] = operands else {
+        return None;
+    };
+    let dev = number(dev)?;
+    let off = mmio_named(name)?;
+    Some(Form::Does(Step::DevRead { dev, off, size: 4 }))
+}
+
+// What follows `dev write`: a block device, a register's name and a value.
+#[tactic(auto, unfolding(crate::specs::Script::dev_write))]
+fn dev_write(operands: &[&[u8]]) -> Option<Form>
+    ensures line { option_map line_in result ≡ dev_write (map (λ word. word.now) operands.now) }
+    ensures fits { IfSome result Fits }
+{
+    let [dev, name, value] = operands else {
+        return None;
+    };
+    let dev = number(dev)?;
+    let off = mmio_named(name)?;
+    let value = number(value)?;
+    Some(Form::Does(Step::DevWrite {
+        dev,
+        off,
+        size: 4,
+        value,
+    }))
+}
+
+// What follows `dev`.
+#[tactic(auto, unfolding(crate::specs::Script::dev))]
+fn dev(operands: &[&[u8]]) -> Option<Form>
+    ensures line { option_map line_in result ≡ dev (map (λ word. word.now) operands.now) }
+    ensures fits { IfSome result Fits }
+{
+    let [way, operands @ ..] = operands else {
+        return None;
+    };
+    match *way {
+        b"read" => dev_read(operands),
+        b"write" => dev_write(operands),
+        _ => None,
+    }
+}
+
+// The queue of a name.
+#[tactic(auto, unfolding(crate::specs::Script::queue_named))]
+fn queue_named(name: &[u8]) -> Option<Which>
+    ensures { result ≡ queue_named name.now }
+{
+    match name {
+        b"cmd" => Some(Which::Commands),
+        b"fault" => Some(Which::Faults),
+        _ => None,
+    }
+}
+
+// What follows `queue`: its name.
+#[tactic(auto, unfolding(crate::specs::Script::queue))]
+fn queue(operands: &[&[u8]]) -> Option<Form>
+    ensures line { option_map line_in result ≡ queue (map (λ word. word.now) operands.now) }
+    ensures fits { IfSome result Fits }
+{
+    let [name] = operands else {
+        return None;
+    };
+    Some(Form::Inquires(Inquiry::Queue(queue_named(name)?)))
+}
+
+// What follows `dump`: a physical address and how many bytes.
+#[tactic(auto, unfolding(crate::specs::Script::dump))]
+fn dump(operands: &[&[u8]]) -> Option<Form>
+    ensures line { option_map line_in result ≡ dump (map (λ word. word.now) operands.now) }
+    ensures fits { IfSome result Fits }
+{
+    let [addr, count] = operands else {
+        return None;
+    };
+    let addr = number(addr)?;
+    let count = number(count)?;
+    if !is_count(count) {
+        return None;
+    }
+    Some(Form::Inquires(Inquiry::Dump(addr, count)))
+}
+
+// What follows `disk`: a block device, a byte of its disk and how many bytes.
+#[tactic(auto, unfolding(crate::specs::Script::disk))]
+fn disk(operands: &[&[u8]]) -> Option<Form>
+    ensures line { option_map line_in result ≡ disk (map (λ word. word.now) operands.now) }
+    ensures fits { IfSome result Fits }
+{
+    let [dev, at, count] = operands else {
+        return None;
+    };
+    let dev = number(dev)?;
+    let at = number(at)?;
+    let count = number(count)?;
+    if !is_count(count) {
+        return None;
+    }
+    Some(Form::Inquires(Inquiry::Disk(dev, at, count)))
+}
+
+// What follows the first word of a line.
+#[tactic(auto, unfolding(crate::specs::Script::form_by))]
+fn form_by(verb: &[u8], operands: &[&[u8]]) -> Option<Form>
+    ensures line { option_map line_in result ≡ form_by verb.now (map (λ word. word.now) operands.now) }
+    ensures fits { IfSome result Fits }
+{
+    match verb {
+        b"reg" => reg(operands),
+        b"dev" => dev(operands),
+        b"queue" => queue(operands),
+        b"dump" => dump(operands),
+        b"disk" => disk(operands),
+        _ => None,
+    }
+}
+
+// What a line has more than `run`, by its words.
+#[tactic(auto, using(crate::proofs::Forms::enough))]
+fn form_in(text: &[u8]) -> Option<Form>
+    ensures line { option_map line_in result ≡ form_in (words_of text.now) }
+    ensures fits { IfSome result Fits }
+{
+    let (verb, rest) = take_word(text)?;
+    form_by(verb, words(rest).as_slice())
+}
+
+/// What a line of `debug` is that `run` doesn't know; None where it is no such line, as where the text is above 512 bytes or holds
+/// a line end.
+#[tactic(auto, unfolding(crate::specs::Script::form_of))]
+pub fn form_of(text: &[u8]) -> Option<Form>
+    ensures line { option_map line_in result ≡ form_of text.now }
+    ensures fits { IfSome result Fits }
+{
+    if text.len() > MOST_BYTES_OF_A_LINE || text.contains(&b'\n') {
+        return None;
+    }
+    form_in(text)
+}

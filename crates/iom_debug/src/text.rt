@@ -1,0 +1,85 @@
+//! Texts of answers.
+
+ghost use Rattle.std.specs.Prelude.{◌≡◌, ◌+◌, ◌*◌, ◌++◌, ◌≤◌, length, codes};
+ghost use Rattle.hex.specs.Hex.{encode_lower};
+ghost use Rattle.iom_text.specs.Texts.{numeral, hexed};
+ghost use Rattle.iom_asm.specs.Lines.{operand};
+ghost use Rattle.iom_tool.specs.Texts.{text_of};
+
+use hex::encode_to_slice;
+use iom_core::Answer;
+use iom_text::{decimal, hexed};
+use iom_tool::Reply;
+
+/// Appends bytes, for which there is room.
+pub fn push_text(out: &mut Reply, text: &[u8])
+    requires { length out.old.items + length text.now ≤ 320 }
+    ensures text { out.new.items ≡ out.old.items ++ text.now }
+    ensures room { length out.new.items ≡ length out.old.items + length text.now }
+{
+    let _fits = out.try_extend_from_slice(text);
+}
+
+/// Appends a number as `0x` and hex digits in lower case, at most 18 bytes.
+pub fn push_hexed(out: &mut Reply, value: u64)
+    requires { length out.old.items + 18 ≤ 320 }
+    ensures text { out.new.items ≡ out.old.items ++ hexed value }
+    ensures room { length out.new.items ≤ length out.old.items + 18 }
+{
+    push_text(out, hexed(value).as_slice());
+}
+
+/// Appends a blank, a key, `=` and a number in hex.
+pub fn push_operand(out: &mut Reply, key: &[u8], value: u64)
+    requires { length out.old.items + length key.now + 20 ≤ 320 }
+    ensures text { out.new.items ≡ out.old.items ++ operand key.now value }
+    ensures room { length out.new.items ≤ length out.old.items + length key.now + 20 }
+{
+    push_text(out, b" ");
+    push_text(out, key);
+    push_text(out, b"=");
+    push_hexed(out, value);
+}
+
+/// Appends at most 64 bytes as hex digits in lower case, two for each.
+pub fn push_bytes(out: &mut Reply, bytes: &[u8])
+    requires few { length bytes.now ≤ 64 }
+    requires room { length out.old.items + 128 ≤ 320 }
+    ensures text { out.new.items ≡ out.old.items ++ encode_lower bytes.now }
+    ensures room { length out.new.items ≤ length out.old.items + 128 }
+{
+    let mut digits = [0; 128];
+    let end = 2 * bytes.len();
+    let _fits = encode_to_slice(bytes, &mut digits[..end]);
+    push_text(out, &digits[..end]);
+}
+
+// Appends the text of a denial: its cause in decimal.
+fn push_denied(out: &mut Reply, cause: u16)
+    requires { length out.old.items + 27 ≤ 320 }
+    ensures text { out.new.items ≡ out.old.items ++ codes "denied " ++ numeral 10 cause }
+    ensures room { length out.new.items ≤ length out.old.items + 27 }
+{
+    push_text(out, b"denied ");
+    push_text(out, decimal(u64::from(cause)).as_slice());
+}
+
+/// Appends the text of an answer, at most 128 bytes.
+#[tactic(auto, unfolding(iom_tool::specs::Texts::text_of))]
+pub fn push_answer(out: &mut Reply, answer: &Answer)
+    requires { length out.old.items + 128 ≤ 320 }
+    ensures text { out.new.items ≡ out.old.items ++ text_of answer.now }
+    ensures room { length out.new.items ≤ length out.old.items + 128 }
+{
+    match answer {
+        Answer::Value(value) => push_hexed(out, *value),
+        Answer::Done => push_text(out, b"done"),
+        Answer::Bytes(bytes) => push_bytes(out, bytes.as_slice()),
+        Answer::Idle => push_text(out, b"idle"),
+        Answer::Denied(cause) => push_denied(out, *cause),
+        Answer::BusError => push_text(out, b"bus error"),
+        Answer::BadAccess => push_text(out, b"bad access"),
+        Answer::NoDevice => push_text(out, b"no device"),
+        Answer::Misuse => push_text(out, b"misuse"),
+    }
+}
