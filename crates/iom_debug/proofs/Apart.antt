@@ -7,7 +7,7 @@ use Rattle.iom_core.specs.declared.step.Step.{Step}
 use Rattle.iom_text.specs.Words.{words_of}
 use Rattle.iom_tool.specs.Script.{Line, Blank, Bad, Does, Asks, line_by, line_of, meaning, step_of, question_of}
 use Rattle.iom_tool.specs.Script as run
-use Rattle.iom_debug.specs.Script.{DebugLine, Plain, debug_line_of, form_by, form_in, form_of, or_form, reg, reg_read, reg_write, dev, dev_read, dev_write}
+use Rattle.iom_debug.specs.Script.{DebugLine, Plain, debug_line_of, form_by, form_in, form_of, or_form, reg, reg_read, reg_write, dev, dev_read, dev_write, dev_show, dev_run, cmd, put}
 
 same_word : (word name : List ℕ) → bytes_eq word name ≡ true → word ≡ name
 same_word word name is = (bytes_eq-Decides word name).0 is
@@ -57,12 +57,26 @@ reg_apart (way ∷ words) line is =
     chosen (bytes_eq way (codes "read")) _ _ _ _ line (reg_read_apart words line)
     (chosen (bytes_eq way (codes "write")) _ _ _ _ line (reg_write_apart words line) (λ none. absurd (cc none))) is
 
+-- a device shows or runs, which is no step of `run`
+no_step : (way : List ℕ) (words : List (List ℕ)) (line : DebugLine) →
+    (if bytes_eq way (codes "show") then dev_show words else if bytes_eq way (codes "run") then dev_run words else None) ≡ Some line →
+    (if bytes_eq way (codes "step") then run.dev_step words else None) ≡ None
+no_step way words line is = by (bytes_eq way (codes "step")) refl where
+  by : (b : Bool) → bytes_eq way (codes "step") ≡ b → (if b then run.dev_step words else None) ≡ None
+  by true same = absurd (cc (rw (same_word way (codes "step") same) at is))
+  by false other = refl
+
 dev_apart : (words : List (List ℕ)) (line : DebugLine) → dev words ≡ Some line → run.dev words ≡ None
 unfolding dev run.dev
 dev_apart [] line is = refl
 dev_apart (way ∷ words) line is =
     chosen (bytes_eq way (codes "read")) _ _ _ _ line (dev_read_apart words line)
-    (chosen (bytes_eq way (codes "write")) _ _ _ _ line (dev_write_apart words line) (λ none. absurd (cc none))) is
+    (chosen (bytes_eq way (codes "write")) _ _ _ _ line (dev_write_apart words line) (no_step way words line)) is
+
+cmd_apart : (words : List (List ℕ)) (line : DebugLine) → cmd words ≡ Some line → run.cmd words ≡ None
+unfolding cmd run.cmd
+cmd_apart [] line is = absurd (cc is)
+cmd_apart (way ∷ words) line is = refl
 
 -- a form's first word with what follows it
 abbrev run_line : List ℕ → List (List ℕ) → Line
@@ -78,6 +92,10 @@ at_reg words line is = ap (λ step. line_by step None) (reg_apart words line is)
 at_dev : (words : List (List ℕ)) → Apart (codes "dev") words
 unfolding form_by step_of question_of
 at_dev words line is = ap (λ step. line_by step None) (dev_apart words line is)
+
+at_cmd : (words : List (List ℕ)) → Apart (codes "cmd") words
+unfolding form_by step_of question_of
+at_cmd words line is = ap (λ step. line_by step None) (cmd_apart words line is)
 
 at_queue : (words : List (List ℕ)) → Apart (codes "queue") words
 unfolding form_by step_of question_of
@@ -103,15 +121,23 @@ unfolding form_by
 form_apart verb words =
     tried verb words (codes "reg") (at_reg words) (λ no_reg.
     tried verb words (codes "dev") (at_dev words) (λ no_dev.
+    tried verb words (codes "cmd") (at_cmd words) (λ no_cmd.
     tried verb words (codes "queue") (at_queue words) (λ no_queue.
     tried verb words (codes "dump") (at_dump words) (λ no_dump.
     tried verb words (codes "disk") (at_disk words) (λ no_disk.
-    λ line is. absurd (cc (rw (no_reg, no_dev, no_queue, no_dump, no_disk) at is)))))))
+    λ line is. absurd (cc (rw (no_reg, no_dev, no_cmd, no_queue, no_dump, no_disk) at is))))))))
+
+at_put : (words : List (List ℕ)) → run_line (codes "put") words ≡ Bad
+unfolding step_of question_of
+at_put words = refl
 
 in_words : (words : List (List ℕ)) (line : DebugLine) → form_in words ≡ Some line → meaning words ≡ Bad
-unfolding meaning
+unfolding meaning form_in
 in_words [] line is = absurd (cc is)
-in_words (verb ∷ words) line is = form_apart verb words line is
+in_words (verb ∷ words) line is = by (bytes_eq verb (codes "put")) refl is where
+  by : (b : Bool) → bytes_eq verb (codes "put") ≡ b → (if b then put words else form_by verb words) ≡ Some line → run_line verb words ≡ Bad
+  by true same is = rw (same_word verb (codes "put") same) (at_put words)
+  by false other is = form_apart verb words line is
 
 apart : (text : List ℕ) (line : DebugLine) → form_of text ≡ Some line → line_of text ≡ Bad
 unfolding form_of line_of

@@ -2,3 +2,4 @@ pub mod Forms
 pub mod Apart
 pub mod Blanks
 pub mod Bounds
+pub mod Remaining

@@ -1,6 +1,7 @@
 pub mod Names
 pub mod Script
 pub mod Forms
+pub mod Taking
 pub mod Texts
 pub mod Answers
 pub mod Output

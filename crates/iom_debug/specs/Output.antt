@@ -1,5 +1,5 @@
 -- What is answered to a line, and which steps it is.
-use Rattle.std.specs.Prelude.{ℕ, ◌≡◌, ◌≢◌, List, [], Option, Some}
+use Rattle.std.specs.Prelude.{ℕ, ◌≡◌, List, [], replicate, Option, Some}
 use Rattle.std.specs.Option.{unwrap_or}
 use Rattle.iom_core.specs.State.{State}
 use Rattle.iom_core.specs.Run.{end_of}
@@ -8,18 +8,24 @@ use Rattle.iom_tool.specs.declared.trace.Entry.{Entry}
 use Rattle.iom_tool.specs.Console.{Console, console_after}
 use Rattle.iom_tool.specs.Output.{reply, steps_in, steps_of}
 use Rattle.iom_tool.specs.Script.{line_of}
-use Rattle.iom_debug.specs.Script.{DebugLine, Plain, Inquires, debug_line_of}
+use Rattle.iom_debug.specs.Script.{DebugLine, Plain, Inquires, Again, Stores, debug_line_of}
+use Rattle.iom_tool.specs.Texts.{text_of}
+use Rattle.iom_debug.specs.Taking.{last_answer, run_text, taken}
 use Rattle.iom_debug.specs.Answers.{inquired}
 
 -- None: nothing
 abbrev pub debug_reply : Console → DebugLine → Option (List ℕ)
 debug_reply now (Plain line) = reply now line
 debug_reply now (Inquires inquiry) = Some (inquired now inquiry)
+debug_reply now (Again step most) = Some (run_text now.state (replicate most step))
+debug_reply now (Stores steps) = Some (text_of (last_answer now.state steps))
 
 -- the steps that a line is
 abbrev pub debug_steps : State → DebugLine → List Step
 debug_steps state (Plain line) = steps_in line
 debug_steps state (Inquires inquiry) = []
+debug_steps state (Again step most) = taken state (replicate most step)
+debug_steps state (Stores steps) = taken state steps
 
 abbrev pub debug_steps_of : State → List ℕ → List Step
 debug_steps_of state text = debug_steps state (debug_line_of text)

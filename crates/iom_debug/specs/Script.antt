@@ -1,12 +1,12 @@
 -- What a line of `debug` says: what it says to `run`, and where it says nothing there, one thing more.
-use Rattle.std.specs.Prelude.{ℕ, ◌==◌, ◌&&◌, ◌||◌, Bool, nat_lt, nat_le, List, [], ◌∷◌, length, codes, bytes_eq, Option, Some, None, if◌then◌else◌}
+use Rattle.std.specs.Prelude.{ℕ, ◌+◌, ◌*◌, ◌^◌, ◌==◌, ◌&&◌, ◌||◌, Bool, nat_lt, nat_le, List, [], ◌∷◌, length, drop, codes, bytes_eq, Option, Some, None, if◌then◌else◌}
 use Rattle.std.specs.List.{list_any}
-use Rattle.iom_text.specs.Words.{words_of, number}
+use Rattle.iom_text.specs.Words.{words_of, number, first_number}
 use Rattle.iom_regs.specs.declared.views.Which.{Which}
 use Rattle.iom_regs.specs.declared.views.Which.TheVariants.{Commands, Faults}
 use Rattle.iom_core.specs.declared.step.Step.{Step}
 use Rattle.iom_core.specs.declared.step.Step.TheVariants as step
-use Rattle.iom_asm.specs.Forms.{where_so}
+use Rattle.iom_asm.specs.Forms.{where_so, words_for}
 use Rattle.iom_tool.specs.Script.{◌>>=◌, Line, Blank, Bad, Does, Asks, line_of}
 use Rattle.iom_debug.specs.Names.{register_named, mmio_named}
 use Rattle.iom_debug.specs.declared.form.Inquiry.{Inquiry}
@@ -17,10 +17,18 @@ pub data DebugLine : Type 0 where
   Plain : Line → DebugLine
   -- a question that `debug` alone has
   Inquires : Inquiry → DebugLine
+  -- a step, again and again while it is done, so often at most
+  Again : Step → ℕ → DebugLine
+  -- stores one after the other while each is done
+  Stores : List Step → DebugLine
 
 -- how many bytes a question tells: 1 to 64
 abbrev pub is_count : ℕ → Bool
 is_count count = nat_le 1 count && nat_le count 64
+
+-- how often a step is repeated at most: 1 to 2^20
+abbrev pub is_limit : ℕ → Bool
+is_limit most = nat_le 1 most && nat_le most (2 ^ 20)
 
 -- reg read NAME
 unfoldable pub reg_read : List (List ℕ) → Option DebugLine
@@ -61,12 +69,40 @@ dev_write (dev ∷ name ∷ value ∷ []) = do
   Some (Plain (Does (step.DevWrite dev off 4 value)))
 dev_write _ = None
 
+-- dev show N
+unfoldable pub dev_show : List (List ℕ) → Option DebugLine
+dev_show (dev ∷ []) = do
+  dev ← number dev
+  Some (Inquires (inquiry.Device dev))
+dev_show _ = None
+
+-- dev run N MAX
+unfoldable pub dev_run : List (List ℕ) → Option DebugLine
+dev_run (dev ∷ most ∷ []) = do
+  dev ← number dev
+  most ← number most
+  where_so (is_limit most) (Some (Again (step.Device dev) most))
+dev_run _ = None
+
 unfoldable pub dev : List (List ℕ) → Option DebugLine
 dev [] = None
 dev (way ∷ operands) =
     if bytes_eq way (codes "read") then dev_read operands
     else if bytes_eq way (codes "write") then dev_write operands
+    else if bytes_eq way (codes "show") then dev_show operands
+    else if bytes_eq way (codes "run") then dev_run operands
     else None
+
+-- cmd run MAX
+unfoldable pub cmd_run : List (List ℕ) → Option DebugLine
+cmd_run (most ∷ []) = do
+  most ← number most
+  where_so (is_limit most) (Some (Again step.Command most))
+cmd_run _ = None
+
+unfoldable pub cmd : List (List ℕ) → Option DebugLine
+cmd [] = None
+cmd (way ∷ operands) = if bytes_eq way (codes "run") then cmd_run operands else None
 
 unfoldable pub queue_named : List ℕ → Option Which
 queue_named name =
@@ -103,14 +139,32 @@ unfoldable pub form_by : List ℕ → List (List ℕ) → Option DebugLine
 form_by verb operands =
     if bytes_eq verb (codes "reg") then reg operands
     else if bytes_eq verb (codes "dev") then dev operands
+    else if bytes_eq verb (codes "cmd") then cmd operands
     else if bytes_eq verb (codes "queue") then queue operands
     else if bytes_eq verb (codes "dump") then dump operands
     else if bytes_eq verb (codes "disk") then disk operands
     else None
 
-abbrev pub form_in : List (List ℕ) → Option DebugLine
+-- words of 8 bytes are stored one after the other
+abbrev pub stores_at : ℕ → List ℕ → List Step
+stores_at addr [] = []
+stores_at addr (word ∷ words) = step.Store addr 8 word ∷ stores_at (addr + 8) words
+
+-- the words of an item, which has nine operands at most
+unfoldable pub item_words : List (List ℕ) → Option (List ℕ)
+item_words [] = None
+item_words (name ∷ operands) = where_so (nat_le (length operands) 9) (words_for name operands)
+
+-- put ADDR ITEM.., none of whose bytes is above 2^64
+unfoldable pub put : List (List ℕ) → Option DebugLine
+put words = do
+  addr ← first_number words
+  items ← item_words (drop 1 words)
+  where_so (nat_le (addr + 8 * length items) (2 ^ 64)) (Some (Stores (stores_at addr items)))
+
+unfoldable pub form_in : List (List ℕ) → Option DebugLine
 form_in [] = None
-form_in (verb ∷ operands) = form_by verb operands
+form_in (verb ∷ operands) = if bytes_eq verb (codes "put") then put operands else form_by verb operands
 
 -- of a line of at most 512 bytes, without its end
 unfoldable pub form_of : List ℕ → Option DebugLine

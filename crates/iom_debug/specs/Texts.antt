@@ -9,7 +9,11 @@ use Rattle.iom_regs.specs.Views.{queue_of}
 use Rattle.iom_regs.specs.declared.views.Queue.{Queue}
 use Rattle.iom_regs.specs.declared.views.Which.{Which}
 use Rattle.iom_regs.specs.declared.views.Which.TheVariants.{Commands, Faults}
+use Rattle.iom_virtq.specs.Bus.{Ask, Read, Write}
 use Rattle.iom_blk.specs.Device.{Device}
+use Rattle.iom_blk.specs.Phases.{asks}
+use Rattle.iom_blk.specs.declared.phase.Phase.{Phase}
+use Rattle.iom_blk.specs.declared.phase.Phase.TheVariants as phase
 use Rattle.iom_core.specs.State.{disk_of}
 use Rattle.iom_asm.specs.Lines.{operand}
 
@@ -42,3 +46,35 @@ part_of disk at count = if nat_le (at + count) (length disk) then Some (take cou
 abbrev pub disk_text : Option (ℕ × Device) → ℕ → ℕ → List ℕ
 disk_text None at count = codes "none"
 disk_text (Some own) at count = bytes_text (part_of (disk_of own) at count)
+
+-- what a block device's next access is for
+unfoldable pub phase_text : Phase → List ℕ
+phase_text phase.Index = codes "index"
+phase_text phase.Ring = codes "ring"
+phase_text (phase.Descriptor i) = codes "descriptor"
+phase_text phase.Header = codes "header"
+phase_text (phase.Data position) = codes "data"
+phase_text phase.Status = codes "status"
+phase_text phase.UsedId = codes "used-id"
+phase_text phase.UsedLen = codes "used-len"
+phase_text phase.UsedIdx = codes "used-idx"
+
+-- the access itself, at an IOVA
+abbrev pub ask_text : Option Ask → List ℕ
+ask_text None = codes " next=none"
+ask_text (Some (Read iova count)) = codes " next=read" ++ operand (codes "iova") iova ++ operand (codes "len") count
+ask_text (Some (Write iova bytes)) =
+    codes " next=write" ++ operand (codes "iova") iova ++ operand (codes "len") (length bytes)
+
+-- the head of the request, and how many were taken and given back
+abbrev pub counts_text : Device → List ℕ
+counts_text device =
+    operand (codes "head") device.head ++ operand (codes "seen") device.seen ++ operand (codes "used") device.used
+
+unfoldable pub blk_text : Device → List ℕ
+blk_text device = codes " phase=" ++ phase_text device.phase ++ ask_text (asks device) ++ counts_text device
+
+-- a block device, with its id
+abbrev pub device_text : Option (ℕ × Device) → List ℕ
+device_text None = codes "none"
+device_text (Some own) = codes "did=" ++ hexed own.0 ++ blk_text own.1

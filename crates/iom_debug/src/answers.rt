@@ -4,14 +4,16 @@ ghost use Rattle.std.specs.Prelude.{◌≡◌, ◌+◌, ◌++◌, ◌≤◌, ◌
 ghost use Rattle.std.specs.Option.{option_map};
 ghost use Rattle.hex.specs.Hex.{encode_lower};
 ghost use Rattle.iom_mem.specs.Memory.{bytes_at};
+ghost use Rattle.iom_blk.specs.Wants.{wanted};
 ghost use Rattle.iom_tool.specs.Console.{console};
 ghost use Rattle.iom_debug.specs.Answers.{inquired};
 ghost use Rattle.iom_debug.specs.Forms.{InRange};
-ghost use Rattle.iom_debug.specs.Texts.{bytes_text, disk_text, part_of, queue_text, stop_text, view_text};
+ghost use Rattle.iom_debug.specs.Texts.{ask_text, blk_text, bytes_text, device_text, disk_text, part_of, phase_text, queue_text, stop_text, view_text};
 
 use crate::form::Inquiry;
 use crate::text::{push_bytes, push_hexed, push_operand, push_text};
 use iom_bits::{flag, has_bit};
+use iom_blk::{Blk, Phase, Want};
 use iom_core::Platform;
 use iom_mem::Ram;
 use iom_regs::{Queue, Regs, Which};
@@ -26,6 +28,7 @@ pub fn answer_to(platform: &Platform, trace: &Trace, inquiry: &Inquiry) -> Reply
         Inquiry::Queue(which) => queue_line(platform.registers(), which),
         Inquiry::Dump(addr, count) => memory_line(platform.ram(), addr, count),
         Inquiry::Disk(dev, at, count) => disk_line(platform, dev, at, count),
+        Inquiry::Device(dev) => device_line(platform, dev),
     }
 }
 
@@ -134,4 +137,71 @@ fn part_of(disk: &[u8], at: u64, count: u64) -> Option<&[u8]>
         return None;
     }
     Some(&disk[at as usize..end as usize])
+}
+
+// What a block device's next access is for.
+#[tactic(auto, unfolding(crate::specs::Texts::phase_text))]
+fn phase_text(phase: Phase) -> &'static [u8]
+    ensures text { result.now ≡ phase_text phase }
+    ensures short { length result.now ≤ 10 }
+{
+    match phase {
+        Phase::Index => b"index",
+        Phase::Ring => b"ring",
+        Phase::Descriptor(_) => b"descriptor",
+        Phase::Header => b"header",
+        Phase::Data(_) => b"data",
+        Phase::Status => b"status",
+        Phase::UsedId => b"used-id",
+        Phase::UsedLen => b"used-len",
+        Phase::UsedIdx => b"used-idx",
+    }
+}
+
+// Appends what a block device asks for next.
+fn push_want(out: &mut Reply, want: &Want)
+    requires { length out.old.items ≤ 64 }
+    ensures text { out.new.items ≡ out.old.items ++ ask_text (wanted want.now) }
+    ensures room { length out.new.items ≤ length out.old.items + 64 }
+{
+    match want {
+        Want::Nothing => push_text(out, b" next=none"),
+        Want::Read { iova, len } => {
+            push_text(out, b" next=read");
+            push_operand(out, b"iova", *iova);
+            push_operand(out, b"len", *len);
+        }
+        Want::Write { iova, bytes } => {
+            push_text(out, b" next=write");
+            push_operand(out, b"iova", *iova);
+            push_operand(out, b"len", bytes.len() as u64);
+        }
+    }
+}
+
+// Appends what a block device does next.
+#[tactic(auto, unfolding(crate::specs::Texts::blk_text))]
+fn push_blk(out: &mut Reply, device: &Blk)
+    requires { length out.old.items ≤ 32 }
+    ensures text { out.new.items ≡ out.old.items ++ blk_text device.now }
+{
+    push_text(out, b" phase=");
+    push_text(out, phase_text(device.phase()));
+    push_want(out, &device.want());
+    push_operand(out, b"head", u64::from(device.head()));
+    push_operand(out, b"seen", u64::from(device.seen()));
+    push_operand(out, b"used", u64::from(device.used()));
+}
+
+// A block device, with its id.
+fn device_line(platform: &Platform, dev: u64) -> Reply
+    ensures { result.items ≡ device_text (slice_get platform.now.devices dev) }
+{
+    let Some((did, device)) = platform.block_device(dev as usize) else {
+        return said(b"none");
+    };
+    let mut out = said(b"did=");
+    push_hexed(&mut out, u64::from(*did));
+    push_blk(&mut out, device);
+    out
 }

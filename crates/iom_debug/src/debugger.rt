@@ -1,18 +1,16 @@
 ghost use Rattle.std.specs.Prelude.{◌≡◌, ◌≢◌, []};
 ghost use Rattle.std.specs.Option.{unwrap_or};
 ghost use Rattle.iom_core.specs.Run.{end_of};
-ghost use Rattle.iom_core.specs.Table.{next};
 ghost use Rattle.iom_tool.specs.Script.{Bad, line_of};
-ghost use Rattle.iom_tool.specs.Console.{console, trace_after, traced};
+ghost use Rattle.iom_tool.specs.Console.{console, trace_after};
 ghost use Rattle.iom_tool.specs.Output.{reply, steps_of};
-ghost use Rattle.iom_tool.specs.Texts.{text_of};
 ghost use Rattle.iom_debug.specs.Script.{debug_line_of};
 ghost use Rattle.iom_debug.specs.Output.{IsAsRun, debug_reply, debug_steps_of};
 
 use crate::answers::answer_to;
 use crate::form::{Form, form_of};
-use crate::text::push_answer;
-use iom_core::{Platform, Step};
+use crate::taking::{store_all, take, take_again};
+use iom_core::Platform;
 use iom_tool::{Reply, Session, Trace};
 
 /// A script of `debug`, given a line at a time.
@@ -66,18 +64,7 @@ fn answer_line(platform: &mut Platform, trace: &mut Trace, text: &[u8]) -> Reply
         None => Session::new(platform, trace).line(text),
         Some(Form::Does(step)) => take(platform, trace, step),
         Some(Form::Inquires(inquiry)) => answer_to(platform, trace, &inquiry),
+        Some(Form::Again(actor, most)) => take_again(platform, trace, actor, most),
+        Some(Form::Put(addr, words)) => store_all(platform, trace, addr, words.as_slice()),
     }
-}
-
-// Carries out a step.
-fn take(platform: &mut Platform, trace: &mut Trace, step: Step) -> Reply
-    ensures reply { result.items ≡ text_of (next platform.old step).answer }
-    ensures state { platform.new ≡ (next platform.old step).state }
-    ensures trace { trace.new ≡ traced trace.old step (next platform.old step).answer }
-{
-    let answer = platform.step(&step);
-    let mut out = Reply::new();
-    push_answer(&mut out, &answer);
-    trace.keep(step, answer);
-    out
 }

@@ -1,15 +1,17 @@
 //! What `debug` has more than `run`.
 
-ghost use Rattle.std.specs.Prelude.{◌≡◌, ◌==◌, ◌≤◌, map, length, IfSome};
+ghost use Rattle.std.specs.Prelude.{◌≡◌, ◌+◌, ◌*◌, ◌^◌, ◌≤◌, map, nat_le, IfSome};
 ghost use Rattle.std.specs.Option.{option_map};
 ghost use Rattle.iom_debug.specs.Forms.{Fits, line_in};
 ghost use Rattle.iom_text.specs.Words.{words_of};
-ghost use Rattle.iom_debug.specs.Script.{is_count, reg_read, reg_write, reg, dev_read, dev_write, dev, queue_named, queue, dump, disk, form_by, form_in, form_of};
+ghost use Rattle.iom_debug.specs.Script.{is_count, is_limit, reg_read, reg_write, reg, dev_read, dev_write, dev_show, dev_run, dev, cmd_run, cmd, item_words, put, queue_named, queue, dump, disk, form_by, form_in, form_of};
 
 use crate::names::{mmio_named, register_named};
+use arrayvec::ArrayVec;
+use iom_asm::words_for;
 use iom_core::Step;
 use iom_regs::Which;
-use iom_text::{number, take_word, words};
+use iom_text::{number, take_number, take_word, words};
 
 /// A question that `debug` alone has. It is no step.
 #[derive(Clone, Copy)]
@@ -20,6 +22,17 @@ pub enum Inquiry {
     Dump(u64, u64),
     /// So many bytes, 1 to 64, of the disk of a block device from this byte on: `Disk(dev, at, count)`.
     Disk(u64, u64, u64),
+    /// What a block device does next.
+    Device(u64),
+}
+
+/// Who goes on by itself.
+#[derive(Clone, Copy)]
+pub enum Actor {
+    /// The command unit.
+    Commands,
+    /// This block device, counted from 0.
+    Device(u64),
 }
 
 /// A line that `run` doesn't know.
@@ -29,6 +42,10 @@ pub enum Form {
     Does(Step),
     /// A question.
     Inquires(Inquiry),
+    /// The step of this one, again and again while it is done, so often at most.
+    Again(Actor, u64),
+    /// Stores of these words of 8 bytes from this physical address on, while each is done.
+    Put(u64, ArrayVec<u64, 8>),
 }
 
 /// The longest line, in bytes without its end.
@@ -39,6 +56,13 @@ fn is_count(count: u64) -> bool
     ensures { result ≡ is_count count }
 {
     count >= 1 && count <= 64
+}
+
+// Whether a step may be repeated so often.
+fn is_limit(most: u64) -> bool
+    ensures { result ≡ is_limit most }
+{
+    most >= 1 && most <= 1 << 20
 }
 
 // What follows `reg read`: a register's name.
@@ -118,6 +142,66 @@ fn dev_write(operands: &[&[u8]]) -> Option<Form>
     }))
 }
 
+// What follows `dev show`: a block device.
+#[tactic(auto, unfolding(crate::specs::Script::dev_show))]
+fn dev_show(operands: &[&[u8]]) -> Option<Form>
+    ensures line { option_map line_in result ≡ dev_show (map (λ word. word.now) operands.now) }
+    ensures fits { IfSome result Fits }
+{
+    let [dev] = operands else {
+        return None;
+    };
+    Some(Form::Inquires(Inquiry::Device(number(dev)?)))
+}
+
+// What follows `dev run`: a block device, and how many steps at most.
+#[tactic(auto, unfolding(crate::specs::Script::dev_run))]
+fn dev_run(operands: &[&[u8]]) -> Option<Form>
+    ensures line { option_map line_in result ≡ dev_run (map (λ word. word.now) operands.now) }
+    ensures fits { IfSome result Fits }
+{
+    let [dev, most] = operands else {
+        return None;
+    };
+    let dev = number(dev)?;
+    let most = number(most)?;
+    if !is_limit(most) {
+        return None;
+    }
+    Some(Form::Again(Actor::Device(dev), most))
+}
+
+// What follows `cmd run`: how many steps at most.
+#[tactic(auto, unfolding(crate::specs::Script::cmd_run))]
+fn cmd_run(operands: &[&[u8]]) -> Option<Form>
+    ensures line { option_map line_in result ≡ cmd_run (map (λ word. word.now) operands.now) }
+    ensures fits { IfSome result Fits }
+{
+    let [most] = operands else {
+        return None;
+    };
+    let most = number(most)?;
+    if !is_limit(most) {
+        return None;
+    }
+    Some(Form::Again(Actor::Commands, most))
+}
+
+// What follows `cmd`.
+#[tactic(auto, unfolding(crate::specs::Script::cmd))]
+fn cmd(operands: &[&[u8]]) -> Option<Form>
+    ensures line { option_map line_in result ≡ cmd (map (λ word. word.now) operands.now) }
+    ensures fits { IfSome result Fits }
+{
+    let [way, operands @ ..] = operands else {
+        return None;
+    };
+    match *way {
+        b"run" => cmd_run(operands),
+        _ => None,
+    }
+}
+
 // What follows `dev`.
 #[tactic(auto, unfolding(crate::specs::Script::dev))]
 fn dev(operands: &[&[u8]]) -> Option<Form>
@@ -130,6 +214,8 @@ fn dev(operands: &[&[u8]]) -> Option<Form>
     match *way {
         b"read" => dev_read(operands),
         b"write" => dev_write(operands),
+        b"show" => dev_show(operands),
+        b"run" => dev_run(operands),
         _ => None,
     }
 }
@@ -202,6 +288,7 @@ fn form_by(verb: &[u8], operands: &[&[u8]]) -> Option<Form>
     match verb {
         b"reg" => reg(operands),
         b"dev" => dev(operands),
+        b"cmd" => cmd(operands),
         b"queue" => queue(operands),
         b"dump" => dump(operands),
         b"disk" => disk(operands),
@@ -209,14 +296,62 @@ fn form_by(verb: &[u8], operands: &[&[u8]]) -> Option<Form>
     }
 }
 
+// The words of an item.
+#[tactic(auto, unfolding(crate::specs::Script::item_words), using(crate::proofs::Forms::enough_for_item))]
+fn item_words(text: &[u8]) -> Option<ArrayVec<u64, 8>>
+    ensures { option_map (λ items. items.items) result ≡ item_words (words_of text.now) }
+{
+    item_words_in(words(text).as_slice())
+}
+
+// The same, by its first words.
+#[tactic(auto, unfolding(crate::specs::Script::item_words))]
+fn item_words_in(words: &[&[u8]]) -> Option<ArrayVec<u64, 8>>
+    ensures { option_map (λ items. items.items) result ≡ item_words (map (λ word. word.now) words.now) }
+{
+    let [name, operands @ ..] = words else {
+        return None;
+    };
+    if operands.len() > 9 {
+        return None;
+    }
+    words_for(name, operands)
+}
+
+// Whether so many words of 8 bytes, at most eight, end at 2^64 or below.
+fn is_below_end(addr: u64, count: usize) -> bool
+    requires { count ≤ 8 }
+    ensures { result ≡ nat_le (addr + 8 * count) (2 ^ 64) }
+{
+    8 * count as u128 + u128::from(addr) <= 1 << 64
+}
+
+// What follows `put`: a physical address and an item.
+#[tactic(auto, unfolding(crate::specs::Script::put))]
+fn put(text: &[u8]) -> Option<Form>
+    ensures line { option_map line_in result ≡ put (words_of text.now) }
+    ensures fits { IfSome result Fits }
+{
+    let (addr, rest) = take_number(text)?;
+    let items = item_words(rest)?;
+    if !is_below_end(addr, items.len()) {
+        return None;
+    }
+    Some(Form::Put(addr, items))
+}
+
 // What a line has more than `run`, by its words.
-#[tactic(auto, using(crate::proofs::Forms::enough))]
+#[tactic(auto, unfolding(crate::specs::Script::form_in), using(crate::proofs::Forms::enough))]
 fn form_in(text: &[u8]) -> Option<Form>
     ensures line { option_map line_in result ≡ form_in (words_of text.now) }
     ensures fits { IfSome result Fits }
 {
     let (verb, rest) = take_word(text)?;
-    form_by(verb, words(rest).as_slice())
+    if verb == b"put".as_slice() {
+        put(rest)
+    } else {
+        form_by(verb, words(rest).as_slice())
+    }
 }
 
 /// What a line of `debug` is that `run` doesn't know; None where it is no such line, as where the text is above 512 bytes or holds

@@ -9,5 +9,6 @@ mod answers;
 mod debugger;
 mod form;
 mod names;
+mod taking;
 mod text;
 mod wanting;

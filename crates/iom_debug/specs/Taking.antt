@@ -1,0 +1,32 @@
+-- Steps that are taken one after the other, while each is done.
+use Rattle.std.specs.Prelude.{ℕ, ◌++◌, Bool, true, false, List, [], ◌∷◌, length, codes, if◌then◌else◌}
+use Rattle.iom_text.specs.Texts.{hexed}
+use Rattle.iom_core.specs.State.{State}
+use Rattle.iom_core.specs.Table.{next}
+use Rattle.iom_core.specs.declared.step.Step.{Step}
+use Rattle.iom_core.specs.declared.step.Answer.{Answer}
+use Rattle.iom_core.specs.declared.step.Answer.TheVariants as answer
+use Rattle.iom_tool.specs.Texts.{text_of}
+
+unfoldable pub is_done : Answer → Bool
+is_done answer.Done = true
+is_done _ = false
+
+-- of some steps those that are taken: up to the first that isn't done, and that one too
+abbrev pub taken : State → List Step → List Step
+taken state [] = []
+taken state (step ∷ steps) =
+    step ∷ (if is_done (next state step).answer then taken (next state step).state steps else [])
+
+-- the answer to the last step that is taken; where there is none, done
+abbrev pub last_answer : State → List Step → Answer
+last_answer state [] = answer.Done
+last_answer state (step ∷ steps) =
+    if is_done (next state step).answer then last_answer (next state step).state steps else (next state step).answer
+
+-- how many steps were taken, and the last answer
+unfoldable pub count_text : ℕ → Answer → List ℕ
+count_text count last = hexed count ++ codes " " ++ text_of last
+
+abbrev pub run_text : State → List Step → List ℕ
+run_text state steps = count_text (length (taken state steps)) (last_answer state steps)
