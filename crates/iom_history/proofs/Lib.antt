@@ -1,0 +1,9 @@
+pub mod Beside
+pub mod Searched
+pub mod Noted
+pub mod Runs
+pub mod Filled
+pub mod Followed
+pub mod Accessed
+pub mod Told
+pub mod Stepped

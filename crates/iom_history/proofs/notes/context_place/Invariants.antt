@@ -1,0 +1,8 @@
+use Rattle.std.proofs.Common.{◌≡◌, ℕ, false}
+use Rattle.iom_cache.specs.Keys.{same_did, same_key}
+use Rattle.iom_cache.specs.declared.key.Key.{Key}
+use Rattle.iom_history.proofs.Searched.{Searching}
+use Rattle.iom_history.proofs.notes.context_place.Given as goal
+
+abbrev pub invariant-loop-i : goal.invariant-loop-i
+invariant-loop-i l = Searching (same_did l.did) 16 l.cache l.i

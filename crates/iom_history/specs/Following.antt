@@ -1,0 +1,103 @@
+-- A history beside a platform: which steps filled what its caches hold, each told by the number that the caller gave it.
+use Rattle.std.specs.Prelude.{ℕ, suc, ◌≡◌, List, length, get_or, Option, Some, None, if◌then◌else◌}
+use Rattle.std.specs.Option.{option_map}
+use Rattle.iom_ddt.specs.Contexts.{is_bare}
+use Rattle.iom_ddt.specs.declared.context.Context.{Context}
+use Rattle.iom_cache.specs.Keys.{same_did, same_key}
+use Rattle.iom_cache.specs.Origins.{first_stamps, stamped_by}
+use Rattle.iom_cache.specs.declared.key.Key.{Key}
+use Rattle.iom_core.specs.Access.{request_key}
+use Rattle.iom_core.specs.Run.{end_of}
+use Rattle.iom_core.specs.State.{State, context_room, page_room}
+use Rattle.iom_core.specs.Warrants.{Explains, IsUncached, context_filled, context_filled_at, moment, page_filled, page_filled_at, request_at}
+use Rattle.iom_core.specs.declared.access.Request.{Request}
+use Rattle.iom_core.specs.declared.step.Step.{Step}
+use Rattle.iom_core.specs.declared.warrant.Warrant.{Warrant}
+use Rattle.iom_core.specs.declared.warrant.Warrant.TheVariants as warrant
+use Rattle.iom_history.specs.Beside.{beside, noted_at}
+use Rattle.iom_history.specs.declared.origin.Origin.{Origin}
+use Rattle.iom_history.specs.declared.origin.Origin.TheVariants as origin
+
+-- the number of step k, which is one of those carried out
+abbrev pub number_of : List ℕ → ℕ → ℕ
+number_of numbers k = get_or numbers k 0
+
+-- a warrant whose moments are told by the numbers of their steps
+abbrev pub told : List ℕ → Warrant → Origin
+told numbers warrant.Register = origin.Register
+told numbers (warrant.Context context) = origin.Context (number_of numbers context)
+told numbers (warrant.Walked context walk current) =
+    origin.Walked (number_of numbers context) (number_of numbers walk) (number_of numbers current)
+
+-- Where the translation comes from that step n used: what explains the step, told by numbers; None: it made no access, or one
+-- that was denied.
+pub record ComesFrom (start : State) (steps : List Step) (numbers : List ℕ) (n : ℕ) (found : Option Origin) : Type 0 where
+  pub warrant : Option Warrant
+  pub explains : Explains start steps n warrant
+  pub told : found ≡ option_map (told numbers) warrant
+
+-- What a history keeps: beside each place of the context cache the number of the step that filled it; beside each place of the
+-- translation cache that of the step that filled it, and that of the step that had filled the context under which it walked.
+pub record Notes : Type 0 where
+  pub contexts : List ℕ
+  pub walks : List ℕ
+  pub bases : List ℕ
+
+-- the same before step k of a run
+abbrev pub contexts_at : State → List Step → List ℕ → ℕ → List ℕ
+contexts_at start steps numbers k =
+    noted_at context_room (context_filled_at start steps) (number_of numbers) (first_stamps start.machine.contexts) k
+
+abbrev pub walks_at : State → List Step → List ℕ → ℕ → List ℕ
+walks_at start steps numbers k =
+    noted_at page_room (page_filled_at start steps) (number_of numbers) (first_stamps start.machine.pages) k
+
+-- the number of the step that filled the context of the device that asks, which is live after the step of this number
+abbrev pub base_by : State → List ℕ → ℕ → Option Request → ℕ
+base_by after contexts number None = number
+base_by after contexts number (Some request) = beside (same_did request.did) after.machine.contexts contexts number
+
+abbrev pub base_at : State → List Step → List ℕ → ℕ → ℕ
+base_at start steps numbers k =
+    base_by (moment start steps (suc k)) (contexts_at start steps numbers (suc k)) (number_of numbers k) (request_at start steps k)
+
+abbrev pub bases_at : State → List Step → List ℕ → ℕ → List ℕ
+bases_at start steps numbers k =
+    noted_at page_room (page_filled_at start steps) (base_at start steps numbers) (first_stamps start.machine.pages) k
+
+-- The history goes along with the platform: from a start whose caches hold nothing these steps were carried out, with these
+-- numbers, and it keeps what their fills noted.
+pub record Follows (history : Notes) (platform start : State) (steps : List Step) (numbers : List ℕ) : Type 0 where
+  pub uncached : IsUncached start
+  pub reached : platform ≡ end_of start steps
+  pub numbered : length numbers ≡ length steps
+  pub contexts : history.contexts ≡ contexts_at start steps numbers (length steps)
+  pub walks : history.walks ≡ walks_at start steps numbers (length steps)
+  pub bases : history.bases ≡ bases_at start steps numbers (length steps)
+
+-- as many notes as places
+pub record AreBeside (history : Notes) (platform : State) : Type 0 where
+  pub contexts : length history.contexts ≡ length platform.machine.contexts
+  pub walks : length history.walks ≡ length platform.machine.pages
+  pub bases : length history.bases ≡ length platform.machine.pages
+
+-- what a step that asks this leaves of a history, by the platform before and after it
+abbrev pub noted : State → State → Option Request → ℕ → Notes → Notes
+noted before after asked number history =
+    let contexts = stamped_by context_room number (context_filled before asked) history.contexts in
+    record {
+      contexts = contexts;
+      walks = stamped_by page_room number (page_filled before asked) history.walks;
+      bases = stamped_by page_room (base_by after contexts number asked) (page_filled before asked) history.bases;
+    }
+
+-- the origin of a request that was let through, by the platform after it and the context that led it; None: ddtp alone led it
+abbrev pub origin_by : Notes → State → Request → ℕ → Option Context → Origin
+origin_by history after request number None = origin.Register
+origin_by history after request number (Some context) =
+    let current = beside (same_did request.did) after.machine.contexts history.contexts number in
+    if is_bare context then origin.Context current
+    else origin.Walked
+    (beside (same_key (request_key request context)) after.machine.pages history.bases number)
+    (beside (same_key (request_key request context)) after.machine.pages history.walks number)
+    current

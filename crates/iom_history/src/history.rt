@@ -1,0 +1,249 @@
+ghost use Rattle.std.specs.Prelude.{◌≡◌, ◌↔◌, ◌<◌, ◌≤◌, ◌^◌, ℕ, List, replicate, [], ◌∷◌, ◌++◌, IsTrue, IfSome, Some, None, get_or, length, if◌then◌else◌};
+ghost use Rattle.iom_ddt.specs.Contexts.{is_bare};
+ghost use Rattle.iom_cache.specs.Keys.{same_did, same_key};
+ghost use Rattle.iom_cache.specs.Origins.{first_stamps};
+ghost use Rattle.iom_core.specs.Access.{request_key};
+ghost use Rattle.iom_core.specs.Histories.{is_denial, leading_context};
+ghost use Rattle.iom_core.specs.Table.{next, request_of_step};
+ghost use Rattle.iom_core.specs.Warrants.{IsUncached};
+ghost use Rattle.iom_cache.specs.Places.{made_room};
+ghost use Rattle.iom_history.specs.Beside.{beside, next_place};
+ghost use Rattle.iom_history.specs.Following.{AreBeside, ComesFrom, Follows, noted, origin_by};
+
+use crate::Origin;
+use crate::notes::{context_place, count_contexts, count_pages, next_context, next_page};
+use crate::notes::{note_context, note_page, page_place};
+use arrayvec::ArrayVec;
+use iom_cache::{Key, Place, key_of};
+use iom_core::{Answer, Platform, Request, Step};
+use iom_ddt::Context;
+use iom_nested::Hit;
+use iom_regs::Mode;
+use std::marker::Model;
+
+/// Which steps filled what a platform's caches hold, each by the number that its caller gave it.
+#[derive(Drop)]
+pub struct History {
+    // Beside each place of the context cache, the number of the step that filled it.
+    contexts: ArrayVec<u64, 16>,
+    // Beside each place of the translation cache, the number of the step that filled it.
+    walks: ArrayVec<u64, 64>,
+    // Beside the same place, the number of the step that had filled the context under which it walked.
+    bases: ArrayVec<u64, 64>,
+}
+
+impl Model for History {
+    ghost use Rattle.iom_history.specs.Following.{Notes};
+
+    ghost Value = { Notes };
+
+    ghost view = { λ h. record { contexts = h.contexts.items; walks = h.walks.items; bases = h.bases.items } };
+}
+
+/// What a step did.
+#[derive(Drop)]
+pub struct Taken {
+    /// What it answers.
+    pub answer: Answer,
+    /// What it asked of the IOMMU; None where it made no access.
+    pub request: Option<Request>,
+    /// Where the translation comes from that it used; None where it made no access, or was denied.
+    pub origin: Option<Origin>,
+}
+
+impl History {
+    ghost use Rattle.iom_core.specs.State.{State};
+    ghost use Rattle.iom_core.specs.declared.step.Step.{Step};
+
+    /// A history that begins at this platform. It tells where translations come from if both caches hold nothing now. It takes
+    /// no memory.
+    pub fn new(platform: &Platform) -> History
+        ensures { IsUncached platform.now → Follows result platform.now platform.now [] [] }
+    {
+        let contexts = count_contexts(platform.contexts());
+        let pages = count_pages(platform.trans());
+        History {
+            contexts: context_zeros(contexts),
+            walks: page_zeros(pages),
+            bases: page_zeros(pages),
+        }
+    }
+
+    /// Carries out the next step on the platform, which has the caller's `number`, and says what it answers, what it asked, and
+    /// where the translation comes from that it used. It takes no memory.
+    pub fn step(&mut self, platform: &mut Platform, step: &Step, number: u64) -> Taken
+        ensures answer { result.answer ≡ (next platform.old step.now).answer }
+        ensures state { platform.new ≡ (next platform.old step.now).state }
+        ensures request { result.request ≡ request_of_step platform.old step.now }
+
+        // From a start whose caches hold nothing it goes along with the steps, and tells of each what explains it.
+        ensures follows { (start : State) (steps : List Step) (numbers : List ℕ) →
+            Follows self.old platform.old start steps numbers →
+            Follows self.new platform.new start (steps ++ step.now ∷ []) (numbers ++ number ∷ []) }
+        ensures origin { (start : State) (steps : List Step) (numbers : List ℕ) →
+            Follows self.old platform.old start steps numbers →
+            ComesFrom start (steps ++ step.now ∷ []) (numbers ++ number ∷ []) (length steps) result.origin }
+    {
+        match platform.request_of(step) {
+            None => Taken {
+                answer: platform.step(step),
+                request: None,
+                origin: None,
+            },
+            Some(request) => self.access(platform, step, request, number),
+        }
+    }
+
+    // Carries out a step that makes this request.
+    fn access(&mut self, platform: &mut Platform, step: &Step, request: Request, number: u64) -> Taken
+        requires asked { request_of_step platform.old step.now ≡ Some request }
+        ensures answer { result.answer ≡ (next platform.old step.now).answer }
+        ensures state { platform.new ≡ (next platform.old step.now).state }
+        ensures request { result.request ≡ Some request }
+        ensures noted { AreBeside self.old platform.old →
+            self.new ≡ noted platform.old platform.new (Some request) number self.old }
+        ensures origin { result.origin ≡ (if is_denial result.answer then None else
+            Some (origin_by self.new platform.new request number (leading_context platform.new.machine request.did))) }
+    {
+        let answer = self.note(platform, step, request, number);
+        let origin = if is_denial(&answer) {
+            None
+        } else {
+            Some(self.origin(platform, &request, number))
+        };
+        Taken {
+            answer,
+            request: Some(request),
+            origin,
+        }
+    }
+
+    // Carries out a step that makes this request, and notes what it fills: a place that is the newest after it and wasn't
+    // before it.
+    fn note(&mut self, platform: &mut Platform, step: &Step, request: Request, number: u64) -> Answer
+        requires asked { request_of_step platform.old step.now ≡ Some request }
+        ensures answer { result ≡ (next platform.old step.now).answer }
+        ensures state { platform.new ≡ (next platform.old step.now).state }
+        ensures noted { AreBeside self.old platform.old →
+            self.new ≡ noted platform.old platform.new (Some request) number self.old }
+    {
+        let context = next_context(platform.contexts(), self.contexts.len());
+        let page = next_page(platform.trans(), self.walks.len());
+        let answer = platform.step(step);
+        self.note_context(platform, &context, number);
+        self.note_walk(platform, &page, request.did, number);
+        answer
+    }
+
+    // Notes a context that a step filled, by what was at the next place before it.
+    fn note_context(&mut self, platform: &Platform, before: &Place<u32, Context>, number: u64)
+        ensures same { before.now ≡ next_place 15 (length self.old.contexts) platform.now.machine.contexts →
+            self.new ≡ self.old }
+        ensures filled { (before.now ≡ next_place 15 (length self.old.contexts) platform.now.machine.contexts → ⊥) →
+            self.new ≡ record self.old { contexts = made_room 16 self.old.contexts ++ number ∷ [] } }
+    {
+        if !is_same_context(before, &next_context(platform.contexts(), self.contexts.len())) {
+            note_context(&mut self.contexts, number);
+        }
+    }
+
+    // Notes a page that a step of device `did` filled, by what was at the next place before it.
+    fn note_walk(&mut self, platform: &Platform, before: &Place<Key, Hit>, did: u32, number: u64)
+        ensures same { before.now ≡ next_place 63 (length self.old.walks) platform.now.machine.pages →
+            self.new ≡ self.old }
+        ensures filled { (before.now ≡ next_place 63 (length self.old.walks) platform.now.machine.pages → ⊥) →
+            self.new ≡ record self.old {
+                walks = made_room 64 self.old.walks ++ number ∷ [];
+                bases = made_room 64 self.old.bases
+                    ++ beside (same_did did) platform.now.machine.contexts self.old.contexts number ∷ [] } }
+    {
+        if !is_same_page(before, &next_page(platform.trans(), self.walks.len())) {
+            let base = self.context_number(platform, did, number);
+            note_page(&mut self.walks, number);
+            note_page(&mut self.bases, base);
+        }
+    }
+
+    // Where the translation comes from that the last step used for this request, which was let through.
+    fn origin(&self, platform: &Platform, request: &Request, number: u64) -> Origin
+        ensures { result ≡ origin_by self.now platform.now request.now number
+            (leading_context platform.now.machine request.now.did) }
+    {
+        let Some(context) = leading_context(platform, request.did) else {
+            return Origin::Register;
+        };
+        let current = self.context_number(platform, request.did, number);
+        if context.is_bare() {
+            return Origin::Context { context: current };
+        }
+        let key = key_of(&context, request.did, request.iova, request.kind);
+        let place = page_place(platform.trans(), &key);
+        Origin::Walked {
+            context: number_at(self.bases.as_slice(), place, number),
+            walk: number_at(self.walks.as_slice(), place, number),
+            current,
+        }
+    }
+
+    // The number beside the live context of a device id, 24 bits.
+    fn context_number(&self, platform: &Platform, did: u32, number: u64) -> u64
+        ensures { result ≡ beside (same_did did) platform.now.machine.contexts self.now.contexts number }
+    {
+        number_at(self.contexts.as_slice(), context_place(platform.contexts(), did), number)
+    }
+}
+
+// The number beside a place; `number` where there is none.
+fn number_at(notes: &[u64], place: usize, number: u64) -> u64
+    ensures { result ≡ get_or notes.now place number }
+{
+    notes.get(place).copied().unwrap_or(number)
+}
+
+// The context by which a device that was let through was led; None: ddtp alone led it.
+fn leading_context(platform: &Platform, did: u32) -> Option<Context>
+    ensures { result ≡ leading_context platform.now.machine did }
+{
+    match platform.registers().mode() {
+        Mode::Bare => None,
+        _ => platform.contexts().find(did),
+    }
+}
+
+fn is_denial(answer: &Answer) -> bool
+    ensures { result ≡ is_denial answer.now }
+{
+    matches!(answer, Answer::Denied(_))
+}
+
+fn is_same_context(place: &Place<u32, Context>, other: &Place<u32, Context>) -> bool
+    ensures { IsTrue result ↔ (place.now ≡ other.now) }
+{
+    place == other
+}
+
+fn is_same_page(place: &Place<Key, Hit>, other: &Place<Key, Hit>) -> bool
+    ensures { IsTrue result ↔ (place.now ≡ other.now) }
+{
+    place == other
+}
+
+// As many zeros as a context cache has places.
+fn context_zeros(count: usize) -> ArrayVec<u64, 16>
+    requires { count ≤ 16 }
+    ensures { result.items ≡ replicate count 0 }
+{
+    let mut notes = ArrayVec::from([0; 16]);
+    notes.truncate(count);
+    notes
+}
+
+// As many zeros as a translation cache has places.
+fn page_zeros(count: usize) -> ArrayVec<u64, 64>
+    requires { count ≤ 64 }
+    ensures { result.items ≡ replicate count 0 }
+{
+    let mut notes = ArrayVec::from([0; 64]);
+    notes.truncate(count);
+    notes
+}

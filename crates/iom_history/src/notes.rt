@@ -1,0 +1,133 @@
+//! The places of both caches, and the numbers beside them.
+
+ghost use Rattle.std.specs.Prelude.{◌≡◌, ◌↔◌, ◌<◌, ◌≤◌, ◌++◌, [], ◌∷◌, IsTrue, false, length};
+ghost use Rattle.iom_cache.specs.Keys.{same_did, same_key};
+ghost use Rattle.iom_cache.specs.Places.{made_room};
+ghost use Rattle.iom_history.specs.Beside.{ends_at, next_place, place_of};
+
+use arrayvec::ArrayVec;
+use iom_cache::{ContextCache, Key, Place, TransCache};
+use iom_ddt::Context;
+use iom_nested::Hit;
+
+/// How many places the context cache has.
+pub const CONTEXTS: usize = 16;
+
+/// How many places the translation cache has.
+pub const PAGES: usize = 64;
+
+/// How many places of a context cache there are now.
+pub fn count_contexts(cache: &ContextCache) -> usize
+    ensures count { result ≡ length cache.now }
+    ensures few { result ≤ 16 }
+{
+    for i in 0..CONTEXTS {
+        if is_beyond(&cache.place(i as u64)) {
+            return i;
+        }
+    }
+    CONTEXTS
+}
+
+/// How many places of a translation cache there are now.
+pub fn count_pages(cache: &TransCache) -> usize
+    ensures count { result ≡ length cache.now }
+    ensures few { result ≤ 64 }
+{
+    for i in 0..PAGES {
+        if is_beyond(&cache.place(i as u64)) {
+            return i;
+        }
+    }
+    PAGES
+}
+
+// Whether a place lies behind the last one.
+fn is_beyond<K, V>(place: &Place<K, V>) -> bool
+    ensures { result ≡ ends_at (λ key. false) place.now }
+{
+    match place {
+        Place::Beyond => true,
+        Place::Empty | Place::Live(_, _) => false,
+    }
+}
+
+/// Which place of a context cache is live with a device id; as many as there are where none is.
+pub fn context_place(cache: &ContextCache, did: u32) -> usize
+    ensures { result ≡ place_of (same_did did) cache.now }
+{
+    for i in 0..CONTEXTS {
+        if ends_at_context(&cache.place(i as u64), did) {
+            return i;
+        }
+    }
+    CONTEXTS
+}
+
+// Whether the search for a device id ends at a place.
+fn ends_at_context(place: &Place<u32, Context>, did: u32) -> bool
+    ensures { result ≡ ends_at (same_did did) place.now }
+{
+    match place {
+        Place::Beyond => true,
+        Place::Empty => false,
+        Place::Live(own, _) => did == *own,
+    }
+}
+
+/// Which place of a translation cache is live with a key; as many as there are where none is.
+pub fn page_place(cache: &TransCache, key: &Key) -> usize
+    ensures { result ≡ place_of (same_key key.now) cache.now }
+{
+    for i in 0..PAGES {
+        if ends_at_page(&cache.place(i as u64), key) {
+            return i;
+        }
+    }
+    PAGES
+}
+
+// Whether the search for a key ends at a place.
+fn ends_at_page(place: &Place<Key, Hit>, key: &Key) -> bool
+    ensures { result ≡ ends_at (same_key key.now) place.now }
+{
+    match place {
+        Place::Beyond => true,
+        Place::Empty => false,
+        Place::Live(own, _) => key == own,
+    }
+}
+
+/// Where the next fill of a context cache stands that has `count` places: behind the last one, or in its stead.
+pub fn next_context(cache: &ContextCache, count: usize) -> Place<u32, Context>
+    ensures { result ≡ next_place 15 count cache.now }
+{
+    cache.place(count.min(CONTEXTS - 1) as u64)
+}
+
+/// The same of a translation cache.
+pub fn next_page(cache: &TransCache, count: usize) -> Place<Key, Hit>
+    ensures { result ≡ next_place 63 count cache.now }
+{
+    cache.place(count.min(PAGES - 1) as u64)
+}
+
+/// Notes a number beside the last place of a cache, in which it was filled; where it has all its places the oldest left.
+pub fn note_context(notes: &mut ArrayVec<u64, 16>, number: u64)
+    ensures { notes.new.items ≡ made_room 16 notes.old.items ++ number ∷ [] }
+{
+    if notes.is_full() {
+        notes.remove(0);
+    }
+    notes.push(number);
+}
+
+/// The same beside the last place of a translation cache.
+pub fn note_page(notes: &mut ArrayVec<u64, 64>, number: u64)
+    ensures { notes.new.items ≡ made_room 64 notes.old.items ++ number ∷ [] }
+{
+    if notes.is_full() {
+        notes.remove(0);
+    }
+    notes.push(number);
+}
