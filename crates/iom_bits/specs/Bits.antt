@@ -24,6 +24,10 @@ abbrev pub with_field_of : ℕ → ℕ → ℕ → ℕ → ℕ
 with_field_of word low width value =
     (word / 2 ^ (low + width) * 2 ^ width + value) * 2 ^ low + word % 2 ^ low
 
+-- the word with one bit set
+abbrev pub with_bit : ℕ → ℕ → ℕ
+with_bit word bit = with_field_of word bit 1 1
+
 -- `new` has `value` in those bits and is `old` in all others
 pub record ReplacesField (old low width value new : ℕ) : Type 0 where
   pub below : (i : ℕ) → i < low → bit_at new i ≡ bit_at old i

@@ -1,8 +1,8 @@
 -- A device that broke stays so until it is reset.
 use Rattle.std.proofs.Common.{◌≡◌, ◌<◌, ◌==◌, ℕ, Bool, true, false, Some, None, refl, arith, nat_le, if◌then◌else◌}
-use Rattle.iom_bits.specs.Bits.{has_bit}
+use Rattle.iom_bits.specs.Bits.{has_bit, with_bit}
 use Rattle.iom_virtq.specs.Bus.{Ask}
-use Rattle.iom_blk.specs.Device.{Device, with_bit}
+use Rattle.iom_blk.specs.Device.{Device}
 use Rattle.iom_blk.specs.Phases.{ask_of, asks, is_active, is_broken, broken}
 use Rattle.iom_blk.specs.Registers.{written, with_status, status_after, with_ready, accepting, with_queue, is_queue, is_free}
 

@@ -1,6 +1,5 @@
 -- A block device with one split queue: VIRTIO 1.2, "Split Virtqueues", "Virtio Over MMIO" and "Block Device".
 use Rattle.std.specs.Prelude.{ℕ, ◌/◌, Bool, false, List, [], length}
-use Rattle.iom_bits.specs.Bits.{with_field_of}
 use Rattle.iom_virtq.specs.Chains.{Linked}
 use Rattle.iom_blk.specs.declared.phase.Phase.{Phase}
 use Rattle.iom_blk.specs.declared.phase.Phase.TheVariants.{Index}
@@ -67,7 +66,3 @@ at_reset disk read_only = record {
   answer = 0;
   used_length = 0;
 }
-
--- a word with one bit set
-abbrev pub with_bit : ℕ → ℕ → ℕ
-with_bit word bit = with_field_of word bit 1 1

@@ -1,7 +1,7 @@
 -- The phases of a request, one access each: VIRTIO 1.2, "Split Virtqueues" ("The Virtqueue Available Ring", "The Virtqueue Descriptor
 -- Table", "The Virtqueue Used Ring") and "Block Device", "Device Operation". The cut into phases is this model's.
 use Rattle.std.specs.Prelude.{ℕ, ◌+◌, ◌-◌, ◌*◌, ◌%◌, ◌^◌, ◌==◌, ◌&&◌, Bool, false, not, List, [], ◌∷◌, ◌++◌, length, take, drop, nat_le, nat_lt, Option, Some, None, Result, Ok, Err, if◌then◌else◌}
-use Rattle.iom_bits.specs.Bits.{has_bit}
+use Rattle.iom_bits.specs.Bits.{has_bit, with_bit}
 use Rattle.iom_bits.specs.Bytes.{bytes_of_number}
 use Rattle.iom_virtq.specs.Adding.{add_result, with_part}
 use Rattle.iom_virtq.specs.Bus.{Ask, Read, Write, Reply, is_granted}
@@ -14,7 +14,7 @@ use Rattle.iom_blk.specs.declared.phase.Phase.{Phase}
 use Rattle.iom_blk.specs.declared.phase.Phase.TheVariants as phase
 use Rattle.iom_blk.specs.declared.want.Moved.{Moved}
 use Rattle.iom_blk.specs.declared.want.Moved.TheVariants as moved
-use Rattle.iom_blk.specs.Device.{Device, sectors, with_bit}
+use Rattle.iom_blk.specs.Device.{Device, sectors}
 use Rattle.iom_blk.specs.Requests.{number_at, is_in, readable, writable, data_length, moves_data, status_of, used_length, header_address, header_count, data_address, data_count, status_address, place}
 
 -- A device steps where Status has DRIVER_OK, bit 2, and FEATURES_OK, bit 3, and not DEVICE_NEEDS_RESET, bit 6, the queue is ready and

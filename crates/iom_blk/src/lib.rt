@@ -8,6 +8,7 @@ pub use want::{Moved, Want};
 mod bytes;
 mod device;
 mod flags;
+mod offsets;
 mod phase;
 mod registers;
 mod request;

@@ -6,12 +6,10 @@ ghost use Rattle.iom_blk.specs.Registers.{is_legal, is_power, is_accepted, offer
 
 use crate::device::Blk;
 use crate::flags::{FEATURES_OK, NEEDS_RESET};
+use crate::offsets::*;
 use crate::phase::Phase;
 use crate::request::Request;
 use iom_bits::{field, has_bit, with_field};
-
-/// Where the configuration begins.
-const CONFIG: u64 = 0x100;
 
 /// The feature VIRTIO_BLK_F_RO, by its bit.
 const READ_ONLY_FEATURE: u32 = 5;
@@ -65,14 +63,14 @@ impl Blk {
         ensures { result ≡ shown self.now off }
     {
         match off {
-            0x00 => 0x7472_6976,
-            0x04 | 0x08 => 2,
-            0x10 => offered(self.read_only, self.features_sel),
-            0x34 if self.queue_sel == 0 => LARGEST_QUEUE,
-            0x44 if self.queue_sel == 0 && self.ready => 1,
-            0x60 => self.interrupts,
-            0x70 => self.status,
-            0xb0 | 0xb4 | 0xb8 | 0xbc => 0xffff_ffff,
+            MAGIC_VALUE => 0x7472_6976,
+            VERSION | DEVICE_ID => 2,
+            DEVICE_FEATURES => offered(self.read_only, self.features_sel),
+            QUEUE_NUM_MAX if self.queue_sel == 0 => LARGEST_QUEUE,
+            QUEUE_READY if self.queue_sel == 0 && self.ready => 1,
+            INTERRUPT_STATUS => self.interrupts,
+            STATUS => self.status,
+            SHM_LEN_LOW | SHM_LEN_HIGH | SHM_BASE_LOW | SHM_BASE_HIGH => 0xffff_ffff,
             _ => 0,
         }
     }
@@ -105,22 +103,22 @@ impl Blk {
         ensures { self.new ≡ written self.old off value }
     {
         match off {
-            0x14 => self.features_sel = value,
-            0x20 => self.accept(value),
-            0x24 => self.driver_sel = value,
-            0x30 => self.queue_sel = value,
-            0x44 => {
+            DEVICE_FEATURES_SEL => self.features_sel = value,
+            DRIVER_FEATURES => self.accept(value),
+            DRIVER_FEATURES_SEL => self.driver_sel = value,
+            QUEUE_SEL => self.queue_sel = value,
+            QUEUE_READY => {
                 if self.queue_sel == 0 {
                     self.set_ready(has_bit(value, 0));
                 }
             }
-            0x50 => {
+            QUEUE_NOTIFY => {
                 if value == 0 {
                     self.pending = true;
                 }
             }
-            0x64 => self.interrupts = acknowledged(self.interrupts, value),
-            0x70 => self.set_status(value),
+            INTERRUPT_ACK => self.interrupts = acknowledged(self.interrupts, value),
+            STATUS => self.set_status(value),
             _ if self.queue_sel == 0 && !self.ready => self.set_queue(off, value),
             _ => {}
         }
@@ -150,13 +148,13 @@ impl Blk {
         ensures { self.new ≡ with_queue self.old off value }
     {
         match off {
-            0x38 => self.size = value,
-            0x80 => self.desc = with_field(self.desc, 0, 32, value),
-            0x84 => self.desc = with_field(self.desc, 32, 32, value),
-            0x90 => self.avail = with_field(self.avail, 0, 32, value),
-            0x94 => self.avail = with_field(self.avail, 32, 32, value),
-            0xa0 => self.ring = with_field(self.ring, 0, 32, value),
-            0xa4 => self.ring = with_field(self.ring, 32, 32, value),
+            QUEUE_NUM => self.size = value,
+            QUEUE_DESC_LOW => self.desc = with_field(self.desc, 0, 32, value),
+            QUEUE_DESC_HIGH => self.desc = with_field(self.desc, 32, 32, value),
+            QUEUE_DRIVER_LOW => self.avail = with_field(self.avail, 0, 32, value),
+            QUEUE_DRIVER_HIGH => self.avail = with_field(self.avail, 32, 32, value),
+            QUEUE_DEVICE_LOW => self.ring = with_field(self.ring, 0, 32, value),
+            QUEUE_DEVICE_HIGH => self.ring = with_field(self.ring, 32, 32, value),
             _ => {}
         }
     }

@@ -7,17 +7,8 @@ ghost use Rattle.iom_queue.specs.Records.{RecordFits};
 ghost use Rattle.iom_queue.specs.Delivery.{is_stopped, is_full, record_addr, record_bytes, delivered, is_stored, KeepsOtherRegisters};
 
 use crate::record::{Record, encode_record};
-use iom_bits::has_bit;
 use iom_mem::Ram;
 use iom_regs::{Regs, Which};
-
-// The offset of fqcsr, the fault queue's control and status.
-const FQCSR: u64 = 76;
-
-// Bits of fqcsr.
-const FQMF: u32 = 8;
-
-const FQOF: u32 = 9;
 
 // How many bytes a record has.
 const RECORD_SIZE: u64 = 32;
@@ -55,8 +46,8 @@ fn is_stopped(registers: &Regs) -> bool
     ensures value { result ≡ is_stopped registers.now }
     ensures settled { with_pending registers.now ≡ registers.now }
 {
-    let control = registers.read(FQCSR, 4).unwrap();
-    !registers.queue(Which::Faults).on || has_bit(control, FQMF) || has_bit(control, FQOF)
+    let errors = registers.fault_errors();
+    !registers.queue(Which::Faults).on || errors.memory_fault || errors.overflow
 }
 
 // Whether the entry after the tail is the head.

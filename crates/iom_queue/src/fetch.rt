@@ -3,17 +3,8 @@ ghost use Rattle.iom_regs.specs.Table.{with_pending};
 ghost use Rattle.iom_queue.specs.Fetching.{is_idle, command_addr, fetch_of, IsFetch};
 
 use crate::command::{Command, decode_command};
-use iom_bits::has_bit;
 use iom_mem::Ram;
 use iom_regs::{Regs, Which};
-
-// The offset of cqcsr, the command queue's control and status.
-const CQCSR: u64 = 72;
-
-// Bits of cqcsr.
-const CQMF: u32 = 8;
-
-const CMD_ILL: u32 = 10;
 
 // How many bytes a command has.
 const COMMAND_SIZE: u64 = 16;
@@ -58,8 +49,8 @@ fn is_idle(registers: &Regs) -> bool
     ensures settled { with_pending registers.now ≡ registers.now }
 {
     let queue = registers.queue(Which::Commands);
-    let control = registers.read(CQCSR, 4).unwrap();
-    !queue.on || has_bit(control, CQMF) || has_bit(control, CMD_ILL) || queue.head == queue.tail
+    let errors = registers.command_errors();
+    !queue.on || errors.memory_fault || errors.illegal || queue.head == queue.tail
 }
 
 // The physical address of the command at the head.

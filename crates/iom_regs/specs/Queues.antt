@@ -1,12 +1,9 @@
 -- What the queues change: "Command-queue control and status" and "Fault-queue control and status". Each change is followed by
 -- the rule of pending interrupts.
-use Rattle.std.specs.Prelude.{ℕ, ◌+◌, ◌%◌, ◌==◌, if◌then◌else◌}
+use Rattle.std.specs.Prelude.{◌+◌, ◌%◌, ◌==◌, if◌then◌else◌}
 use Rattle.std.specs.Int.{bit_at}
-use Rattle.iom_bits.specs.Bits.{with_field_of}
+use Rattle.iom_bits.specs.Bits.{with_bit}
 use Rattle.iom_regs.specs.Table.{Registers, entries_of, with_pending}
-
-abbrev pub with_bit : ℕ → ℕ → ℕ
-with_bit control bit = with_field_of control bit 1 1
 
 -- the command at the head is done
 abbrev pub command_passed : Registers → Registers

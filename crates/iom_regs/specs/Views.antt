@@ -1,12 +1,14 @@
 -- What the registers say to the rest of the IOMMU.
 use Rattle.std.specs.Prelude.{ℕ, ◌-◌, ◌==◌, if◌then◌else◌}
-use Rattle.iom_bits.specs.Bits.{field_of}
+use Rattle.iom_bits.specs.Bits.{field_of, has_bit}
 use Rattle.iom_regs.specs.Table.{Registers, entries_of, is_on}
 use Rattle.iom_regs.specs.declared.views.Mode.{Mode}
 use Rattle.iom_regs.specs.declared.views.Mode.TheVariants as mode
 use Rattle.iom_regs.specs.declared.views.Which.{Which}
 use Rattle.iom_regs.specs.declared.views.Which.TheVariants as which
 use Rattle.iom_regs.specs.declared.views.Queue.{Queue}
+use Rattle.iom_regs.specs.declared.views.CommandErrors.{CommandErrors}
+use Rattle.iom_regs.specs.declared.views.FaultErrors.{FaultErrors}
 
 -- "Device-directory-table pointer": the mode, and the PPN of the root
 abbrev pub mode_of : Registers → Mode
@@ -33,3 +35,10 @@ queue_of r which.Faults = record {
   head = r.fqh;
   tail = r.fqt;
 }
+
+-- "Command-queue CSR (cqcsr)": cqmf (8) and cmd_ill (10); "Fault queue CSR (fqcsr)": fqmf (8) and fqof (9)
+abbrev pub command_errors_of : Registers → CommandErrors
+command_errors_of r = record { memory_fault = has_bit r.cqcsr 8; illegal = has_bit r.cqcsr 10 }
+
+abbrev pub fault_errors_of : Registers → FaultErrors
+fault_errors_of r = record { memory_fault = has_bit r.fqcsr 8; overflow = has_bit r.fqcsr 9 }

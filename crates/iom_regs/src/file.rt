@@ -1,20 +1,24 @@
 ghost use Rattle.std.specs.Prelude.{◌≡◌, ◌+◌, ◌/◌, ◌%◌, ◌^◌, ◌<◌, ◌≤◌, IsTrue};
+ghost use Rattle.iom_bits.specs.Bits.{with_bit};
 ghost use Rattle.iom_regs.specs.Table.{is_legal, entries_of};
-ghost use Rattle.iom_regs.specs.Queues.{with_bit};
 
 use crate::flags::{
     commands_control, faults_control, pending_after, pending_cleared, turns_on, with_high, with_low,
 };
+use crate::layout::{
+    BEFORE_IPSR, CAPABILITIES, CMD_ILL, CQB, CQB_HIGH, CQCSR, CQH, CQMF, CQT, DDTP, DDTP_HIGH,
+    FCTL, FENCE_W_IP, FQB, FQB_HIGH, FQCSR, FQH, FQMF, FQOF, IPSR,
+};
 use crate::ring::{Ring, entries};
-use crate::views::{Mode, Queue, Which};
-use iom_bits::{field, with_field};
+use crate::views::{CommandErrors, FaultErrors, Mode, Queue, Which};
+use iom_bits::{field, has_bit, with_field};
 use std::marker::Model;
 
 // capabilities: version 1.0, Sv39, Sv48, Sv39x4, Sv48x4, interrupts by wire alone, 56 bits of physical address.
-const CAPABILITIES: u64 = 0x38_1006_0610;
+const CAPABLE: u64 = 0x38_1006_0610;
 
 // fctl: interrupts by wire.
-const FCTL: u64 = 2;
+const BY_WIRE: u64 = 2;
 
 /// The register file before the rule of pending interrupts: `settle` follows each change.
 #[derive(Clone, Copy)]
@@ -69,7 +73,7 @@ impl File {
     ghost use Rattle.iom_regs.specs.Table.{Ddtp, Cqcsr, Fqcsr, reset, shown_at, slot_at, written, written_at, written_wide, with_pending};
     ghost use Rattle.iom_regs.specs.Sound.{IsSound};
     ghost use Rattle.iom_regs.specs.Queues.{tail_passed};
-    ghost use Rattle.iom_regs.specs.Views.{mode_of, root_of, queue_of};
+    ghost use Rattle.iom_regs.specs.Views.{command_errors_of, fault_errors_of, mode_of, root_of, queue_of};
 
     /// The registers at reset: every register that can change is 0.
     pub fn reset() -> Self
@@ -122,6 +126,26 @@ impl File {
         }
     }
 
+    /// What stops the command queue: two bits of cqcsr.
+    pub fn command_errors(&self) -> CommandErrors
+        ensures { result ≡ command_errors_of self.now }
+    {
+        CommandErrors {
+            memory_fault: has_bit(self.commands.control, CQMF),
+            illegal: has_bit(self.commands.control, CMD_ILL),
+        }
+    }
+
+    /// What stops the fault queue: two bits of fqcsr.
+    pub fn fault_errors(&self) -> FaultErrors
+        ensures { result ≡ fault_errors_of self.now }
+    {
+        FaultErrors {
+            memory_fault: has_bit(self.faults.control, FQMF),
+            overflow: has_bit(self.faults.control, FQOF),
+        }
+    }
+
     /// The eight bytes at offset `off`, a multiple of 8, as a number; 0 where there is no register of this model.
     pub fn wide(&self, off: u64) -> u64
         requires { off % 8 ≡ 0 }
@@ -129,15 +153,15 @@ impl File {
         ensures high { result / 2 ^ 32 ≡ shown_at self.now (slot_at (off + 4)) }
     {
         match off {
-            0 => CAPABILITIES,
-            8 => FCTL,
-            16 => self.ddtp,
-            24 => self.commands.base,
-            32 => self.commands.head + (self.commands.tail << 32),
-            40 => self.faults.base,
-            48 => self.faults.head + (self.faults.tail << 32),
-            72 => self.commands.control + (self.faults.control << 32),
-            80 => self.ipsr << 32,
+            CAPABILITIES => CAPABLE,
+            FCTL => BY_WIRE,
+            DDTP => self.ddtp,
+            CQB => self.commands.base,
+            CQH => self.commands.head + (self.commands.tail << 32),
+            FQB => self.faults.base,
+            FQH => self.faults.head + (self.faults.tail << 32),
+            CQCSR => self.commands.control + (self.faults.control << 32),
+            BEFORE_IPSR => self.ipsr << 32,
             _ => 0,
         }
     }
@@ -158,9 +182,9 @@ impl File {
         ensures { self.new ≡ written_wide (slot_at off) value self.old }
     {
         match off {
-            16 => self.set_ddtp(value),
-            24 => self.commands.set_base(value),
-            40 => self.faults.set_base(value),
+            DDTP => self.set_ddtp(value),
+            CQB => self.commands.set_base(value),
+            FQB => self.faults.set_base(value),
             _ => {}
         }
     }
@@ -173,17 +197,17 @@ impl File {
         ensures { self.new ≡ written_at (slot_at off) value self.old }
     {
         match off {
-            16 => self.set_ddtp(with_low(self.ddtp, value)),
-            20 => self.set_ddtp(with_high(self.ddtp, value)),
-            24 => self.commands.set_base_low(value),
-            28 => self.commands.set_base_high(value),
-            36 => self.commands.set_tail(value),
-            40 => self.faults.set_base_low(value),
-            44 => self.faults.set_base_high(value),
-            48 => self.faults.set_head(value),
-            72 => self.control_commands(value),
-            76 => self.control_faults(value),
-            84 => self.ipsr = pending_cleared(self.ipsr, value),
+            DDTP => self.set_ddtp(with_low(self.ddtp, value)),
+            DDTP_HIGH => self.set_ddtp(with_high(self.ddtp, value)),
+            CQB => self.commands.set_base_low(value),
+            CQB_HIGH => self.commands.set_base_high(value),
+            CQT => self.commands.set_tail(value),
+            FQB => self.faults.set_base_low(value),
+            FQB_HIGH => self.faults.set_base_high(value),
+            FQH => self.faults.set_head(value),
+            CQCSR => self.control_commands(value),
+            FQCSR => self.control_faults(value),
+            IPSR => self.ipsr = pending_cleared(self.ipsr, value),
             _ => {}
         }
     }
@@ -231,35 +255,35 @@ impl File {
     pub fn raise_cqmf(&mut self)
         ensures { self.new ≡ record self.old { cqcsr = with_bit self.old.cqcsr 8 } }
     {
-        self.commands.raise(8);
+        self.commands.raise(CQMF);
     }
 
     /// Sets cmd_ill, bit 10 of cqcsr: the command at the head is illegal ("Command-queue CSR (cqcsr)").
     pub fn raise_cmd_ill(&mut self)
         ensures { self.new ≡ record self.old { cqcsr = with_bit self.old.cqcsr 10 } }
     {
-        self.commands.raise(10);
+        self.commands.raise(CMD_ILL);
     }
 
     /// Sets fence_w_ip, bit 11 of cqcsr: an IOFENCE.C asked for an interrupt ("Command-queue CSR (cqcsr)").
     pub fn raise_fence(&mut self)
         ensures { self.new ≡ record self.old { cqcsr = with_bit self.old.cqcsr 11 } }
     {
-        self.commands.raise(11);
+        self.commands.raise(FENCE_W_IP);
     }
 
     /// Sets fqmf, bit 8 of fqcsr: the fault queue met a memory fault ("Fault queue CSR (fqcsr)").
     pub fn raise_fqmf(&mut self)
         ensures { self.new ≡ record self.old { fqcsr = with_bit self.old.fqcsr 8 } }
     {
-        self.faults.raise(8);
+        self.faults.raise(FQMF);
     }
 
     /// Sets fqof, bit 9 of fqcsr: the fault queue was full ("Fault queue CSR (fqcsr)").
     pub fn raise_fqof(&mut self)
         ensures { self.new ≡ record self.old { fqcsr = with_bit self.old.fqcsr 9 } }
     {
-        self.faults.raise(9);
+        self.faults.raise(FQOF);
     }
 
     /// The rule of pending interrupts: cip and fip of ipsr are each set where a cause of theirs stands and its interrupt is enabled

@@ -2,10 +2,11 @@
 #![tactic(auto)]
 
 pub use regs::Regs;
-pub use views::{Mode, Queue, Which};
+pub use views::{CommandErrors, FaultErrors, Mode, Queue, Which};
 
 mod file;
 mod flags;
+mod layout;
 mod regs;
 mod ring;
 mod views;

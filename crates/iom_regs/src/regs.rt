@@ -3,7 +3,7 @@ ghost use Rattle.std.specs.Bool.{OnTrue, OnFalse};
 ghost use Rattle.iom_regs.specs.Table.{is_legal};
 
 use crate::file::File;
-use crate::views::{Mode, Queue, Which};
+use crate::views::{CommandErrors, FaultErrors, Mode, Queue, Which};
 use iom_bits::field;
 use std::marker::Model;
 
@@ -32,7 +32,7 @@ impl Regs {
     ghost use Rattle.iom_regs.specs.Controls.{IsCqcsr, IsFqcsr};
     ghost use Rattle.iom_regs.specs.Queues.{command_passed, with_cqmf, with_cmd_ill, with_fence, record_passed, with_fqof, with_fqmf};
     ghost use Rattle.iom_regs.specs.Sound.{IsSound};
-    ghost use Rattle.iom_regs.specs.Views.{mode_of, root_of, queue_of};
+    ghost use Rattle.iom_regs.specs.Views.{command_errors_of, fault_errors_of, mode_of, root_of, queue_of};
 
     /// The registers at reset: ddtp's mode is Off, and both queues are off. Every register that can change is 0.
     pub fn reset() -> Self
@@ -122,6 +122,22 @@ impl Regs {
         ensures settled { with_pending self.now ≡ self.now }
     {
         self.file.queue(which)
+    }
+
+    /// What stops the command queue: two bits of cqcsr ("Command-queue CSR (cqcsr)").
+    pub fn command_errors(&self) -> CommandErrors
+        ensures errors { result ≡ command_errors_of self.now }
+        ensures settled { with_pending self.now ≡ self.now }
+    {
+        self.file.command_errors()
+    }
+
+    /// What stops the fault queue: two bits of fqcsr ("Fault queue CSR (fqcsr)").
+    pub fn fault_errors(&self) -> FaultErrors
+        ensures errors { result ≡ fault_errors_of self.now }
+        ensures settled { with_pending self.now ≡ self.now }
+    {
+        self.file.fault_errors()
     }
 
     /// The command at the head is done: cqh goes on by one entry, from the last to the first.

@@ -1,6 +1,6 @@
 ghost use Rattle.std.specs.Prelude.{◌≡◌, ◌+◌, ◌*◌, ◌%◌, ◌^◌, ◌<◌, ◌≤◌, ◌/◌};
+ghost use Rattle.iom_bits.specs.Bits.{with_bit};
 ghost use Rattle.iom_regs.specs.Table.{entries_of, is_on};
-ghost use Rattle.iom_regs.specs.Queues.{with_bit};
 
 use crate::flags::{with_high, with_low};
 use iom_bits::{field, with_field};

@@ -32,3 +32,21 @@ pub struct Queue {
     /// The index after the last entry, below `entries`.
     pub tail: u64,
 }
+
+/// What stops the command queue ("Command-queue CSR (cqcsr)").
+#[derive(Clone, Copy, Debug, PartialEq)]
+pub struct CommandErrors {
+    /// cqmf: a command could not be read, or a fence's store not be done.
+    pub memory_fault: bool,
+    /// cmd_ill: the command at the head is illegal or unsupported.
+    pub illegal: bool,
+}
+
+/// What stops the fault queue ("Fault queue CSR (fqcsr)").
+#[derive(Clone, Copy, Debug, PartialEq)]
+pub struct FaultErrors {
+    /// fqmf: a record could not be stored.
+    pub memory_fault: bool,
+    /// fqof: a record was lost, since the queue was full.
+    pub overflow: bool,
+}
