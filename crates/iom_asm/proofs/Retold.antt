@@ -24,17 +24,12 @@ use Rattle.iom_asm.proofs.Standing.{IsIn, stands, front_at, behind_at}
 use Rattle.iom_asm.proofs.Bounds.{AreWords, words_fine, length_of_words}
 use Rattle.iom_asm.proofs.Lasting.{now_in, lines_has}
 use Rattle.iom_asm.proofs.Spans.{words_stand}
+use Rattle.iom_image.proofs.Oks.{ok_is}
 
 -- a step that gave a value
 pub step_ok : {A B : Type 0} (made : Result A AsmFault) (f : A → Result B AsmFault) (y : B) → then_so made f ≡ Ok y → (x : A) × (made ≡ Ok x) × (f x ≡ Ok y)
 step_ok (Ok x) f y is = (x, refl, is)
 step_ok (Err fault) f y is = absurd cc
-
-abbrev good : {A : Type 0} → A → Result A AsmFault
-good x = Ok x
-
-ok_is : {A : Type 0} (x y : A) → good x ≡ good y → x ≡ y
-ok_is x y is = cc
 
 either_ok : {A : Type 0} (inside taken : Bool) (outside overlap : AsmFault) (x y : A) →
     (if inside then (if taken then Err overlap else Ok x) else Err outside) ≡ Ok y → x ≡ y

@@ -13,7 +13,8 @@ use Rattle.iom_asm.specs.Items.{words_in}
 use Rattle.iom_asm.specs.Lines.{item_line, line_of}
 use Rattle.iom_asm.specs.Operands.{◌>>=◌}
 use Rattle.iom_asm.specs.Listing.{listed}
-use Rattle.iom_image.proofs.Images.{length_of_number, number_back}
+use Rattle.iom_bits.proofs.Bytes.{length_of_number}
+use Rattle.iom_image.proofs.Images.{number_back}
 use Rattle.iom_asm.proofs.Standing.{front_at, behind_at}
 use Rattle.iom_asm.proofs.Bounds.{AreWords}
 

@@ -1,7 +1,6 @@
 //! The assembler.
 
-ghost use Rattle.std.specs.Prelude.{◌≡◌, ◌≢◌, ◌∷◌, ◌<◌, ◌==◌, [], length, IfOk};
-ghost use Rattle.std.specs.List.{position};
+ghost use Rattle.std.specs.Prelude.{◌≡◌, ◌≢◌, ◌∷◌, ◌<◌, [], length, IfOk};
 ghost use Rattle.iom_image.specs.Image.{IsImage};
 ghost use Rattle.iom_asm.specs.Assembly.{lines_of, described, assembled, Makes};
 ghost use Rattle.iom_asm.specs.Drafts.{draft_seen};
@@ -10,13 +9,8 @@ use crate::asm_fault::AsmFault;
 use crate::draft::Draft;
 use crate::statements::after_line;
 use iom_image::image_bytes;
+use iom_text::line_end;
 use std::alloc::Global;
-
-fn line_end(text: &[u8]) -> Option<usize>
-    ensures { result ≡ position (λ c. c == 10) text.now }
-{
-    text.iter().position(|c| *c == b'\n')
-}
 
 // The first line, and the text after it.
 fn cut(text: &[u8]) -> (&[u8], &[u8])

@@ -13,7 +13,8 @@ use crate::asm_fault::AsmFault;
 use crate::draft::Draft;
 use crate::forms::words_for;
 use hex::FromHexError;
-use iom_image::{OwnDisk, is_ram};
+use iom_image::OwnDisk;
+use iom_mem::is_ram;
 use iom_text::{number, words};
 use std::alloc::{AllocError, Global};
 

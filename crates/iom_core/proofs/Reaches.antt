@@ -1,7 +1,8 @@
 -- What a step changes, takes and refuses, row by row of the step table.
-use Rattle.std.proofs.Common.{◌≡◌, ◌&&◌, ◌/◌, ℕ, zero, suc, length, Bool, true, false, not, Option, Some, None, if◌then◌else◌, refl, sym, ap, subst}
+use Rattle.std.proofs.Common.{◌≡◌, ◌&&◌, ℕ, length, Bool, true, false, not, Option, Some, None, if◌then◌else◌, refl, sym, subst}
 use Rattle.std.specs.Prelude.{is_some, slice_get}
 use Rattle.iom_bits.specs.Bytes.{bytes_of_number}
+use Rattle.iom_bits.proofs.Bytes.{length_of_number}
 use Rattle.iom_mem.specs.Memory.{Memory, bytes_at, put}
 use Rattle.iom_regs.specs.Table.{after_write, is_legal, read}
 use Rattle.iom_queue.specs.declared.command.Command.TheVariants.{Vma, Gvma, Fence, Iodir}
@@ -30,10 +31,6 @@ probed_changes state (Some asking) = effect_changes state.machine (request_in as
 probed_devices : (state : State) (asking : Option Asking) → (probed state asking).state.devices ≡ state.devices
 probed_devices state None = refl
 probed_devices state (Some asking) = refl
-
-length_of_number : (count value : ℕ) → length (bytes_of_number count value) ≡ count
-length_of_number zero value = refl
-length_of_number (suc count) value = ap suc (length_of_number count (value / 256))
 
 store_changes : (memory : Memory) (addr size value : ℕ) → ChangesOnly (record { addr = addr; count = size }) memory (store memory addr size value).memory
 unfolding store

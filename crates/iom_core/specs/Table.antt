@@ -40,6 +40,10 @@ is_aligned addr size = is_size size && addr % size == 0
 abbrev pub fits : ℕ → ℕ → Bool
 fits value size = nat_lt value (2 ^ (8 * size))
 
+-- a number that is too wide for a register access of this size
+abbrev pub overflows : ℕ → ℕ → Bool
+overflows value size = is_size size && not (fits value size)
+
 -- a device id of 24 bits, and 1 to 64 bytes within one page
 abbrev pub is_device_access : ℕ → ℕ → ℕ → Bool
 is_device_access did iova len = nat_lt did (2 ^ 24) && nat_lt 0 len && nat_le len 64 && nat_le (iova % 4096 + len) 4096
@@ -120,7 +124,7 @@ pub record Written : Type 0 where
 
 unfoldable pub reg_write : Registers → ℕ → ℕ → ℕ → Written
 reg_write registers off size value =
-    if is_size size && not (fits value size) then record { answer = answer.Misuse; registers = registers }
+    if overflows value size then record { answer = answer.Misuse; registers = registers }
     else if is_legal off size
     then record { answer = answer.Done; registers = after_write registers off size value }
     else record { answer = answer.BadAccess; registers = registers }
@@ -168,7 +172,7 @@ pub record Handled : Type 0 where
 
 unfoldable pub dev_write : Device → ℕ → ℕ → ℕ → Handled
 dev_write device off size value =
-    if is_size size && not (fits value size) then record { answer = answer.Misuse; device = device }
+    if overflows value size then record { answer = answer.Misuse; device = device }
     else if is_device_register off size
     then record { answer = answer.Done; device = device_written device off value }
     else record { answer = answer.BadAccess; device = device }

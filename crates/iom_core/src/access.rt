@@ -43,6 +43,32 @@ pub struct Denial {
     pub reported: bool,
 }
 
+impl Denial {
+    ghost use Rattle.iom_core.specs.Access.{plain, translating};
+
+    /// A fault before any page table is read: it has no guest-physical address, and always makes a record.
+    pub fn plain(cause: Cause) -> Denial
+        ensures { result ≡ plain cause }
+    {
+        Denial {
+            cause,
+            iotval2: 0,
+            reported: true,
+        }
+    }
+
+    /// A fault of a translation under a context, whose DTF may silence it.
+    pub fn translating(context: &Context, fault: Fault) -> Denial
+        ensures { result ≡ translating context.now fault }
+    {
+        Denial {
+            cause: fault.cause,
+            iotval2: fault.iotval2,
+            reported: is_reported(fault.cause, context.dtf),
+        }
+    }
+}
+
 impl Machine {
     /// Reads the bytes from IOVA `iova` on, within one page of 4096 bytes, for device `did`, below 2^24, into `out`, which is
     /// unchanged unless the answer is Ok. `Denied` where the IOMMU denies it, which may leave a fault record; `Outside` where a
@@ -96,7 +122,7 @@ impl Machine {
         ensures learnt { self.new ≡ learnt self.old (led self.old request.now) }
     {
         match self.registers.mode() {
-            Mode::Off => Err(plain(Cause::Off)),
+            Mode::Off => Err(Denial::plain(Cause::Off)),
             Mode::Bare => Ok(request.iova),
             Mode::Levels(_) => self.address_by_directory(request),
         }
@@ -114,7 +140,7 @@ impl Machine {
             (context_look self.old request.now.did).filled (context_look self.old request.now.did).used) }
     {
         if is_too_wide(&self.registers, request.did) {
-            return Err(plain(Cause::TooWide));
+            return Err(Denial::plain(Cause::TooWide));
         }
         match self.contexts.find(request.did) {
             Some(context) => self.address_by_context(request, &context),
@@ -142,7 +168,7 @@ impl Machine {
                 self.contexts.fill(request.did, context);
                 reached
             }
-            Err(cause) => Err(plain(cause)),
+            Err(cause) => Err(Denial::plain(cause)),
         }
     }
 
@@ -189,7 +215,7 @@ impl Machine {
                 self.pages.fill(key, hit);
                 Ok(in_frame(&hit, request.iova))
             }
-            Err(fault) => Err(translating(context, fault)),
+            Err(fault) => Err(Denial::translating(context, fault)),
         }
     }
 
@@ -216,26 +242,4 @@ fn in_frame(hit: &Hit, iova: u64) -> u64
     ensures { result ≡ hit.now.frame * 4096 + iova % 4096 }
 {
     hit.frame * 4096 + iova % 4096
-}
-
-// A fault before any page table is read.
-fn plain(cause: Cause) -> Denial
-    ensures { result ≡ plain cause }
-{
-    Denial {
-        cause,
-        iotval2: 0,
-        reported: true,
-    }
-}
-
-// A fault of a translation under a context.
-fn translating(context: &Context, fault: Fault) -> Denial
-    ensures { result ≡ translating context.now fault }
-{
-    Denial {
-        cause: fault.cause,
-        iotval2: fault.iotval2,
-        reported: is_reported(fault.cause, context.dtf),
-    }
 }

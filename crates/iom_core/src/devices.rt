@@ -5,7 +5,7 @@ ghost use Rattle.iom_blk.specs.Phases.{asks};
 ghost use Rattle.iom_core.specs.Table.{answer_of, dev_read, dev_write, dev_written, device_step, moving};
 
 use crate::Platform;
-use crate::hart::{fits, is_size};
+use crate::hart::overflows;
 use crate::machine::Machine;
 use crate::port::Port;
 use crate::step::Answer;
@@ -62,7 +62,7 @@ fn written(device: &mut Blk, off: u64, size: u64, value: u64) -> Answer
     ensures answer { result ≡ (dev_write device.old off size value).answer }
     ensures left { device.new ≡ (dev_write device.old off size value).device }
 {
-    if is_size(size) && !fits(value, size) {
+    if overflows(value, size) {
         return Answer::Misuse;
     }
     if device.reg_write(off, size, value) {

@@ -1,7 +1,7 @@
 //! What a hart does: loads and stores, and accesses to the IOMMU's registers.
 
 ghost use Rattle.std.specs.Prelude.{◌≡◌, IsTrue};
-ghost use Rattle.iom_core.specs.Table.{is_size, is_aligned, fits, load, reg_read, reg_write, store};
+ghost use Rattle.iom_core.specs.Table.{is_size, is_aligned, fits, load, overflows, reg_read, reg_write, store};
 
 use crate::machine::Machine;
 use crate::step::Answer;
@@ -64,7 +64,7 @@ impl Machine {
         ensures left { self.new
             ≡ record self.old { registers = (reg_write self.old.registers off size value).registers } }
     {
-        if is_size(size) && !fits(value, size) {
+        if overflows(value, size) {
             return Answer::Misuse;
         }
         if self.registers.write(off, size, value) {
@@ -75,8 +75,8 @@ impl Machine {
     }
 }
 
-/// Whether a size in bytes is one of 1, 2, 4 and 8.
-pub(crate) fn is_size(size: u64) -> bool
+// Whether a size in bytes is one of 1, 2, 4 and 8.
+fn is_size(size: u64) -> bool
     ensures { result ≡ is_size size }
 {
     matches!(size, 1 | 2 | 4 | 8)
@@ -95,10 +95,17 @@ fn is_aligned(addr: u64, size: u64) -> bool
     }
 }
 
-/// Whether a number fits into `size` bytes, which are 1, 2, 4 or 8.
-pub(crate) fn fits(value: u64, size: u64) -> bool
+// Whether a number fits into `size` bytes, which are 1, 2, 4 or 8.
+fn fits(value: u64, size: u64) -> bool
     requires { IsTrue (is_size size) }
     ensures { result ≡ fits value size }
 {
     size == 8 || value >> (8 * size) == 0
+}
+
+/// Whether a number is too wide for a register access of this size in bytes, 1, 2, 4 or 8.
+pub(crate) fn overflows(value: u64, size: u64) -> bool
+    ensures { result ≡ overflows value size }
+{
+    is_size(size) && !fits(value, size)
 }

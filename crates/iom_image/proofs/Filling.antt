@@ -13,6 +13,7 @@ use Rattle.iom_blk.specs.Device.{Device}
 use Rattle.iom_core.specs.State.{opening}
 use Rattle.iom_image.specs.Loading.{device_of, devices_of, joined, state_from}
 use Rattle.iom_image.specs.Reading.{◌>>=◌, Read, Head, checked, mapped, filled, started, opening_of, head_at, chunk_at, chunks_at, disk_at, disks_at, image_of}
+use Rattle.iom_image.proofs.Oks.{ok_is}
 
 pub inside : (memory : Memory) (addr count : ℕ) → memory.base ≤ addr → addr + count ≤ memory.base + size_of memory →
     is_some (bytes_at memory addr count) ≡ true
@@ -105,12 +106,6 @@ pub ended : {A B : Type 0} (b : Bool) (x : A) (f : A → B) (s : B) → IsOk (ch
     mapped f (checked b Trailing (Ok x)) ≡ Ok s
 ended true x f s ok e = ap Ok e
 ended false x f s ok e = absurd cc
-
-abbrev good : {A : Type 0} → A → Result A LoadFault
-good x = Ok x
-
-ok_is : {A : Type 0} (x y : A) → good x ≡ good y → x ≡ y
-ok_is x y e = cc
 
 devices_built : (head : Head) (chunks : List Chunk) (read : Read (List Disk)) (devices : List (ℕ × Device)) →
     joined [] read ≡ Ok devices → IsOk (ends head chunks read) →

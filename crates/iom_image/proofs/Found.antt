@@ -11,6 +11,7 @@ use Rattle.iom_image.specs.declared.fault.LoadFault.TheVariants.{BadMagic, Trunc
 use Rattle.iom_image.specs.Image.{Chunk, Disk, Image, IsChunk, AreChunks, IsDisk, AreDisks, IsImageOf, AreBytes, end_of, is_new_id, is_disk_size, chunk_bytes, chunks_bytes, flags_bytes, disk_bytes, disks_bytes, magic_of, head_bytes, image_bytes}
 use Rattle.iom_image.specs.Reading.{◌>>=◌, checked, Head, part_at, number_at, head_at, chunk_at, chunks_at, flags_at, disk_at, disks_at, image_of, mapped}
 use Rattle.iom_image.proofs.Images.{read_again}
+use Rattle.iom_image.proofs.Oks.{ok_is}
 
 pub bind_ok : {A B : Type 0} (read : Result A LoadFault) (f : A → Result B LoadFault) (y : B) → (read >>= f) ≡ Ok y → (x : A) × (read ≡ Ok x) × (f x ≡ Ok y)
 bind_ok (Ok x) f y is = (x, refl, is)
@@ -23,12 +24,6 @@ check_ok false fault next y is = absurd cc
 pub read_as : {A B : Type 0} (f : A → B) (read : Result A LoadFault) (y : B) → mapped f read ≡ Ok y → (x : A) × (read ≡ Ok x) × (y ≡ f x)
 read_as f (Ok x) y is = (x, refl, search is)
 read_as f (Err fault) y is = absurd cc
-
-abbrev good : {A : Type 0} → A → Result A LoadFault
-good x = Ok x
-
-ok_is : {A : Type 0} (x y : A) → good x ≡ good y → x ≡ y
-ok_is x y is = cc
 
 bytes_end : (first second : List ℕ) → AreBytes (first ++ second) → AreBytes second
 bytes_end [] second are = are

@@ -3,6 +3,7 @@ use Rattle.std.proofs.Common.{◌≡◌, ℕ, zero, suc, ◌+◌, ◌*◌, ◌/�
 use Rattle.std.proofs.lemmas.Bool.{le-leb, lt-ltb}
 use Rattle.std.proofs.lemmas.List.{take_at, drop_at}
 use Rattle.iom_bits.specs.Bytes.{number_of_bytes, bytes_of_number}
+use Rattle.iom_bits.proofs.Bytes.{length_of_number}
 use Rattle.iom_mem.specs.Sizes.{is_paged, is_good_size}
 use Rattle.iom_image.specs.Image.{Chunk, Disk, Image, IsChunk, AreChunks, IsDisk, AreDisks, IsImage, end_of, chunk_bytes, chunks_bytes, flags_bytes, disk_bytes, disks_bytes, magic_of, head_bytes, image_bytes}
 use Rattle.iom_image.specs.Reading.{part_at, number_at, head_at, chunk_at, chunks_at, flags_at, disk_at, disks_at, image_of}
@@ -13,10 +14,6 @@ use Rattle.iom_image.proofs.Fitting.{few_bytes, few_chunks, all_fit}
 abbrev room : ℕ → ℕ
 room zero = 1
 room (suc count) = 256 * room count
-
-pub length_of_number : (count n : ℕ) → length (bytes_of_number count n) ≡ count
-length_of_number zero n = refl
-length_of_number (suc count) n = ap suc (length_of_number count (n / 256))
 
 pub number_back : (count n : ℕ) → n < room count → number_of_bytes (bytes_of_number count n) ≡ n
 number_back zero n lt = omega (arith, lt)

@@ -1,4 +1,5 @@
 pub mod Bytes
+pub mod Oks
 pub mod Loops
 pub mod Filling
 pub mod Fitting

@@ -9,6 +9,7 @@ use Rattle.iom_image.specs.Image.{Disk, Image, AreDisks, AreBytes}
 use Rattle.iom_image.specs.Loading.{devices_of, state_from}
 use Rattle.iom_image.specs.Reading.{mapped, started, image_of, opening_of}
 use Rattle.iom_image.proofs.Found.{read_is}
+use Rattle.iom_image.proofs.Oks.{ok_is}
 
 -- the devices of some disks
 abbrev devices_from : List Disk → List (ℕ × Device)
@@ -70,12 +71,6 @@ are_devices has_flags disks few good = record {
 pub are_bytes : (bytes : List ℕ) → ((i : ℕ) → get_or bytes i 0 < 256) → AreBytes bytes
 are_bytes [] fits = tt
 are_bytes (b ∷ bytes) fits = (fits 0, are_bytes bytes (λ i. fits (suc i)))
-
-abbrev good : {A : Type 0} → A → Result A LoadFault
-good x = Ok x
-
-ok_is : {A : Type 0} (x y : A) → good x ≡ good y → x ≡ y
-ok_is x y is = cc
 
 image_started : (bytes : List ℕ) (read : Result Image LoadFault) (state : State) → AreBytes bytes → image_of bytes ≡ read →
     mapped state_from read ≡ Ok state → AreDevices state.devices

@@ -10,12 +10,7 @@ use Rattle.iom_image.proofs.Filling.{ends, ended}
 use Rattle.iom_image.proofs.Found.{bind_ok, read_as, read_is}
 use Rattle.iom_image.proofs.Images.{read_again}
 use Rattle.iom_image.proofs.Flags.{with_flags}
-
-abbrev good : {A : Type 0} → A → Result A LoadFault
-good x = Ok x
-
-ok_is : {A : Type 0} (x y : A) → good x ≡ good y → x ≡ y
-ok_is x y is = cc
+use Rattle.iom_image.proofs.Oks.{ok_is}
 
 -- chunks
 first_chunk : (before : List ℕ) (c : Chunk) (read : Read (List Chunk)) →

@@ -1,12 +1,12 @@
 //! The fields of an image, read from the front.
 
-ghost use Rattle.std.specs.Prelude.{◌≡◌, ◌+◌, ◌*◌, ◌≤◌, ◌<◌, ◌^◌, ◌&&◌, IfOk, length, nat_le};
-ghost use Rattle.iom_mem.specs.Sizes.{is_paged, is_good_size};
+ghost use Rattle.std.specs.Prelude.{◌≡◌, ◌+◌, ◌*◌, ◌≤◌, ◌<◌, ◌^◌, IfOk, length, nat_le};
 ghost use Rattle.iom_image.specs.Image.{is_new_id};
 ghost use Rattle.iom_image.specs.Reading.{Reads, part_at, number_at, head_at, chunk_at, flags_at, disk_at};
 
 use crate::fault::LoadFault;
 use iom_bits::{le_u32, le_u64};
+use iom_mem::is_ram;
 
 /// The first 32 bytes of an image: what stands before the chunks.
 #[derive(Clone, Copy)]
@@ -76,14 +76,6 @@ fn u64_of(bytes: &[u8]) -> Result<(u64, &[u8]), LoadFault>
         number[0], number[1], number[2], number[3], number[4], number[5], number[6], number[7],
     ]);
     Ok((number, rest))
-}
-
-/// Whether there may be a memory of this base, a physical address, and this size in bytes: both are multiples of 4096, the size is
-/// 4096 to 2^26, and the end is 2^56 or below.
-pub fn is_ram(base: u64, size: u64) -> bool
-    ensures { result ≡ (is_paged base && is_good_size base size) }
-{
-    base % 4096 == 0 && size != 0 && size % 4096 == 0 && size <= 1 << 26 && base <= (1 << 56) - size
 }
 
 /// The first 32 bytes of an image, and the bytes after them. The refusals are `Truncated`, `BadMagic`, `BadRam` and `BadDevice` for

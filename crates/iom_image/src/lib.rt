@@ -2,7 +2,6 @@
 #![tactic(auto)]
 
 pub use fault::LoadFault;
-pub use fields::is_ram;
 pub use image::built_in;
 pub use judging::{images_are_what_is_read, judge};
 pub use loading::load;

@@ -1,9 +1,10 @@
 //! Physical memory: one region of bytes.
 #![tactic(auto)]
 
-ghost use Rattle.std.specs.Prelude.{◌≡◌, ◌+◌, ◌/◌, ◌≤◌, ◌<◌, ◌⊎◌, length, take, drop, Some, None, IfOk, IfErr, IfSome, IfNone};
+ghost use Rattle.std.specs.Prelude.{◌≡◌, ◌+◌, ◌/◌, ◌&&◌, ◌≤◌, ◌<◌, ◌⊎◌, length, take, drop, Some, None, IfOk, IfErr, IfSome, IfNone};
 ghost use Rattle.std.specs.Bool.{OnTrue, OnFalse};
 ghost use Rattle.std.specs.Option.{is_some};
+ghost use Rattle.iom_mem.specs.Sizes.{is_good_size, is_paged};
 
 use std::alloc::{AllocError, Global};
 use std::marker::Model;
@@ -31,6 +32,28 @@ const MOST_BYTES: u64 = 1 << 26;
 
 /// Physical addresses have 56 bits.
 const ADDRESS_END: u64 = 1 << 56;
+
+// Whether a number is one of whole pages.
+fn is_paged(number: u64) -> bool
+    ensures { result ≡ is_paged number }
+{
+    number % 4096 == 0
+}
+
+// Whether a memory from this base on may have this size.
+fn is_good_size(base: u64, size: u64) -> bool
+    ensures { result ≡ is_good_size base size }
+{
+    size != 0 && is_paged(size) && size <= MOST_BYTES && base <= ADDRESS_END - size
+}
+
+/// Whether there may be a memory of this base, a physical address, and this size in bytes: both are multiples of 4096, the size is
+/// 4096 to 2^26, and the end is 2^56 or below.
+pub fn is_ram(base: u64, size: u64) -> bool
+    ensures { result ≡ (is_paged base && is_good_size base size) }
+{
+    is_paged(base) && is_good_size(base, size)
+}
 
 /// One region of memory, of 4096 bytes to 64 MiB, below 2^56. Its addresses are physical, in bytes; what isn't in it is called
 /// outside.
@@ -68,10 +91,10 @@ impl Ram {
         ensures accepted { IfNone (refusal_of base size)
             (IfErr result (λ fault. fault ≡ MemFault.OutOfMemory)) }
     {
-        if base % 4096 != 0 {
+        if !is_paged(base) {
             return Err(MemFault::BadBase);
         }
-        if size == 0 || size % 4096 != 0 || size > MOST_BYTES || base > ADDRESS_END - size {
+        if !is_good_size(base, size) {
             return Err(MemFault::BadSize);
         }
         // One allocation and one fill of it; `vec!` would write it word by word.

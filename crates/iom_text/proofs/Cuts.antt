@@ -1,5 +1,6 @@
 -- The words of a text, cut off one by one.
 use Rattle.std.proofs.Common.{◌≡◌, ◌==◌, ◌||◌, ◌+◌, ◌-◌, ◌<◌, ◌++◌, ℕ, suc, List, [], ◌∷◌, Bool, true, false, not, nat_lt, length, take, drop, filter, sym, ◌∙◌, ap, refl, arith, append_assoc}
+use Rattle.std.proofs.lemmas.Bool.{or_parts}
 use Rattle.std.specs.List.{slice_split, onto_first, position_or_len}
 use Rattle.std.proofs.lemmas.Grind.{common_steps}
 use Rattle.std.proofs.lemmas.List.Splits.{slice_split-cons_yes, slice_split-cons_no}
@@ -33,13 +34,9 @@ parts_blank c text blank =
 parts_comment : (c : ℕ) (text : List ℕ) → (c == 35) ≡ true → parts (c ∷ text) ≡ [] ∷ []
 parts_comment c text is = ap (slice_split is_blank) (before_yes c text is)
 
-neither : (a b : Bool) → a || b ≡ false → (a ≡ false) × (b ≡ false)
-neither true b is = absurd (cc is)
-neither false b is = (refl, is)
-
 parts_word : (c : ℕ) (text : List ℕ) → is_end c ≡ false → parts (c ∷ text) ≡ onto_first c (parts text)
 parts_word c text inside =
-    let both : (is_blank c ≡ false) × ((c == 35) ≡ false) = neither (is_blank c) (c == 35) inside in
+    let both : (is_blank c ≡ false) × ((c == 35) ≡ false) = or_parts (is_blank c) (c == 35) inside in
     ap (slice_split is_blank) (before_no c text both.1) ∙ slice_split-cons_no is_blank c (before_comment text) both.0
 
 words_blank : (c : ℕ) (text : List ℕ) → is_blank c ≡ true → words_of (c ∷ text) ≡ words_of text

@@ -3,3 +3,4 @@ pub mod Digits
 pub mod Firsts
 pub mod Leading
 pub mod Numbers
+pub mod Searches

@@ -1,8 +1,12 @@
 //! The words of a line, what a word says, and the texts of numbers: of scripts, of assembler texts and of answers.
 #![tactic(auto)]
 
+pub use lines::line_end;
 pub use reading::{MOST_WORDS, Words, is_over, number, past_blanks, take_number, take_word, words};
+pub use values::digit_value;
 pub use writing::{Numeral, decimal, hexed, put_hex};
 
+mod lines;
 mod reading;
+mod values;
 mod writing;

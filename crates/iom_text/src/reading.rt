@@ -4,6 +4,7 @@ ghost use Rattle.std.specs.List.{position, position_or_len};
 ghost use Rattle.std.specs.Option.{option_map};
 ghost use Rattle.iom_text.specs.Words.{is_blank, is_end, words_of, number_in, number, first_number};
 
+use crate::values::digit_value;
 use arrayvec::ArrayVec;
 
 /// One word more than any line has, of a script or of an assembler text.
@@ -116,35 +117,13 @@ pub fn words(text: &[u8]) -> Words<'_>
     words
 }
 
-// The value of each byte as a digit: 0 to 35, and 36 where it is no digit. A table has no branch, and digits and letters follow
-// each other by chance.
-#[rattlefmt::skip]
-static DIGITS: [u8; 256] = [
-    36, 36, 36, 36, 36, 36, 36, 36, 36, 36, 36, 36, 36, 36, 36, 36,
-    36, 36, 36, 36, 36, 36, 36, 36, 36, 36, 36, 36, 36, 36, 36, 36,
-    36, 36, 36, 36, 36, 36, 36, 36, 36, 36, 36, 36, 36, 36, 36, 36,
-    0, 1, 2, 3, 4, 5, 6, 7, 8, 9, 36, 36, 36, 36, 36, 36,
-    36, 10, 11, 12, 13, 14, 15, 16, 17, 18, 19, 20, 21, 22, 23, 24,
-    25, 26, 27, 28, 29, 30, 31, 32, 33, 34, 35, 36, 36, 36, 36, 36,
-    36, 10, 11, 12, 13, 14, 15, 16, 17, 18, 19, 20, 21, 22, 23, 24,
-    25, 26, 27, 28, 29, 30, 31, 32, 33, 34, 35, 36, 36, 36, 36, 36,
-    36, 36, 36, 36, 36, 36, 36, 36, 36, 36, 36, 36, 36, 36, 36, 36,
-    36, 36, 36, 36, 36, 36, 36, 36, 36, 36, 36, 36, 36, 36, 36, 36,
-    36, 36, 36, 36, 36, 36, 36, 36, 36, 36, 36, 36, 36, 36, 36, 36,
-    36, 36, 36, 36, 36, 36, 36, 36, 36, 36, 36, 36, 36, 36, 36, 36,
-    36, 36, 36, 36, 36, 36, 36, 36, 36, 36, 36, 36, 36, 36, 36, 36,
-    36, 36, 36, 36, 36, 36, 36, 36, 36, 36, 36, 36, 36, 36, 36, 36,
-    36, 36, 36, 36, 36, 36, 36, 36, 36, 36, 36, 36, 36, 36, 36, 36,
-    36, 36, 36, 36, 36, 36, 36, 36, 36, 36, 36, 36, 36, 36, 36, 36,
-];
-
 // The value of a digit of this radix.
 #[inline(always)]
 fn digit_in(radix: u64, c: u8) -> Option<u64>
     requires { radix ≤ 16 }
     ensures { SomeIff result (digit_value c < radix) (digit_value c) }
 {
-    let value = u64::from(DIGITS[usize::from(c)]);
+    let value = u64::from(digit_value(c));
     if value < radix { Some(value) } else { None }
 }
 

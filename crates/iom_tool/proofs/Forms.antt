@@ -14,7 +14,8 @@ use Rattle.std.proofs.lemmas.List.Sums.{AllPass-from_list_all}
 use Rattle.iom_text.proofs.Cuts.{past, none_of}
 use Rattle.iom_text.proofs.Firsts.{one_word_left}
 use Rattle.iom_text.proofs.Leading.{the_word}
-use Rattle.iom_tool.specs.Script.{◌>>=◌, load, store, reg_read, reg_write, dma_read, dma_write, dev_read, dev_write, dev_step, place_page, place_context, shown, trace}
+use Rattle.iom_asm.specs.Operands.{◌>>=◌}
+use Rattle.iom_tool.specs.Script.{load, store, reg_read, reg_write, dma_read, dma_write, dev_read, dev_write, dev_step, place_page, place_context, shown, trace}
 use Rattle.iom_tool.specs.Operands.{one, with_first, data_in}
 use Rattle.iom_tool.specs.Words.{bytes_of}
 use Rattle.iom_tool.proofs.Pairs.{no_bytes}

@@ -1,6 +1,5 @@
 pub mod Forms
 pub mod Pairs
-pub mod Searches
 pub mod Splits
 pub mod Values
 pub mod Outputs

@@ -3,7 +3,7 @@ use Rattle.std.proofs.Common.{◌≡◌, ◌==◌, ◌||◌, ◌+◌, zero, suc,
 use Rattle.std.specs.List.{slice_split, onto_first, list_any, position, position_or_len, prefix_len}
 use Rattle.std.proofs.lemmas.List.{take_more, take-append-drop, length-take}
 use Rattle.std.proofs.Math.Seq.{take-add}
-use Rattle.std.proofs.lemmas.Bool.{eqb-true, cases_lt}
+use Rattle.std.proofs.lemmas.Bool.{eqb-true, cases_lt, or_parts}
 use Rattle.std.proofs.lemmas.List.Quantifiers.{position-Some}
 use Rattle.std.proofs.lemmas.List.Splits.{slice_split-cons_yes, slice_split-cons_no}
 use Rattle.iom_tool.specs.Output.{all_but_last, last_of, ended_in, open_in, ended_lines, open_line}
@@ -121,22 +121,18 @@ open_line-ended byte text end =
     let g : EndsPart text byte = ends_part byte text end in
     ap open_in g.after ∙ last_of-ended g.first g.rest
 
--- a part without a line end, and the same with one behind it
-neither : (a b : Bool) → a || b ≡ false → (a ≡ false) × (b ≡ false)
-neither true b is = absurd (cc is)
-neither false b is = (refl, is)
-
+-- a part without a line end
 pub ended_lines-part : (part text : List ℕ) → list_any (λ c. c == 10) part ≡ false → ended_lines (text ++ part) ≡ ended_lines text
 ended_lines-part [] text none = ap ended_lines (append-nil text)
 ended_lines-part (byte ∷ part) text none =
-    let both : ((byte == 10) ≡ false) × (list_any (λ c. c == 10) part ≡ false) = neither (byte == 10) (list_any (λ c. c == 10) part) none in
+    let both : ((byte == 10) ≡ false) × (list_any (λ c. c == 10) part ≡ false) = or_parts (byte == 10) (list_any (λ c. c == 10) part) none in
     ap ended_lines (sym (append_assoc text (byte ∷ []) part)) ∙ ended_lines-part part (text ++ byte ∷ []) both.1
     ∙ ended_lines-grown byte text both.0
 
 pub open_line-part : (part text : List ℕ) → list_any (λ c. c == 10) part ≡ false → open_line (text ++ part) ≡ open_line text ++ part
 open_line-part [] text none = ap open_line (append-nil text) ∙ sym (append-nil (open_line text))
 open_line-part (byte ∷ part) text none =
-    let both : ((byte == 10) ≡ false) × (list_any (λ c. c == 10) part ≡ false) = neither (byte == 10) (list_any (λ c. c == 10) part) none in
+    let both : ((byte == 10) ≡ false) × (list_any (λ c. c == 10) part ≡ false) = or_parts (byte == 10) (list_any (λ c. c == 10) part) none in
     ap open_line (sym (append_assoc text (byte ∷ []) part)) ∙ open_line-part part (text ++ byte ∷ []) both.1
     ∙ ap (λ l. l ++ part) (open_line-grown byte text both.0) ∙ append_assoc (open_line text) (byte ∷ []) part
 

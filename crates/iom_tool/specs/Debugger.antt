@@ -1,6 +1,7 @@
 -- Questions, which are no steps, and the texts of their answers.
 use Rattle.std.specs.Prelude.{ℕ, ◌++◌, Bool, List, codes, Option, Some, None, slice_get, if◌then◌else◌}
 use Rattle.std.specs.Option.{unwrap_or}
+use Rattle.iom_bits.specs.Bits.{flag}
 use Rattle.iom_bits.specs.declared.causes.Kind.{Kind}
 use Rattle.iom_bits.specs.declared.causes.Kind.TheVariants.{Read, Write}
 use Rattle.iom_mem.specs.Memory.{Memory}
@@ -29,9 +30,6 @@ id_text (Some id) = hexed id
 abbrev pub kind_text : Kind → List ℕ
 kind_text Read = codes "read"
 kind_text Write = codes "write"
-
-abbrev pub flag : Bool → ℕ
-flag set = if set then 1 else 0
 
 abbrev pub page_text : Key → Hit → List ℕ
 page_text key hit =

@@ -1,6 +1,5 @@
 -- What a line of a script says: nothing, a step, a question, or no line that there is.
 use Rattle.std.specs.Prelude.{ℕ, ◌==◌, ◌||◌, nat_lt, List, [], ◌∷◌, length, codes, bytes_eq, Option, Some, None, if◌then◌else◌}
-use Rattle.std.specs.Option.{option_and_then}
 use Rattle.std.specs.List.{list_any}
 use Rattle.iom_core.specs.declared.step.Step.{Step}
 use Rattle.iom_core.specs.declared.step.Step.TheVariants as step
@@ -9,12 +8,8 @@ use Rattle.iom_tool.specs.declared.script.Question.TheVariants as question
 use Rattle.iom_text.specs.Words.{words_of, number}
 use Rattle.iom_asm.specs.declared.item.Item.{Item}
 use Rattle.iom_asm.specs.Items.{item_named}
+use Rattle.iom_asm.specs.Operands.{◌>>=◌}
 use Rattle.iom_tool.specs.Words.{bytes_of}
-
--- the second, where there is a first
-infixl 10 ◌>>=◌
-abbrev pub ◌>>=◌ : {A B : Type 0} → Option A → (A → Option B) → Option B
-found >>= f = option_and_then f found
 
 -- load ADDR SIZE
 unfoldable pub load : List (List ℕ) → Option Step

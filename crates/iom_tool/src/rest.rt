@@ -1,5 +1,5 @@
 ghost use Rattle.std.specs.Prelude.{◌≡◌, ◌==◌, ◌+◌, ◌<◌, ◌≤◌, ◌^◌, ◌++◌, ℕ, List, [], ◌∷◌, length, take, is_err, false, true, IfErr, IfOk, OnOk};
-ghost use Rattle.std.specs.List.{list_any, position};
+ghost use Rattle.std.specs.List.{list_any};
 ghost use Rattle.std.specs.Io.KnownBytes.{Appends, Keeps};
 ghost use Rattle.iom_tool.specs.Console.{console, console_after};
 ghost use Rattle.iom_tool.specs.Output.{steps_of, output_to};
@@ -12,6 +12,7 @@ use crate::trace::Trace;
 use crate::watched::WatchedWriter;
 use arrayvec::ArrayVec;
 use iom_core::Platform;
+use iom_text::line_end;
 use std::io::Write;
 
 /// The most lines of a script.
@@ -98,14 +99,6 @@ fn flush<W: Write>(writer: &mut WatchedWriter<'_, W>) -> Result<(), RunFault>
     } else {
         Err(RunFault::Write)
     }
-}
-
-// Where the first line end of a text stands.
-#[tactic(auto, using(crate::proofs::Searches::first_is))]
-fn line_end(text: &[u8]) -> Option<usize>
-    ensures { result ≡ position (λ c. c == 10) text.now }
-{
-    memchr::memchr(b'\n', text)
 }
 
 /// What is kept of a script between its pieces.

@@ -5,28 +5,7 @@ ghost use Rattle.hex.specs.Hex.{hex_digit_value, decode_pairs};
 ghost use Rattle.iom_tool.specs.Words.{bytes_of};
 
 use arrayvec::ArrayVec;
-
-// The value of each byte as a hex digit, 16 where it is none. A table has no branch, and digits and letters follow each other by
-// chance.
-#[rattlefmt::skip]
-static VALUES: [u8; 256] = [
-    16, 16, 16, 16, 16, 16, 16, 16, 16, 16, 16, 16, 16, 16, 16, 16,
-    16, 16, 16, 16, 16, 16, 16, 16, 16, 16, 16, 16, 16, 16, 16, 16,
-    16, 16, 16, 16, 16, 16, 16, 16, 16, 16, 16, 16, 16, 16, 16, 16,
-    0, 1, 2, 3, 4, 5, 6, 7, 8, 9, 16, 16, 16, 16, 16, 16,
-    16, 10, 11, 12, 13, 14, 15, 16, 16, 16, 16, 16, 16, 16, 16, 16,
-    16, 16, 16, 16, 16, 16, 16, 16, 16, 16, 16, 16, 16, 16, 16, 16,
-    16, 10, 11, 12, 13, 14, 15, 16, 16, 16, 16, 16, 16, 16, 16, 16,
-    16, 16, 16, 16, 16, 16, 16, 16, 16, 16, 16, 16, 16, 16, 16, 16,
-    16, 16, 16, 16, 16, 16, 16, 16, 16, 16, 16, 16, 16, 16, 16, 16,
-    16, 16, 16, 16, 16, 16, 16, 16, 16, 16, 16, 16, 16, 16, 16, 16,
-    16, 16, 16, 16, 16, 16, 16, 16, 16, 16, 16, 16, 16, 16, 16, 16,
-    16, 16, 16, 16, 16, 16, 16, 16, 16, 16, 16, 16, 16, 16, 16, 16,
-    16, 16, 16, 16, 16, 16, 16, 16, 16, 16, 16, 16, 16, 16, 16, 16,
-    16, 16, 16, 16, 16, 16, 16, 16, 16, 16, 16, 16, 16, 16, 16, 16,
-    16, 16, 16, 16, 16, 16, 16, 16, 16, 16, 16, 16, 16, 16, 16, 16,
-    16, 16, 16, 16, 16, 16, 16, 16, 16, 16, 16, 16, 16, 16, 16, 16,
-];
+use iom_text::digit_value;
 
 // The value of a hex digit; 16 or above of any other byte.
 #[inline(always)]
@@ -34,7 +13,7 @@ fn value_of(c: u8) -> u8
     ensures digit { result < 16 → hex_digit_value c ≡ Some result }
     ensures other { 16 ≤ result → hex_digit_value c ≡ None }
 {
-    VALUES[usize::from(c)]
+    digit_value(c)
 }
 
 // Puts the bytes that pairs of hex digits write, and answers whether all are digits, which all their values together tell.

@@ -1,4 +1,4 @@
-use Rattle.std.proofs.Common.{◌≡◌, ◌/◌, ◌%◌, ℕ, List, ◌∙◌, ap, subst, sym, replicate, arith, rules}
+use Rattle.std.proofs.Common.{◌≡◌, ◌/◌, ◌%◌, ℕ, List, ◌∙◌, ap, subst, sym, replicate, arith}
 use Rattle.std.proofs.lemmas.Grind.{common_steps}
 use Rattle.iom_mem.specs.Memory.{Memory}
 use Rattle.iom_mem.specs.Sizes.{IsLegal}
@@ -17,6 +17,3 @@ returns-clause-made c =
 pub invariant_of-result : goal.invariant_of-result
 invariant_of-result c =
     subst (λ m. IsLegal m) (sym (returns-clause-made c)) (zeroed_legal c.args.base c.args.size (grind arith) (grind arith) (grind arith) (grind arith) (grind arith))
-
-pub returns-then-size-eq0-clause-accepted : goal.returns-then-size-eq0-clause-accepted
-returns-then-size-eq0-clause-accepted c = search (rules, zeros_hold)
