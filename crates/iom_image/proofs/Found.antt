@@ -13,6 +13,9 @@ use Rattle.iom_image.specs.Reading.{◌>>=◌, checked, Head, part_at, number_at
 use Rattle.iom_image.proofs.Images.{read_again}
 use Rattle.iom_image.proofs.Oks.{ok_is}
 
+abbrev good : {A : Type 0} → A → Result A LoadFault
+good x = Ok x
+
 pub bind_ok : {A B : Type 0} (read : Result A LoadFault) (f : A → Result B LoadFault) (y : B) → (read >>= f) ≡ Ok y → (x : A) × (read ≡ Ok x) × (f x ≡ Ok y)
 bind_ok (Ok x) f y is = (x, refl, is)
 bind_ok (Err fault) f y is = absurd cc

@@ -12,6 +12,9 @@ use Rattle.iom_image.proofs.Images.{read_again}
 use Rattle.iom_image.proofs.Flags.{with_flags}
 use Rattle.iom_image.proofs.Oks.{ok_is}
 
+abbrev good : {A : Type 0} → A → Result A LoadFault
+good x = Ok x
+
 -- chunks
 first_chunk : (before : List ℕ) (c : Chunk) (read : Read (List Chunk)) →
     chunks_behind before (read >>= λ x. Ok (c ∷ x.0, x.1)) ≡ chunks_behind (before ++ chunk_bytes c) read

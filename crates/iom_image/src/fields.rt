@@ -1,6 +1,6 @@
 //! The fields of an image, read from the front.
 
-ghost use Rattle.std.specs.Prelude.{◌≡◌, ◌+◌, ◌*◌, ◌≤◌, ◌<◌, ◌^◌, IfOk, length, nat_le};
+ghost use Rattle.std.specs.Prelude.{◌≡◌, ◌+◌, ◌*◌, ◌≤◌, ◌<◌, ◌^◌, ◌&&◌, IfOk, length, nat_le};
 ghost use Rattle.iom_image.specs.Image.{is_new_id};
 ghost use Rattle.iom_image.specs.Reading.{Reads, part_at, number_at, head_at, chunk_at, flags_at, disk_at};
 
