@@ -7,7 +7,8 @@ use Rattle.iom_regs.specs.declared.views.Which.TheVariants.{Commands, Faults}
 use Rattle.iom_core.specs.declared.step.Step.{Step}
 use Rattle.iom_core.specs.declared.step.Step.TheVariants as step
 use Rattle.iom_asm.specs.Forms.{where_so, words_for}
-use Rattle.iom_tool.specs.Script.{◌>>=◌, Line, Blank, Bad, Does, Asks, line_of}
+use Rattle.iom_asm.specs.Operands.{◌>>=◌}
+use Rattle.iom_tool.specs.Script.{Line, Blank, Bad, Does, Asks, line_of}
 use Rattle.iom_debug.specs.Names.{register_named, mmio_named}
 use Rattle.iom_debug.specs.declared.form.Inquiry.{Inquiry}
 use Rattle.iom_debug.specs.declared.form.Inquiry.TheVariants as inquiry

@@ -4,7 +4,7 @@ ghost use Rattle.iom_ddt.specs.Directory.{levels_of, located};
 ghost use Rattle.iom_ddt.specs.Contexts.{IsWellFormed, is_bare};
 ghost use Rattle.iom_nested.specs.Nested.{translation};
 ghost use Rattle.iom_cache.specs.Places.{look};
-ghost use Rattle.iom_core.specs.Access.{context_look, led, led_by_context, led_by_page, plain, translating};
+ghost use Rattle.iom_core.specs.Access.{context_look, led, led_by_context, led_by_page};
 ghost use Rattle.iom_reasons.specs.Stale.{IsStale, told, uncached};
 
 use crate::Way;
@@ -14,8 +14,7 @@ use iom_cache::key_of;
 use iom_core::{Denial, Platform, Request};
 use iom_ddt::{Context, is_too_wide, locate};
 use iom_mem::Ram;
-use iom_nested::{Fault, translate};
-use iom_queue::is_reported;
+use iom_nested::translate;
 use iom_regs::Mode;
 
 /// What the tables say now of a request whose way is another, since a cache has it otherwise; None where the request isn't
@@ -42,7 +41,7 @@ pub fn way_now(platform: &Platform, request: &Request) -> Way
     ensures { result ≡ told (led platform.now.machine request.now).way }
 {
     match platform.registers().mode() {
-        Mode::Off => Way::Denied(plain(Cause::Off)),
+        Mode::Off => Way::Denied(Denial::plain(Cause::Off)),
         Mode::Bare => Way::Register,
         Mode::Levels(_) => way_by_directory(platform, request),
     }
@@ -58,14 +57,14 @@ fn way_by_directory(platform: &Platform, request: &Request) -> Way
         (context_look platform.now.machine request.now.did).used).way }
 {
     if is_too_wide(platform.registers(), request.did) {
-        return Way::Denied(plain(Cause::TooWide));
+        return Way::Denied(Denial::plain(Cause::TooWide));
     }
     if let Some(context) = platform.contexts().find(request.did) {
         return way_by_context(platform, request, &context);
     }
     match locate(platform.ram(), platform.registers(), request.did) {
         Ok(context) => way_by_context(platform, request, &context),
-        Err(cause) => Way::Denied(plain(cause)),
+        Err(cause) => Way::Denied(Denial::plain(cause)),
     }
 }
 
@@ -93,7 +92,7 @@ pub fn way_by_tables(platform: &Platform, request: &Request) -> Way
     ensures { result ≡ told (led (uncached platform.now.machine) request.now).way }
 {
     match platform.registers().mode() {
-        Mode::Off => Way::Denied(plain(Cause::Off)),
+        Mode::Off => Way::Denied(Denial::plain(Cause::Off)),
         Mode::Bare => Way::Register,
         Mode::Levels(_) => way_by_new_directory(platform, request),
     }
@@ -110,7 +109,7 @@ fn way_by_new_directory(platform: &Platform, request: &Request) -> Way
 {
     match locate(platform.ram(), platform.registers(), request.did) {
         Ok(context) => way_by_new_context(platform, request, &context),
-        Err(why) => Way::Denied(plain(why)),
+        Err(why) => Way::Denied(Denial::plain(why)),
     }
 }
 
@@ -136,28 +135,6 @@ fn way_by_walk(ram: &Ram, request: &Request, context: &Context) -> Way
 {
     match translate(ram, context, request.iova, request.kind) {
         Ok(hit) => Way::Walked(*context, hit),
-        Err(fault) => Way::Denied(translating(context, fault)),
-    }
-}
-
-// A fault before any page table is read.
-fn plain(cause: Cause) -> Denial
-    ensures { result ≡ plain cause }
-{
-    Denial {
-        cause,
-        iotval2: 0,
-        reported: true,
-    }
-}
-
-// A fault of a translation under a context.
-fn translating(context: &Context, fault: Fault) -> Denial
-    ensures { result ≡ translating context.now fault }
-{
-    Denial {
-        cause: fault.cause,
-        iotval2: fault.iotval2,
-        reported: is_reported(fault.cause, context.dtf),
+        Err(fault) => Way::Denied(Denial::translating(context, fault)),
     }
 }
