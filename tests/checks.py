@@ -1,8 +1,10 @@
 """What the checks of the program share: how it is run, and how one says what is wanted. The program is the first word."""
 import os
+import select
 import subprocess
 import sys
 import tempfile
+import time
 
 PROGRAM = os.path.abspath(sys.argv[1]) if len(sys.argv) == 2 else ""
 EXAMPLES = os.path.join(os.path.dirname(os.path.abspath(__file__)), os.pardir, "examples")
@@ -83,6 +85,67 @@ def want_words(words, wanted_out, ending=WELL, given=b""):
     """Wants a run with these words to write exactly this, and to end with this status and text on standard error."""
     status, out, errors = run(words, given)
     want("standard output, status and standard error", (short(out), status, errors), (short(wanted_out), *ending))
+
+
+class Talk:
+    """A conversation with the program over two pipes."""
+
+    def __init__(self, words=()):
+        self.errors = tempfile.TemporaryFile()
+        pipes = {"stdin": subprocess.PIPE, "stdout": subprocess.PIPE, "bufsize": 0}
+        self.program = subprocess.Popen([PROGRAM, *words], stderr=self.errors, **pipes)
+
+    def __enter__(self):
+        return self
+
+    def __exit__(self, *_):
+        if self.program.poll() is None:
+            self.program.kill()
+        self.program.wait()
+        for file in (self.program.stdin, self.program.stdout, self.errors):
+            file.close()
+
+    def send(self, data):
+        try:
+            self.program.stdin.write(data)
+        except BrokenPipeError:
+            raise Failure(f"the program closed its input before {short(data)}") from None
+
+    def take(self, seconds):
+        """Returns what the program has written, or None after so many seconds with nothing."""
+        if not select.select([self.program.stdout], [], [], seconds)[0]:
+            return None
+        return os.read(self.program.stdout.fileno(), 1 << 16)
+
+    def want_answer(self, sent, wanted):
+        """Wants exactly this text, as soon as it is there."""
+        seen, until = b"", time.monotonic() + ANSWER_SECONDS
+        while seen.count(b"\n") < wanted.count(b"\n"):
+            some = self.take(max(0, until - time.monotonic()))
+            if some is None:
+                raise Failure(f"no answer to {short(sent)} after {ANSWER_SECONDS} seconds, only {short(seen)}")
+            if not some:
+                raise Failure(f"the program ended its output after {short(sent)}")
+            seen += some
+        want(f"the answer to {short(sent)}", seen, wanted)
+
+    def want_nothing(self, sent):
+        some = self.take(QUIET_SECONDS)
+        if some is not None:
+            raise Failure(f"{short(sent)} was answered {short(some)}, wanted nothing")
+
+    def want_end(self):
+        self.program.stdin.close()
+        some = self.take(ANSWER_SECONDS)
+        if some is None:
+            raise Failure(f"the program had not ended {ANSWER_SECONDS} seconds after its input")
+        want("what was written after the end of the input", some, b"")
+        try:
+            status = self.program.wait(ANSWER_SECONDS)
+        except subprocess.TimeoutExpired:
+            raise Failure("the program closed its output and did not end") from None
+        self.errors.seek(0)
+        want("status and standard error", (status, self.errors.read()), WELL)
 
 
 def folder():

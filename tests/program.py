@@ -7,7 +7,6 @@ import glob
 import os
 import re
 import resource
-import select
 import signal
 import subprocess
 import sys
@@ -16,6 +15,7 @@ import time
 import tty
 
 from checks import *  # noqa: F403
+import program_checking  # noqa: F401
 import program_completions  # noqa: F401
 import program_documents  # noqa: F401
 import program_images  # noqa: F401
@@ -23,67 +23,7 @@ import program_memory  # noqa: F401
 import program_pages  # noqa: F401
 import program_walks  # noqa: F401
 
-# A conversation over two pipes.
-
-
-class Talk:
-    def __init__(self):
-        self.errors = tempfile.TemporaryFile()
-        pipes = {"stdin": subprocess.PIPE, "stdout": subprocess.PIPE, "bufsize": 0}
-        self.program = subprocess.Popen([PROGRAM], stderr=self.errors, **pipes)
-
-    def __enter__(self):
-        return self
-
-    def __exit__(self, *_):
-        if self.program.poll() is None:
-            self.program.kill()
-        self.program.wait()
-        for file in (self.program.stdin, self.program.stdout, self.errors):
-            file.close()
-
-    def send(self, data):
-        try:
-            self.program.stdin.write(data)
-        except BrokenPipeError:
-            raise Failure(f"the program closed its input before {short(data)}") from None
-
-    def take(self, seconds):
-        """Returns what the program has written, or None after so many seconds with nothing."""
-        if not select.select([self.program.stdout], [], [], seconds)[0]:
-            return None
-        return os.read(self.program.stdout.fileno(), 1 << 16)
-
-    def want_answer(self, sent, wanted):
-        """Wants exactly this text, as soon as it is there."""
-        seen, until = b"", time.monotonic() + ANSWER_SECONDS
-        while seen.count(b"\n") < wanted.count(b"\n"):
-            some = self.take(max(0, until - time.monotonic()))
-            if some is None:
-                raise Failure(f"no answer to {short(sent)} after {ANSWER_SECONDS} seconds, only {short(seen)}")
-            if not some:
-                raise Failure(f"the program ended its output after {short(sent)}")
-            seen += some
-        want(f"the answer to {short(sent)}", seen, wanted)
-
-    def want_nothing(self, sent):
-        some = self.take(QUIET_SECONDS)
-        if some is not None:
-            raise Failure(f"{short(sent)} was answered {short(some)}, wanted nothing")
-
-    def want_end(self):
-        self.program.stdin.close()
-        some = self.take(ANSWER_SECONDS)
-        if some is None:
-            raise Failure(f"the program had not ended {ANSWER_SECONDS} seconds after its input")
-        want("what was written after the end of the input", some, b"")
-        try:
-            status = self.program.wait(ANSWER_SECONDS)
-        except subprocess.TimeoutExpired:
-            raise Failure("the program closed its output and did not end") from None
-        self.errors.seek(0)
-        want("status and standard error", (status, self.errors.read()), WELL)
-
+# Conversations over two pipes.
 
 CONVERSATION = [
     ("reg read 8 4", "0x2"),
@@ -233,6 +173,8 @@ add_refused("asm", "source")
 add_refused("asm", "source", "image", "more")
 add_refused("run")
 add_refused("run", "image", "more")
+add_refused("check", "image", "more")
+add_refused("check", "--jump")
 add_refused("list", "image", "u64", "0")
 add_refused("list", "image", "word", "0", "1")
 add_refused("list", "image", "u64", "0X1", "1")

@@ -98,7 +98,8 @@ TYPED = [
     ("rviommu list two\t u\t 0 1", ["list", "two words.asm", "u64", "0", "1"]),
     ("rviommu list two\t fa\t", ["list", "two words.asm", "fault"]),
     ("rviommu upgrade pl\t brack\t", ["upgrade", "plain.asm", "brackets [1].asm"]),
-    *((f"rviommu {word} --h\t", [word, "--help"]) for word in ("asm", "run", "list", "upgrade")),
+    ("rviommu check pl\t", ["check", "plain.asm"]),
+    *((f"rviommu {word} --h\t", [word, "--help"]) for word in ("asm", "run", "check", "list", "upgrade")),
     ("rviommu asm plain.asm --h\t", ["asm", "plain.asm", "--help"]),
     # a folder of a word's name is no word
     ("rviommu ru\t", ["run"]),
@@ -161,5 +162,6 @@ add_offered("rviommu list image ", KINDS)
 add_offered("rviommu list image c", ["cmd", "context"])
 add_offered("rviommu list image cmd 0 ", [])
 add_offered("rviommu u", ["upgrade"])
-add_offered("rviommu help ", ["asm", "run", "list", "upgrade"])
+add_offered("rviommu c", ["check"])
+add_offered("rviommu help ", ["asm", "run", "check", "list", "upgrade"])
 add_offered("rviommu run -", ["--help"])

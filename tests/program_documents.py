@@ -5,7 +5,7 @@ import shutil
 import subprocess
 
 from checks import EXAMPLES, PROGRAM, RUN_SECONDS, Failure, Skip, check, folder, put, run, want, want_words
-from program_completions import Terminal
+from program_completions import Terminal, commands
 
 TOP = os.path.normpath(os.path.join(EXAMPLES, os.pardir))
 IMAGE = "ram 0x80000000 0x80000\n"
@@ -96,6 +96,19 @@ def _():
     want("whether there are some", len(wanted) > 5, True)
     status, out, errors = run((), "".join(line + "\n" for line in lines).encode())
     want("status, standard output and standard error", (status, out.decode().splitlines(), errors), (0, wanted, b""))
+
+
+@check("README: its session, and each example of a check, is checked as it says")
+def _():
+    lines, wanted = session()
+    status, out, errors = run(["check"], "".join(line + "\n" for line in lines).encode())
+    want("how the session ends", (status, out.decode(), errors), (0, f"{len(wanted)} passed, 0 failed\n", b""))
+    shown = re.findall(r"(?m)^    \$ (printf .* \| rviommu check)\n((?:    .*\n)+)", text_of("README.md"))
+    want("whether there is one", len(shown) > 0, True)
+    for command, told in shown:
+        command = command.replace("| rviommu", '| "$0"')
+        ended = subprocess.run(["sh", "-c", command, PROGRAM], stdout=subprocess.PIPE, check=False, timeout=RUN_SECONDS)
+        want("status and standard output", (ended.returncode, ended.stdout.decode()), (1, re.sub(r"(?m)^    ", "", told)))
 
 
 @check("README: its command on an example gives the example's answers")
@@ -280,7 +293,7 @@ def _():
 
 @check("man page: `help WORD` and `WORD --help` are the word's help, and a word behind --help is not looked at")
 def _():
-    for word in ("asm", "run", "list", "upgrade"):
+    for word in [it for it in commands() if it != "help"]:
         own = run([word, "--help"])
         want("the status", own[0], 0)
         want(f"help {word}", run(["help", word]), own)

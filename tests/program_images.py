@@ -222,7 +222,7 @@ def _():
             os.close(standing)
 
 
-def add_word_help(word, parts):
+def add_word_help(word, parts, ending=0):
     @check(f"{word} --help: status 0, its operands and an example that is answered as it says")
     def _():
         status, out, errors = run([word, "--help"], ASK)
@@ -241,11 +241,12 @@ def add_word_help(word, parts):
             os.chmod(os.path.join(here, "rviommu"), 0o755)
             where = {**os.environ, "PATH": here + ":" + os.environ["PATH"], "PROGRAM": os.path.abspath(PROGRAM)}
             ended = subprocess.run(["sh", "-c", command], cwd=here, env=where, stdout=subprocess.PIPE, timeout=RUN_SECONDS)
-            want("status and standard output", (ended.returncode, ended.stdout.decode()), (0, answers))
+            want("status and standard output", (ended.returncode, ended.stdout.decode()), (ending, answers))
 
 
 STATEMENTS = [b"ram BASE SIZE", b"at ADDR", b"u64 VALUE", b"bytes HEX", b"cmd NAME", b"context KEY", b"dir ppn", b"pte ppn", b"fault KEY", b"disk DID SECTORS", b"rodisk DID SECTORS"]
 add_word_help("asm", [b"<SOURCE>", b"<IMAGE>", *STATEMENTS])
 add_word_help("run", [b"<IMAGE>"])
+add_word_help("check", [b"[IMAGE]"], ending=1)
 add_word_help("list", [b"<IMAGE>", b"<KIND>", b"<ADDR>", b"<COUNT>"])
 add_word_help("upgrade", [b"<IMAGE>", b"<NEW>"])

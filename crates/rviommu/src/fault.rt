@@ -33,7 +33,7 @@ pub enum Fault<'a> {
     BadKind { word: &'a str },
     /// The word of the operand `name` is no number below 2^64.
     #[error("{}: {name} is decimal, or hex after 0x, below 2^64", Told(*.word))]
-    BadNumber { name: &'static str, word: &'a str },
+    BadNumber { name: &'a str, word: &'a str },
     /// Help or version that was asked for, or what clap finds wrong.
     #[error("{0}")]
     Words(clap::Error),
@@ -55,6 +55,9 @@ pub enum Fault<'a> {
     /// A run of a script ended before its end, or an output can't be written.
     #[error("{0}")]
     Run(RunFault),
+    /// A line of a checked script failed, which standard output tells.
+    #[error("a line failed")]
+    Failed,
     /// An allocation was refused.
     #[error("out of memory")]
     OutOfMemory,

@@ -68,6 +68,17 @@ The lines of a script are those of `rviommu --help`. An example:
   $ echo 'load 0x80000000 8' | rviommu run seven.image
   0x7";
 
+/// What stands at the end of the help of `check`.
+pub const CHECK: &str = "\
+A line may end with a comment '# => ANSWER', which names the answer that it
+wants. Told are each line whose answer is another, each line that is bad and
+doesn't want it, and at the end how many passed and how many failed. The status
+is 1 where one failed. An example:
+
+  $ echo 'load 0x80000000 8 # => 0x8' | rviommu check seven.image
+  line 1: load 0x80000000 8 -> 0x7, wanted 0x8
+  0 passed, 1 failed";
+
 /// What stands at the end of the help of `list`.
 pub const LIST: &str = "\
 ADDR and COUNT are decimal, or hex after 0x. An item that its words are not is

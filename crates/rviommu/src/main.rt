@@ -8,15 +8,17 @@ use std::alloc::Global;
 use std::cell::RefCell;
 use std::env;
 use std::fs::Files;
-use std::io::{self, BufReader, BufWriter, Read, Write};
+use std::io::{self, BufRead, BufReader, BufWriter, Read, Write};
 use std::process::ExitCode;
 use std::rt::Env;
 use tied::{Shared, Tied};
-use words::{Task, task_of};
+use words::{How, Task, task_of};
 
+mod checking;
 mod fault;
 mod files;
 mod help;
+mod lines;
 mod tied;
 mod words;
 
@@ -26,10 +28,25 @@ const READ_BLOCK: usize = 0x8000;
 // The bytes that are written at once.
 const WRITE_BLOCK: usize = 0x1_0000;
 
-// Runs a script on an image. Its answers are written by blocks, but before it waits for input.
-fn run<'a>(
+// Runs or checks the script that a reader gives.
+fn play<'a, R: BufRead, W: Write>(
     alloc: Global,
     image: &[u8],
+    how: How,
+    reader: &mut R,
+    writer: &mut W,
+) -> Result<(), Fault<'a>> {
+    match how {
+        How::Run => Ok(iom_tool::play(alloc, image, reader, writer)?.ended?),
+        How::Check => checking::check(alloc, image, reader, writer),
+    }
+}
+
+// Plays a script on an image. Its answers are written by blocks, but before it waits for input.
+fn played<'a>(
+    alloc: Global,
+    image: &[u8],
+    how: How,
     input: impl Read + Drop,
     output: impl Write + Drop,
 ) -> Result<(), Fault<'a>> {
@@ -43,10 +60,10 @@ fn run<'a>(
         |_| Fault::OutOfMemory,
     )?;
     let mut writer = Shared { output };
-    let played = iom_tool::play(alloc, image, &mut reader, &mut writer)?;
+    let ended = play(alloc, image, how, &mut reader, &mut writer);
     // The answers before a fault are written too.
     writer.flush().map_err(|_| RunFault::Write)?;
-    Ok(played.ended?)
+    ended
 }
 
 // The image is written only where the whole text is assembled.
@@ -100,10 +117,13 @@ fn carry_out<'a>(
     output: impl Write + Drop,
 ) -> Result<(), Fault<'a>> {
     match task {
-        Task::RunBuiltIn => run(alloc, &iom_asm::built_in(), input, output),
-        Task::Run { image } => {
+        Task::Play { how, image: None } => played(alloc, &iom_asm::built_in(), how, input, output),
+        Task::Play {
+            how,
+            image: Some(image),
+        } => {
             let image = files::read(rt, alloc, image)?;
-            run(alloc, image.as_slice(), input, output)
+            played(alloc, image.as_slice(), how, input, output)
         }
         Task::Assemble { source, image } => assemble(rt, alloc, source, image),
         Task::Upgrade { image, new } => upgrade(rt, alloc, image, new),
@@ -151,6 +171,7 @@ fn status_of(rt: &(impl Print + Eprint), ended: Result<(), Fault<'_>>) -> ExitCo
     match ended {
         Ok(()) => ExitCode::SUCCESS,
         Err(Fault::Words(error)) => ExitCode::from(shown(rt, &error)),
+        Err(Fault::Failed) => ExitCode::FAILURE,
         Err(fault) => ExitCode::from(told(rt, &fault)),
     }
 }

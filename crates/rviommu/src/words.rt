@@ -12,13 +12,21 @@ const KIND: &str = "KIND";
 /// The names of the items that can be listed.
 const KINDS: [&str; 6] = ["cmd", "fault", "context", "dir", "pte", "u64"];
 
+/// What becomes of a script's lines.
+#[derive(Clone, Copy)]
+pub enum How {
+    /// Each is answered.
+    Run,
+    /// Those that fail are told.
+    Check,
+}
+
 /// What the program is asked to do.
 pub enum Task<'a> {
-    /// A script on the built-in image.
-    RunBuiltIn,
-    /// A script on the image in a file.
-    Run {
-        image: &'a str,
+    /// A script on the image in a file, or on the built-in one.
+    Play {
+        how: How,
+        image: Option<&'a str>,
     },
     /// A file assembled into a file.
     Assemble {
@@ -47,13 +55,14 @@ struct Verb {
     operands: &'static [Operand],
 }
 
-/// An operand, which has to be there.
+/// An operand.
 struct Operand {
     name: &'static str,
     help: &'static str,
+    is_required: bool,
 }
 
-const VERBS: [Verb; 4] = [
+const VERBS: [Verb; 5] = [
     Verb {
         name: "asm",
         about: "Assembles a text into an image",
@@ -62,10 +71,12 @@ const VERBS: [Verb; 4] = [
             Operand {
                 name: "SOURCE",
                 help: "The file of the text",
+                is_required: true,
             },
             Operand {
                 name: "IMAGE",
                 help: "The file to write the image to",
+                is_required: true,
             },
         ],
     },
@@ -76,6 +87,17 @@ const VERBS: [Verb; 4] = [
         operands: &[Operand {
             name: "IMAGE",
             help: "The file of the image",
+            is_required: true,
+        }],
+    },
+    Verb {
+        name: "check",
+        about: "Runs a script and tells each line whose answer isn't the wanted one",
+        after_help: help::CHECK,
+        operands: &[Operand {
+            name: "IMAGE",
+            help: "The file of the image; without it the built-in one",
+            is_required: false,
         }],
     },
     Verb {
@@ -86,18 +108,22 @@ const VERBS: [Verb; 4] = [
             Operand {
                 name: "IMAGE",
                 help: "The file of the image",
+                is_required: true,
             },
             Operand {
                 name: KIND,
                 help: "What the items are",
+                is_required: true,
             },
             Operand {
                 name: "ADDR",
                 help: "The physical address of the first",
+                is_required: true,
             },
             Operand {
                 name: "COUNT",
                 help: "How many there are",
+                is_required: true,
             },
         ],
     },
@@ -109,10 +135,12 @@ const VERBS: [Verb; 4] = [
             Operand {
                 name: "IMAGE",
                 help: "The file of the image",
+                is_required: true,
             },
             Operand {
                 name: "NEW",
                 help: "The file to write the new image to",
+                is_required: true,
             },
         ],
     },
@@ -121,7 +149,7 @@ const VERBS: [Verb; 4] = [
 // An operand, as clap takes it.
 fn arg<'a>(alloc: Global, operand: &Operand) -> Arg<'a> {
     let arg = Arg::new(alloc, operand.name)
-        .required(true)
+        .required(operand.is_required)
         .help(operand.help);
     if operand.name == KIND {
         return arg.value_parser(KINDS.as_slice());
@@ -143,7 +171,7 @@ fn subcommand<'a>(alloc: Global, verb: &Verb) -> Result<Command<'a>, AllocError>
 // The command line, as clap takes it.
 fn command<'a>(alloc: Global) -> Result<Command<'a>, AllocError> {
     let mut command = Command::new(alloc, "rviommu")
-        .version("0.2.0")
+        .version("0.3.0")
         .about("A model of the RISC-V IOMMU: without words it runs the script on standard input")
         .after_help(help::SCRIPT);
     for verb in &VERBS {
@@ -158,7 +186,7 @@ fn value<'a>(found: &ArgMatches<'a>, name: &str) -> &'a str {
 }
 
 // The number of an operand that has to be there.
-fn number<'a>(found: &ArgMatches<'a>, name: &'static str) -> Result<u64, Fault<'a>> {
+fn number<'a>(found: &ArgMatches<'a>, name: &'a str) -> Result<u64, Fault<'a>> {
     let word = value(found, name);
     iom_text::number(word.as_bytes()).ok_or(Fault::BadNumber { name, word })
 }
@@ -174,6 +202,14 @@ fn listing<'a>(found: &ArgMatches<'a>) -> Result<Task<'a>, Fault<'a>> {
     })
 }
 
+// A script on the image that the operands name, if they do.
+fn script<'a>(how: How, found: &ArgMatches<'a>) -> Task<'a> {
+    Task::Play {
+        how,
+        image: found.get_str("IMAGE"),
+    }
+}
+
 // What words that clap accepts ask for.
 fn task_in<'a>(matches: &ArgMatches<'a>) -> Result<Task<'a>, Fault<'a>> {
     match matches.subcommand() {
@@ -181,15 +217,17 @@ fn task_in<'a>(matches: &ArgMatches<'a>) -> Result<Task<'a>, Fault<'a>> {
             source: value(found, "SOURCE"),
             image: value(found, "IMAGE"),
         }),
-        Some(("run", found)) => Ok(Task::Run {
-            image: value(found, "IMAGE"),
-        }),
+        Some(("run", found)) => Ok(script(How::Run, found)),
+        Some(("check", found)) => Ok(script(How::Check, found)),
         Some(("upgrade", found)) => Ok(Task::Upgrade {
             image: value(found, "IMAGE"),
             new: value(found, "NEW"),
         }),
         Some((_, found)) => listing(found),
-        None => Ok(Task::RunBuiltIn),
+        None => Ok(Task::Play {
+            how: How::Run,
+            image: None,
+        }),
     }
 }
 
