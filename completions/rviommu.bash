@@ -10,19 +10,19 @@ _rviommu() {
     local current=${COMP_WORDS[COMP_CWORD]}
     COMPREPLY=()
     if [ "$COMP_CWORD" -eq 1 ]; then
-        mapfile -t COMPREPLY < <(compgen -W "asm run check list upgrade help --help --version" -- "$current")
+        mapfile -t COMPREPLY < <(compgen -W "asm run check debug list upgrade help --help --version" -- "$current")
         return
     fi
     case ${COMP_WORDS[1]}:$current in
-        asm:-* | run:-* | check:-* | list:-* | upgrade:-*)
+        asm:-* | run:-* | check:-* | debug:-* | list:-* | upgrade:-*)
             mapfile -t COMPREPLY < <(compgen -W "--help" -- "$current")
             return
             ;;
     esac
     case ${COMP_WORDS[1]}:$COMP_CWORD in
-        asm:2 | asm:3 | run:2 | check:2 | list:2 | upgrade:2 | upgrade:3) _rviommu_files "$current" ;;
+        asm:2 | asm:3 | run:2 | check:2 | debug:2 | list:2 | upgrade:2 | upgrade:3) _rviommu_files "$current" ;;
         list:3) mapfile -t COMPREPLY < <(compgen -W "cmd fault context dir pte u64" -- "$current") ;;
-        help:2) mapfile -t COMPREPLY < <(compgen -W "asm run check list upgrade" -- "$current") ;;
+        help:2) mapfile -t COMPREPLY < <(compgen -W "asm run check debug list upgrade" -- "$current") ;;
     esac
 }
 complete -F _rviommu rviommu

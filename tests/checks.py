@@ -1,5 +1,6 @@
 """What the checks of the program share: how it is run, and how one says what is wanted. The program is the first word."""
 import os
+import re
 import select
 import subprocess
 import sys
@@ -160,6 +161,12 @@ def put(here, name, data):
     return path
 
 
+def words_of(script):
+    """The words that an example's script is played with: those that its first line names, else run."""
+    found = re.match(rb"# rviommu ((?:check|debug)(?: --\w+)*) image < examples/\w+\.script\n", script)
+    return found[1].decode().split() if found else ["run"]
+
+
 # The lines that a script may have, as help and man page show them.
 FORMS = [
     b"load ADDR SIZE",
@@ -176,4 +183,15 @@ FORMS = [
     b"place context I",
     b"place page I",
     b"trace I",
+]
+
+# The lines that scripts of debug and check have besides.
+DEBUG_FORMS = [
+    b"reg read NAME",
+    b"reg write NAME VALUE",
+    b"dev read N NAME",
+    b"dev write N NAME VALUE",
+    b"queue cmd",
+    b"dump ADDR LEN",
+    b"disk N BYTE LEN",
 ]

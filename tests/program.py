@@ -17,6 +17,7 @@ import tty
 from checks import *  # noqa: F403
 import program_checking  # noqa: F401
 import program_completions  # noqa: F401
+import program_debugging  # noqa: F401
 import program_documents  # noqa: F401
 import program_images  # noqa: F401
 import program_memory  # noqa: F401
@@ -95,10 +96,11 @@ def add_examples():
                 given, wanted = script.read(), answers.read()
             if not os.path.isfile(name + ".asm"):
                 return want_run(given, wanted)
+            ending = WELL if words_of(given)[0] != "check" or wanted.endswith(b" 0 failed\n") else (1, b"")
             with folder() as here:
                 image = os.path.join(here, "image")
                 want_words(["asm", name + ".asm", image], b"")
-                want_words(["run", image], wanted, given=given)
+                want_words([*words_of(given), image], wanted, ending, given)
 
 
 add_examples()
@@ -175,6 +177,8 @@ add_refused("run")
 add_refused("run", "image", "more")
 add_refused("check", "image", "more")
 add_refused("check", "--jump")
+add_refused("debug", "image", "more")
+add_refused("debug", "--stale")
 add_refused("list", "image", "u64", "0")
 add_refused("list", "image", "word", "0", "1")
 add_refused("list", "image", "u64", "0X1", "1")

@@ -4,8 +4,8 @@ import os
 
 from checks import (
     ANSWER, ASK, EXAMPLES, MOST_BYTES, MOST_IN_LINE, MOST_LINES, READ_FAILED, TOO_LONG, WELL, WRITE_FAILED, Failure, Skip, Talk, check, folder,
-    put, run, short, want, want_words)
-from program_images import BUILT_IN, READ_ONLY, ROWS, cannot, fault, read
+    put, run, short, want, want_words, words_of)
+from program_images import BAD_FOR_RUN, BUILT_IN, READ_ONLY, ROWS, cannot, fault, read
 
 FAILED = (1, b"")
 RIGHT = ASK + b" # => 0x2\n"
@@ -158,6 +158,8 @@ def wanted_scripts():
     """Each script of the examples and of the rows that wants the answers that stand beside it, with its text of an image, if it has one."""
     for path in sorted(glob.glob(os.path.join(EXAMPLES, "*.script")) + glob.glob(os.path.join(ROWS, "*.script"))):
         name = path[: -len(".script")]
+        if words_of(read(path))[0] == "check" or os.path.basename(name) == BAD_FOR_RUN:
+            continue
         answers = name + (".answers" if os.path.exists(name + ".answers") else ".expect")
         yield name, wanting(read(path), read(answers))
 

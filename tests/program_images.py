@@ -13,6 +13,8 @@ COMMAND = b"cmd iodir dv=0x1 did=0x5\n"
 
 
 ROWS = os.path.join(EXAMPLES, os.pardir, "crates", "iom_rows", "data")
+# The row whose lines are bad for run, and not for debug.
+BAD_FOR_RUN = "lines_of_debug_alone"
 
 
 def fault(text):
@@ -248,5 +250,6 @@ STATEMENTS = [b"ram BASE SIZE", b"at ADDR", b"u64 VALUE", b"bytes HEX", b"cmd NA
 add_word_help("asm", [b"<SOURCE>", b"<IMAGE>", *STATEMENTS])
 add_word_help("run", [b"<IMAGE>"])
 add_word_help("check", [b"[IMAGE]"], ending=1)
+add_word_help("debug", [b"[IMAGE]"])
 add_word_help("list", [b"<IMAGE>", b"<KIND>", b"<ADDR>", b"<COUNT>"])
 add_word_help("upgrade", [b"<IMAGE>", b"<NEW>"])

@@ -3,7 +3,7 @@ import os
 import re
 import subprocess
 
-from checks import EXAMPLES, FORMS, PROGRAM, RUN_SECONDS, check, folder, put, want, want_words
+from checks import DEBUG_FORMS, EXAMPLES, FORMS, PROGRAM, RUN_SECONDS, check, folder, put, want, want_words
 from program_completions import KINDS, commands
 from program_images import STATEMENTS
 
@@ -39,8 +39,8 @@ def man_page():
 @check("man page: it names every word, line, statement, answer and text of the program")
 def _():
     page = man_page()
-    forms = [form.decode() for form in FORMS + STATEMENTS]
-    wanted = [*commands(), "--help", "--version", "asm SOURCE IMAGE", "run IMAGE", "check [IMAGE]", "list IMAGE KIND ADDR COUNT", "upgrade IMAGE NEW", *forms, *KINDS, *ANSWERS, *TEXTS]
+    forms = [form.decode() for form in FORMS + DEBUG_FORMS + STATEMENTS]
+    wanted = [*commands(), "--help", "--version", "asm SOURCE IMAGE", "run IMAGE", "check [IMAGE]", "debug [IMAGE]", "list IMAGE KIND ADDR COUNT", "upgrade IMAGE NEW", *forms, *KINDS, *ANSWERS, *TEXTS]
     missing = [it for it in wanted if not re.search(r"(?m)(^|[\s,])" + re.escape(it) + r"(?=[\s,.;=]|$)", page)]
     want("what the man page lacks", missing, [])
 
@@ -48,21 +48,22 @@ def _():
 @check("man page: each line of a script that it shows is answered as it says")
 def _():
     shown = re.findall(r"(?m)^(?!line )(.+?) -> (.+)$", man_page())
-    want("how many lines it shows", len(shown), len(FORMS))
-    for form, (line, _) in zip(sorted(FORMS), sorted(shown)):
+    want("how many lines it shows", len(shown), len(FORMS) + len(DEBUG_FORMS))
+    for form, (line, _) in zip(sorted(FORMS + DEBUG_FORMS), sorted(shown)):
         want("the word of a line", line.split()[0], form.decode().split()[0])
     with folder() as here:
         source, image = put(here, "source", b"ram 0x80000000 0x1000\ndisk 5 1\n"), os.path.join(here, "image")
         want_words(["asm", source, image], b"")
-        given = "".join(line + "\n" for line, _ in shown).encode()
-        want_words(["run", image], "".join(answer + "\n" for _, answer in shown).encode(), given=given)
+        for word, lines in (("run", shown[: len(FORMS)]), ("debug", shown)):
+            given = "".join(line + "\n" for line, _ in lines).encode()
+            want_words([word, image], "".join(answer + "\n" for _, answer in lines).encode(), given=given)
 
 
 @check("man page: its commands are answered as it says")
 def _():
     page = man_page()
     block = page[page.index("$ printf 'ram") : page.index("help, --help")]
-    lines = [line for line in block.splitlines() if re.match(r"\$ |0x|u64 |line \d|\d+ passed", line)]
+    lines = [line for line in block.splitlines() if re.match(r"\$ |0x|u64 |line \d|\d+ passed|07000000", line)]
     with folder() as here:
         put(here, "rviommu", b'#!/bin/sh\nexec "$PROGRAM" "$@"\n')
         os.chmod(os.path.join(here, "rviommu"), 0o755)

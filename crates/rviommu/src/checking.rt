@@ -1,21 +1,35 @@
-//! Scripts whose lines name the answers that they want.
+//! Lines that name the answers that they want.
 
 use crate::fault::Fault;
-use crate::lines::{Lines, MOST_LINES};
-use iom_tool::{RunFault, Session, Trace};
-use std::alloc::Global;
+use iom_debug::wanted;
+use iom_tool::RunFault;
 use std::fmt::{self, Display, Formatter};
-use std::io::{BufRead, Write};
+use std::io::Write;
 
-/// A line of a script with its answer, as it is judged.
+/// A line of a script, and its answer.
 #[derive(Clone, Copy)]
-struct Answered<'a> {
-    // from 1
-    number: u64,
-    line: &'a [u8],
-    answer: &'a [u8],
-    // the wanted answer, where it is another
-    missed: Option<&'a [u8]>,
+pub struct Answered<'a> {
+    /// From 1.
+    pub number: u64,
+    /// Without its line end.
+    pub line: &'a [u8],
+    /// Not empty.
+    pub answer: &'a [u8],
+}
+
+impl<'a> Answered<'a> {
+    // The answer that the line wants, where it is another.
+    fn missed(&self) -> Option<&'a [u8]> {
+        wanted(self.line).filter(|wanted| *wanted != self.answer)
+    }
+
+    // Whether the line fails: it wants another answer, or is bad and doesn't want that.
+    fn fails(&self) -> bool {
+        match wanted(self.line) {
+            Some(wanted) => wanted != self.answer,
+            None => self.answer == b"bad".as_slice(),
+        }
+    }
 }
 
 impl Display for Answered<'_> {
@@ -27,14 +41,14 @@ impl Display for Answered<'_> {
             self.number,
             self.answer.escape_ascii()
         )?;
-        match self.missed {
+        match self.missed() {
             Some(wanted) => write!(f, ", wanted {}", wanted.escape_ascii()),
             None => Ok(()),
         }
     }
 }
 
-// What stands before a line's comment.
+// What stands before a line's comment, without the blanks around it.
 fn before_comment(line: &[u8]) -> &[u8] {
     let line = match line.iter().position(|c| *c == b'#') {
         Some(at) => &line[..at],
@@ -43,88 +57,46 @@ fn before_comment(line: &[u8]) -> &[u8] {
     line.trim_ascii()
 }
 
-// The answer that a line's comment `# => ANSWER` wants.
-fn wanted(line: &[u8]) -> Option<&[u8]> {
-    let at = line.iter().position(|c| *c == b'#')?;
-    let comment = line[at + 1..].trim_ascii_start();
-    Some(comment.strip_prefix(b"=>")?.trim_ascii())
-}
-
-/// How many lines gave the answer that they want, and how many failed.
+/// How many lines of a script gave the answer that they want, and how many failed.
 #[derive(Drop)]
-struct Tally {
+pub struct Tally {
     passed: u64,
     failed: u64,
 }
 
 impl Tally {
-    // Counts a line and its answer, and tells the line where it fails: where it wants another answer, or is bad and doesn't want that.
-    fn judge<W: Write>(
+    /// That of no line.
+    pub fn new() -> Self {
+        Tally {
+            passed: 0,
+            failed: 0,
+        }
+    }
+
+    /// Counts a line, and tells it where it fails. The fault is `Write`.
+    pub fn judge<W: Write>(
         &mut self,
-        number: u64,
-        line: &[u8],
-        answer: &[u8],
+        answered: Answered<'_>,
         writer: &mut W,
     ) -> Result<(), RunFault> {
-        let wanted = wanted(line);
-        let missed = wanted.filter(|wanted| *wanted != answer);
-        if missed.is_some() || wanted.is_none() && answer == b"bad".as_slice() {
+        if answered.fails() {
             self.failed = self.failed.saturating_add(1);
-            let told = Answered {
-                number,
-                line,
-                answer,
-                missed,
-            };
-            writeln!(writer, "{told}").map_err(|_| RunFault::Write)?;
-        } else if wanted.is_some() {
+            return writeln!(writer, "{answered}").map_err(|_| RunFault::Write);
+        }
+        if wanted(answered.line).is_some() {
             self.passed = self.passed.saturating_add(1);
         }
         Ok(())
     }
-}
 
-// Carries out the lines, each judged before the next is read.
-fn judged<'a, R: BufRead, W: Write>(
-    session: &mut Session<'_>,
-    lines: &mut Lines<R>,
-    writer: &mut W,
-) -> Result<Tally, Fault<'a>> {
-    let mut tally = Tally {
-        passed: 0,
-        failed: 0,
-    };
-    for number in 1..=MOST_LINES {
-        let Some(line) = lines.next_line()? else {
-            return Ok(tally);
-        };
-        let reply = session.line(line);
-        if !reply.is_empty() {
-            tally.judge(number, line, reply.as_slice(), writer)?;
+    /// Tells how many lines passed and failed. The faults are `Write`, and `Failed` where a line failed.
+    pub fn sum_up<W: Write>(&self, writer: &mut W) -> Result<(), Fault<'static>> {
+        let (passed, failed) = (self.passed, self.failed);
+        let told = writeln!(writer, "{passed} passed, {failed} failed");
+        told.map_err(|_| RunFault::Write)?;
+        if failed > 0 {
+            return Err(Fault::Failed);
         }
+        Ok(())
     }
-    match lines.next_line()? {
-        Some(_) => Err(Fault::Run(RunFault::TooLong)),
-        None => Ok(tally),
-    }
-}
-
-/// Carries out a script on an image, tells each line whose answer isn't the one that it wants, and at the end how many passed. The fault
-/// is `Failed` where a line failed.
-pub fn check<'a, R: BufRead, W: Write>(
-    alloc: Global,
-    image: &[u8],
-    reader: &mut R,
-    writer: &mut W,
-) -> Result<(), Fault<'a>> {
-    let mut platform = iom_asm::load(alloc, image)?;
-    let mut trace = Trace::new(alloc)?;
-    let mut session = Session::new(&mut platform, &mut trace);
-    let mut lines = Lines::new(alloc, reader);
-    let Tally { passed, failed } = judged(&mut session, &mut lines, writer)?;
-    writeln!(writer, "{passed} passed, {failed} failed").map_err(|_| RunFault::Write)?;
-    if failed > 0 {
-        return Err(Fault::Failed);
-    }
-    Ok(())
 }

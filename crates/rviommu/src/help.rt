@@ -79,6 +79,23 @@ is 1 where one failed. An example:
   line 1: load 0x80000000 8 -> 0x7, wanted 0x8
   0 passed, 1 failed";
 
+/// What stands at the end of the help of `debug`.
+pub const DEBUG: &str = "\
+The lines of a script are those of `rviommu --help` and these:
+
+  reg read NAME                 a register of the IOMMU by its name, as ddtp
+  reg write NAME VALUE
+  dev read N NAME               a register of block device N, as Status
+  dev write N NAME VALUE
+  queue cmd, queue fault        where a queue stands, and whether it is on
+  dump ADDR LEN                 1 to 64 bytes of memory
+  disk N BYTE LEN               1 to 64 bytes of the disk of block device N
+
+An example:
+
+  $ echo 'dump 0x80000000 4' | rviommu debug seven.image
+  07000000";
+
 /// What stands at the end of the help of `list`.
 pub const LIST: &str = "\
 ADDR and COUNT are decimal, or hex after 0x. An item that its words are not is

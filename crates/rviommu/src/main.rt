@@ -1,6 +1,8 @@
 //! The program `rviommu`: scripts on images, the assembler, listings and upgrades.
 #![tactic(auto)]
 
+use checking::Tally;
+use debugging::{Telling, carry_out};
 use fault::Fault;
 use iom_asm::Item;
 use iom_tool::RunFault;
@@ -15,6 +17,7 @@ use tied::{Shared, Tied};
 use words::{How, Task, task_of};
 
 mod checking;
+mod debugging;
 mod fault;
 mod files;
 mod help;
@@ -28,7 +31,7 @@ const READ_BLOCK: usize = 0x8000;
 // The bytes that are written at once.
 const WRITE_BLOCK: usize = 0x1_0000;
 
-// Runs or checks the script that a reader gives.
+// Runs, debugs or checks the script that a reader gives.
 fn play<'a, R: BufRead, W: Write>(
     alloc: Global,
     image: &[u8],
@@ -38,7 +41,14 @@ fn play<'a, R: BufRead, W: Write>(
 ) -> Result<(), Fault<'a>> {
     match how {
         How::Run => Ok(iom_tool::play(alloc, image, reader, writer)?.ended?),
-        How::Check => checking::check(alloc, image, reader, writer),
+        How::Debug => carry_out(alloc, image, Telling::Answers, reader, writer),
+        How::Check => carry_out(
+            alloc,
+            image,
+            Telling::Failures(Tally::new()),
+            reader,
+            writer,
+        ),
     }
 }
 
@@ -109,7 +119,7 @@ fn list<'a>(
 }
 
 // Does what the words of the command line ask for.
-fn carry_out<'a>(
+fn done<'a>(
     rt: &impl Files,
     alloc: Global,
     task: Task<'a>,
@@ -188,7 +198,7 @@ fn program(
         Err(fault) => return status_of(rt, Err(fault)),
     };
     let ended = match task_of(alloc, words.as_slice()) {
-        Ok(task) => carry_out(rt, alloc, task, input, output),
+        Ok(task) => done(rt, alloc, task, input, output),
         Err(fault) => Err(fault),
     };
     status_of(rt, ended)

@@ -17,6 +17,8 @@ const KINDS: [&str; 6] = ["cmd", "fault", "context", "dir", "pte", "u64"];
 pub enum How {
     /// Each is answered.
     Run,
+    /// Each is answered, and may be one of `debug`.
+    Debug,
     /// Those that fail are told.
     Check,
 }
@@ -62,7 +64,7 @@ struct Operand {
     is_required: bool,
 }
 
-const VERBS: [Verb; 5] = [
+const VERBS: [Verb; 6] = [
     Verb {
         name: "asm",
         about: "Assembles a text into an image",
@@ -94,6 +96,16 @@ const VERBS: [Verb; 5] = [
         name: "check",
         about: "Runs a script and tells each line whose answer isn't the wanted one",
         after_help: help::CHECK,
+        operands: &[Operand {
+            name: "IMAGE",
+            help: "The file of the image; without it the built-in one",
+            is_required: false,
+        }],
+    },
+    Verb {
+        name: "debug",
+        about: "Runs a script that may ask more about the platform",
+        after_help: help::DEBUG,
         operands: &[Operand {
             name: "IMAGE",
             help: "The file of the image; without it the built-in one",
@@ -218,6 +230,7 @@ fn task_in<'a>(matches: &ArgMatches<'a>) -> Result<Task<'a>, Fault<'a>> {
             image: value(found, "IMAGE"),
         }),
         Some(("run", found)) => Ok(script(How::Run, found)),
+        Some(("debug", found)) => Ok(script(How::Debug, found)),
         Some(("check", found)) => Ok(script(How::Check, found)),
         Some(("upgrade", found)) => Ok(Task::Upgrade {
             image: value(found, "IMAGE"),

@@ -1,0 +1,87 @@
+//! The lines of scripts that are debugged or checked.
+
+use crate::checking::{Answered, Tally};
+use crate::fault::Fault;
+use crate::lines::{Lines, MOST_LINES};
+use iom_debug::Debugger;
+use iom_tool::{RunFault, Trace};
+use std::alloc::Global;
+use std::io::{BufRead, Write};
+
+/// What is told of a script's lines.
+#[derive(Drop)]
+pub enum Telling {
+    /// Their answers.
+    Answers,
+    /// Those that fail.
+    Failures(Tally),
+}
+
+impl Telling {
+    // Tells what is to be told of a line.
+    fn tell<W: Write>(&mut self, answered: Answered<'_>, writer: &mut W) -> Result<(), RunFault> {
+        match self {
+            Telling::Answers => {
+                let written = writer.write_all(answered.answer);
+                written.map_err(|_| RunFault::Write)?;
+                writer.write_all(b"\n").map_err(|_| RunFault::Write)
+            }
+            Telling::Failures(tally) => tally.judge(answered, writer),
+        }
+    }
+
+    // Tells what is to be told at the end.
+    fn sum_up<W: Write>(&self, writer: &mut W) -> Result<(), Fault<'static>> {
+        match self {
+            Telling::Answers => Ok(()),
+            Telling::Failures(tally) => tally.sum_up(writer),
+        }
+    }
+}
+
+// Carries out the lines, each told before the next is read.
+fn carried_out<R: BufRead, W: Write>(
+    debugger: &mut Debugger<'_>,
+    lines: &mut Lines<R>,
+    telling: &mut Telling,
+    writer: &mut W,
+) -> Result<(), Fault<'static>> {
+    for number in 1..=MOST_LINES {
+        let Some(line) = lines.next_line()? else {
+            return Ok(());
+        };
+        let reply = debugger.line(line);
+        let answer = reply.as_slice();
+        if !answer.is_empty() {
+            telling.tell(
+                Answered {
+                    number,
+                    line,
+                    answer,
+                },
+                writer,
+            )?;
+        }
+    }
+    match lines.next_line()? {
+        Some(_) => Err(Fault::Run(RunFault::TooLong)),
+        None => Ok(()),
+    }
+}
+
+/// Carries out the script that a reader gives on an image, and tells of its lines what is to be told. The faults are those of `run`,
+/// and `Failed` where a line failed.
+pub fn carry_out<R: BufRead, W: Write>(
+    alloc: Global,
+    image: &[u8],
+    mut telling: Telling,
+    reader: &mut R,
+    writer: &mut W,
+) -> Result<(), Fault<'static>> {
+    let mut platform = iom_asm::load(alloc, image)?;
+    let mut trace = Trace::new(alloc)?;
+    let mut debugger = Debugger::new(&mut platform, &mut trace);
+    let mut lines = Lines::new(alloc, reader);
+    carried_out(&mut debugger, &mut lines, &mut telling, writer)?;
+    telling.sum_up(writer)
+}

@@ -1,0 +1,144 @@
+"""Checks of the word debug: scripts that ask more than those of run."""
+import glob
+import os
+import re
+
+from checks import (
+    ANSWER, ASK, DEBUG_FORMS, EXAMPLES, MOST_IN_LINE, MOST_LINES, READ_FAILED, TOO_LONG, WELL, WRITE_FAILED, Failure, Skip, Talk, check, folder,
+    put, run, want, want_words, words_of)
+from program_documents import table
+from program_images import BAD_FOR_RUN, BUILT_IN, READ_ONLY, ROWS, cannot, fault, read
+
+# A page of memory whose first bytes are known, and a block device whose disk has 1024 bytes.
+TEXT = b"ram 0x80000000 0x1000\nbytes 0102030405060708\ndisk 5 2 c0ffee\n"
+
+
+def want_debugged(lines, text=TEXT):
+    """Wants a debugger to answer each of these lines so, on the image of a text."""
+    with folder() as here:
+        source, image = put(here, "source", text), os.path.join(here, "image")
+        want_words(["asm", source, image], b"")
+        given, wanted = ("".join(it + "\n" for it in each).encode() for each in zip(*lines))
+        want_words(["debug", image], wanted, given=given)
+
+
+@check("debug: registers by their names are those by their offsets")
+def _():
+    rows = [re.fullmatch(r" +(\d+) +([48])  (\w+) .*", line) for line in table("REGISTERS OF THE IOMMU")]
+    own = [re.fullmatch(r"(0x[0-9a-f]{3})   (?:read|write|both) +(\w+).*", line) for line in table("REGISTERS OF A BLOCK DEVICE")]
+    lines = [f"reg read {it[3]}\nreg read {it[1]} {it[2]}" for it in rows]
+    lines += [f"dev read 0 {it[2]}\ndev read 0 {it[1]} 4" for it in own if not re.match("SHM|capacity", it[2])]
+    with folder() as here:
+        words = ["debug", put(here, "image", READ_ONLY)]
+        status, out, errors = run(words, "\n".join(lines).encode())
+    want("status and standard error", (status, errors), WELL)
+    seen = out.decode().splitlines()
+    want("the answers by names", seen[::2], seen[1::2])
+    want("how many there are", len(seen), 2 * (12 + 23))
+    want("the names that are none", [it for it in seen if not it.startswith("0x")], [])
+
+
+@check("debug: a register is written by its name")
+def _():
+    want_debugged([
+        ("reg write ddtp 1", "done"), ("reg read 16 8", "0x1"), ("reg write cqcsr 0x100000000", "misuse"), ("reg write fctl 0", "done"),
+        ("dev write 0 Status 3", "done"), ("dev read 0 0x70 4", "0x3"), ("dev write 1 Status 3", "no device"), ("dev read 1 Status", "no device"),
+        ("reg read DDTP", "bad"), ("reg read iohpmcycles", "bad"), ("reg read ddtp 8", "bad"), ("dev read 0 status", "bad"),
+        ("reg write ddtp", "bad"), ("dev write 0 Status 4 3", "bad"), ("dev read 0 SHMLenLow", "bad"),
+    ])
+
+
+@check("debug: queues, bytes of memory and of a disk, at both ends")
+def _():
+    want_debugged([
+        ("queue cmd", "on=0x0 base=0x0 entries=0x2 head=0x0 tail=0x0 stop=none"),
+        ("reg write cqb 0x20000003", "done"), ("reg write cqcsr 1", "done"), ("reg write cqt 3", "done"),
+        ("queue cmd", "on=0x1 base=0x80000000 entries=0x10 head=0x0 tail=0x3 stop=none"),
+        ("cmd", "done"), ("queue cmd", "on=0x1 base=0x80000000 entries=0x10 head=0x0 tail=0x3 stop=illegal"),
+        ("queue fault", "on=0x0 base=0x0 entries=0x2 head=0x0 tail=0x0 stop=none"),
+        ("dump 0x80000001 4", "02030405"), ("dump 0x80000fff 1", "00"), ("dump 0x80000fff 2", "outside"), ("dump 0x7fffffff 2", "outside"),
+        ("dump 0xffffffffffffffff 64", "outside"), ("dump 0x80000000 64", "0102030405060708" + "00" * 56),
+        ("dump 0x80000000 0", "bad"), ("dump 0x80000000 65", "bad"),
+        ("disk 0 0 4", "c0ffee00"), ("disk 0 1023 1", "00"), ("disk 0 1023 2", "outside"), ("disk 0 0xffffffffffffffff 1", "outside"),
+        ("disk 1 0 1", "none"), ("disk 0 0 0", "bad"), ("disk 0 0 65", "bad"), ("queue", "bad"), ("queue cmds", "bad"), ("trace 4", "none"),
+    ])
+
+
+@check("debug: each example and row of run is answered as run answers it")
+def _():
+    played = 0
+    for path in sorted(glob.glob(os.path.join(EXAMPLES, "*.script")) + glob.glob(os.path.join(ROWS, "*.script"))):
+        name, given = path[: -len(".script")], read(path)
+        if words_of(given) != ["run"] or os.path.basename(name) == BAD_FOR_RUN:
+            continue
+        with folder() as here:
+            images = [os.path.join(here, "image")] if os.path.exists(name + ".asm") else []
+            for image in images:
+                want_words(["asm", name + ".asm", image], b"")
+            by_run = run(["run", *images] if images else [], given)
+            want(f"the answers to {path}", run(["debug", *images], given), by_run)
+            played += 1
+    want("whether there were some", played > 60, True)
+
+
+@check("debug: ends, blank and bad lines, and limits are those of run")
+def _():
+    for given, wanted in [
+        (b"", b""), (ASK, ANSWER), (b"\n# a comment\n" + ASK + b" # => 0x3\n\njump", ANSWER + b"bad\n"), (b"cmd\n \t\r", b"idle\n"),
+        (ASK + b" " * MOST_IN_LINE + b"\ncmd\n", b"bad\nidle\n"), (b"x" * 1_000_000 + b"\ncmd", b"bad\nidle\n"),
+    ]:
+        want_words(["debug"], wanted, given=given)
+    many = ASK + b"\n" * (MOST_LINES - 1) + ASK
+    want_words(["debug"], ANSWER * 2, given=many)
+    want_words(["debug"], ANSWER * 2, TOO_LONG, many + b"\n ")
+
+
+@check("debug: faults are those of run")
+def _():
+    with folder() as here:
+        none = os.path.join(here, "none")
+        want_words(["debug", none], b"", cannot(b"read", none))
+        want_words(["debug", put(here, "bad", BUILT_IN[:31])], b"", fault(b"truncated"), ASK)
+        standing = os.open("/", os.O_RDONLY)
+        try:
+            want("how it ends", run(["debug"], stdin=standing), (1, b"", READ_FAILED[1]))
+        finally:
+            os.close(standing)
+    try:
+        full = open("/dev/full", "wb", buffering=0)
+    except OSError as error:
+        raise Skip(f"/dev/full: {error.strerror}") from None
+    with full:
+        for given in (ASK, (ASK + b"\n") * 100_000):
+            status, _, errors = run(["debug"], given, stdout=full)
+            want("status and standard error", (status, errors), WRITE_FAILED)
+
+
+@check("debug: at a pipe each line is answered before the next is sent")
+def _():
+    with Talk(["debug"]) as talk:
+        for sent, answer in ((b"reg write ddtp 1\n", b"done\n"), (b"dump 0x80000000 2\n", b"0000\n"), (b"jump\n", b"bad\n"), (b"cmd\n", b"idle\n")):
+            talk.send(sent)
+            talk.want_answer(sent, answer)
+        talk.send(b"\n")
+        talk.want_nothing(b"a blank line")
+        talk.want_end()
+
+
+@check("check: its scripts have the lines of debug")
+def _():
+    with folder() as here:
+        image = put(here, "image", READ_ONLY)
+        given = b"reg write ddtp 1 # => done\ndisk 0 0 2 # => aa00\nqueue fault # => none\n"
+        told = b"line 3: queue fault -> on=0x0 base=0x0 entries=0x2 head=0x0 tail=0x0 stop=none, wanted none\n2 passed, 1 failed\n"
+        want_words(["check", image], told, (1, b""), given)
+
+
+@check("debug --help: each line that debug alone has")
+def _():
+    status, out, errors = run(["debug", "--help"])
+    want("status and standard error", (status, errors), WELL)
+    lacking = [form for form in DEBUG_FORMS if b"\n  " + form not in out]
+    want("the lines that it lacks", lacking, [])
+    if b"--stale" in out:
+        raise Failure("it has an option of check")
