@@ -1,4 +1,5 @@
 pub mod Stale
 pub mod Parts
 pub mod Fetches
+pub mod Passing
 pub mod Standing

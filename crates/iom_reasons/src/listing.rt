@@ -9,6 +9,7 @@ ghost use Rattle.iom_nested.specs.Nested.{first_stage};
 ghost use Rattle.iom_nested.specs.Stages.{first_shape_of};
 ghost use Rattle.iom_reasons.specs.Parts.{access_parts, entry_parts, first_parts, parts_of, read_at, second_parts, stage_parts};
 ghost use Rattle.iom_reasons.specs.Fetches.{IsRead};
+ghost use Rattle.iom_reasons.specs.Passing.{IsGranted, Passes};
 ghost use Rattle.iom_reasons.specs.declared.part.Part.TheVariants.{Directory, End};
 ghost use Rattle.iom_reasons.specs.Stale.{by_tables};
 
@@ -32,12 +33,13 @@ pub type Parts = ArrayVec<Part, 29>;
 /// ddtp comes first, then the directory down to the device's context, then the first stage: before each of its entries those of the
 /// second stage that translate the entry's place, for a read. The second stage for the access itself is next, for the access's kind,
 /// and the end is the way that the request is led. A device id that is too wide has no directory, and an address that breaks the width
-/// rule no entries. The device id is below 2^24, the IOVA any. No memory is taken.
+/// rule no entries. Where the request is granted no part refuses it. The device id is below 2^24, the IOVA any. No memory is taken.
 #[tactic(auto, unfolding(crate::specs::Parts::parts_of))]
 pub fn parts(platform: &Platform, request: &Request) -> Parts
     requires { request.now.did < 2 ^ 24 }
     ensures parts { result.items ≡ parts_of platform.now.machine request.now }
     ensures read { All (IsRead platform.now.machine.memory) result.items }
+    ensures passed { IsGranted (by_tables platform.now.machine request.now) → All Passes result.items }
     ensures end { slice_get result.items (array_vec_len result - 1) ≡ Some (End (by_tables platform.now.machine request.now)) }
     ensures some { 2 ≤ array_vec_len result }
     ensures most { array_vec_len result ≤ 29 }
