@@ -1,13 +1,13 @@
 //! The parts of a walk.
 
-ghost use Rattle.std.specs.Prelude.{◌≡◌, ◌++◌, ◌+◌, ◌<◌, ◌≤◌, ◌^◌, ◌-◌, map, flat_map, slice_get, All, Some};
+ghost use Rattle.std.specs.Prelude.{◌≡◌, ◌++◌, ◌+◌, ◌<◌, ◌≤◌, ◌^◌, ◌-◌, [], ◌∷◌, map, flat_map, slice_get, All, Some};
 ghost use Rattle.arrayvec.specs.ArrayVec.{array_vec_len};
 ghost use Rattle.iom_regs.specs.Views.{mode_of};
 ghost use Rattle.iom_ddt.specs.Contexts.{IsWellFormed};
 ghost use Rattle.iom_ddt.specs.Directory.{levels_of, located, path_of};
 ghost use Rattle.iom_nested.specs.Nested.{first_stage};
 ghost use Rattle.iom_nested.specs.Stages.{first_shape_of};
-ghost use Rattle.iom_reasons.specs.Parts.{access_parts, entry_parts, first_parts, parts_of, read_at, second_parts, stage_parts};
+ghost use Rattle.iom_reasons.specs.Parts.{access_parts, entry_parts, first_parts, parts_by, parts_of, read_at, second_parts, stage_parts};
 ghost use Rattle.iom_reasons.specs.Fetches.{IsRead};
 ghost use Rattle.iom_reasons.specs.Passing.{IsGranted, Passes};
 ghost use Rattle.iom_reasons.specs.declared.part.Part.TheVariants.{Directory, End};
@@ -49,12 +49,32 @@ pub fn parts(platform: &Platform, request: &Request) -> Parts
     let root = registers.root();
     let mut out = Parts::new();
     out.push(Part::Ddtp { mode, root });
-    if let Mode::Levels(_) = mode {
-        push_directory(&mut out, platform, request.did);
-        push_located(&mut out, platform, request);
-    }
-    out.push(Part::End(way_by_tables(platform, request)));
+    push_walk(&mut out, platform, request);
+    push_end(&mut out, platform, request);
     out
+}
+
+// What is behind ddtp, where its mode has a directory.
+fn push_walk(out: &mut Parts, platform: &Platform, request: &Request)
+    requires width { request.now.did < 2 ^ 24 }
+    requires room { array_vec_len out.old ≤ 1 }
+    ensures items { out.new.items ≡ out.old.items
+        ++ parts_by (mode_of platform.now.machine.registers) platform.now.machine request.now }
+    ensures len { array_vec_len out.new ≤ array_vec_len out.old + 27 }
+{
+    if let Mode::Levels(_) = platform.registers().mode() {
+        push_directory(out, platform, request.did);
+        push_located(out, platform, request);
+    }
+}
+
+// The way that the request is led.
+fn push_end(out: &mut Parts, platform: &Platform, request: &Request)
+    requires width { request.now.did < 2 ^ 24 }
+    requires room { array_vec_len out.old ≤ 28 }
+    ensures { out.new.items ≡ out.old.items ++ End (by_tables platform.now.machine request.now) ∷ [] }
+{
+    out.push(Part::End(way_by_tables(platform, request)));
 }
 
 // The items of the directory.

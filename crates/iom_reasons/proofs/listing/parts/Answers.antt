@@ -4,10 +4,12 @@ use Rattle.iom_reasons.proofs.Fetches.{each_read_of}
 use Rattle.iom_reasons.proofs.Passing.{each_passes_of}
 use Rattle.iom_reasons.proofs.listing.parts.Goals as goal
 
-pub returns-clause-read : goal.returns-clause-read
+pub returns-clause-parts : goal.returns-clause-parts
 unfolding parts_of
-returns-clause-read c = each_read_of c.args.platform.now.machine c.args.request.now _ (search rules)
+returns-clause-parts c = search rules
+
+pub returns-clause-read : goal.returns-clause-read
+returns-clause-read c = each_read_of c.args.platform.now.machine c.args.request.now _ (returns-clause-parts c)
 
 pub returns-clause-passed : goal.returns-clause-passed
-unfolding parts_of
-returns-clause-passed c = each_passes_of c.args.platform.now.machine c.args.request.now _ (search rules)
+returns-clause-passed c = each_passes_of c.args.platform.now.machine c.args.request.now _ (returns-clause-parts c)
