@@ -87,10 +87,10 @@ let_leaf global address entry ruling.NotAccessed word leaf is = cc
 let_leaf global address entry ruling.NotDirty word leaf is = cc
 
 -- an entry that was met and lets the walk on
-pub record IsLet (at : ℕ → Got) (kind : Kind) (entry : PathEntry) : Type 0 where
-  pub met : entry.got ≡ at entry.place
-  pub judged : entry.ruling ≡ ruling_of kind entry.level entry.got
-  pub lets : Lets entry.ruling
+record IsLet (at : ℕ → Got) (kind : Kind) (entry : PathEntry) : Type 0 where
+  met : entry.got ≡ at entry.place
+  judged : entry.ruling ≡ ruling_of kind entry.level entry.got
+  lets : Lets entry.ruling
 
 abbrev end_on : Kind → Bool → ℕ → List Entry → Outcome
 end_on kind global address path = conclude_at kind global address (find (λ entry. not (is_pointer (verdict_on kind entry))) path)
@@ -121,7 +121,7 @@ walk_from_lets at shape kind global address table (suc count) leaf ends =
     one_more at kind global address entry (path_from at shape address (next_table entry) count) leaf (is_pointer (verdict_on Read entry))
     refl (sym (pointer_for_each kind count entry.got)) (walk_from_lets at shape kind global address (next_table entry) count leaf) ends
 
-pub walk_lets : (at : ℕ → Got) (shape : Shape) (root address : ℕ) (kind : Kind) (leaf : Leaf) →
+walk_lets : (at : ℕ → Got) (shape : Shape) (root address : ℕ) (kind : Kind) (leaf : Leaf) →
     outcome_of at shape root address kind ≡ outcome.Leaf leaf → All (IsLet at kind) (path_told at shape root address kind)
 unfolding outcome_of verdict_on_path path_told
 walk_lets at shape root address kind leaf =
@@ -165,7 +165,7 @@ directory_from memory did (suc level) table context found =
     entry_passes place (word memory place) (pointed_by (word memory place)) (directory.path_from memory did level) context refl
     (λ next. directory_from memory did level next context) found
 
-pub directory_passes : (memory : Memory) (registers : Registers) (did : ℕ) (context : Context) → located memory registers did ≡ Ok context →
+directory_passes : (memory : Memory) (registers : Registers) (did : ℕ) (context : Context) → located memory registers did ≡ Ok context →
     All Passes (map part.Directory (path_of memory registers did))
 unfolding located path_of
 directory_passes memory registers did context =

@@ -5,7 +5,7 @@ ghost use Rattle.iom_ddt.specs.Contexts.{IsWellFormed, is_bare};
 ghost use Rattle.iom_nested.specs.Nested.{translation};
 ghost use Rattle.iom_cache.specs.Places.{look};
 ghost use Rattle.iom_core.specs.Access.{context_look, led, led_by_context, led_by_page};
-ghost use Rattle.iom_reasons.specs.Stale.{IsStale, told, uncached};
+ghost use Rattle.iom_reasons.specs.Stale.{IsStale, by_tables, told, uncached};
 
 use crate::Way;
 use crate::way::is_same;
@@ -23,7 +23,7 @@ use iom_regs::Mode;
 pub fn stale(platform: &Platform, request: &Request) -> Option<Way>
     requires { request.now.did < 2 ^ 24 }
     ensures stale { IsTrue (is_some result) ↔ IsStale platform.now.machine request.now }
-    ensures tables { IfSome result (λ way. way ≡ told (led (uncached platform.now.machine) request.now).way) }
+    ensures tables { IfSome result (λ way. way ≡ by_tables platform.now.machine request.now) }
 {
     let tables = way_by_tables(platform, request);
     if is_same(&way_now(platform, request), &tables) {
@@ -89,7 +89,7 @@ fn way_by_context(platform: &Platform, request: &Request, context: &Context) -> 
 #[tactic(auto, unfolding(iom_core::specs::Access::led))]
 pub fn way_by_tables(platform: &Platform, request: &Request) -> Way
     requires { request.now.did < 2 ^ 24 }
-    ensures { result ≡ told (led (uncached platform.now.machine) request.now).way }
+    ensures { result ≡ by_tables platform.now.machine request.now }
 {
     match platform.registers().mode() {
         Mode::Off => Way::Denied(Denial::plain(Cause::Off)),
