@@ -1,5 +1,5 @@
 -- What a step that makes a request leaves in the caches, and what its notes are.
-use Rattle.std.proofs.Common.{◌≡◌, ◌∙◌, ◌++◌, ◌≤◌, ℕ, List, [], ◌∷◌, length, Bool, true, false, Option, Some, None, Ok, refl, sym, ap, subst, arith}
+use Rattle.std.proofs.Common.{◌≡◌, ◌∙◌, ◌++◌, ◌≤◌, ℕ, [], ◌∷◌, length, Option, Some, None, Ok, refl, sym, ap, subst}
 use Rattle.iom_bits.specs.declared.causes.Cause.{Cause}
 use Rattle.iom_ddt.specs.Directory.{located}
 use Rattle.iom_ddt.specs.declared.context.Context.{Context}
@@ -66,7 +66,7 @@ found_context m request context used filled =
     subst (λ (f : Option (ℕ × Context)). find (same_did request.did) (filled_by context_room f m.contexts) ≡ Some context)
     (sym (ap (λ (l : Look ℕ Context Cause). l.filled) cached) ∙ filled)
     (found_after same_did same_did_exact same_did_itself context_room request.did m.contexts (located m.memory m.registers request.did) context
-        (sym (ap (λ (l : Look ℕ Context Cause). l.used) cached) ∙ used))
+    (sym (ap (λ (l : Look ℕ Context Cause). l.used) cached) ∙ used))
 
 found_by_look : (m : Machine) (request : Request) (context : Context) (hit : Hit) → (page_look m request context).used ≡ Ok hit →
     find (same_key (request_key request context)) (filled_by page_room (page_look m request context).filled m.pages) ≡ Some hit
@@ -91,7 +91,7 @@ found_page m request context hit is =
           subst (λ (f : Option (Key × Hit)). find (same_key (request_key request context)) (filled_by page_room f m.pages) ≡ Some hit)
           (sym (ap (λ (l : Led). l.page) e))
           (subst (λ (c : Context). find (same_key (request_key request c)) (filled_by page_room (page_look m request own).filled m.pages) ≡ Some hit) one
-              (found_by_look m request own found page ∙ ap (λ (h : Hit). Some h) there))
+          (found_by_look m request own found page ∙ ap (λ (h : Hit). Some h) there))
       | WasFault own fault used staged page e ↦ let other = sym (ap way e) ∙ is in absurd (cc)
     ]
 
@@ -102,13 +102,13 @@ pub note_is : (before after : State) (taken : Step) (request : Request) (number 
     context ≡ next_place 15 (length history.contexts) before.machine.contexts → page ≡ next_place 63 (length history.walks) before.machine.pages →
     (context ≡ next_place 15 (length history.contexts) after.machine.contexts → mid ≡ history) →
     ((context ≡ next_place 15 (length history.contexts) after.machine.contexts → ⊥) →
-        mid ≡ record history { contexts = made_room 16 history.contexts ++ number ∷ [] }) →
+    mid ≡ record history { contexts = made_room 16 history.contexts ++ number ∷ [] }) →
     (page ≡ next_place 63 (length mid.walks) after.machine.pages → new ≡ mid) →
     ((page ≡ next_place 63 (length mid.walks) after.machine.pages → ⊥) →
-        new ≡ record mid {
-            walks = made_room 64 mid.walks ++ number ∷ [];
-            bases = made_room 64 mid.bases ++ beside (same_did request.did) after.machine.contexts mid.contexts number ∷ [];
-        }) →
+    new ≡ record mid {
+      walks = made_room 64 mid.walks ++ number ∷ [];
+      bases = made_room 64 mid.bases ++ beside (same_did request.did) after.machine.contexts mid.contexts number ∷ [];
+    }) →
     new ≡ noted before after (Some request) number history
 note_is before after taken request number history mid new context page asked left are few_contexts few_pages context_before page_before kept_context filled_context kept_page filled_page =
     let with_context : Option (ℕ × Context) → Notes = λ f. record history { contexts = stamped_by context_room number f history.contexts } in
@@ -123,10 +123,10 @@ note_is before after taken request number history mid new context page asked lef
     (λ other p. filled_context (λ seen. other (sym context_before ∙ seen))) in
     let Rest : Notes → Type 0 = λ m. (page ≡ next_place 63 (length m.walks) after.machine.pages → new ≡ m) →
     ((page ≡ next_place 63 (length m.walks) after.machine.pages → ⊥) →
-        new ≡ record m {
-            walks = made_room 64 m.walks ++ number ∷ [];
-            bases = made_room 64 m.bases ++ beside (same_did request.did) after.machine.contexts m.contexts number ∷ [];
-        }) →
+    new ≡ record m {
+      walks = made_room 64 m.walks ++ number ∷ [];
+      bases = made_room 64 m.bases ++ beside (same_did request.did) after.machine.contexts m.contexts number ∷ [];
+    }) →
     new ≡ noted before after (Some request) number history in
     let m = with_context (led before.machine request).context in
     let base = beside (same_did request.did) after.machine.contexts m.contexts number in

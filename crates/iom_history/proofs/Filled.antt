@@ -1,9 +1,8 @@
 -- A fill is seen at the next place.
-use Rattle.std.proofs.Common.{◌≡◌, ◌∙◌, ◌++◌, ◌+◌, ◌<◌, ◌≤◌, ◌==◌, ℕ, zero, suc, List, [], ◌∷◌, length, drop, min, Bool, true, false, Option, Some, None, if◌then◌else◌, refl, sym, ap, subst, inl, inr, arith}
+use Rattle.std.proofs.Common.{◌≡◌, ◌∙◌, ◌++◌, ◌≤◌, ℕ, zero, suc, List, [], ◌∷◌, length, drop, min, Bool, true, false, Option, Some, None, if◌then◌else◌, refl, sym, ap, inl, inr, arith}
 use Rattle.std.specs.Prelude.{IfSome, slice_get}
 use Rattle.std.proofs.lemmas.Bool.Decides.{eqb_tells}
 use Rattle.std.proofs.lemmas.List.{length-drop}
-use Rattle.iom_cache.specs.Origins.{stamped_by}
 use Rattle.iom_cache.specs.Places.{find, filled_by, made_room, place_in}
 use Rattle.iom_cache.specs.declared.place.Place.TheVariants.{Live}
 use Rattle.iom_history.specs.Beside.{next_place}
@@ -53,7 +52,7 @@ fill_seen same itself room last is P None ps after count beside within left unus
     kept (ap (next_place last count) (sym left))
 fill_seen {K} {V} same itself room last is P (Some p) ps after count beside within left unused kept filled =
     filled (λ seen.
-        let there : next_place last count ps ≡ Live p.0 p.1 =
-        seen ∙ ap (next_place last count) left ∙ ap (λ (n : ℕ). next_place last n (made_room room ps ++ Some p ∷ [])) beside
-        ∙ next_filled room last p ps is (omega arith) in
-        live_found (same p.0) ps (min count last) p.0 p.1 (itself p.0) there unused) p
+    let there : next_place last count ps ≡ Live p.0 p.1 =
+    seen ∙ ap (next_place last count) left ∙ ap (λ (n : ℕ). next_place last n (made_room room ps ++ Some p ∷ [])) beside
+    ∙ next_filled room last p ps is (omega arith) in
+    live_found (same p.0) ps (min count last) p.0 p.1 (itself p.0) there unused) p

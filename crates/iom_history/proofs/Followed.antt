@@ -1,5 +1,5 @@
 -- What a history keeps, with one step more.
-use Rattle.std.proofs.Common.{◌≡◌, ◌∙◌, ◌++◌, ◌<◌, ◌≤◌, ℕ, zero, suc, List, [], ◌∷◌, length, get_or, Option, Some, None, refl, sym, ap, subst, arith}
+use Rattle.std.proofs.Common.{◌≡◌, ◌∙◌, ◌++◌, ◌<◌, ◌≤◌, ℕ, suc, List, [], ◌∷◌, length, get_or, Option, sym, ap, subst, arith}
 use Rattle.std.proofs.lemmas.List.{get_or_append_left}
 use Rattle.std.proofs.Math.Seq.{get_or-append_seam}
 use Rattle.iom_ddt.specs.declared.context.Context.{Context}
@@ -12,7 +12,6 @@ use Rattle.iom_core.specs.Table.{next, request_of_step}
 use Rattle.iom_core.specs.Warrants.{context_filled, context_filled_at, moment, page_filled, page_filled_at, request_at}
 use Rattle.iom_core.specs.declared.access.Request.{Request}
 use Rattle.iom_core.specs.declared.step.Step.{Step}
-use Rattle.iom_history.specs.Beside.{noted_at}
 use Rattle.iom_history.specs.Following.{Follows, Notes, base_at, base_by, bases_at, contexts_at, noted, number_of, walks_at}
 use Rattle.iom_history.proofs.Beside.{noted_at-same}
 use Rattle.iom_history.proofs.Runs.{end_more, length_more, moment_after, moment_below, moment_last, request_below, request_last}
@@ -78,7 +77,7 @@ module _ (start : State) (steps : List Step) (taken : Step) (numbers : List ℕ)
       ∙ ap (λ (f : Option (Key × Hit)). stamped_by page_room number f (walks_at start more told n)) page_last
       ∙ ap (stamped_by page_room number (page_filled (end_of start steps) asked))
       (noted_at-same page_room (page_filled_at start more) (page_filled_at start steps) (number_of told) (number_of numbers)
-          (first_stamps start.machine.pages) n (λ j low. page_below j low) (λ j low. number_below j low))
+      (first_stamps start.machine.pages) n (λ j low. page_below j low) (λ j low. number_below j low))
 
   base_below : (k : ℕ) → k < n → base_at start more told k ≡ base_at start steps numbers k
   base_below k low =
@@ -103,7 +102,7 @@ module _ (start : State) (steps : List Step) (taken : Step) (numbers : List ℕ)
       ∙ ap (λ (f : Option (Key × Hit)). stamped_by page_room (base_by after (stamped_by context_room number (context_filled (end_of start steps) asked) (contexts_at start steps numbers n)) number asked) f (bases_at start more told n)) page_last
       ∙ ap (stamped_by page_room (base_by after (stamped_by context_room number (context_filled (end_of start steps) asked) (contexts_at start steps numbers n)) number asked) (page_filled (end_of start steps) asked))
       (noted_at-same page_room (page_filled_at start more) (page_filled_at start steps) (base_at start more told) (base_at start steps numbers)
-          (first_stamps start.machine.pages) n (λ j low. page_below j low) (λ j low. base_below j low))
+      (first_stamps start.machine.pages) n (λ j low. page_below j low) (λ j low. base_below j low))
 
   -- at the end of the steps, and of one more
   from_end : (history : Notes) → Follows history (end_of start steps) start steps numbers →
@@ -117,9 +116,9 @@ module _ (start : State) (steps : List Step) (taken : Step) (numbers : List ℕ)
     walks = ap (stamped_by page_room number (page_filled (end_of start steps) asked)) h.walks ∙ sym walks_more
         ∙ ap (walks_at start more told) (sym (length_more steps taken));
     bases = ap (λ (notes : List ℕ). stamped_by page_room (base_by after (stamped_by context_room number (context_filled (end_of start steps) asked) notes) number asked)
-            (page_filled (end_of start steps) asked) history.bases) h.contexts
+        (page_filled (end_of start steps) asked) history.bases) h.contexts
         ∙ ap (stamped_by page_room (base_by after (stamped_by context_room number (context_filled (end_of start steps) asked) (contexts_at start steps numbers n)) number asked)
-            (page_filled (end_of start steps) asked)) h.bases
+        (page_filled (end_of start steps) asked)) h.bases
         ∙ sym bases_more ∙ ap (bases_at start more told) (sym (length_more steps taken));
   }
 
@@ -130,6 +129,6 @@ pub followed : (history : Notes) (platform start : State) (steps : List Step) (n
     (steps ++ taken ∷ []) (numbers ++ number ∷ [])
 followed history platform start steps numbers taken number h =
     subst (λ (s : State). Follows (noted s (next s taken).state (request_of_step s taken) number history) (next s taken).state start
-        (steps ++ taken ∷ []) (numbers ++ number ∷ [])) (sym h.reached)
+    (steps ++ taken ∷ []) (numbers ++ number ∷ [])) (sym h.reached)
     (from_end start steps taken numbers number h.numbered history
-        (subst (λ (s : State). Follows history s start steps numbers) h.reached h))
+    (subst (λ (s : State). Follows history s start steps numbers) h.reached h))

@@ -1,5 +1,5 @@
 -- What stands beside each live place was noted by the step that filled it, from step to step.
-use Rattle.std.proofs.Common.{◌≡◌, ◌∙◌, zero, suc, ◌<◌, ◌≤◌, ℕ, List, Bool, true, false, Option, Some, None, refl, sym, ap, subst, inl, inr, arith}
+use Rattle.std.proofs.Common.{◌≡◌, ◌∙◌, zero, suc, ℕ, List, Bool, true, false, Option, Some, None, refl, sym, ap, subst, inl, inr, arith}
 use Rattle.std.specs.Prelude.{IfSome}
 use Rattle.std.proofs.lemmas.Bool.{cases_lt}
 use Rattle.iom_cache.specs.Places.{find, made_room, filled_by, emptied_by, NoneLive}
@@ -75,7 +75,7 @@ module _ {C K V : Type 0} (same : K → K → Bool) (drops : C → K → V → B
       let notes = noted_at room filled note (first_stamps (places 0)) in
       subst (λ (ps : List (Option (K × V))). Stamped (Noted (suc k)) ps (notes (suc k))) (sym (step k))
       (after_drop k (executed k) refl (filled_by room (filled k) (places k)) (stamped_by room (note k) (filled k) (notes k))
-          (after_fill k room (filled k) refl (places k) (notes k) (new k) (Noted-always room places none step new k)))
+      (after_fill k room (filled k) refl (places k) (notes k) (new k) (Noted-always room places none step new k)))
 
   -- what stands beside a live place after step n was noted by the last step up to n that filled its key
   pub record LastNoted (n : ℕ) (key : K) (value : V) (s : ℕ) : Type 0 where

@@ -1,5 +1,5 @@
 -- A run and the same with one step more.
-use Rattle.std.proofs.Common.{◌≡◌, ◌∙◌, ◌++◌, ◌<◌, ◌≤◌, ℕ, zero, suc, List, [], ◌∷◌, length, get_or, take, Option, Some, None, refl, sym, ap, subst, arith}
+use Rattle.std.proofs.Common.{◌≡◌, ◌∙◌, ◌++◌, ◌<◌, ◌≤◌, ℕ, zero, suc, List, [], ◌∷◌, length, Some, refl, sym, ap, arith}
 use Rattle.std.specs.Prelude.{slice_get}
 use Rattle.std.specs.Option.{option_and_then}
 use Rattle.std.proofs.lemmas.List.{take-append-le}
@@ -8,7 +8,6 @@ use Rattle.iom_core.specs.State.{State}
 use Rattle.iom_core.specs.Run.{end_of}
 use Rattle.iom_core.specs.Table.{next, request_of_step}
 use Rattle.iom_core.specs.Warrants.{moment, request_at}
-use Rattle.iom_core.specs.declared.access.Request.{Request}
 use Rattle.iom_core.specs.declared.step.Step.{Step}
 
 pub length_more : {X : Type 0} (xs : List X) (x : X) → length (xs ++ x ∷ []) ≡ suc (length xs)

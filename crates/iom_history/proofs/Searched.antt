@@ -1,9 +1,8 @@
 -- The search for a place, from one to the next.
-use Rattle.std.proofs.Common.{◌≡◌, ◌∙◌, ◌+◌, ◌<◌, ◌≤◌, ◌==◌, ℕ, zero, suc, List, [], ◌∷◌, length, drop, replicate, take, Bool, true, false, Option, Some, None, if◌then◌else◌, refl, sym, ap, subst, arith}
+use Rattle.std.proofs.Common.{◌≡◌, ◌∙◌, ◌+◌, ◌<◌, ◌≤◌, ℕ, zero, suc, List, [], ◌∷◌, length, drop, replicate, take, Bool, true, false, Option, Some, None, if◌then◌else◌, refl, sym, ap, subst, arith}
 use Rattle.std.specs.Prelude.{slice_get}
 use Rattle.iom_cache.specs.Places.{place_in}
 use Rattle.iom_cache.specs.declared.place.Place.{Place}
-use Rattle.iom_cache.specs.declared.place.Place.TheVariants.{Beyond, Empty, Live}
 use Rattle.iom_history.specs.Beside.{ends_at, place_of}
 
 ends : {K V : Type 0} → (test : K → Bool) (ps : List (Option (K × V))) (i : ℕ) → ends_at test (place_in (slice_get ps i)) ≡ true →

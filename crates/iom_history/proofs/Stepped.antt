@@ -3,7 +3,6 @@ use Rattle.std.proofs.Common.{◌≡◌, ◌∙◌, ◌++◌, ℕ, suc, List, []
 use Rattle.iom_cache.proofs.Stamped.{Stamped-length}
 use Rattle.iom_core.specs.Access.{led}
 use Rattle.iom_core.specs.Histories.{IsLedBy, IsNoAccess, is_denial, leading_context}
-use Rattle.iom_core.specs.Run.{end_of}
 use Rattle.iom_core.specs.State.{State}
 use Rattle.iom_core.specs.Table.{next, request_of_step}
 use Rattle.iom_core.specs.Warrants.{HasNone, IsDenied, moment, request_at, way_at}
@@ -11,10 +10,10 @@ use Rattle.iom_core.specs.declared.access.Request.{Request}
 use Rattle.iom_core.specs.declared.step.Answer.{Answer}
 use Rattle.iom_core.specs.declared.step.Step.{Step}
 use Rattle.iom_core.proofs.Passed.{denied, passed}
-use Rattle.iom_history.specs.Following.{AreBeside, ComesFrom, Follows, Notes, contexts_at, noted, origin_by}
+use Rattle.iom_history.specs.Following.{AreBeside, ComesFrom, Follows, Notes, noted, origin_by}
 use Rattle.iom_history.specs.declared.origin.Origin.{Origin}
 use Rattle.iom_history.proofs.Followed.{followed}
-use Rattle.iom_history.proofs.Runs.{length_more, moment_after, moment_all, moment_last, request_last}
+use Rattle.iom_history.proofs.Runs.{length_more, moment_all, moment_last, request_last}
 use Rattle.iom_history.proofs.Told.{by_leading, contexts_noted, notes_at, walks_noted}
 
 module _ (history : Notes) (platform start : State) (steps : List Step) (numbers : List ℕ) (h : Follows history platform start steps numbers) where
@@ -38,7 +37,7 @@ module _ (history : Notes) (platform start : State) (steps : List Step) (numbers
         Follows history (next platform taken).state start (steps ++ taken ∷ []) (numbers ++ number ∷ [])
     follows_idle none =
         subst (λ (asked : Option Request). Follows (noted platform (next platform taken).state asked number history) (next platform taken).state start
-            (steps ++ taken ∷ []) (numbers ++ number ∷ [])) none (followed history platform start steps numbers taken number h)
+        (steps ++ taken ∷ []) (numbers ++ number ∷ [])) none (followed history platform start steps numbers taken number h)
 
     asked_there : request_at start (steps ++ taken ∷ []) (length steps) ≡ request_of_step platform taken
     asked_there = request_last start steps taken ∙ ap (λ (s : State). request_of_step s taken) (sym h.reached)
@@ -95,11 +94,11 @@ module _ (history : Notes) (platform start : State) (steps : List Step) (numbers
           let led_by : IsLedBy (way_at start more n request) (leading_context (moment start more (suc n)).machine request.did) =
           subst (λ (s : State). IsLedBy (way_at start more n request) (leading_context s.machine request.did)) (sym (at ∙ left))
           (subst (λ (s : State). IsLedBy (led s.machine request).way (leading_context (next platform taken).state.machine request.did)) (sym here)
-              (passed platform taken request asked answered)) in
+          (passed platform taken request asked answered)) in
           let found = by_leading start more told h.uncached n request number (asked_there ∙ asked) (leading_context (moment start more (suc n)).machine request.did) refl led_by in
           subst (λ (s : State). ComesFrom start more told n (Some (origin_by new s request number (leading_context s.machine request.did)))) at
           (subst (λ (ns : Notes). ComesFrom start more told n (Some (origin_by ns (moment start more (suc n)) request number (leading_context (moment start more (suc n)).machine request.did))))
-              (sym notes) found)
+          (sym notes) found)
 
       pub origin_request : (new : Notes) (after : State) (given : Answer) (found : Option Origin) → after ≡ (next platform taken).state →
           new ≡ noted platform after (Some request) number history → given ≡ (next platform taken).answer →

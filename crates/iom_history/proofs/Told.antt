@@ -1,5 +1,5 @@
 -- What a history tells of a step explains it.
-use Rattle.std.proofs.Common.{◌≡◌, ◌∙◌, ◌<◌, ◌≤◌, ℕ, zero, suc, List, length, Bool, true, false, Option, Some, None, Ok, if◌then◌else◌, refl, sym, ap, subst, arith}
+use Rattle.std.proofs.Common.{◌≡◌, ◌∙◌, ℕ, suc, List, Bool, true, false, Option, Some, None, if◌then◌else◌, refl, sym, ap, subst}
 use Rattle.std.specs.Prelude.{slice_get}
 use Rattle.std.specs.Option.{option_and_then}
 use Rattle.iom_regs.specs.Views.{mode_of}
@@ -15,8 +15,8 @@ use Rattle.iom_cache.specs.Places.{emptied_by, filled_by, find}
 use Rattle.iom_cache.specs.declared.key.Key.{Key}
 use Rattle.iom_cache.proofs.Origins.{IsLast-unique}
 use Rattle.iom_cache.proofs.Same.{same_did_exact, same_did_itself, same_key_exact, same_key_itself}
-use Rattle.iom_cache.proofs.Stamped.{Stamped, Stamped-length}
-use Rattle.iom_core.specs.Access.{Walked, led, request_key}
+use Rattle.iom_cache.proofs.Stamped.{Stamped}
+use Rattle.iom_core.specs.Access.{Walked, request_key}
 use Rattle.iom_core.specs.Histories.{IsLedBy, context_by, fills_at, leading_context}
 use Rattle.iom_core.specs.State.{State, context_room, page_room}
 use Rattle.iom_core.specs.Table.{executed, next, request_of_step}
@@ -25,12 +25,11 @@ use Rattle.iom_core.specs.declared.access.Request.{Request}
 use Rattle.iom_core.specs.declared.history.Entry.TheVariants as entry
 use Rattle.iom_core.specs.declared.step.Step.{Step}
 use Rattle.iom_core.specs.declared.warrant.Warrant.TheVariants as warrant
-use Rattle.iom_core.proofs.Found.{by_context, by_register, by_walk, context_last, context_with, current_last, old_last, walk_last, walk_with}
+use Rattle.iom_core.proofs.Found.{by_context, by_register, by_walk, context_with, walk_with}
 use Rattle.iom_core.proofs.Moments.{context_filled-unused, moment-suc, next-contexts, next-pages, next_by, page_filled-unused}
 use Rattle.iom_core.proofs.Ways.{FilledPage, filled_page}
 use Rattle.iom_history.specs.Beside.{beside, noted_at}
 use Rattle.iom_history.specs.Following.{ComesFrom, Notes, base_at, base_by, bases_at, contexts_at, number_of, origin_by, told, walks_at}
-use Rattle.iom_history.specs.declared.origin.Origin.{Origin}
 use Rattle.iom_history.specs.declared.origin.Origin.TheVariants as origin
 use Rattle.iom_history.proofs.Accessed.{accessed_contexts, accessed_pages, found_context, found_page}
 use Rattle.iom_history.proofs.Noted.{LastNoted, Noted, Noted-always, last_noted}
@@ -161,10 +160,13 @@ module _ (start : State) (steps : List Step) (numbers : List ℕ) (none : IsUnca
       let l = last_context w request.did (number_of numbers w) f.page.context there in
       let did : request.did ≡ key.did = ap (λ (k : Key). k.did) (sym f.page.own) in
       subst (BaseTold w) did (record {
-          c = l.c;
-          last = l.last;
-          told = ap (base_by (after w) (contexts_at start steps numbers (suc w)) (number_of numbers w)) f.is ∙ l.told;
-        })
+        c = l.c;
+        last = l.last;
+        told = ap (base_by (after w) (contexts_at start steps numbers (suc w)) (number_of numbers w)) f.is ∙ l.told;
+      })
+
+  told_with : (k w c : ℕ) → k ≡ w → (s : ℕ) → s ≡ base_at start steps numbers k → base_at start steps numbers w ≡ number_of numbers c → s ≡ number_of numbers c
+  told_with k w c same s told is = told ∙ ap (base_at start steps numbers) same ∙ is
 
   module _ (n : ℕ) (request : Request) (d : ℕ) (asked : request_at start steps n ≡ Some request) where
     by_ddtp : IsLedBy (way_at start steps n request) None → ComesFrom start steps numbers n (Some origin.Register)
@@ -189,9 +191,9 @@ module _ (start : State) (steps : List Step) (numbers : List ℕ) (none : IsUnca
     by_pages : (context : Context) → find (same_did request.did) (after n).machine.contexts ≡ Some context → is_bare context ≡ false →
         IsLedBy (way_at start steps n request) (Some context) →
         ComesFrom start steps numbers n (Some (origin.Walked
-            (beside (same_key (request_key request context)) (after n).machine.pages (bases_at start steps numbers (suc n)) d)
-            (beside (same_key (request_key request context)) (after n).machine.pages (walks_at start steps numbers (suc n)) d)
-            (beside (same_did request.did) (after n).machine.contexts (contexts_at start steps numbers (suc n)) d)))
+        (beside (same_key (request_key request context)) (after n).machine.pages (bases_at start steps numbers (suc n)) d)
+        (beside (same_key (request_key request context)) (after n).machine.pages (walks_at start steps numbers (suc n)) d)
+        (beside (same_did request.did) (after n).machine.contexts (contexts_at start steps numbers (suc n)) d)))
     by_pages context there staged by =
         let key = request_key request context in
         let f = by_walk start steps n request context none asked staged by in
@@ -209,8 +211,8 @@ module _ (start : State) (steps : List Step) (numbers : List ℕ) (none : IsUnca
         let b = base_told walk.c key hit walk.source in
         let old : IsLast (fills_at start steps (entry.Context request.did)) walk.c b.c =
         subst (λ (did : ℕ). IsLast (fills_at start steps (entry.Context did)) walk.c b.c) (device_of request context) b.last in
-        let base_is : beside (same_key key) (after n).machine.pages (bases_at start steps numbers (suc n)) d ≡ number_of numbers b.c =
-        base.told ∙ ap (base_at start steps numbers) same ∙ b.told in
+        let base_is = told_with base.c walk.c b.c same
+        (beside (same_key key) (after n).machine.pages (bases_at start steps numbers (suc n)) d) base.told b.told in
         record {
           warrant = Some (warrant.Walked b.c walk.c current.c);
           explains = (request, asked, walk_with start steps n request context f b.c walk.c current.c walk.last current.last old);
@@ -225,11 +227,11 @@ module _ (start : State) (steps : List Step) (numbers : List ℕ) (none : IsUnca
         let current = beside (same_did request.did) (after n).machine.contexts (contexts_at start steps numbers (suc n)) d in
         let key = request_key request context in
         let Goal : Bool → Type 0 = λ b. is_bare context ≡ b → ComesFrom start steps numbers n (Some (
-          if b then origin.Context current
-          else origin.Walked
-          (beside (same_key key) (after n).machine.pages (bases_at start steps numbers (suc n)) d)
-          (beside (same_key key) (after n).machine.pages (walks_at start steps numbers (suc n)) d)
-          current
+        if b then origin.Context current
+        else origin.Walked
+        (beside (same_key key) (after n).machine.pages (bases_at start steps numbers (suc n)) d)
+        (beside (same_key key) (after n).machine.pages (walks_at start steps numbers (suc n)) d)
+        current
         )) in
         let by_bareness : (b : Bool) → Goal b = λ b. elim b as Goal [
           | true ↦ λ bare. by_bare context there bare by

@@ -1,5 +1,5 @@
 -- Numbers beside the places of a cache: what each fill notes of its step.
-use Rattle.std.specs.Prelude.{ℕ, zero, suc, Bool, true, false, List, [], ◌∷◌, length, get_or, min, Option, Some, None, slice_get, if◌then◌else◌}
+use Rattle.std.specs.Prelude.{ℕ, zero, suc, Bool, true, false, List, [], ◌∷◌, get_or, min, Option, Some, None, slice_get, if◌then◌else◌}
 use Rattle.iom_cache.specs.Origins.{stamped_by}
 use Rattle.iom_cache.specs.Places.{place_in}
 use Rattle.iom_cache.specs.declared.place.Place.{Place}

@@ -5,7 +5,6 @@ use Rattle.iom_ddt.specs.Contexts.{is_bare}
 use Rattle.iom_ddt.specs.declared.context.Context.{Context}
 use Rattle.iom_cache.specs.Keys.{same_did, same_key}
 use Rattle.iom_cache.specs.Origins.{first_stamps, stamped_by}
-use Rattle.iom_cache.specs.declared.key.Key.{Key}
 use Rattle.iom_core.specs.Access.{request_key}
 use Rattle.iom_core.specs.Run.{end_of}
 use Rattle.iom_core.specs.State.{State, context_room, page_room}

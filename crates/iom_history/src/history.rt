@@ -11,8 +11,9 @@ ghost use Rattle.iom_history.specs.Beside.{beside, next_place};
 ghost use Rattle.iom_history.specs.Following.{AreBeside, ComesFrom, Follows, noted, origin_by};
 
 use crate::Origin;
-use crate::notes::{context_place, count_contexts, count_pages, next_context, next_page};
-use crate::notes::{note_context, note_page, page_place};
+use crate::notes::{
+    context_place, count_contexts, count_pages, next_context, next_page, note, page_place, zeros,
+};
 use arrayvec::ArrayVec;
 use iom_cache::{Key, Place, key_of};
 use iom_core::{Answer, Platform, Request, Step};
@@ -63,9 +64,9 @@ impl History {
         let contexts = count_contexts(platform.contexts());
         let pages = count_pages(platform.trans());
         History {
-            contexts: context_zeros(contexts),
-            walks: page_zeros(pages),
-            bases: page_zeros(pages),
+            contexts: zeros(contexts),
+            walks: zeros(pages),
+            bases: zeros(pages),
         }
     }
 
@@ -95,7 +96,13 @@ impl History {
     }
 
     // Carries out a step that makes this request.
-    fn access(&mut self, platform: &mut Platform, step: &Step, request: Request, number: u64) -> Taken
+    fn access(
+        &mut self,
+        platform: &mut Platform,
+        step: &Step,
+        request: Request,
+        number: u64,
+    ) -> Taken
         requires asked { request_of_step platform.old step.now ≡ Some request }
         ensures answer { result.answer ≡ (next platform.old step.now).answer }
         ensures state { platform.new ≡ (next platform.old step.now).state }
@@ -105,7 +112,7 @@ impl History {
         ensures origin { result.origin ≡ (if is_denial result.answer then None else
             Some (origin_by self.new platform.new request number (leading_context platform.new.machine request.did))) }
     {
-        let answer = self.note(platform, step, request, number);
+        let answer = self.carry_out(platform, step, request, number);
         let origin = if is_denial(&answer) {
             None
         } else {
@@ -120,7 +127,13 @@ impl History {
 
     // Carries out a step that makes this request, and notes what it fills: a place that is the newest after it and wasn't
     // before it.
-    fn note(&mut self, platform: &mut Platform, step: &Step, request: Request, number: u64) -> Answer
+    fn carry_out(
+        &mut self,
+        platform: &mut Platform,
+        step: &Step,
+        request: Request,
+        number: u64,
+    ) -> Answer
         requires asked { request_of_step platform.old step.now ≡ Some request }
         ensures answer { result ≡ (next platform.old step.now).answer }
         ensures state { platform.new ≡ (next platform.old step.now).state }
@@ -142,8 +155,9 @@ impl History {
         ensures filled { (before.now ≡ next_place 15 (length self.old.contexts) platform.now.machine.contexts → ⊥) →
             self.new ≡ record self.old { contexts = made_room 16 self.old.contexts ++ number ∷ [] } }
     {
-        if !is_same_context(before, &next_context(platform.contexts(), self.contexts.len())) {
-            note_context(&mut self.contexts, number);
+        let after = next_context(platform.contexts(), self.contexts.len());
+        if !is_same_context(before, &after) {
+            note(&mut self.contexts, number);
         }
     }
 
@@ -153,14 +167,16 @@ impl History {
             self.new ≡ self.old }
         ensures filled { (before.now ≡ next_place 63 (length self.old.walks) platform.now.machine.pages → ⊥) →
             self.new ≡ record self.old {
-                walks = made_room 64 self.old.walks ++ number ∷ [];
-                bases = made_room 64 self.old.bases
-                    ++ beside (same_did did) platform.now.machine.contexts self.old.contexts number ∷ [] } }
+              walks = made_room 64 self.old.walks ++ number ∷ [];
+              bases = made_room 64 self.old.bases
+                  ++ beside (same_did did) platform.now.machine.contexts self.old.contexts number ∷ [];
+            } }
     {
-        if !is_same_page(before, &next_page(platform.trans(), self.walks.len())) {
+        let after = next_page(platform.trans(), self.walks.len());
+        if !is_same_page(before, &after) {
             let base = self.context_number(platform, did, number);
-            note_page(&mut self.walks, number);
-            note_page(&mut self.bases, base);
+            note(&mut self.walks, number);
+            note(&mut self.bases, base);
         }
     }
 
@@ -189,7 +205,8 @@ impl History {
     fn context_number(&self, platform: &Platform, did: u32, number: u64) -> u64
         ensures { result ≡ beside (same_did did) platform.now.machine.contexts self.now.contexts number }
     {
-        number_at(self.contexts.as_slice(), context_place(platform.contexts(), did), number)
+        let place = context_place(platform.contexts(), did);
+        number_at(self.contexts.as_slice(), place, number)
     }
 }
 
@@ -226,24 +243,4 @@ fn is_same_page(place: &Place<Key, Hit>, other: &Place<Key, Hit>) -> bool
     ensures { IsTrue result ↔ (place.now ≡ other.now) }
 {
     place == other
-}
-
-// As many zeros as a context cache has places.
-fn context_zeros(count: usize) -> ArrayVec<u64, 16>
-    requires { count ≤ 16 }
-    ensures { result.items ≡ replicate count 0 }
-{
-    let mut notes = ArrayVec::from([0; 16]);
-    notes.truncate(count);
-    notes
-}
-
-// As many zeros as a translation cache has places.
-fn page_zeros(count: usize) -> ArrayVec<u64, 64>
-    requires { count ≤ 64 }
-    ensures { result.items ≡ replicate count 0 }
-{
-    let mut notes = ArrayVec::from([0; 64]);
-    notes.truncate(count);
-    notes
 }

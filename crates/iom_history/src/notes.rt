@@ -1,6 +1,6 @@
 //! The places of both caches, and the numbers beside them.
 
-ghost use Rattle.std.specs.Prelude.{◌≡◌, ◌↔◌, ◌<◌, ◌≤◌, ◌++◌, [], ◌∷◌, IsTrue, false, length};
+ghost use Rattle.std.specs.Prelude.{◌≡◌, ◌↔◌, ◌<◌, ◌≤◌, ◌++◌, [], ◌∷◌, IsTrue, false, length, replicate};
 ghost use Rattle.iom_cache.specs.Keys.{same_did, same_key};
 ghost use Rattle.iom_cache.specs.Places.{made_room};
 ghost use Rattle.iom_history.specs.Beside.{ends_at, next_place, place_of};
@@ -112,9 +112,10 @@ pub fn next_page(cache: &TransCache, count: usize) -> Place<Key, Hit>
     cache.place(count.min(PAGES - 1) as u64)
 }
 
-/// Notes a number beside the last place of a cache, in which it was filled; where it has all its places the oldest left.
-pub fn note_context(notes: &mut ArrayVec<u64, 16>, number: u64)
-    ensures { notes.new.items ≡ made_room 16 notes.old.items ++ number ∷ [] }
+/// Notes a number beside the last place of a cache of `N` places, which was filled; where it had all its places the oldest left.
+pub fn note<const N: usize>(notes: &mut ArrayVec<u64, N>, number: u64)
+    requires { 0 < N }
+    ensures { notes.new.items ≡ made_room N notes.old.items ++ number ∷ [] }
 {
     if notes.is_full() {
         notes.remove(0);
@@ -122,12 +123,12 @@ pub fn note_context(notes: &mut ArrayVec<u64, 16>, number: u64)
     notes.push(number);
 }
 
-/// The same beside the last place of a translation cache.
-pub fn note_page(notes: &mut ArrayVec<u64, 64>, number: u64)
-    ensures { notes.new.items ≡ made_room 64 notes.old.items ++ number ∷ [] }
+/// As many zeros as a cache of `N` places has now.
+pub fn zeros<const N: usize>(count: usize) -> ArrayVec<u64, N>
+    requires { count ≤ N }
+    ensures { result.items ≡ replicate count 0 }
 {
-    if notes.is_full() {
-        notes.remove(0);
-    }
-    notes.push(number);
+    let mut notes = ArrayVec::from([0; N]);
+    notes.truncate(count);
+    notes
 }

@@ -1,6 +1,4 @@
-use Rattle.std.proofs.Common.{◌≡◌, ℕ, false}
-use Rattle.iom_cache.specs.Keys.{same_did, same_key}
-use Rattle.iom_cache.specs.declared.key.Key.{Key}
+use Rattle.iom_cache.specs.Keys.{same_did}
 use Rattle.iom_history.proofs.Searched.{Searching}
 use Rattle.iom_history.proofs.notes.context_place.Given as goal
 

@@ -1,6 +1,4 @@
-use Rattle.std.proofs.Common.{◌≡◌, ◌∙◌, ℕ, false, sym, arith}
-use Rattle.iom_cache.specs.Keys.{same_did, same_key}
-use Rattle.iom_cache.specs.declared.key.Key.{Key}
+use Rattle.std.proofs.Common.{◌∙◌, ℕ, false, sym, arith}
 use Rattle.iom_history.proofs.Searched.{count_all, search_ends, search_goes_on, search_past}
 use Rattle.iom_history.proofs.notes.count_contexts.Goals as goal
 

@@ -1,7 +1,6 @@
-use Rattle.std.proofs.Common.{◌≡◌, ◌∙◌, ℕ, false, sym, arith}
-use Rattle.iom_cache.specs.Keys.{same_did, same_key}
-use Rattle.iom_cache.specs.declared.key.Key.{Key}
-use Rattle.iom_history.proofs.Searched.{count_all, search_ends, search_goes_on, search_past}
+use Rattle.std.proofs.Common.{◌∙◌, sym, arith}
+use Rattle.iom_cache.specs.Keys.{same_key}
+use Rattle.iom_history.proofs.Searched.{search_ends, search_goes_on, search_past}
 use Rattle.iom_history.proofs.notes.page_place.Goals as goal
 
 pub loop-i-preserved : goal.loop-i-preserved

@@ -1,7 +1,5 @@
-use Rattle.std.proofs.Common.{◌≡◌, ◌∙◌, ◌++◌, ℕ, List, [], ◌∷◌, Some, None, sym, ap, subst}
+use Rattle.std.proofs.Common.{◌++◌, [], ◌∷◌, sym, subst}
 use Rattle.iom_core.specs.State.{State}
-use Rattle.iom_core.specs.Table.{next}
-use Rattle.iom_core.specs.declared.step.Step.{Step}
 use Rattle.iom_history.specs.Following.{Follows}
 use Rattle.iom_history.proofs.Stepped.{are_beside, follows_idle, follows_request, origin_idle, origin_request}
 use Rattle.iom_history.proofs.history.History.step.Goals as goal

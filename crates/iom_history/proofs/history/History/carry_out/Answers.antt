@@ -2,7 +2,7 @@ use Rattle.std.proofs.Common.{◌≡◌, ◌∙◌, ◌≤◌, ℕ, length, ap, 
 use Rattle.iom_history.specs.Beside.{next_place}
 use Rattle.iom_history.specs.Following.{Notes}
 use Rattle.iom_history.proofs.Accessed.{note_is}
-use Rattle.iom_history.proofs.history.History.note.Goals as goal
+use Rattle.iom_history.proofs.history.History.carry_out.Goals as goal
 
 pub returns-clause-noted : goal.returns-clause-noted
 returns-clause-noted c = λ are.
