@@ -25,7 +25,7 @@ use Rattle.iom_core.proofs.Moments.{context_filled-unused, next-contexts, next-p
 use Rattle.iom_core.proofs.Ways.{WasOff, WasByRegister, WasNowhere, WasByContext, WasWalked, WasFault, context_used-cached, how_led, look_of_context}
 use Rattle.iom_history.specs.Beside.{beside, next_place}
 use Rattle.iom_history.specs.Following.{AreBeside, Notes, noted}
-use Rattle.iom_history.proofs.Filled.{fill_seen}
+use Rattle.iom_history.proofs.Seen.{fill_seen}
 
 -- such a step executes no command
 no_command : (state : State) (taken : Step) (request : Request) → request_of_step state taken ≡ Some request → executed state taken ≡ None

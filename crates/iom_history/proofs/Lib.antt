@@ -2,8 +2,9 @@ pub mod Beside
 pub mod Searched
 pub mod Noted
 pub mod Runs
-pub mod Filled
+pub mod Seen
 pub mod Followed
 pub mod Accessed
 pub mod Told
 pub mod Stepped
+pub mod Placed

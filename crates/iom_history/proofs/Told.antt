@@ -48,7 +48,7 @@ pages_by state None = refl
 pages_by state (Some taken) = next-pages state taken
 
 -- a key is of the device that asks
-device_of : (request : Request) (context : Context) → (request_key request context).did ≡ request.did
+pub device_of : (request : Request) (context : Context) → (request_key request context).did ≡ request.did
 unfolding key_of
 device_of request context = refl
 
@@ -59,12 +59,12 @@ held_by Bare held context is = absurd (cc)
 held_by (Levels levels) held context is = is
 
 -- the request that filled a page
-record Filler (state : State) (asked : Option Request) (key : Key) (hit : Hit) : Type 0 where
-  request : Request
-  is : asked ≡ Some request
-  page : FilledPage state.machine request key hit
+pub record Filler (state : State) (asked : Option Request) (key : Key) (hit : Hit) : Type 0 where
+  pub request : Request
+  pub is : asked ≡ Some request
+  pub page : FilledPage state.machine request key hit
 
-filler : (state : State) (asked : Option Request) (key : Key) (hit : Hit) → page_filled state asked ≡ Some (key, hit) → Filler state asked key hit
+pub filler : (state : State) (asked : Option Request) (key : Key) (hit : Hit) → page_filled state asked ≡ Some (key, hit) → Filler state asked key hit
 filler state None key hit filled = absurd (cc)
 filler state (Some request) key hit filled = record { request = request; is = refl; page = filled_page state.machine request key hit filled }
 
@@ -142,12 +142,12 @@ module _ (start : State) (steps : List Step) (numbers : List ℕ) (none : IsUnca
       ] in by_step (slice_get steps k) refl is
 
   -- the base of a walk is the number of the last step that filled the device's context up to then
-  record BaseTold (w did : ℕ) : Type 0 where
-    c : ℕ
-    last : IsLast (fills_at start steps (entry.Context did)) w c
-    told : base_at start steps numbers w ≡ number_of numbers c
+  pub record BaseTold (w did : ℕ) : Type 0 where
+    pub c : ℕ
+    pub last : IsLast (fills_at start steps (entry.Context did)) w c
+    pub told : base_at start steps numbers w ≡ number_of numbers c
 
-  base_told : (w : ℕ) (key : Key) (hit : Hit) → page_filled_at start steps w ≡ Some (key, hit) → BaseTold w key.did
+  pub base_told : (w : ℕ) (key : Key) (hit : Hit) → page_filled_at start steps w ≡ Some (key, hit) → BaseTold w key.did
   unfolding key_of
   base_told w key hit filled =
       let f = filler (moment start steps w) (request_at start steps w) key hit filled in

@@ -3,17 +3,20 @@ use Rattle.std.specs.Prelude.{ℕ, suc, ◌≡◌, List, length, get_or, Option,
 use Rattle.std.specs.Option.{option_map}
 use Rattle.iom_ddt.specs.Contexts.{is_bare}
 use Rattle.iom_ddt.specs.declared.context.Context.{Context}
+use Rattle.iom_nested.specs.declared.translation.Hit.{Hit}
 use Rattle.iom_cache.specs.Keys.{same_did, same_key}
 use Rattle.iom_cache.specs.Origins.{first_stamps, stamped_by}
+use Rattle.iom_cache.specs.declared.key.Key.{Key}
 use Rattle.iom_core.specs.Access.{request_key}
 use Rattle.iom_core.specs.Run.{end_of}
 use Rattle.iom_core.specs.State.{State, context_room, page_room}
-use Rattle.iom_core.specs.Warrants.{Explains, IsUncached, context_filled, context_filled_at, moment, page_filled, page_filled_at, request_at}
+use Rattle.iom_core.specs.Warrants.{Explains, IsFreshContext, IsFreshPage, IsUncached, context_filled, context_filled_at, moment, page_filled, page_filled_at, request_at}
 use Rattle.iom_core.specs.declared.access.Request.{Request}
 use Rattle.iom_core.specs.declared.step.Step.{Step}
 use Rattle.iom_core.specs.declared.warrant.Warrant.{Warrant}
 use Rattle.iom_core.specs.declared.warrant.Warrant.TheVariants as warrant
 use Rattle.iom_history.specs.Beside.{beside, noted_at}
+use Rattle.iom_history.specs.declared.history.Filled.{Filled}
 use Rattle.iom_history.specs.declared.origin.Origin.{Origin}
 use Rattle.iom_history.specs.declared.origin.Origin.TheVariants as origin
 
@@ -34,6 +37,31 @@ pub record ComesFrom (start : State) (steps : List Step) (numbers : List ℕ) (n
   pub warrant : Option Warrant
   pub explains : Explains start steps n warrant
   pub told : found ≡ option_map (told numbers) warrant
+
+-- Where a context comes from that is live after the steps: the step of this number filled it, and nothing has dropped it since.
+pub record ContextFrom (start : State) (steps : List Step) (numbers : List ℕ) (did : ℕ) (context : Context) (number : ℕ) : Type 0 where
+  pub k : ℕ
+  pub fresh : IsFreshContext start steps did (length steps) k context
+  pub told : number ≡ number_of numbers k
+
+-- Where a translation comes from that is live after the steps: the step of number `walk` filled it for this request, under a
+-- context that the step of number `base` had filled, and nothing has dropped it since.
+pub record PageFrom (start : State) (steps : List Step) (numbers : List ℕ) (key : Key) (hit : Hit) (base walk : ℕ) : Type 0 where
+  pub c : ℕ
+  pub w : ℕ
+  pub request : Request
+  pub context : Context
+  pub own : key ≡ request_key request context
+  pub fresh : IsFreshPage start steps request context hit (length steps) w
+  pub under : IsFreshContext start steps request.did w c context
+  pub base_told : base ≡ number_of numbers c
+  pub walk_told : walk ≡ number_of numbers w
+
+-- the numbers of a place of the translation cache
+abbrev pub numbers_of : Option ℕ → Option ℕ → Option Filled
+numbers_of None walk = None
+numbers_of (Some base) None = None
+numbers_of (Some base) (Some walk) = Some (record { context = base; walk = walk })
 
 -- What a history keeps: beside each place of the context cache the number of the step that filled it; beside each place of the
 -- translation cache that of the step that filled it, and that of the step that had filled the context under which it walked.

@@ -1,4 +1,4 @@
-ghost use Rattle.std.specs.Prelude.{◌≡◌, ◌↔◌, ◌<◌, ◌≤◌, ◌^◌, ℕ, List, replicate, [], ◌∷◌, ◌++◌, IsTrue, IfSome, Some, None, get_or, length, if◌then◌else◌};
+ghost use Rattle.std.specs.Prelude.{◌≡◌, ◌↔◌, ◌<◌, ◌≤◌, ◌^◌, ℕ, List, replicate, [], ◌∷◌, ◌++◌, IsTrue, IsSomeAnd, Some, None, get_or, slice_get, length, if◌then◌else◌};
 ghost use Rattle.iom_ddt.specs.Contexts.{is_bare};
 ghost use Rattle.iom_cache.specs.Keys.{same_did, same_key};
 ghost use Rattle.iom_cache.specs.Origins.{first_stamps};
@@ -8,7 +8,7 @@ ghost use Rattle.iom_core.specs.Table.{next, request_of_step};
 ghost use Rattle.iom_core.specs.Warrants.{IsUncached};
 ghost use Rattle.iom_cache.specs.Places.{made_room};
 ghost use Rattle.iom_history.specs.Beside.{beside, next_place};
-ghost use Rattle.iom_history.specs.Following.{AreBeside, ComesFrom, Follows, noted, origin_by};
+ghost use Rattle.iom_history.specs.Following.{AreBeside, ComesFrom, ContextFrom, Follows, PageFrom, noted, numbers_of, origin_by};
 
 use crate::Origin;
 use crate::notes::{
@@ -52,9 +52,21 @@ pub struct Taken {
     pub origin: Option<Origin>,
 }
 
+/// Which steps filled a place of the translation cache.
+#[derive(Clone, Copy, Debug, PartialEq)]
+pub struct Filled {
+    /// The number of the step that had filled the context under which it walked.
+    pub context: u64,
+    /// The number of the step that filled the place.
+    pub walk: u64,
+}
+
 impl History {
     ghost use Rattle.iom_core.specs.State.{State};
     ghost use Rattle.iom_core.specs.declared.step.Step.{Step};
+    ghost use Rattle.iom_ddt.specs.declared.context.Context.{Context};
+    ghost use Rattle.iom_nested.specs.declared.translation.Hit.{Hit};
+    ghost use Rattle.iom_cache.specs.declared.key.Key.{Key};
 
     /// A history that begins at this platform. It tells where translations come from if both caches hold nothing now. It takes
     /// no memory.
@@ -93,6 +105,47 @@ impl History {
             },
             Some(request) => self.access(platform, step, request, number),
         }
+    }
+
+    /// The number of the step that filled place `i` of the context cache, whose oldest is place 0; 0 where it was empty from the
+    /// start on, and None where it is beyond the last place.
+    pub fn context(&self, i: u64) -> Option<u64>
+        ensures number { result ≡ slice_get self.now.contexts i }
+        ensures from { (platform start : State) (steps : List Step) (numbers : List ℕ) (did : ℕ) (context : Context) →
+            Follows self.now platform start steps numbers →
+            slice_get platform.machine.contexts i ≡ Some (Some (did, context)) →
+            IsSomeAnd result (ContextFrom start steps numbers did context) }
+    {
+        self.context_beside(i)
+    }
+
+    /// The numbers of the steps that filled place `i` of the translation cache, whose oldest is place 0, and its context; 0 twice
+    /// where it was empty from the start on, and None where it is beyond the last place.
+    pub fn page(&self, i: u64) -> Option<Filled>
+        ensures numbers { result ≡ numbers_of (slice_get self.now.bases i) (slice_get self.now.walks i) }
+        ensures from { (platform start : State) (steps : List Step) (numbers : List ℕ) (key : Key) (hit : Hit) →
+            Follows self.now platform start steps numbers →
+            slice_get platform.machine.pages i ≡ Some (Some (key, hit)) →
+            IsSomeAnd result (λ filled. PageFrom start steps numbers key hit filled.context filled.walk) }
+    {
+        self.page_beside(i)
+    }
+
+    // The number beside place `i` of the context cache.
+    fn context_beside(&self, i: u64) -> Option<u64>
+        ensures { result ≡ slice_get self.now.contexts i }
+    {
+        self.contexts.as_slice().get(i as usize).copied()
+    }
+
+    // The numbers beside place `i` of the translation cache.
+    fn page_beside(&self, i: u64) -> Option<Filled>
+        ensures { result ≡ numbers_of (slice_get self.now.bases i) (slice_get self.now.walks i) }
+    {
+        let place = i as usize;
+        let context = self.bases.as_slice().get(place).copied()?;
+        let walk = self.walks.as_slice().get(place).copied()?;
+        Some(Filled { context, walk })
     }
 
     // Carries out a step that makes this request.

@@ -2,7 +2,7 @@
 //! comes from that it used (RISC-V IOMMU Architecture 1.0, "Caching in-memory data structures").
 #![tactic(auto)]
 
-pub use history::{History, Taken};
+pub use history::{Filled, History, Taken};
 pub use origin::Origin;
 
 mod history;
