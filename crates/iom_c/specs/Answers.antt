@@ -1,0 +1,27 @@
+-- The numbers that C is told.
+use Rattle.std.specs.Prelude.{ℕ, List, length, drop, ◌++◌}
+use Rattle.iom_core.specs.declared.step.Answer.{Answer}
+use Rattle.iom_core.specs.declared.step.Answer.TheVariants as answer
+
+-- the number of an answer's kind
+abbrev pub code_of : Answer → ℕ
+code_of (answer.Value value) = 0
+code_of answer.Done = 1
+code_of (answer.Bytes bytes) = 2
+code_of answer.Idle = 3
+code_of (answer.Denied cause) = 4
+code_of answer.BusError = 5
+code_of answer.BadAccess = 6
+code_of answer.NoDevice = 7
+code_of answer.Misuse = 8
+
+-- what stands in the caller's place after an answer, where this stood: the number that was read, or the cause of a denial
+abbrev pub number_in : Answer → ℕ → ℕ
+number_in (answer.Value value) old = value
+number_in (answer.Denied cause) old = cause
+number_in _ old = old
+
+-- what stands in the caller's buffer after an answer, where these stood: it begins with the bytes that were read
+abbrev pub bytes_in : Answer → List ℕ → List ℕ
+bytes_in (answer.Bytes bytes) old = bytes.items ++ drop (length bytes.items) old
+bytes_in _ old = old

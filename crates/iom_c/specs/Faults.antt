@@ -1,0 +1,72 @@
+-- The numbers of refusals, and their words.
+use Rattle.std.specs.Prelude.{ℕ, ◌≡◌, ◌⊎◌, List, [], ◌∷◌, codes, slice_get, Option, Some, None, Result, Ok, Err}
+use Rattle.std.specs.Option.{unwrap_or}
+use Rattle.iom_core.specs.State.{State}
+use Rattle.iom_image.specs.Image.{Image}
+use Rattle.iom_image.specs.Loading.{state_from}
+use Rattle.iom_image.specs.declared.fault.LoadFault.{LoadFault}
+use Rattle.iom_image.specs.declared.fault.LoadFault.TheVariants as load
+use Rattle.iom_asm.specs.declared.asm_fault.AsmFault.{AsmFault}
+use Rattle.iom_asm.specs.declared.asm_fault.AsmFault.TheVariants as asm
+use Rattle.iom_c.specs.Handles.{fresh}
+use Rattle.iom_c.specs.declared.owned.Owned.{Owned}
+
+-- it was done
+abbrev pub ok : ℕ
+ok = 0
+
+abbrev pub out_of_memory : ℕ
+out_of_memory = 7
+
+-- the caller's buffer is too short
+abbrev pub little_room : ℕ
+little_room = 11
+
+abbrev pub outside : ℕ
+outside = 10
+
+abbrev pub no_disk : ℕ
+no_disk = 12
+
+-- why an image is refused
+abbrev pub load_number : LoadFault → ℕ
+load_number load.BadMagic = 1
+load_number load.Truncated = 2
+load_number load.Trailing = 3
+load_number load.BadRam = 4
+load_number load.BadChunk = 5
+load_number load.BadDevice = 6
+load_number load.OutOfMemory = 7
+
+-- why a text is refused
+abbrev pub asm_number : AsmFault → ℕ
+asm_number (asm.BadLine line) = 8
+asm_number (asm.Overlap line) = 9
+asm_number (asm.Outside line) = 10
+asm_number asm.OutOfMemory = 7
+
+-- the line with the fault, where this stood
+abbrev pub line_in : AsmFault → ℕ → ℕ
+line_in (asm.BadLine line) old = line
+line_in (asm.Overlap line) old = line
+line_in (asm.Outside line) old = line
+line_in asm.OutOfMemory old = old
+
+-- the words of each number, from 0 on
+abbrev pub all_words : List (List ℕ)
+all_words =
+    codes "ok" ∷ codes "bad magic" ∷ codes "truncated" ∷ codes "trailing bytes" ∷ codes "bad memory" ∷ codes "bad chunk"
+    ∷ codes "bad device" ∷ codes "out of memory" ∷ codes "bad line" ∷ codes "overlap" ∷ codes "outside memory"
+    ∷ codes "too little room" ∷ codes "no such disk" ∷ []
+
+abbrev pub words_for : ℕ → List ℕ
+words_for number = unwrap_or (slice_get all_words number) (codes "no such number")
+
+-- a start is made, and the handle owns it, or there is no memory for it
+abbrev pub Starts : State → ℕ → Option Owned → Type 0
+Starts state told held = ((told ≡ ok) × (held ≡ Some (fresh state))) ⊎ ((told ≡ out_of_memory) × (held ≡ None))
+
+-- what the opening of bytes is told, and what the handle owns after it: the bytes are an image that starts a platform, or are refused
+abbrev pub Opens : Result Image LoadFault → ℕ → Option Owned → Type 0
+Opens (Ok found) told held = Starts (state_from found) told held
+Opens (Err fault) told held = (told ≡ load_number fault) × (held ≡ None)

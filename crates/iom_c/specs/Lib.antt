@@ -1,0 +1,4 @@
+pub mod Handles
+pub mod Answers
+pub mod Buffers
+pub mod Faults

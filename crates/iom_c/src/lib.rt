@@ -1,0 +1,9 @@
+//! The platform for C: exports over one handle, each with the clauses of the call that it makes.
+#![tactic(auto)]
+
+mod answers;
+mod handle;
+mod opening;
+mod owned;
+mod parts;
+mod steps;

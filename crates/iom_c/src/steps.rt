@@ -1,0 +1,176 @@
+//! Steps by numbers.
+
+ghost use Rattle.std.specs.Prelude.{◌≡◌, ◌≤◌, ◌<◌, length, Some, IsSome, IfSome};
+ghost use Rattle.iom_core.specs.Table.{next};
+ghost use Rattle.iom_core.specs.declared.step.Step.TheVariants as step;
+ghost use Rattle.iom_c.specs.Answers.{code_of, number_in};
+ghost use Rattle.iom_c.specs.Handles.{stepped};
+ghost use Rattle.iom_c.specs.declared.owned.Owned.{Owned};
+
+use crate::answers::{code_of, put_number};
+use crate::handle::Handle;
+use iom_core::Step;
+use std::alloc::Global;
+
+// Carries out a step on what a handle owns, and keeps it in the trace; puts the number that is answered.
+#[inline(always)]
+fn take_step(handle: &mut Handle, alloc: Global, step: Step, number: &mut u64) -> u32
+    requires open { IsSome handle.old.held }
+    ensures answer { IfSome handle.old.held (λ own. result ≡ code_of (next own.platform step).answer) }
+    ensures number { IfSome handle.old.held (λ own. number.new ≡ number_in (next own.platform step).answer number.old) }
+    ensures after { IfSome handle.old.held (λ own. handle.new.held ≡ Some (stepped own step)) }
+{
+    let mut owned = handle.take(alloc);
+    let answer = owned.platform.step(&step);
+    let code = code_of(&answer);
+    put_number(&answer, number);
+    owned.trace.keep(step, answer);
+    *handle = Handle::of(owned);
+    code
+}
+
+/// The hart reads `size` bytes, 1, 2, 4 or 8, at physical address `addr`, a multiple of the size: value, bus error or misuse.
+#[unsafe(no_mangle)]
+pub extern "C" fn rviommu_load(
+    alloc: Global,
+    handle: &mut Handle,
+    addr: u64,
+    size: u64,
+    value: &mut u64,
+) -> u32
+    ghost own: { Owned }
+    requires open { handle.old.held ≡ Some own }
+    ensures answer { result ≡ code_of (next own.platform (step.Load addr size)).answer }
+    ensures value { value.new ≡ number_in (next own.platform (step.Load addr size)).answer value.old }
+    ensures after { handle.new.held ≡ Some (stepped own (step.Load addr size)) }
+{
+    take_step(handle, alloc, Step::Load { addr, size }, value)
+}
+
+/// The hart writes the lowest `size` bytes, 1, 2, 4 or 8, of `value` at physical address `addr`, a multiple of the size: done, bus
+/// error or misuse.
+#[unsafe(no_mangle)]
+pub extern "C" fn rviommu_store(
+    alloc: Global,
+    handle: &mut Handle,
+    addr: u64,
+    size: u64,
+    value: u64,
+) -> u32
+    ghost own: { Owned }
+    requires open { handle.old.held ≡ Some own }
+    ensures answer { result ≡ code_of (next own.platform (step.Store addr size value)).answer }
+    ensures after { handle.new.held ≡ Some (stepped own (step.Store addr size value)) }
+{
+    let mut number = 0;
+    take_step(handle, alloc, Step::Store { addr, size, value }, &mut number)
+}
+
+/// The hart reads `size` bytes, 4 or 8, of the IOMMU's registers at offset `off`, in bytes ("Memory-mapped register interface"):
+/// value or bad access.
+#[unsafe(no_mangle)]
+pub extern "C" fn rviommu_reg_read(
+    alloc: Global,
+    handle: &mut Handle,
+    off: u64,
+    size: u64,
+    value: &mut u64,
+) -> u32
+    ghost own: { Owned }
+    requires open { handle.old.held ≡ Some own }
+    ensures answer { result ≡ code_of (next own.platform (step.RegRead off size)).answer }
+    ensures value { value.new ≡ number_in (next own.platform (step.RegRead off size)).answer value.old }
+    ensures after { handle.new.held ≡ Some (stepped own (step.RegRead off size)) }
+{
+    take_step(handle, alloc, Step::RegRead { off, size }, value)
+}
+
+/// The hart writes `size` bytes, 4 or 8, of the IOMMU's registers at offset `off`, in bytes: done, bad access or misuse.
+#[unsafe(no_mangle)]
+pub extern "C" fn rviommu_reg_write(
+    alloc: Global,
+    handle: &mut Handle,
+    off: u64,
+    size: u64,
+    value: u64,
+) -> u32
+    ghost own: { Owned }
+    requires open { handle.old.held ≡ Some own }
+    ensures answer { result ≡ code_of (next own.platform (step.RegWrite off size value)).answer }
+    ensures after { handle.new.held ≡ Some (stepped own (step.RegWrite off size value)) }
+{
+    let mut number = 0;
+    take_step(handle, alloc, Step::RegWrite { off, size, value }, &mut number)
+}
+
+/// The command unit takes one command and carries it out ("Command-Queue (CQ)"): done or idle.
+#[unsafe(no_mangle)]
+pub extern "C" fn rviommu_command(
+    alloc: Global,
+    handle: &mut Handle,
+) -> u32
+    ghost own: { Owned }
+    requires open { handle.old.held ≡ Some own }
+    ensures answer { result ≡ code_of (next own.platform step.Command).answer }
+    ensures after { handle.new.held ≡ Some (stepped own step.Command) }
+{
+    let mut number = 0;
+    take_step(handle, alloc, Step::Command, &mut number)
+}
+
+/// The hart reads `size` bytes, 1, 2 or 4, of the registers of block device `dev`, counted from 0, at offset `off`, in bytes: value,
+/// bad access or no device.
+#[unsafe(no_mangle)]
+pub extern "C" fn rviommu_dev_read(
+    alloc: Global,
+    handle: &mut Handle,
+    dev: u64,
+    off: u64,
+    size: u64,
+    value: &mut u64,
+) -> u32
+    ghost own: { Owned }
+    requires open { handle.old.held ≡ Some own }
+    ensures answer { result ≡ code_of (next own.platform (step.DevRead dev off size)).answer }
+    ensures value { value.new ≡ number_in (next own.platform (step.DevRead dev off size)).answer value.old }
+    ensures after { handle.new.held ≡ Some (stepped own (step.DevRead dev off size)) }
+{
+    take_step(handle, alloc, Step::DevRead { dev, off, size }, value)
+}
+
+/// The hart writes `size` bytes, 1, 2 or 4, of the registers of block device `dev` at offset `off`, in bytes: done, bad access, no
+/// device or misuse.
+#[unsafe(no_mangle)]
+pub extern "C" fn rviommu_dev_write(
+    alloc: Global,
+    handle: &mut Handle,
+    dev: u64,
+    off: u64,
+    size: u64,
+    value: u64,
+) -> u32
+    ghost own: { Owned }
+    requires open { handle.old.held ≡ Some own }
+    ensures answer { result ≡ code_of (next own.platform (step.DevWrite dev off size value)).answer }
+    ensures after { handle.new.held ≡ Some (stepped own (step.DevWrite dev off size value)) }
+{
+    let mut number = 0;
+    take_step(handle, alloc, Step::DevWrite { dev, off, size, value }, &mut number)
+}
+
+/// Block device `dev`, counted from 0, goes on by one access: done, idle, denied, bus error or no device.
+#[unsafe(no_mangle)]
+pub extern "C" fn rviommu_dev_step(
+    alloc: Global,
+    handle: &mut Handle,
+    dev: u64,
+    cause: &mut u64,
+) -> u32
+    ghost own: { Owned }
+    requires open { handle.old.held ≡ Some own }
+    ensures answer { result ≡ code_of (next own.platform (step.Device dev)).answer }
+    ensures cause { cause.new ≡ number_in (next own.platform (step.Device dev)).answer cause.old }
+    ensures after { handle.new.held ≡ Some (stepped own (step.Device dev)) }
+{
+    take_step(handle, alloc, Step::Device { dev }, cause)
+}
