@@ -1,5 +1,7 @@
--- The numbers that C is told.
-use Rattle.std.specs.Prelude.{ℕ, List, length, drop, ◌++◌}
+-- The numbers that C is told of a step's answer.
+use Rattle.std.specs.Prelude.{ℕ, ◌≡◌, List, length}
+use Rattle.iom_core.specs.declared.step.Step.{Step}
+use Rattle.iom_core.specs.declared.step.Step.TheVariants as step
 use Rattle.iom_core.specs.declared.step.Answer.{Answer}
 use Rattle.iom_core.specs.declared.step.Answer.TheVariants as answer
 
@@ -15,13 +17,25 @@ code_of answer.BadAccess = 6
 code_of answer.NoDevice = 7
 code_of answer.Misuse = 8
 
+abbrev pub misuse : ℕ
+misuse = 8
+
 -- what stands in the caller's place after an answer, where this stood: the number that was read, or the cause of a denial
 abbrev pub number_in : Answer → ℕ → ℕ
 number_in (answer.Value value) old = value
 number_in (answer.Denied cause) old = cause
 number_in _ old = old
 
--- what stands in the caller's buffer after an answer, where these stood: it begins with the bytes that were read
+-- what stands in the caller's buffer after an answer, where these stood: the bytes that were read
 abbrev pub bytes_in : Answer → List ℕ → List ℕ
-bytes_in (answer.Bytes bytes) old = bytes.items ++ drop (length bytes.items) old
+bytes_in (answer.Bytes bytes) old = bytes.items
 bytes_in _ old = old
+
+-- where bytes are answered, there are so many
+abbrev pub HasLength : Answer → ℕ → Type 0
+HasLength (answer.Bytes bytes) count = length bytes.items ≡ count
+HasLength _ count = Unit {0}
+
+-- a device's write of these bytes
+abbrev pub writing : ℕ → ℕ → List ℕ → Step
+writing did iova bytes = step.DmaWrite did iova (record { items = bytes })

@@ -2,3 +2,4 @@ pub mod Handles
 pub mod Answers
 pub mod Buffers
 pub mod Faults
+pub mod Looks

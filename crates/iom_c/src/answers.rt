@@ -1,5 +1,5 @@
-ghost use Rattle.std.specs.Prelude.{◌≡◌};
-ghost use Rattle.iom_c.specs.Answers.{code_of, number_in};
+ghost use Rattle.std.specs.Prelude.{◌≡◌, length};
+ghost use Rattle.iom_c.specs.Answers.{bytes_in, code_of, HasLength, number_in};
 
 use iom_core::Answer;
 
@@ -28,5 +28,15 @@ pub fn put_number(answer: &Answer, number: &mut u64)
         Answer::Value(value) => *number = *value,
         Answer::Denied(cause) => *number = u64::from(*cause),
         _ => {}
+    }
+}
+
+/// Puts the bytes that a device read, as many as there is room for; no other answer changes `out`.
+pub fn put_bytes(answer: &Answer, out: &mut [u8])
+    requires { HasLength answer.now (length out.old) }
+    ensures { out.new ≡ bytes_in answer.now out.old }
+{
+    if let Answer::Bytes(bytes) = answer {
+        out.copy_from_slice(bytes.as_slice());
     }
 }

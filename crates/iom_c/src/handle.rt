@@ -46,9 +46,7 @@ impl Handle {
         ensures held { self.old.held ≡ Some result.value }
         ensures closed { self.new.held ≡ None }
     {
-        replace(self, Handle::closed(alloc))
-            .into_parts()
-            .into_box()
+        replace(self, Handle::closed(alloc)).into_parts().into_box()
     }
 
     fn of_parts(parts: Parts<Owned, Global>) -> Handle

@@ -3,7 +3,10 @@
 
 mod answers;
 mod handle;
+mod looking;
 mod opening;
 mod owned;
 mod parts;
+mod places;
 mod steps;
+mod texts;

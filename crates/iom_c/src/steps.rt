@@ -3,12 +3,13 @@
 ghost use Rattle.std.specs.Prelude.{◌≡◌, ◌≤◌, ◌<◌, length, Some, IsSome, IfSome};
 ghost use Rattle.iom_core.specs.Table.{next};
 ghost use Rattle.iom_core.specs.declared.step.Step.TheVariants as step;
-ghost use Rattle.iom_c.specs.Answers.{code_of, number_in};
+ghost use Rattle.iom_c.specs.Answers.{bytes_in, code_of, misuse, number_in, writing};
 ghost use Rattle.iom_c.specs.Handles.{stepped};
 ghost use Rattle.iom_c.specs.declared.owned.Owned.{Owned};
 
-use crate::answers::{code_of, put_number};
+use crate::answers::{code_of, put_bytes, put_number};
 use crate::handle::Handle;
+use arrayvec::ArrayVec;
 use iom_core::Step;
 use std::alloc::Global;
 
@@ -63,7 +64,12 @@ pub extern "C" fn rviommu_store(
     ensures after { handle.new.held ≡ Some (stepped own (step.Store addr size value)) }
 {
     let mut number = 0;
-    take_step(handle, alloc, Step::Store { addr, size, value }, &mut number)
+    take_step(
+        handle,
+        alloc,
+        Step::Store { addr, size, value },
+        &mut number,
+    )
 }
 
 /// The hart reads `size` bytes, 4 or 8, of the IOMMU's registers at offset `off`, in bytes ("Memory-mapped register interface"):
@@ -100,15 +106,85 @@ pub extern "C" fn rviommu_reg_write(
     ensures after { handle.new.held ≡ Some (stepped own (step.RegWrite off size value)) }
 {
     let mut number = 0;
-    take_step(handle, alloc, Step::RegWrite { off, size, value }, &mut number)
+    take_step(
+        handle,
+        alloc,
+        Step::RegWrite { off, size, value },
+        &mut number,
+    )
+}
+
+/// Device `did`, below 2^24, reads as many bytes as there is room for in `bytes`, 1 to 64, at IOVA `iova`, all in one page of 4096
+/// bytes: bytes, denied, bus error or misuse.
+#[unsafe(no_mangle)]
+#[tactic(auto, using(crate::proofs::Lengths::read_fills))]
+pub extern "C" fn rviommu_dma_read(
+    alloc: Global,
+    handle: &mut Handle,
+    did: u64,
+    iova: u64,
+    bytes: &mut [u8],
+    cause: &mut u64,
+) -> u32
+    ghost own: { Owned }
+    requires open { handle.old.held ≡ Some own }
+    ensures answer { result ≡ code_of (next own.platform (step.DmaRead did iova (length bytes.old))).answer }
+    ensures bytes { bytes.new ≡ bytes_in (next own.platform (step.DmaRead did iova (length bytes.old))).answer bytes.old }
+    ensures cause { cause.new ≡ number_in (next own.platform (step.DmaRead did iova (length bytes.old))).answer cause.old }
+    ensures after { handle.new.held ≡ Some (stepped own (step.DmaRead did iova (length bytes.old))) }
+{
+    let step = Step::DmaRead {
+        did,
+        iova,
+        len: bytes.len() as u64,
+    };
+    let mut owned = handle.take(alloc);
+    let answer = owned.platform.step(&step);
+    let code = code_of(&answer);
+    put_number(&answer, cause);
+    put_bytes(&answer, bytes);
+    owned.trace.keep(step, answer);
+    *handle = Handle::of(owned);
+    code
+}
+
+/// Device `did`, below 2^24, writes `bytes`, 1 to 64, at IOVA `iova`, all in one page of 4096 bytes: done, denied, bus error or
+/// misuse. More than 64 bytes are no step, and are answered misuse.
+#[unsafe(no_mangle)]
+pub extern "C" fn rviommu_dma_write(
+    alloc: Global,
+    handle: &mut Handle,
+    did: u64,
+    iova: u64,
+    bytes: &[u8],
+    cause: &mut u64,
+) -> u32
+    ghost own: { Owned }
+    requires open { handle.old.held ≡ Some own }
+    ensures answer { length bytes.now ≤ 64 → result ≡ code_of (next own.platform (writing did iova bytes.now)).answer }
+    ensures cause { length bytes.now ≤ 64 → cause.new ≡ number_in (next own.platform (writing did iova bytes.now)).answer cause.old }
+    ensures after { length bytes.now ≤ 64 → handle.new.held ≡ Some (stepped own (writing did iova bytes.now)) }
+    ensures long { 64 < length bytes.now → (result ≡ misuse) × (cause.new ≡ cause.old) × (handle.new.held ≡ Some own) }
+{
+    let mut given = ArrayVec::new();
+    if given.try_extend_from_slice(bytes).is_err() {
+        return 8;
+    }
+    take_step(
+        handle,
+        alloc,
+        Step::DmaWrite {
+            did,
+            iova,
+            bytes: given,
+        },
+        cause,
+    )
 }
 
 /// The command unit takes one command and carries it out ("Command-Queue (CQ)"): done or idle.
 #[unsafe(no_mangle)]
-pub extern "C" fn rviommu_command(
-    alloc: Global,
-    handle: &mut Handle,
-) -> u32
+pub extern "C" fn rviommu_command(alloc: Global, handle: &mut Handle) -> u32
     ghost own: { Owned }
     requires open { handle.old.held ≡ Some own }
     ensures answer { result ≡ code_of (next own.platform step.Command).answer }
@@ -155,7 +231,17 @@ pub extern "C" fn rviommu_dev_write(
     ensures after { handle.new.held ≡ Some (stepped own (step.DevWrite dev off size value)) }
 {
     let mut number = 0;
-    take_step(handle, alloc, Step::DevWrite { dev, off, size, value }, &mut number)
+    take_step(
+        handle,
+        alloc,
+        Step::DevWrite {
+            dev,
+            off,
+            size,
+            value,
+        },
+        &mut number,
+    )
 }
 
 /// Block device `dev`, counted from 0, goes on by one access: done, idle, denied, bus error or no device.

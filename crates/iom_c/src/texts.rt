@@ -1,0 +1,148 @@
+//! Lines of the script, the words of refusals, and texts of images.
+
+ghost use Rattle.std.specs.Prelude.{◌≡◌, ◌≢◌, ◌<◌, ◌≤◌, length, IsErr, Some};
+ghost use Rattle.std.specs.Result.{IsErrAnd, IsOkAnd};
+ghost use Rattle.iom_asm.specs.Assembly.{assembled, Makes};
+ghost use Rattle.iom_c.specs.Buffers.{after_line, begun_by, reply_to, told_in};
+ghost use Rattle.iom_c.specs.Faults.{asm_number, line_in, little_room, ok, out_of_memory, words_for};
+ghost use Rattle.iom_c.specs.declared.owned.Owned.{Owned};
+
+use crate::handle::Handle;
+use crate::owned::Owned;
+use iom_asm::{AsmFault, assemble};
+use iom_tool::{Reply, Session};
+use std::alloc::Global;
+
+// Puts a text and a 0 behind it, and how many bytes it has.
+fn put_text(text: &[u8], out: &mut [u8], count: &mut usize)
+    requires { length text.now < length out.old }
+    ensures text { out.new ≡ told_in text.now out.old }
+    ensures count { count.new ≡ length text.now }
+{
+    out[..text.len()].copy_from_slice(text);
+    out[text.len()] = 0;
+    *count = text.len();
+}
+
+// Carries out a line.
+fn answer_line(own: &mut Owned, line: &[u8]) -> Reply
+    ensures reply { result.items ≡ reply_to own.old line.now }
+    ensures after { own.new ≡ after_line own.old line.now }
+{
+    Session::new(&mut own.platform, &mut own.trace).line(line)
+}
+
+/// Carries out a line of the script, given without its line end, and puts the text of its answer with a 0 behind it, and in `count`
+/// how many bytes the text has: none for a blank line. It answers 0; or 11 where there is room for less than 321 bytes, and then
+/// nothing is done.
+#[unsafe(no_mangle)]
+pub extern "C" fn rviommu_line(
+    alloc: Global,
+    handle: &mut Handle,
+    line: &[u8],
+    answer: &mut [u8],
+    count: &mut usize,
+) -> u32
+    ghost own: { Owned }
+    requires open { handle.old.held ≡ Some own }
+    ensures told { 320 < length answer.old → result ≡ ok }
+    ensures answer { 320 < length answer.old → answer.new ≡ told_in (reply_to own line.now) answer.old }
+    ensures count { 320 < length answer.old → count.new ≡ length (reply_to own line.now) }
+    ensures after { 320 < length answer.old → handle.new.held ≡ Some (after_line own line.now) }
+    ensures little { length answer.old ≤ 320 →
+        (result ≡ little_room) × (answer.new ≡ answer.old) × (count.new ≡ count.old) × (handle.new.held ≡ Some own) }
+{
+    if answer.len() <= 320 {
+        return 11;
+    }
+    let mut owned = handle.take(alloc);
+    let reply = answer_line(&mut owned, line);
+    *handle = Handle::of(owned);
+    put_text(reply.as_slice(), answer, count);
+    0
+}
+
+// The words of a number.
+fn words_for(number: u32) -> &'static [u8]
+    ensures words { result.now ≡ words_for number }
+    ensures short { length result.now < 32 }
+{
+    match number {
+        0 => b"ok",
+        1 => b"bad magic",
+        2 => b"truncated",
+        3 => b"trailing bytes",
+        4 => b"bad memory",
+        5 => b"bad chunk",
+        6 => b"bad device",
+        7 => b"out of memory",
+        8 => b"bad line",
+        9 => b"overlap",
+        10 => b"outside memory",
+        11 => b"too little room",
+        12 => b"no such disk",
+        _ => b"no such number",
+    }
+}
+
+/// Puts the words of a refusal's number with a 0 behind them, and in `count` how many bytes they have. It answers 0; or 11 where
+/// there is room for less than 32 bytes, and then nothing is changed.
+#[unsafe(no_mangle)]
+pub extern "C" fn rviommu_text(number: u32, text: &mut [u8], count: &mut usize) -> u32
+    ensures told { 31 < length text.old → result ≡ ok }
+    ensures text { 31 < length text.old → text.new ≡ told_in (words_for number) text.old }
+    ensures count { 31 < length text.old → count.new ≡ length (words_for number) }
+    ensures little { length text.old ≤ 31 → (result ≡ little_room) × (text.new ≡ text.old) × (count.new ≡ count.old) }
+{
+    if text.len() <= 31 {
+        return 11;
+    }
+    put_text(words_for(number), text, count);
+    0
+}
+
+// The number of an assembler's refusal; puts the line with the fault.
+fn asm_number(fault: AsmFault, line: &mut u64) -> u32
+    ensures told { result ≡ asm_number fault }
+    ensures line { line.new ≡ line_in fault line.old }
+{
+    let (number, at) = match fault {
+        AsmFault::BadLine(at) => (8, at),
+        AsmFault::Overlap(at) => (9, at),
+        AsmFault::Outside(at) => (10, at),
+        AsmFault::OutOfMemory => return 7,
+    };
+    *line = at;
+    number
+}
+
+/// Assembles a text into the bytes of an image, and puts in `count` how many they are. It answers 0; 11 where there is too little
+/// room for them; 7 where there is no memory; or 8 for a bad line, 9 for an overlap and 10 for bytes outside memory, and puts in
+/// `line` which line it is, from 1 on. Where it answers another number than 0, `image` is unchanged.
+#[unsafe(no_mangle)]
+pub extern "C" fn rviommu_assemble(
+    alloc: Global,
+    text: &[u8],
+    image: &mut [u8],
+    count: &mut usize,
+    line: &mut u64,
+) -> u32
+    ensures image { result ≡ ok → IsOkAnd (assembled text.now)
+        (λ bytes. (image.new ≡ begun_by bytes image.old) × (count.new ≡ length bytes)) }
+    ensures little { result ≡ little_room → IsOkAnd (assembled text.now)
+        (λ bytes. (length image.old < length bytes) × (count.new ≡ length bytes)) }
+    ensures refused { result ≢ ok → result ≢ little_room → result ≢ out_of_memory → IsErrAnd (assembled text.now)
+        (λ fault. (result ≡ asm_number fault) × (line.new ≡ line_in fault line.old)) }
+    ensures unchanged { result ≢ ok → image.new ≡ image.old }
+{
+    let bytes = match assemble(alloc, text) {
+        Ok(bytes) => bytes,
+        Err(fault) => return asm_number(fault, line),
+    };
+    *count = bytes.len();
+    if bytes.len() > image.len() {
+        return 11;
+    }
+    image[..bytes.len()].copy_from_slice(&bytes);
+    0
+}
