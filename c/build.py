@@ -1,0 +1,101 @@
+#!/usr/bin/env -S python3 -B
+"""build.py [FOLDER]    Builds the C library into FOLDER, c/out where none is named: librviommu.a, librviommu.so, rviommu.h and rviommu.pc.
+
+The crate iom_c and those that it stands on are proved as they are built, and what is current costs a few seconds. Its archive is
+joined with the kit's few lines of C over malloc, realloc and free. Needs rt, ar and gcc on the path.
+Progress is told on standard error; the folder is printed.
+"""
+import os
+import re
+import shutil
+import subprocess
+import sys
+import tempfile
+
+TOP = os.path.normpath(os.path.join(os.path.dirname(os.path.abspath(__file__)), os.pardir))
+CRATES = os.path.join(TOP, "crates")
+ARCHIVE = os.path.join(CRATES, "iom_c", "out", "libiom_c.a")
+HEADER = os.path.join(TOP, "include", "rviommu.h")
+
+PKG_CONFIG = """\
+prefix={prefix}
+libdir=${{prefix}}/lib
+includedir=${{prefix}}/include
+
+Name: rviommu
+Description: proved platform model of the RISC-V IOMMU
+Version: {version}
+Libs: -L${{libdir}} -lrviommu
+Cflags: -I${{includedir}}
+"""
+
+
+def is_current():
+    if not os.path.exists(ARCHIVE):
+        return False
+    made = os.path.getmtime(ARCHIVE)
+    for folder, folders, files in os.walk(CRATES):
+        folders[:] = [it for it in folders if it not in ("out", "must-fail", "data")]
+        if any(os.path.getmtime(os.path.join(folder, it)) > made for it in files if it.endswith((".rt", ".antt"))):
+            return False
+    return True
+
+
+def kit():
+    page = subprocess.run(["rt", "doc"], stdout=subprocess.PIPE, check=True).stdout.decode().split()[-1]
+    return os.path.dirname(os.path.realpath(page))
+
+
+def build_crate():
+    """Proves and builds the program, and with it all that the crate stands on, and then the crate."""
+    subprocess.run([os.path.join(TOP, "packaging", "build.py")], stdout=sys.stderr, check=True)
+    subprocess.run(["rt", "lib"], cwd=os.path.join(CRATES, "iom_c"), stdout=sys.stderr, check=True)
+    os.utime(ARCHIVE)
+
+
+def version():
+    with open(HEADER, encoding="utf-8") as header:
+        return re.search(r'^#define RVIOMMU_VERSION "(.*)"$', header.read(), re.MULTILINE)[1]
+
+
+def exported():
+    """The names of the header's functions."""
+    with open(HEADER, encoding="utf-8") as header:
+        return sorted(set(re.findall(r"^(?:uint32_t|void) (rviommu_\w+)\(", header.read(), re.MULTILINE)))
+
+
+def join(made):
+    """The archive: the crate's and the kit's objects."""
+    heap = os.path.join(kit(), "c", "liblibc_c.a")
+    script = f"CREATE {made}\nADDLIB {ARCHIVE}\nADDLIB {heap}\nSAVE\nEND\n"
+    subprocess.run(["ar", "-M"], input=script.encode(), check=True)
+
+
+def share(archive, made):
+    """The shared object: the archive whole, with the header's functions in sight."""
+    with tempfile.NamedTemporaryFile("w", suffix=".map") as names:
+        names.write("{ global: " + "".join(f"{it}; " for it in exported()) + "local: *; };\n")
+        names.flush()
+        whole = ["-Wl,--whole-archive", archive, "-Wl,--no-whole-archive", f"-Wl,--version-script={names.name}"]
+        subprocess.run(["gcc", "-shared", "-o", made, "-Wl,-soname,librviommu.so", *whole], check=True)
+
+
+def main():
+    if len(sys.argv) > 2 or sys.argv[1:2] in (["-h"], ["--help"]):
+        sys.exit(__doc__)
+    out = os.path.abspath(sys.argv[1] if len(sys.argv) == 2 else os.path.join(TOP, "c", "out"))
+    if not is_current():
+        build_crate()
+    os.makedirs(out, exist_ok=True)
+    archive = os.path.join(out, "librviommu.a")
+    if os.path.exists(archive):
+        os.remove(archive)
+    join(archive)
+    share(archive, os.path.join(out, "librviommu.so"))
+    shutil.copyfile(HEADER, os.path.join(out, "rviommu.h"))
+    with open(os.path.join(out, "rviommu.pc"), "w", encoding="utf-8") as file:
+        file.write(PKG_CONFIG.format(prefix="/usr/local", version=version()))
+    print(out)
+
+
+main()

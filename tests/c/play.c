@@ -1,0 +1,194 @@
+/*
+ * play text|numbers [IMAGE] < SCRIPT: plays a script on an image, or on the built-in one, through the C library, as the program does.
+ * With `text` each line is given to rviommu_line. With `numbers` each step is given to its function and its answer is told by what
+ * that put; the other lines, which are questions or no lines, are given to rviommu_line.
+ */
+#include <inttypes.h>
+#include <stdio.h>
+#include <stdlib.h>
+#include <string.h>
+
+#include "rviommu.h"
+
+#define MOST_WORDS 8
+#define ROOM 321
+
+static void fail(const char *why) {
+    fprintf(stderr, "play: %s\n", why);
+    exit(1);
+}
+
+static uint8_t *contents(FILE *file, size_t *length) {
+    size_t room = 1 << 16;
+    uint8_t *bytes = malloc(room);
+    *length = 0;
+    while (bytes != NULL) {
+        size_t count = fread(bytes + *length, 1, room - *length, file);
+        *length += count;
+        if (count == 0) {
+            return bytes;
+        }
+        if (*length == room) {
+            room *= 2;
+            bytes = realloc(bytes, room);
+        }
+    }
+    fail("out of memory");
+    return NULL;
+}
+
+static bool number_of(const char *word, uint64_t *number) {
+    bool is_hex = strncmp(word, "0x", 2) == 0;
+    const char *digits = is_hex ? word + 2 : word;
+    size_t count = strlen(digits);
+    if (count == 0 || strspn(digits, is_hex ? "0123456789abcdefABCDEF" : "0123456789") != count || count > (is_hex ? 16 : 19)) {
+        return false;
+    }
+    *number = strtoull(digits, NULL, is_hex ? 16 : 10);
+    return true;
+}
+
+static bool bytes_of(const char *word, uint8_t *bytes, size_t *count) {
+    size_t digits = strlen(word);
+    if (digits == 0 || digits % 2 != 0 || digits > 128 || strspn(word, "0123456789abcdefABCDEF") != digits) {
+        return false;
+    }
+    *count = digits / 2;
+    for (size_t i = 0; i < *count; i++) {
+        char pair[3] = {word[2 * i], word[2 * i + 1], 0};
+        bytes[i] = (uint8_t)strtoul(pair, NULL, 16);
+    }
+    return true;
+}
+
+static void tell(uint32_t answer, uint64_t number, const uint8_t *bytes, size_t count) {
+    static const char *const words[] = {"", "done", "", "idle", "", "bus error", "bad access", "no device", "misuse"};
+    switch (answer) {
+    case RVIOMMU_VALUE:
+        printf("0x%" PRIx64 "\n", number);
+        return;
+    case RVIOMMU_BYTES:
+        for (size_t i = 0; i < count; i++) {
+            printf("%02x", bytes[i]);
+        }
+        printf("\n");
+        return;
+    case RVIOMMU_DENIED:
+        printf("denied %" PRIu64 "\n", number);
+        return;
+    default:
+        printf("%s\n", words[answer]);
+    }
+}
+
+/* Carries out a line by numbers, where it is a step of a plain form. */
+static bool by_numbers(rviommu_t *platform, char *line) {
+    char *words[MOST_WORDS];
+    uint64_t n[MOST_WORDS];
+    uint64_t number = 0;
+    uint8_t bytes[64];
+    size_t count = 0, length = 0;
+    for (char *word = strtok(line, " \t\r"); word != NULL; word = strtok(NULL, " \t\r")) {
+        if (count == MOST_WORDS) {
+            return false;
+        }
+        words[count++] = word;
+    }
+    const char *verb = count > 0 ? words[0] : "";
+    const char *way = count > 1 ? words[1] : "";
+    size_t first = strcmp(verb, "load") == 0 || strcmp(verb, "store") == 0 || strcmp(verb, "cmd") == 0 ? 1 : 2;
+    bool is_write = strcmp(verb, "dma") == 0 && strcmp(way, "write") == 0;
+    size_t last = is_write && count == 5 ? 4 : count;
+    for (size_t i = first; i < last; i++) {
+        if (!number_of(words[i], &n[i - first])) {
+            return false;
+        }
+    }
+    size_t given = count > first ? count - first : 0;
+    uint32_t answer;
+    if (strcmp(verb, "load") == 0 && given == 2) {
+        answer = rviommu_load(platform, n[0], n[1], &number);
+    } else if (strcmp(verb, "store") == 0 && given == 3) {
+        answer = rviommu_store(platform, n[0], n[1], n[2]);
+    } else if (strcmp(verb, "cmd") == 0 && count == 1) {
+        answer = rviommu_command(platform);
+    } else if (strcmp(verb, "reg") == 0 && strcmp(way, "read") == 0 && given == 2) {
+        answer = rviommu_reg_read(platform, n[0], n[1], &number);
+    } else if (strcmp(verb, "reg") == 0 && strcmp(way, "write") == 0 && given == 3) {
+        answer = rviommu_reg_write(platform, n[0], n[1], n[2]);
+    } else if (strcmp(verb, "dma") == 0 && strcmp(way, "read") == 0 && given == 3 && n[2] <= 64) {
+        length = (size_t)n[2];
+        answer = rviommu_dma_read(platform, n[0], n[1], bytes, length, &number);
+    } else if (is_write && given == 3 && bytes_of(words[4], bytes, &length)) {
+        answer = rviommu_dma_write(platform, n[0], n[1], bytes, length, &number);
+    } else if (strcmp(verb, "dev") == 0 && strcmp(way, "read") == 0 && given == 3) {
+        answer = rviommu_dev_read(platform, n[0], n[1], n[2], &number);
+    } else if (strcmp(verb, "dev") == 0 && strcmp(way, "write") == 0 && given == 4) {
+        answer = rviommu_dev_write(platform, n[0], n[1], n[2], n[3]);
+    } else if (strcmp(verb, "dev") == 0 && strcmp(way, "step") == 0 && given == 1) {
+        answer = rviommu_dev_step(platform, n[0], &number);
+    } else {
+        return false;
+    }
+    tell(answer, number, bytes, length);
+    return true;
+}
+
+static void by_text(rviommu_t *platform, const char *line, size_t length) {
+    char answer[ROOM];
+    size_t count;
+    if (rviommu_line(platform, line, length, answer, sizeof answer, &count) != RVIOMMU_OK) {
+        fail("no room");
+    }
+    if (count > 0) {
+        printf("%s\n", answer);
+    }
+}
+
+static void play(rviommu_t *platform, bool numbers, const char *line, size_t length) {
+    char copy[513];
+    if (numbers && length < sizeof copy && memchr(line, 0, length) == NULL && memchr(line, '#', length) == NULL) {
+        memcpy(copy, line, length);
+        copy[length] = 0;
+        if (by_numbers(platform, copy)) {
+            return;
+        }
+    }
+    by_text(platform, line, length);
+}
+
+int main(int argc, char **argv) {
+    rviommu_t platform = {NULL};
+    uint32_t told;
+    size_t length;
+    if (argc < 2) {
+        fail("how?");
+    }
+    if (argc > 2) {
+        FILE *file = fopen(argv[2], "rb");
+        if (file == NULL) {
+            fail("no image");
+        }
+        uint8_t *image = contents(file, &length);
+        fclose(file);
+        told = rviommu_open(image, length, &platform);
+        free(image);
+    } else {
+        told = rviommu_open_built_in(&platform);
+    }
+    if (told != RVIOMMU_OK) {
+        char words[32];
+        rviommu_text(told, words, sizeof words, &length);
+        fail(words);
+    }
+    uint8_t *script = contents(stdin, &length);
+    for (size_t at = 0; at < length;) {
+        const uint8_t *end = memchr(script + at, '\n', length - at);
+        size_t count = end == NULL ? length - at : (size_t)(end - (script + at));
+        play(&platform, strcmp(argv[1], "numbers") == 0, (const char *)script + at, count);
+        at += count + 1;
+    }
+    free(script);
+    rviommu_close(&platform);
+    return 0;
+}
