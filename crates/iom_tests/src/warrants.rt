@@ -4,6 +4,7 @@ use crate::devices::devices;
 use iom_bits::Kind;
 use iom_cache::Key;
 use iom_core::{Platform, Step, Warrant, explain};
+use iom_history::{History, Origin};
 use iom_mem::Ram;
 use std::alloc::Global;
 use std::test::Fail;
@@ -69,8 +70,45 @@ pub fn take(platform: &mut Platform, steps: &[Step]) {
 /// A step, and the warrant of its access.
 pub type Case = (usize, Option<Warrant>);
 
-/// Whether step n has this warrant, of steps carried out from a memory with these words on. Of a disk of no bytes there is no
-/// device.
+// The number by which a history is given step k.
+fn numbered(k: usize) -> u64 {
+    (k as u64).wrapping_mul(3).wrapping_add(10)
+}
+
+// A warrant as a history tells it.
+fn told(warrant: Warrant) -> Origin {
+    match warrant {
+        Warrant::Register => Origin::Register,
+        Warrant::Context { context } => Origin::Context {
+            context: numbered(context),
+        },
+        Warrant::Walked {
+            context,
+            walk,
+            current,
+        } => Origin::Walked {
+            context: numbered(context),
+            walk: numbered(walk),
+            current: numbered(current),
+        },
+    }
+}
+
+// Where a history says that the translation comes from that step n used, if it goes along with the steps up to it.
+fn origin(mut platform: Platform, steps: &[Step], n: usize) -> Option<Origin> {
+    let mut history = History::new(&platform);
+    let mut last = None;
+    for (k, step) in steps.iter().enumerate() {
+        if k > n {
+            break;
+        }
+        last = history.step(&mut platform, step, numbered(k)).origin;
+    }
+    last
+}
+
+/// Whether step n has this warrant, by `explain` and by a history beside the platform, of steps carried out from a memory with
+/// these words on. Of a disk of no bytes there is no device.
 pub fn is_warranted(
     alloc: Global,
     words: &[(u64, u64)],
@@ -80,7 +118,10 @@ pub fn is_warranted(
 ) -> Result<bool, Fail> {
     let ram = memory(alloc, words)?;
     let start = Platform::new(alloc, ram, devices(alloc, disk, &[])?)?;
-    Ok(n < steps.len() && explain(alloc, &start, steps, n)? == want)
+    if n >= steps.len() || explain(alloc, &start, steps, n)? != want {
+        return Ok(false);
+    }
+    Ok(origin(start, steps, n) == want.map(told))
 }
 
 /// The number of the first case that is otherwise, of steps carried out from a memory with these words on.
