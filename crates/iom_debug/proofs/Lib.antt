@@ -3,3 +3,4 @@ pub mod Apart
 pub mod Blanks
 pub mod Bounds
 pub mod Remaining
+pub mod Sameness

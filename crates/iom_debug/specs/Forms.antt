@@ -1,5 +1,5 @@
 -- What the code's forms stand for.
-use Rattle.std.specs.Prelude.{ℕ, ◌+◌, ◌*◌, ◌^◌, ◌≤◌, length}
+use Rattle.std.specs.Prelude.{ℕ, ◌+◌, ◌*◌, ◌^◌, ◌<◌, ◌≤◌, length}
 use Rattle.iom_core.specs.declared.step.Step.{Step}
 use Rattle.iom_core.specs.declared.step.Step.TheVariants as step
 use Rattle.iom_tool.specs.Script.{Does}
@@ -23,6 +23,7 @@ line_in (form.Put addr words) = Stores (stores_at addr words.items)
 
 -- the numbers of a question are in their ranges
 abbrev pub InRange : Inquiry → Type 0
+InRange (inquiry.Stale request) = request.did < 2 ^ 24
 InRange (inquiry.Queue which) = Unit {0}
 InRange (inquiry.Dump addr count) = count ≤ 64
 InRange (inquiry.Disk dev at count) = count ≤ 64

@@ -2,6 +2,7 @@ pub mod Names
 pub mod Script
 pub mod Forms
 pub mod Taking
+pub mod Ways
 pub mod Texts
 pub mod Answers
 pub mod Output

@@ -4,6 +4,9 @@ use Rattle.std.specs.List.{list_any}
 use Rattle.iom_text.specs.Words.{words_of, number, first_number}
 use Rattle.iom_regs.specs.declared.views.Which.{Which}
 use Rattle.iom_regs.specs.declared.views.Which.TheVariants.{Commands, Faults}
+use Rattle.iom_bits.specs.declared.causes.Kind.{Kind}
+use Rattle.iom_bits.specs.declared.causes.Kind.TheVariants.{Read, Write}
+use Rattle.iom_core.specs.declared.access.Request.{Request}
 use Rattle.iom_core.specs.declared.step.Step.{Step}
 use Rattle.iom_core.specs.declared.step.Step.TheVariants as step
 use Rattle.iom_asm.specs.Forms.{where_so, words_for}
@@ -105,6 +108,27 @@ unfoldable pub cmd : List (List ℕ) → Option DebugLine
 cmd [] = None
 cmd (way ∷ operands) = if bytes_eq way (codes "run") then cmd_run operands else None
 
+unfoldable pub kind_named : List ℕ → Option Kind
+kind_named name =
+    if bytes_eq name (codes "read") then Some Read
+    else if bytes_eq name (codes "write") then Some Write
+    else None
+
+-- read|write DID IOVA: what a device may ask of the IOMMU
+unfoldable pub request : List ℕ → List ℕ → List ℕ → Option Request
+request kind did iova = do
+  kind ← kind_named kind
+  did ← number did
+  iova ← number iova
+  where_so (nat_lt did (2 ^ 24)) (Some (record { did = did; iova = iova; kind = kind }))
+
+-- stale read|write DID IOVA
+unfoldable pub stale : List (List ℕ) → Option DebugLine
+stale (kind ∷ did ∷ iova ∷ []) = do
+  asked ← request kind did iova
+  Some (Inquires (inquiry.Stale asked))
+stale _ = None
+
 unfoldable pub queue_named : List ℕ → Option Which
 queue_named name =
     if bytes_eq name (codes "cmd") then Some Commands
@@ -141,6 +165,7 @@ form_by verb operands =
     if bytes_eq verb (codes "reg") then reg operands
     else if bytes_eq verb (codes "dev") then dev operands
     else if bytes_eq verb (codes "cmd") then cmd operands
+    else if bytes_eq verb (codes "stale") then stale operands
     else if bytes_eq verb (codes "queue") then queue operands
     else if bytes_eq verb (codes "dump") then dump operands
     else if bytes_eq verb (codes "disk") then disk operands

@@ -11,7 +11,8 @@ ghost use Rattle.iom_debug.specs.Forms.{InRange};
 ghost use Rattle.iom_debug.specs.Texts.{ask_text, blk_text, bytes_text, device_text, disk_text, part_of, phase_text, queue_text, stop_text, view_text};
 
 use crate::form::Inquiry;
-use crate::text::{push_bytes, push_hexed, push_operand, push_text};
+use crate::text::{push_bytes, push_hexed, push_operand, push_text, said};
+use crate::ways::stale_line;
 use iom_bits::{flag, has_bit};
 use iom_blk::{Blk, Phase, Want};
 use iom_core::Platform;
@@ -25,21 +26,12 @@ pub fn answer_to(platform: &Platform, trace: &Trace, inquiry: &Inquiry) -> Reply
     ensures { result.items ≡ inquired (console platform.now trace.now) inquiry.now }
 {
     match *inquiry {
+        Inquiry::Stale(request) => stale_line(platform, &request),
         Inquiry::Queue(which) => queue_line(platform.registers(), which),
         Inquiry::Dump(addr, count) => memory_line(platform.ram(), addr, count),
         Inquiry::Disk(dev, at, count) => disk_line(platform, dev, at, count),
         Inquiry::Device(dev) => device_line(platform, dev),
     }
-}
-
-// A reply that is a text.
-fn said(text: &[u8]) -> Reply
-    requires { length text.now ≤ 320 }
-    ensures { result.items ≡ text.now }
-{
-    let mut out = Reply::new();
-    push_text(&mut out, text);
-    out
 }
 
 // At most 64 bytes in hex.

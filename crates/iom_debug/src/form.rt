@@ -1,21 +1,24 @@
 //! What `debug` has more than `run`.
 
-ghost use Rattle.std.specs.Prelude.{◌≡◌, ◌+◌, ◌*◌, ◌^◌, ◌≤◌, map, nat_le, IfSome};
+ghost use Rattle.std.specs.Prelude.{◌≡◌, ◌+◌, ◌*◌, ◌^◌, ◌<◌, ◌≤◌, map, nat_le, IfSome};
 ghost use Rattle.std.specs.Option.{option_map};
 ghost use Rattle.iom_debug.specs.Forms.{Fits, line_in};
 ghost use Rattle.iom_text.specs.Words.{words_of};
-ghost use Rattle.iom_debug.specs.Script.{is_count, is_limit, reg_read, reg_write, reg, dev_read, dev_write, dev_show, dev_run, dev, cmd_run, cmd, item_words, put, queue_named, queue, dump, disk, form_by, form_in, form_of};
+ghost use Rattle.iom_debug.specs.Script.{is_count, is_limit, reg_read, reg_write, reg, dev_read, dev_write, dev_show, dev_run, dev, cmd_run, cmd, item_words, put, kind_named, request, stale, queue_named, queue, dump, disk, form_by, form_in, form_of};
 
 use crate::names::{mmio_named, register_named};
 use arrayvec::ArrayVec;
 use iom_asm::words_for;
-use iom_core::Step;
+use iom_bits::Kind;
+use iom_core::{Request, Step};
 use iom_regs::Which;
 use iom_text::{number, take_number, take_word, words};
 
 /// A question that `debug` alone has. It is no step.
 #[derive(Clone, Copy)]
 pub enum Inquiry {
+    /// Whether a request is stale, and what the tables say of it then.
+    Stale(Request),
     /// What a queue's registers tell, and what stopped it.
     Queue(Which),
     /// So many bytes, 1 to 64, of memory from this physical address on: `Dump(addr, count)`.
@@ -220,6 +223,49 @@ fn dev(operands: &[&[u8]]) -> Option<Form>
     }
 }
 
+// The kind of access of a name.
+#[tactic(auto, unfolding(crate::specs::Script::kind_named))]
+fn kind_named(name: &[u8]) -> Option<Kind>
+    ensures { result ≡ kind_named name.now }
+{
+    match name {
+        b"read" => Some(Kind::Read),
+        b"write" => Some(Kind::Write),
+        _ => None,
+    }
+}
+
+// The request of three words: what it does, a device id, an IOVA.
+#[tactic(auto, unfolding(crate::specs::Script::request))]
+fn request(kind: &[u8], did: &[u8], iova: &[u8]) -> Option<Request>
+    ensures request { result ≡ request kind.now did.now iova.now }
+    ensures fits { IfSome result (λ request. request.did < 2 ^ 24) }
+{
+    let kind = kind_named(kind)?;
+    let did = number(did)?;
+    let iova = number(iova)?;
+    if did >= 1 << 24 {
+        return None;
+    }
+    Some(Request {
+        did: did as u32,
+        iova,
+        kind,
+    })
+}
+
+// What follows `stale`: a request.
+#[tactic(auto, unfolding(crate::specs::Script::stale))]
+fn stale(operands: &[&[u8]]) -> Option<Form>
+    ensures line { option_map line_in result ≡ stale (map (λ word. word.now) operands.now) }
+    ensures fits { IfSome result Fits }
+{
+    let [kind, did, iova] = operands else {
+        return None;
+    };
+    Some(Form::Inquires(Inquiry::Stale(request(kind, did, iova)?)))
+}
+
 // The queue of a name.
 #[tactic(auto, unfolding(crate::specs::Script::queue_named))]
 fn queue_named(name: &[u8]) -> Option<Which>
@@ -285,14 +331,22 @@ fn form_by(verb: &[u8], operands: &[&[u8]]) -> Option<Form>
     ensures line { option_map line_in result ≡ form_by verb.now (map (λ word. word.now) operands.now) }
     ensures fits { IfSome result Fits }
 {
-    match verb {
-        b"reg" => reg(operands),
-        b"dev" => dev(operands),
-        b"cmd" => cmd(operands),
-        b"queue" => queue(operands),
-        b"dump" => dump(operands),
-        b"disk" => disk(operands),
-        _ => None,
+    if verb == b"reg".as_slice() {
+        reg(operands)
+    } else if verb == b"dev".as_slice() {
+        dev(operands)
+    } else if verb == b"cmd".as_slice() {
+        cmd(operands)
+    } else if verb == b"stale".as_slice() {
+        stale(operands)
+    } else if verb == b"queue".as_slice() {
+        queue(operands)
+    } else if verb == b"dump".as_slice() {
+        dump(operands)
+    } else if verb == b"disk".as_slice() {
+        disk(operands)
+    } else {
+        None
     }
 }
 

@@ -12,3 +12,4 @@ mod names;
 mod taking;
 mod text;
 mod wanting;
+mod ways;

@@ -2,14 +2,26 @@
 
 ghost use Rattle.std.specs.Prelude.{◌≡◌, ◌+◌, ◌*◌, ◌++◌, ◌≤◌, length, codes};
 ghost use Rattle.hex.specs.Hex.{encode_lower};
+ghost use Rattle.iom_bits.specs.Causes.{cause_number};
 ghost use Rattle.iom_text.specs.Texts.{numeral, hexed};
 ghost use Rattle.iom_asm.specs.Lines.{operand};
 ghost use Rattle.iom_tool.specs.Texts.{text_of};
 
 use hex::encode_to_slice;
+use iom_bits::Cause;
 use iom_core::Answer;
 use iom_text::{decimal, hexed};
 use iom_tool::Reply;
+
+/// A reply that is this text, of at most 320 bytes.
+pub fn said(text: &[u8]) -> Reply
+    requires { length text.now ≤ 320 }
+    ensures { result.items ≡ text.now }
+{
+    let mut out = Reply::new();
+    push_text(&mut out, text);
+    out
+}
 
 /// Appends bytes, for which there is room.
 pub fn push_text(out: &mut Reply, text: &[u8])
@@ -62,6 +74,15 @@ fn push_denied(out: &mut Reply, cause: u16)
 {
     push_text(out, b"denied ");
     push_text(out, decimal(u64::from(cause)).as_slice());
+}
+
+/// Appends the text of a denial by its cause.
+pub fn push_cause(out: &mut Reply, cause: Cause)
+    requires { length out.old.items + 27 ≤ 320 }
+    ensures text { out.new.items ≡ out.old.items ++ codes "denied " ++ numeral 10 (cause_number cause) }
+    ensures room { length out.new.items ≤ length out.old.items + 27 }
+{
+    push_denied(out, cause.number());
 }
 
 /// Appends the text of an answer, at most 128 bytes.
