@@ -101,6 +101,10 @@ at_stale : (words : List (List ℕ)) → Apart (codes "stale") words
 unfolding form_by step_of question_of
 at_stale words line is = refl
 
+at_walk : (words : List (List ℕ)) → Apart (codes "walk") words
+unfolding form_by step_of question_of
+at_walk words line is = refl
+
 at_queue : (words : List (List ℕ)) → Apart (codes "queue") words
 unfolding form_by step_of question_of
 at_queue words line is = refl
@@ -127,10 +131,11 @@ form_apart verb words =
     tried verb words (codes "dev") (at_dev words) (λ no_dev.
     tried verb words (codes "cmd") (at_cmd words) (λ no_cmd.
     tried verb words (codes "stale") (at_stale words) (λ no_stale.
+    tried verb words (codes "walk") (at_walk words) (λ no_walk.
     tried verb words (codes "queue") (at_queue words) (λ no_queue.
     tried verb words (codes "dump") (at_dump words) (λ no_dump.
     tried verb words (codes "disk") (at_disk words) (λ no_disk.
-    λ line is. absurd (cc (rw (no_reg, no_dev, no_cmd, no_stale, no_queue, no_dump, no_disk) at is)))))))))
+    λ line is. absurd (cc (rw (no_reg, no_dev, no_cmd, no_stale, no_walk, no_queue, no_dump, no_disk) at is))))))))))
 
 at_put : (words : List (List ℕ)) → run_line (codes "put") words ≡ Bad
 unfolding step_of question_of

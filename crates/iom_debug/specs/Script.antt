@@ -129,6 +129,14 @@ stale (kind ∷ did ∷ iova ∷ []) = do
   Some (Inquires (inquiry.Stale asked))
 stale _ = None
 
+-- walk read|write DID IOVA I
+unfoldable pub walk : List (List ℕ) → Option DebugLine
+walk (kind ∷ did ∷ iova ∷ i ∷ []) = do
+  asked ← request kind did iova
+  i ← number i
+  Some (Inquires (inquiry.Walk asked i))
+walk _ = None
+
 unfoldable pub queue_named : List ℕ → Option Which
 queue_named name =
     if bytes_eq name (codes "cmd") then Some Commands
@@ -166,6 +174,7 @@ form_by verb operands =
     else if bytes_eq verb (codes "dev") then dev operands
     else if bytes_eq verb (codes "cmd") then cmd operands
     else if bytes_eq verb (codes "stale") then stale operands
+    else if bytes_eq verb (codes "walk") then walk operands
     else if bytes_eq verb (codes "queue") then queue operands
     else if bytes_eq verb (codes "dump") then dump operands
     else if bytes_eq verb (codes "disk") then disk operands

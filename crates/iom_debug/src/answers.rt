@@ -12,6 +12,7 @@ ghost use Rattle.iom_debug.specs.Texts.{ask_text, blk_text, bytes_text, device_t
 
 use crate::form::Inquiry;
 use crate::text::{push_bytes, push_hexed, push_operand, push_text, said};
+use crate::walks::walk_line;
 use crate::ways::stale_line;
 use iom_bits::{flag, has_bit};
 use iom_blk::{Blk, Phase, Want};
@@ -27,6 +28,7 @@ pub fn answer_to(platform: &Platform, trace: &Trace, inquiry: &Inquiry) -> Reply
 {
     match *inquiry {
         Inquiry::Stale(request) => stale_line(platform, &request),
+        Inquiry::Walk(request, i) => walk_line(platform, &request, i),
         Inquiry::Queue(which) => queue_line(platform.registers(), which),
         Inquiry::Dump(addr, count) => memory_line(platform.ram(), addr, count),
         Inquiry::Disk(dev, at, count) => disk_line(platform, dev, at, count),

@@ -4,7 +4,7 @@ ghost use Rattle.std.specs.Prelude.{◌≡◌, ◌+◌, ◌*◌, ◌^◌, ◌<�
 ghost use Rattle.std.specs.Option.{option_map};
 ghost use Rattle.iom_debug.specs.Forms.{Fits, line_in};
 ghost use Rattle.iom_text.specs.Words.{words_of};
-ghost use Rattle.iom_debug.specs.Script.{is_count, is_limit, reg_read, reg_write, reg, dev_read, dev_write, dev_show, dev_run, dev, cmd_run, cmd, item_words, put, kind_named, request, stale, queue_named, queue, dump, disk, form_by, form_in, form_of};
+ghost use Rattle.iom_debug.specs.Script.{is_count, is_limit, reg_read, reg_write, reg, dev_read, dev_write, dev_show, dev_run, dev, cmd_run, cmd, item_words, put, kind_named, request, stale, walk, queue_named, queue, dump, disk, form_by, form_in, form_of};
 
 use crate::names::{mmio_named, register_named};
 use arrayvec::ArrayVec;
@@ -19,6 +19,8 @@ use iom_text::{number, take_number, take_word, words};
 pub enum Inquiry {
     /// Whether a request is stale, and what the tables say of it then.
     Stale(Request),
+    /// The part of this number, from 0, of the walk of a request as the tables stand now.
+    Walk(Request, u64),
     /// What a queue's registers tell, and what stopped it.
     Queue(Which),
     /// So many bytes, 1 to 64, of memory from this physical address on: `Dump(addr, count)`.
@@ -266,6 +268,19 @@ fn stale(operands: &[&[u8]]) -> Option<Form>
     Some(Form::Inquires(Inquiry::Stale(request(kind, did, iova)?)))
 }
 
+// What follows `walk`: a request, and which part.
+#[tactic(auto, unfolding(crate::specs::Script::walk))]
+fn walk(operands: &[&[u8]]) -> Option<Form>
+    ensures line { option_map line_in result ≡ walk (map (λ word. word.now) operands.now) }
+    ensures fits { IfSome result Fits }
+{
+    let [kind, did, iova, i] = operands else {
+        return None;
+    };
+    let request = request(kind, did, iova)?;
+    Some(Form::Inquires(Inquiry::Walk(request, number(i)?)))
+}
+
 // The queue of a name.
 #[tactic(auto, unfolding(crate::specs::Script::queue_named))]
 fn queue_named(name: &[u8]) -> Option<Which>
@@ -339,6 +354,8 @@ fn form_by(verb: &[u8], operands: &[&[u8]]) -> Option<Form>
         cmd(operands)
     } else if verb == b"stale".as_slice() {
         stale(operands)
+    } else if verb == b"walk".as_slice() {
+        walk(operands)
     } else if verb == b"queue".as_slice() {
         queue(operands)
     } else if verb == b"dump".as_slice() {

@@ -11,5 +11,6 @@ mod form;
 mod names;
 mod taking;
 mod text;
+mod walks;
 mod wanting;
 mod ways;

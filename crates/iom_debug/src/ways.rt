@@ -1,6 +1,6 @@
 //! What the tables say now of a request.
 
-ghost use Rattle.std.specs.Prelude.{◌≡◌, ◌<◌, ◌≤◌, ◌^◌, ◌++◌, length, IfSome};
+ghost use Rattle.std.specs.Prelude.{◌≡◌, ◌+◌, ◌<◌, ◌≤◌, ◌^◌, ◌++◌, length, IfSome};
 ghost use Rattle.std.specs.Option.{option_map};
 ghost use Rattle.iom_debug.specs.Ways.{address_by_tables, address_text, frame_on, is_stale, stale_only, stale_text, way_by_tables};
 
@@ -30,9 +30,9 @@ fn frame_by_tables(platform: &Platform, request: &Request) -> Option<u64>
     Some(hit.frame)
 }
 
-// The physical address that the tables lead a request to.
+/// The physical address that the tables lead a request to, or their denial.
 #[tactic(auto, using(crate::proofs::Sameness::address_told, crate::proofs::Sameness::address_framed, crate::proofs::Sameness::walked_framed))]
-fn address_by_tables(platform: &Platform, request: &Request) -> Result<u64, Denial>
+pub fn address_by_tables(platform: &Platform, request: &Request) -> Result<u64, Denial>
     requires { request.now.did < 2 ^ 24 }
     ensures { result ≡ address_by_tables platform.now.machine request.now }
 {
@@ -45,22 +45,28 @@ fn address_by_tables(platform: &Platform, request: &Request) -> Result<u64, Deni
     }
 }
 
-// An address, or the cause of a denial.
-fn address_line(address: Result<u64, Denial>) -> Reply
-    ensures { result.items ≡ address_text address }
+/// Appends an address, or the cause of a denial.
+pub fn push_address(out: &mut Reply, address: Result<u64, Denial>)
+    requires { length out.old.items ≤ 128 }
+    ensures text { out.new.items ≡ out.old.items ++ address_text address }
+    ensures room { length out.new.items ≤ length out.old.items + 27 }
 {
     match address {
         Ok(addr) => {
-            let mut out = said(b"addr=");
-            push_hexed(&mut out, addr);
-            out
+            push_text(out, b"addr=");
+            push_hexed(out, addr);
         }
-        Err(denial) => {
-            let mut out = Reply::new();
-            push_cause(&mut out, denial.cause);
-            out
-        }
+        Err(denial) => push_cause(out, denial.cause),
     }
+}
+
+// An address, or the cause of a denial, by itself.
+fn address_line(address: Result<u64, Denial>) -> Reply
+    ensures { result.items ≡ address_text address }
+{
+    let mut out = Reply::new();
+    push_address(&mut out, address);
+    out
 }
 
 // Whether a request is stale.

@@ -1,0 +1,100 @@
+-- The texts of the parts of a walk. Their names are those of the standards' terms.
+use Rattle.std.specs.Prelude.{ℕ, ◌+◌, ◌++◌, List, [], ◌∷◌, codes, slice_get, Option, Some, None, Result}
+use Rattle.iom_text.specs.Texts.{hexed}
+use Rattle.iom_mem.specs.Memory.{Memory}
+use Rattle.iom_regs.specs.declared.views.Mode.{Mode}
+use Rattle.iom_regs.specs.declared.views.Mode.TheVariants as mode
+use Rattle.iom_ddt.specs.declared.listing.Met.{Met}
+use Rattle.iom_ddt.specs.declared.listing.Met.TheVariants as met
+use Rattle.iom_walk.specs.declared.entry.Ruling.{Ruling}
+use Rattle.iom_walk.specs.declared.entry.Ruling.TheVariants as ruling
+use Rattle.iom_walk.specs.declared.listing.PathEntry.{PathEntry}
+use Rattle.iom_walk.specs.declared.source.Got.{Got}
+use Rattle.iom_walk.specs.declared.source.Got.TheVariants as got
+use Rattle.iom_core.specs.State.{Machine}
+use Rattle.iom_core.specs.declared.access.Denial.{Denial}
+use Rattle.iom_core.specs.declared.access.Request.{Request}
+use Rattle.iom_reasons.specs.Parts.{parts_of}
+use Rattle.iom_reasons.specs.declared.part.Part.{Part}
+use Rattle.iom_reasons.specs.declared.part.Part.TheVariants as part
+use Rattle.iom_reasons.specs.declared.way.Way.{Way}
+use Rattle.iom_reasons.specs.declared.way.Way.TheVariants as way
+use Rattle.iom_asm.specs.Lines.{line_of, operand}
+use Rattle.iom_asm.specs.declared.item.Item.TheVariants as item
+use Rattle.iom_tool.specs.Debugger.{item_text}
+use Rattle.iom_debug.specs.Ways.{address_by_tables, address_text}
+
+-- "Device-directory-table pointer": iommu_mode is 0 Off, 1 Bare, 2 to 4 for one to three levels
+abbrev pub mode_number : Mode → ℕ
+mode_number mode.Off = 0
+mode_number mode.Bare = 1
+mode_number (mode.Levels levels) = levels + 1
+
+-- an item of the directory, with the line of what stands there
+unfoldable pub met_text : Memory → Met → List ℕ
+met_text memory (met.Entry place word) =
+    codes "dir" ++ operand (codes "at") place ++ codes " " ++ item_text memory item.Dir place
+met_text memory (met.Leaf place words) =
+    codes "context" ++ operand (codes "at") place ++ codes " " ++ item_text memory item.Context place
+
+-- the row of the table of entries that decides
+unfoldable pub row_text : Ruling → List ℕ
+row_text ruling.Outside = codes " outside memory"
+row_text ruling.Guest = codes " guest fault"
+row_text ruling.Invalid = codes " V=0"
+row_text ruling.WriteOnly = codes " R=0 W=1"
+row_text ruling.Reserved = codes " reserved bits"
+row_text ruling.ReservedInPointer = codes " reserved in pointer"
+row_text ruling.LastLevel = codes " last level"
+row_text ruling.Pointer = codes " pointer"
+row_text ruling.Misaligned = codes " misaligned"
+row_text ruling.NotUser = codes " U"
+row_text ruling.NotReadable = codes " R"
+row_text ruling.NotWritable = codes " W"
+row_text ruling.NotAccessed = codes " A"
+row_text ruling.NotDirty = codes " D"
+row_text ruling.Leaf = codes " leaf"
+
+-- the line of an entry that was read
+unfoldable pub got_text : Got → List ℕ
+got_text (got.Word word) = codes " " ++ line_of item.Pte (word ∷ [])
+got_text got.Outside = []
+got_text got.Guest = []
+
+-- the physical address that an entry of the first stage was read at
+abbrev pub in_text : Option ℕ → List ℕ
+in_text None = codes " in=-"
+in_text (Some addr) = operand (codes "in") addr
+
+unfoldable pub first_text : PathEntry → Option ℕ → List ℕ
+first_text entry addr =
+    codes "first" ++ operand (codes "level") entry.level ++ operand (codes "at") entry.place ++ in_text addr
+    ++ got_text entry.got ++ row_text entry.ruling
+
+unfoldable pub second_text : ℕ → PathEntry → List ℕ
+second_text guest entry =
+    codes "second" ++ operand (codes "of") guest ++ operand (codes "level") entry.level
+    ++ operand (codes "at") entry.place ++ got_text entry.got ++ row_text entry.ruling
+
+-- where the walk ends, with the physical address or the denial
+unfoldable pub end_text : Way → Result ℕ Denial → List ℕ
+end_text way.Register addr = codes "register " ++ address_text addr
+end_text (way.Context context) addr = codes "context " ++ address_text addr
+end_text (way.Walked context hit) addr = codes "frame=" ++ hexed hit.frame ++ codes " " ++ address_text addr
+end_text (way.Denied denial) addr = address_text addr ++ operand (codes "iotval2") denial.iotval2
+
+abbrev pub part_text : Machine → Request → Part → List ℕ
+part_text m request (part.Ddtp mode root) =
+    codes "ddtp" ++ operand (codes "mode") (mode_number mode) ++ operand (codes "root") root
+part_text m request (part.Directory met) = met_text m.memory met
+part_text m request (part.First entry addr) = first_text entry addr
+part_text m request (part.Second guest entry) = second_text guest entry
+part_text m request (part.End way) = end_text way (address_by_tables m request)
+
+-- part i of the walk of a request
+abbrev pub some_part_text : Machine → Request → Option Part → List ℕ
+some_part_text m request None = codes "none"
+some_part_text m request (Some part) = part_text m request part
+
+unfoldable pub walk_text : Machine → Request → ℕ → List ℕ
+walk_text m request i = some_part_text m request (slice_get (parts_of m request) i)
