@@ -194,4 +194,8 @@ DEBUG_FORMS = [
     b"queue cmd",
     b"dump ADDR LEN",
     b"disk N BYTE LEN",
+    b"dev show N",
+    b"dev run N MAX",
+    b"cmd run MAX",
+    b"put ADDR ITEM",
 ]

@@ -6,7 +6,7 @@ import re
 from checks import (
     ANSWER, ASK, DEBUG_FORMS, EXAMPLES, MOST_IN_LINE, MOST_LINES, READ_FAILED, TOO_LONG, WELL, WRITE_FAILED, Failure, Skip, Talk, check, folder,
     put, run, want, want_words, words_of)
-from program_documents import table
+from program_documents import table, text_of
 from program_images import BAD_FOR_RUN, BUILT_IN, READ_ONLY, ROWS, cannot, fault, read
 
 # A page of memory whose first bytes are known, and a block device whose disk has 1024 bytes.
@@ -61,6 +61,24 @@ def _():
         ("dump 0x80000000 0", "bad"), ("dump 0x80000000 65", "bad"),
         ("disk 0 0 4", "c0ffee00"), ("disk 0 1023 1", "00"), ("disk 0 1023 2", "outside"), ("disk 0 0xffffffffffffffff 1", "outside"),
         ("disk 1 0 1", "none"), ("disk 0 0 0", "bad"), ("disk 0 0 65", "bad"), ("queue", "bad"), ("queue cmds", "bad"), ("trace 4", "none"),
+    ])
+
+
+@check("debug: steps again and again while they are done, items stored, and what a device does next")
+def _():
+    want_debugged([
+        ("cmd run 9", "0x1 idle"), ("dev run 0 9", "0x1 idle"), ("dev run 1 9", "0x1 no device"), ("cmd run 0", "bad"), ("cmd run", "bad"),
+        ("dev run 0 0", "bad"), ("cmd run 0x100000", "0x1 idle"), ("cmd run 0x100001", "bad"), ("dev run 0 0x100001", "bad"),
+        ("put 0x80000800 cmd iodir", "done"), ("put 0x80000810 cmd vma", "done"), ("put 0x80000820 u64 0x7f 0", "done"),
+        ("show cmd 0x80000810", "cmd vma av=0x0 page=0x0 pscv=0x0 pscid=0x0 gv=0x0 gscid=0x0"),
+        ("reg write cqb 0x20000003", "done"), ("reg write cqcsr 1", "done"), ("reg write ddtp 1", "done"),
+        ("put 0x80000000 cmd iodir", "done"), ("put 0x80000010 cmd vma", "done"), ("put 0x80000020 u64 0x7f 0", "done"),
+        ("reg write cqt 3", "done"), ("cmd run 1", "0x1 done"), ("cmd run 9", "0x3 idle"), ("queue cmd",
+         "on=0x1 base=0x80000000 entries=0x10 head=0x2 tail=0x3 stop=illegal"),
+        ("put 0x80000004 u64 1", "misuse"), ("put 0x80000ff8 u64 1 2", "bus error"), ("load 0x80000ff8 8", "0x1"), ("put 0x80000000", "bad"),
+        ("put 0x80000000 word 1", "bad"), ("put 0x80000000 pte ppn=1 flags=0xd7", "done"), ("show pte 0x80000000", "pte ppn=0x1 flags=0xd7"),
+        ("put 0x80000000 bytes aa", "bad"), ("put 0x80000000 disk 5 1", "bad"), ("dev show 1", "none"),
+        ("dev show 0", "did=0x5 phase=index next=none head=0x0 seen=0x0 used=0x0"),
     ])
 
 
@@ -132,6 +150,14 @@ def _():
         given = b"reg write ddtp 1 # => done\ndisk 0 0 2 # => aa00\nqueue fault # => none\n"
         told = b"line 3: queue fault -> on=0x0 base=0x0 entries=0x2 head=0x0 tail=0x0 stop=none, wanted none\n2 passed, 1 failed\n"
         want_words(["check", image], told, (1, b""), given)
+
+
+@check("README: its table of lines of debug has each of them")
+def _():
+    rows = re.search(r"(?m)^\| Line of `debug` \|.*\n\|[-|]+\n((?:\|.*\n)+)", text_of("README.md"))[1].splitlines()
+    named = [form for row in rows for form in re.findall(r"`([^`]*)`", row.split("|")[1])]
+    lacking = [form.decode() for form in DEBUG_FORMS if not any(it.startswith(form.decode()) for it in named)]
+    want("the lines that it lacks", lacking, [])
 
 
 @check("debug --help: each line that debug alone has")

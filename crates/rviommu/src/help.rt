@@ -90,6 +90,10 @@ The lines of a script are those of `rviommu --help` and these:
   queue cmd, queue fault        where a queue stands, and whether it is on
   dump ADDR LEN                 1 to 64 bytes of memory
   disk N BYTE LEN               1 to 64 bytes of the disk of block device N
+  dev show N                    what block device N does next
+  dev run N MAX                 dev step N while it is done, MAX times at most
+  cmd run MAX                   cmd while it is done, MAX times at most
+  put ADDR ITEM ..              the hart stores an item of `asm --help`
 
 An example:
 
