@@ -1,9 +1,10 @@
 #!/usr/bin/env -S python3 -B
-"""build.py [FOLDER]    Builds the C library into FOLDER, c/out where none is named: librviommu.a, librviommu.so, rviommu.h and rviommu.pc.
+"""build.py [PREFIX]    Builds the C library into PREFIX, c/out where none is named.
 
-The crate iom_c and those that it stands on are proved as they are built, and what is current costs a few seconds. Its archive is
+It makes PREFIX/lib/librviommu.a, librviommu.so and pkgconfig/rviommu.pc, and PREFIX/include/rviommu.h; they may be moved together. The
+crate iom_c and those that it stands on are proved as they are built, and what is current costs a few seconds. Its archive is
 joined with the kit's few lines of C over malloc, realloc and free. Needs rt, ar and gcc on the path.
-Progress is told on standard error; the folder is printed.
+Progress is told on standard error; PREFIX is printed.
 """
 import os
 import re
@@ -18,7 +19,7 @@ ARCHIVE = os.path.join(CRATES, "iom_c", "out", "libiom_c.a")
 HEADER = os.path.join(TOP, "include", "rviommu.h")
 
 PKG_CONFIG = """\
-prefix={prefix}
+prefix=${{pcfiledir}}/../..
 libdir=${{prefix}}/lib
 includedir=${{prefix}}/include
 
@@ -86,15 +87,17 @@ def main():
     out = os.path.abspath(sys.argv[1] if len(sys.argv) == 2 else os.path.join(TOP, "c", "out"))
     if not is_current():
         build_crate()
-    os.makedirs(out, exist_ok=True)
-    archive = os.path.join(out, "librviommu.a")
+    lib, include = os.path.join(out, "lib"), os.path.join(out, "include")
+    os.makedirs(os.path.join(lib, "pkgconfig"), exist_ok=True)
+    os.makedirs(include, exist_ok=True)
+    archive = os.path.join(lib, "librviommu.a")
     if os.path.exists(archive):
         os.remove(archive)
     join(archive)
-    share(archive, os.path.join(out, "librviommu.so"))
-    shutil.copyfile(HEADER, os.path.join(out, "rviommu.h"))
-    with open(os.path.join(out, "rviommu.pc"), "w", encoding="utf-8") as file:
-        file.write(PKG_CONFIG.format(prefix="/usr/local", version=version()))
+    share(archive, os.path.join(lib, "librviommu.so"))
+    shutil.copyfile(HEADER, os.path.join(include, "rviommu.h"))
+    with open(os.path.join(lib, "pkgconfig", "rviommu.pc"), "w", encoding="utf-8") as file:
+        file.write(PKG_CONFIG.format(version=version()))
     print(out)
 
 

@@ -147,9 +147,10 @@ static void by_text(rviommu_t *platform, const char *line, size_t length) {
 
 static void play(rviommu_t *platform, bool numbers, const char *line, size_t length) {
     char copy[513];
-    if (numbers && length < sizeof copy && memchr(line, 0, length) == NULL && memchr(line, '#', length) == NULL) {
+    if (numbers && length < sizeof copy && memchr(line, 0, length) == NULL) {
         memcpy(copy, line, length);
         copy[length] = 0;
+        copy[strcspn(copy, "#")] = 0;
         if (by_numbers(platform, copy)) {
             return;
         }

@@ -1,0 +1,81 @@
+"""The C library, librviommu.so, by ctypes: each function with its types."""
+import ctypes
+import ctypes.util
+import os
+
+from ctypes import POINTER, Structure, c_bool, c_char_p, c_size_t, c_uint8, c_uint32, c_uint64, c_void_p
+
+HERE = os.path.dirname(os.path.abspath(__file__))
+
+
+class Handle(Structure):
+    _fields_ = [("own", c_void_p)]
+
+
+class Page(Structure):
+    """struct rviommu_page"""
+
+    _fields_ = [("page", c_uint64), ("frame", c_uint64)]
+    _fields_ += [(name, c_uint32) for name in ("did", "pscid", "gscid", "level")]
+    _fields_ += [(name, c_bool) for name in ("has_pscid", "has_gscid", "is_write", "is_global")]
+
+
+class Context(Structure):
+    """struct rviommu_context"""
+
+    _fields_ = [("gppn", c_uint64), ("ppn", c_uint64)]
+    _fields_ += [(name, c_uint32) for name in ("did", "pscid", "gscid", "gmode", "mode", "custom")]
+    _fields_ += [("dtf", c_bool), ("tav", c_bool)]
+
+
+HANDLE, NUMBER, SIZE, BYTES = POINTER(Handle), POINTER(c_uint64), POINTER(c_size_t), POINTER(c_uint8)
+
+# What each function takes; each answers a uint32_t but for those of NOTHING.
+FUNCTIONS = {
+    "open": (c_char_p, c_size_t, HANDLE),
+    "open_built_in": (HANDLE,),
+    "copy": (HANDLE, HANDLE),
+    "close": (HANDLE,),
+    "line": (HANDLE, c_char_p, c_size_t, c_char_p, c_size_t, SIZE),
+    "load": (HANDLE, c_uint64, c_uint64, NUMBER),
+    "store": (HANDLE, c_uint64, c_uint64, c_uint64),
+    "reg_read": (HANDLE, c_uint64, c_uint64, NUMBER),
+    "reg_write": (HANDLE, c_uint64, c_uint64, c_uint64),
+    "dma_read": (HANDLE, c_uint64, c_uint64, BYTES, c_size_t, NUMBER),
+    "dma_write": (HANDLE, c_uint64, c_uint64, c_char_p, c_size_t, NUMBER),
+    "command": (HANDLE,),
+    "dev_read": (HANDLE, c_uint64, c_uint64, c_uint64, NUMBER),
+    "dev_write": (HANDLE, c_uint64, c_uint64, c_uint64, c_uint64),
+    "dev_step": (HANDLE, c_uint64, NUMBER),
+    "memory_place": (HANDLE, NUMBER, NUMBER),
+    "memory": (HANDLE, c_uint64, BYTES, c_size_t),
+    "disk_size": (HANDLE, c_size_t, NUMBER),
+    "disk": (HANDLE, c_size_t, c_size_t, BYTES, c_size_t),
+    "page": (HANDLE, c_uint64, POINTER(Page)),
+    "context": (HANDLE, c_uint64, POINTER(Context)),
+    "assemble": (c_char_p, c_size_t, BYTES, c_size_t, SIZE, NUMBER),
+    "text": (c_uint32, c_char_p, c_size_t, SIZE),
+}
+NOTHING = ("close", "memory_place")
+
+
+def where():
+    """The shared object: $RVIOMMU_LIBRARY, the one that was packed, or one that the system finds."""
+    named = os.environ.get("RVIOMMU_LIBRARY")
+    packed = os.path.join(HERE, "librviommu.so")
+    found = named or (packed if os.path.exists(packed) else ctypes.util.find_library("rviommu"))
+    if not found:
+        raise ImportError("there is no librviommu.so: build it with c/build.py, and name it in RVIOMMU_LIBRARY")
+    return found
+
+
+def loaded():
+    library = ctypes.CDLL(where())
+    for name, takes in FUNCTIONS.items():
+        function = getattr(library, "rviommu_" + name)
+        function.argtypes = takes
+        function.restype = None if name in NOTHING else c_uint32
+    return library
+
+
+LIBRARY = loaded()

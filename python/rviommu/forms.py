@@ -1,0 +1,126 @@
+"""What stands in memory, by its fields: contexts, page-table entries, commands and fault records.
+
+Each form has `words()`, its 64-bit words, and `bytes()`, as they stand in memory. The names are those of the RISC-V IOMMU
+Architecture 1.0 and of the Privileged Architecture 1.12.
+"""
+import struct
+from dataclasses import dataclass
+
+BARE, SV39, SV48 = 0, 8, 9
+
+
+def _field(value, low, width):
+    if not 0 <= value < 1 << width:
+        raise ValueError(f"{value:#x} has more than {width} bits")
+    return value << low
+
+
+def _of(word, low, width):
+    return word >> low & (1 << width) - 1
+
+
+class Form:
+    def bytes(self):
+        words = self.words()
+        return struct.pack(f"<{len(words)}Q", *words)
+
+
+@dataclass(frozen=True)
+class Context(Form):
+    """A device context of the base format ("Device-context fields"): 32 bytes. PPNs are addresses divided by 4096."""
+
+    mode: int = BARE
+    ppn: int = 0
+    pscid: int = 0
+    gmode: int = BARE
+    gppn: int = 0
+    gscid: int = 0
+    dtf: bool = False
+    valid: bool = True
+
+    def words(self):
+        return (
+            _field(self.valid, 0, 1) | _field(self.dtf, 4, 1),
+            _field(self.gppn, 0, 44) | _field(self.gscid, 44, 16) | _field(self.gmode, 60, 4),
+            _field(self.pscid, 12, 20),
+            _field(self.ppn, 0, 44) | _field(self.mode, 60, 4),
+        )
+
+
+@dataclass(frozen=True)
+class Pte(Form):
+    """An entry of a page table ("Sv39 Page Table Entry"): its PPN, and the letters of its bits that are 1, out of `vrwxugad`. `Pte(ppn,
+    "v")` is a pointer to a table."""
+
+    ppn: int
+    bits: str = "vrwuad"
+
+    def words(self):
+        letters = "vrwxugad"
+        if not set(self.bits) <= set(letters):
+            raise ValueError(f"{self.bits!r} has a letter that is none of {letters!r}")
+        return (sum(1 << letters.index(it) for it in set(self.bits)) | _field(self.ppn, 10, 44),)
+
+
+@dataclass(frozen=True)
+class Vma(Form):
+    """IOTINVAL.VMA; an operand that is None isn't valid. `page` is the IOVA divided by 4096."""
+
+    page: int | None = None
+    pscid: int | None = None
+    gscid: int | None = None
+    func3 = 0
+
+    def words(self):
+        flags = (self.page is not None) << 10 | (self.pscid is not None) << 32 | (self.gscid is not None) << 33
+        first = 1 | _field(self.func3, 7, 3) | flags | _field(self.pscid or 0, 12, 20) | _field(self.gscid or 0, 44, 16)
+        return first, _field(self.page or 0, 10, 52)
+
+
+class Gvma(Vma):
+    """IOTINVAL.GVMA; `page` is the guest-physical address divided by 4096, and there is no PSCID."""
+
+    func3 = 1
+
+
+@dataclass(frozen=True)
+class Fence(Form):
+    """IOFENCE.C; `data`, 32 bits, is stored at the physical address `addr`, a multiple of 4, where that is given."""
+
+    addr: int | None = None
+    data: int = 0
+    wsi: bool = False
+    pr: bool = True
+    pw: bool = True
+
+    def words(self):
+        if self.addr is not None and self.addr % 4:
+            raise ValueError(f"{self.addr:#x} is no multiple of 4")
+        flags = (self.addr is not None) << 10 | self.wsi << 11 | self.pr << 12 | self.pw << 13
+        return 2 | flags | _field(self.data, 32, 32), _field((self.addr or 0) >> 2, 0, 62)
+
+
+@dataclass(frozen=True)
+class Iodir(Form):
+    """IODIR.INVAL_DDT: of one device, or of all."""
+
+    did: int | None = None
+
+    def words(self):
+        return 3 | (self.did is not None) << 33 | _field(self.did or 0, 40, 24), 0
+
+
+@dataclass(frozen=True)
+class FaultRecord:
+    """A record of the fault queue ("Fault/Event-Queue (FQ)"): 32 bytes."""
+
+    cause: int
+    ttyp: int
+    did: int
+    iotval: int
+    iotval2: int
+
+    @classmethod
+    def from_bytes(cls, data):
+        first, _, iotval, iotval2 = struct.unpack("<4Q", data)
+        return cls(_of(first, 0, 12), _of(first, 34, 6), _of(first, 40, 24), iotval, iotval2)

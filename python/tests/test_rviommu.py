@@ -1,0 +1,166 @@
+"""Tests of the module. Expected values are the standards', or the answers of the script's own lines."""
+import unittest
+
+import rviommu
+from rviommu import (AssemblyError, BadAccess, BusError, Context, Denied, FaultRecord, Fence, Gvma, ImageError, Iodir, Misuse, NoDevice, Outside, Platform,
+                     Pte, Vma, assemble, forms)
+
+RAM = 0x80000000
+ROOT, DATA, IOVA, DID = 0x80002000, 0x80010000, 0x40201000, 5
+DDTP, CQB, FQB, CQCSR, FQCSR = 0x10, 0x18, 0x28, 0x48, 0x4C
+
+
+def mapped(**context):
+    """A platform in which device 5 is led by Sv39 from IOVA to DATA."""
+    platform = Platform()
+    platform.reg_write(DDTP, 0x20000402)
+    platform.put(0x80001000 + 32 * DID, Context(mode=forms.SV39, ppn=ROOT >> 12, **context))
+    for table, index, entry in ((ROOT, 1, Pte(0x80003, "v")), (0x80003000, 1, Pte(0x80004, "v")), (0x80004000, 1, Pte(DATA >> 12, "vrwuad"))):
+        platform.put(table + 8 * index, entry)
+    return platform
+
+
+def with_queues(platform):
+    for base, csr, page in ((CQB, CQCSR, 0x80020), (FQB, FQCSR, 0x80021)):
+        platform.reg_write(base, page << 10 | 5)
+        platform.reg_write(csr, 1, 4)
+    return platform
+
+
+class Steps(unittest.TestCase):
+    def test_hart(self):
+        with Platform() as platform:
+            platform.store(RAM, 0x1122334455667788)
+            self.assertEqual(platform.load(RAM, 2), 0x7788)
+            self.assertEqual(platform.reg_read(0), 0x3810060610)
+            for error, step in ((BusError, lambda: platform.load(0)), (Misuse, lambda: platform.load(RAM + 1, 2)), (BadAccess, lambda: platform.reg_read(1, 4)),
+                                (Misuse, lambda: platform.store(RAM, 256, 1)), (NoDevice, lambda: platform.dev_read(0, 0))):
+                with self.assertRaises(error):
+                    step()
+
+    def test_device(self):
+        platform = mapped(pscid=9)
+        platform.store(DATA, 0x11)
+        self.assertEqual(platform.dma_read(DID, IOVA, 2), b"\x11\0")
+        platform.dma_write(DID, IOVA + 4, b"abc")
+        self.assertEqual(platform.memory(DATA, 8), b"\x11\0\0\0abc\0")
+        with self.assertRaises(Denied) as denied:
+            platform.dma_read(6, IOVA, 1)
+        self.assertEqual(denied.exception.cause, 258)
+        for length in (0, 65, 4096):
+            with self.assertRaises(Misuse):
+                platform.dma_read(DID, IOVA, length)
+            with self.assertRaises(Misuse):
+                platform.dma_write(DID, IOVA, bytes(length))
+
+    def test_caches(self):
+        platform = mapped(pscid=9)
+        self.assertEqual(platform.pages(), [])
+        platform.dma_read(DID, IOVA, 1)
+        (page,), (context,) = platform.pages(), platform.contexts()
+        self.assertEqual((page.did, page.page, page.frame, page.pscid, page.has_pscid, page.has_gscid), (DID, IOVA >> 12, DATA >> 12, 9, True, False))
+        self.assertEqual((page.is_write, page.is_global, page.level), (False, False, 0))
+        self.assertEqual((context.did, context.mode, context.ppn, context.pscid, context.gmode), (DID, forms.SV39, ROOT >> 12, 9, forms.BARE))
+
+    def test_queues(self):
+        platform = with_queues(mapped(pscid=9))
+        platform.dma_read(DID, IOVA, 1)
+        platform.put(0x80004008, Pte(0, ""))
+        platform.dma_read(DID, IOVA, 1)
+        platform.send(Vma(page=IOVA >> 12, pscid=9), Fence(addr=RAM, data=7))
+        self.assertEqual(platform.load(RAM, 4), 7)
+        self.assertEqual(platform.pages(), [None])
+        with self.assertRaises(Denied):
+            platform.dma_read(DID, IOVA, 1)
+        self.assertEqual(platform.take_fault(), FaultRecord(cause=13, ttyp=2, did=DID, iotval=IOVA, iotval2=0))
+        self.assertIsNone(platform.take_fault())
+        platform.send(Iodir(did=DID))
+        self.assertEqual(platform.contexts(), [None])
+
+
+class Starts(unittest.TestCase):
+    def test_image(self):
+        image = assemble("ram 0x90000000 0x2000\nat 0x90000000\nbytes 0102\n")
+        with Platform(image) as platform:
+            self.assertEqual(platform.memory_place, (0x90000000, 0x2000))
+            self.assertEqual(platform.memory(0x90000000, 3), b"\1\2\0")
+            with self.assertRaises(Outside):
+                platform.memory(0x90001FFF, 2)
+            with self.assertRaises(NoDevice):
+                platform.disk(0)
+
+    def test_disk(self):
+        with Platform(assemble("ram 0x80000000 0x1000\ndisk 3 1 aabb\n")) as platform:
+            self.assertEqual(platform.disk(0), b"\xaa\xbb" + bytes(510))
+            self.assertEqual(platform.disk(0, 1, 2), b"\xbb\0")
+            self.assertEqual(platform.disk(0, 512, 0), b"")
+            with self.assertRaises(Outside):
+                platform.disk(0, 511, 2)
+            self.assertEqual(platform.dev_read(0, 0), 0x74726976)
+            self.assertFalse(platform.dev_step(0))
+
+    def test_refusals(self):
+        for image, why in ((b"", "truncated"), (b"RVIOMMU3" + bytes(24), "bad magic"), (assemble("ram 0x80000000 0x1000") + b"x", "trailing bytes")):
+            with self.assertRaisesRegex(ImageError, why):
+                Platform(image)
+        for text, line, why in (("ram 0x80000000 0x1000\nno\n", 2, "bad line"), ("ram 0x80000000 0x1000\nat 0\nbytes 00\n", 3, "outside memory"), ("", 0, "bad line")):
+            with self.assertRaisesRegex(AssemblyError, why) as error:
+                assemble(text)
+            self.assertEqual(error.exception.line, line)
+
+    def test_long_image(self):
+        text = "ram 0x80000000 0x10000\n" + "".join(f"at {RAM + 128 * i:#x}\nbytes {'ff' * 64}\n" for i in range(200))
+        with Platform(assemble(text)) as platform:
+            self.assertEqual(platform.memory(RAM + 128 * 199, 65), b"\xff" * 64 + b"\0")
+
+    def test_copy(self):
+        platform = mapped()
+        copy = platform.copy()
+        copy.store(DATA, 5)
+        self.assertEqual((platform.load(DATA), copy.load(DATA)), (0, 5))
+        self.assertEqual((platform.line("trace 0")[:9], copy.line("trace 0")[:5]), ("reg write", "store"))
+
+    def test_closed(self):
+        platform = Platform()
+        platform.close()
+        platform.close()
+        with self.assertRaises(ValueError):
+            platform.load(RAM)
+
+
+class Forms(unittest.TestCase):
+    """Each form is told by the program's own lines, which have their own way to the words."""
+
+    def told(self, kind, form):
+        platform = Platform()
+        platform.put(RAM, form)
+        return platform.line(f"show {kind} {RAM:#x}")
+
+    def test_commands(self):
+        for form in (Vma(), Vma(page=0x40201, pscid=9, gscid=3), Gvma(gscid=3), Gvma(page=1, gscid=2), Fence(), Fence(addr=0x80000004, data=0x1234), Iodir(), Iodir(did=7)):
+            with self.subTest(form=form):
+                told = self.told("cmd", form)
+                self.assertFalse(told.startswith("u64"), told)
+                with Platform(assemble(f"ram {RAM:#x} 0x1000\nat {RAM:#x}\n{told}\n")) as platform:
+                    self.assertEqual(platform.memory(RAM, 16), form.bytes())
+                for name, value in vars(form).items():
+                    if value and not isinstance(value, bool):
+                        self.assertIn(f"{value:#x}", told)
+
+    def test_context(self):
+        told = self.told("context", Context(mode=forms.SV48, ppn=5, pscid=6, gmode=forms.SV39, gppn=8, gscid=9, dtf=True))
+        for part in ("mode=0x9", "ppn=0x5", "pscid=0x6", "gmode=0x8", "gppn=0x8", "gscid=0x9", "dtf=0x1"):
+            self.assertIn(part, told)
+
+    def test_limits(self):
+        for form in (Pte(1 << 44), Pte(0, "z"), Context(pscid=1 << 20), Vma(gscid=1 << 16), Iodir(did=1 << 24), Fence(addr=2), Fence(data=1 << 32)):
+            with self.subTest(form=form), self.assertRaises(ValueError):
+                form.bytes()
+
+    def test_pte(self):
+        self.assertEqual(Pte(0x80010, "vrwuad").words(), (0x200040D7,))
+        self.assertEqual(rviommu.Pte(0x80003, "v").words(), (0x20000C01,))
+
+
+if __name__ == "__main__":
+    unittest.main()

@@ -1,0 +1,173 @@
+/*
+ * What the other tests don't show of the C library: refused openings, refused memory, too little room, and copies. It is linked with
+ * --wrap=malloc and --wrap=realloc, so that one allocation can be refused.
+ */
+#include <inttypes.h>
+#include <stdio.h>
+#include <stdlib.h>
+#include <string.h>
+
+#include "rviommu.h"
+
+#define RAM 0x80000000u
+
+void *__real_malloc(size_t size);
+void *__real_realloc(void *old, size_t size);
+void *__wrap_malloc(size_t size);
+void *__wrap_realloc(void *old, size_t size);
+
+static int failed;
+static long refused = -1; /* how many allocations there are before the one that is refused */
+
+static bool is_refused(void) { return refused >= 0 && refused-- == 0; }
+
+void *__wrap_malloc(size_t size) { return is_refused() ? NULL : __real_malloc(size); }
+
+void *__wrap_realloc(void *old, size_t size) { return is_refused() ? NULL : __real_realloc(old, size); }
+
+static void want(const char *what, uint64_t seen, uint64_t wanted) {
+    if (seen != wanted) {
+        printf("%s: 0x%" PRIx64 ", wanted 0x%" PRIx64 "\n", what, seen, wanted);
+        failed = 1;
+    }
+}
+
+static void want_text(const char *what, const char *seen, const char *wanted) {
+    if (strcmp(seen, wanted) != 0) {
+        printf("%s: \"%s\", wanted \"%s\"\n", what, seen, wanted);
+        failed = 1;
+    }
+}
+
+static const char text[] = "ram 0x80000000 0x1000\ndisk 5 1 aabb\nat 0x80000010\nbytes 0102\n";
+static uint8_t image[1024];
+static size_t image_length;
+
+static void test_assemble(void) {
+    uint64_t line = 77;
+    size_t length = 0;
+    want("too little room", rviommu_assemble(text, strlen(text), image, 10, &length, &line), RVIOMMU_LITTLE_ROOM);
+    want("what is left of it", image[0], 0);
+    want("assembled", rviommu_assemble(text, strlen(text), image, sizeof image, &image_length, &line), RVIOMMU_OK);
+    want("the length told before", length, image_length);
+    want("an untold line", line, 77);
+    want("a bad line", rviommu_assemble("ram 1 2\n", 8, image, 0, &length, &line), RVIOMMU_BAD_LINE);
+    want("its line", line, 1);
+}
+
+static void test_refused_images(void) {
+    rviommu_t platform = {&platform};
+    for (size_t length = 0; length < image_length; length++) {
+        want("a cut image", rviommu_open(image, length, &platform), RVIOMMU_TRUNCATED);
+        want("its handle", platform.own == NULL, true);
+    }
+    image[0] ^= 1;
+    want("another magic", rviommu_open(image, image_length, &platform), RVIOMMU_BAD_MAGIC);
+    image[0] ^= 1;
+    want("its handle", platform.own == NULL, true);
+}
+
+/* Each allocation of an opening, a copy and an assembly is refused in turn. */
+static void test_refused_memory(void) {
+    rviommu_t platform = {NULL}, copy = {NULL};
+    uint64_t line = 0;
+    size_t length = 0;
+    uint32_t told = RVIOMMU_OUT_OF_MEMORY;
+    long count;
+    for (count = 0; told != RVIOMMU_OK && count < 100; count++) {
+        refused = count;
+        told = rviommu_open(image, image_length, &platform);
+        want("an opening without memory", told == RVIOMMU_OK ? RVIOMMU_OUT_OF_MEMORY : told, RVIOMMU_OUT_OF_MEMORY);
+        want("its handle", platform.own == NULL, told != RVIOMMU_OK);
+    }
+    want("allocations of an opening", count > 3, true);
+    told = RVIOMMU_OUT_OF_MEMORY;
+    for (count = 0; told != RVIOMMU_OK && count < 100; count++) {
+        refused = count;
+        told = rviommu_copy(&platform, &copy);
+        want("a copy without memory", told == RVIOMMU_OK ? RVIOMMU_OUT_OF_MEMORY : told, RVIOMMU_OUT_OF_MEMORY);
+        want("its handle", copy.own == NULL, told != RVIOMMU_OK);
+    }
+    want("allocations of a copy", count > 3, true);
+    rviommu_close(&platform);
+    rviommu_close(&copy);
+    refused = 0;
+    want("a text without memory", rviommu_assemble(text, strlen(text), image, sizeof image, &length, &line), RVIOMMU_OUT_OF_MEMORY);
+    refused = -1;
+}
+
+static void test_lines(void) {
+    rviommu_t platform = {NULL};
+    char answer[321] = "old";
+    size_t length = 9;
+    uint64_t value = 0;
+    want("opened", rviommu_open_built_in(&platform), RVIOMMU_OK);
+    want("a line in too little room", rviommu_line(&platform, "store 0x80000000 1 7", 20, answer, 320, &length), RVIOMMU_LITTLE_ROOM);
+    want("its length", length, 9);
+    want_text("its answer", answer, "old");
+    want("no step was done", rviommu_load(&platform, RAM, 1, &value), RVIOMMU_VALUE);
+    want("nor its store", value, 0);
+    want("a line", rviommu_line(&platform, "store 0x80000000 1 7", 20, answer, sizeof answer, &length), RVIOMMU_OK);
+    want_text("its answer", answer, "done");
+    want("its length", length, 4);
+    want("a blank line", rviommu_line(&platform, " ", 1, answer, sizeof answer, &length), RVIOMMU_OK);
+    want_text("its answer", answer, "");
+    want("no line", rviommu_line(&platform, "a\nb", 3, answer, sizeof answer, &length), RVIOMMU_OK);
+    want_text("its answer", answer, "bad");
+    want("a step by numbers in the trace", rviommu_line(&platform, "trace 0", 7, answer, sizeof answer, &length), RVIOMMU_OK);
+    want_text("its line", answer, "load 0x80000000 0x1 -> 0x0");
+    rviommu_close(&platform);
+}
+
+static void test_looks(void) {
+    rviommu_t platform = {NULL}, copy = {NULL};
+    struct rviommu_context context;
+    uint64_t base = 0, size = 0, value = 0;
+    uint8_t bytes[2] = {0, 0};
+    want("opened", rviommu_open(image, image_length, &platform), RVIOMMU_OK);
+    rviommu_memory_place(&platform, &base, &size);
+    want("base", base, RAM);
+    want("size", size, 0x1000);
+    want("memory", rviommu_memory(&platform, RAM + 0x10, bytes, 2), RVIOMMU_OK);
+    want("its bytes", bytes[0] | bytes[1] << 8, 0x201);
+    want("memory over its end", rviommu_memory(&platform, RAM + 0xfff, bytes, 2), RVIOMMU_OUTSIDE);
+    want("memory at the last address", rviommu_memory(&platform, UINT64_MAX, bytes, 2), RVIOMMU_OUTSIDE);
+    want("the disk's size", rviommu_disk_size(&platform, 0, &size), RVIOMMU_OK);
+    want("which is", size, 512);
+    want("no disk", rviommu_disk_size(&platform, 1, &size), RVIOMMU_NO_DISK);
+    want("the disk", rviommu_disk(&platform, 0, 0, bytes, 2), RVIOMMU_OK);
+    want("its bytes", bytes[0] | bytes[1] << 8, 0xbbaa);
+    want("the disk over its end", rviommu_disk(&platform, 0, 511, bytes, 2), RVIOMMU_OUTSIDE);
+    want("the disk far over its end", rviommu_disk(&platform, 0, SIZE_MAX, bytes, 2), RVIOMMU_OUTSIDE);
+    want("a place", rviommu_context(&platform, 0, &context), RVIOMMU_BEYOND);
+    want("copied", rviommu_copy(&platform, &copy), RVIOMMU_OK);
+    want("a store in the copy", rviommu_store(&copy, RAM, 8, 5), RVIOMMU_DONE);
+    rviommu_close(&copy);
+    want("a closed handle", copy.own == NULL, true);
+    want("the load of the first", rviommu_load(&platform, RAM, 8, &value), RVIOMMU_VALUE);
+    want("which is", value, 0);
+    rviommu_close(&platform);
+}
+
+static void test_words(void) {
+    char words[32] = "old";
+    size_t length = 9;
+    for (uint32_t status = RVIOMMU_OK; status <= RVIOMMU_NO_DISK; status++) {
+        want("words", rviommu_text(status, words, sizeof words, &length), RVIOMMU_OK);
+        want("their length", strlen(words), length);
+    }
+    want_text("the last words", words, "no such disk");
+    want("too little room", rviommu_text(0, words, 31, &length), RVIOMMU_LITTLE_ROOM);
+    want_text("what is left", words, "no such disk");
+}
+
+int main(void) {
+    test_assemble();
+    test_refused_images();
+    test_refused_memory();
+    test_lines();
+    test_looks();
+    test_words();
+    printf(failed ? "failed\n" : "passed\n");
+    return failed;
+}

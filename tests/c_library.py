@@ -1,0 +1,194 @@
+#!/usr/bin/env -S python3 -B
+"""c_library.py PROGRAM [PREFIX]    Uses the C library and the Python module that c/build.py made in PREFIX, c/out where it is not given.
+
+Each script of examples/ and of crates/iom_rows/data is played through the library, line by line and by numbers, and compared with
+PROGRAM. Prints one line a check, and 'c_library: N passed, M failed' at the end. The status is 1 where a check failed.
+"""
+import glob
+import os
+import shutil
+import subprocess
+import sys
+import tempfile
+
+TOP = os.path.normpath(os.path.join(os.path.dirname(os.path.abspath(__file__)), os.pardir))
+STRICT = ["-O1", "-g", "-pedantic", "-Wall", "-Wextra", "-Werror"]
+COMPILERS = {"gcc": "-std=c11", "clang": "-std=c11", "g++": "-std=c++11", "clang++": "-std=c++11"}
+VALGRIND = ["valgrind", "-q", "--leak-check=full", "--error-exitcode=9"]
+
+
+class Failure(Exception):
+    pass
+
+
+class Skip(Exception):
+    pass
+
+
+class Place:
+    """The program, the library, and a folder for what is made."""
+
+    def __init__(self, program, prefix, here):
+        self.program, self.prefix, self.here = program, prefix, here
+        self.archive = os.path.join(prefix, "lib", "librviommu.a")
+        self.include = os.path.join(prefix, "include")
+
+
+def run(words, **how):
+    done = subprocess.run(words, stdout=subprocess.PIPE, stderr=subprocess.STDOUT, check=False, **how)
+    if done.returncode:
+        raise Failure(f"{' '.join(words)} ended with {done.returncode}: {done.stdout.decode(errors='replace')[-500:]}")
+    return done.stdout
+
+
+def needs(*names):
+    for name in names:
+        if not shutil.which(name):
+            raise Skip(f"there is no {name} on the path")
+
+
+def compiled(place, compiler, name, sources, *more):
+    """A program of these sources and the archive, compiled with all warnings as errors."""
+    needs(compiler)
+    made = os.path.join(place.here, f"{name}-{compiler}")
+    paths = [os.path.join(TOP, it) for it in sources]
+    run([compiler, COMPILERS[compiler], *STRICT, f"-I{place.include}", "-o", made, *paths, place.archive, *more])
+    return made
+
+
+def passes(program):
+    if run(program).splitlines()[-1:] != [b"passed"]:
+        raise Failure(f"{program} doesn't end with 'passed'")
+
+
+def driver(place, compiler, checker=()):
+    needs(*checker[:1])
+    passes([*checker, compiled(place, compiler, "driver", ["examples/c/iommu.c", "examples/c/test_driver.c"])])
+
+
+def calls(place, checker=()):
+    needs(*checker[:1])
+    passes([*checker, compiled(place, "gcc", "calls", ["tests/c/calls.c"], "-Wl,--wrap=malloc,--wrap=realloc")])
+
+
+def from_cpp(place, compiler):
+    if run([compiled(place, compiler, "header", ["examples/c/header.cpp"])]) != b"0x3810060610\n":
+        raise Failure("examples/c/header.cpp prints something else")
+
+
+def by_pkg_config(place):
+    """The moved library is found and used by pkg-config, as a shared object."""
+    needs("pkg-config", "gcc")
+    moved = os.path.join(place.here, "moved")
+    shutil.copytree(place.prefix, moved)
+    env = {**os.environ, "PKG_CONFIG_PATH": os.path.join(moved, "lib", "pkgconfig")}
+    flags = run(["pkg-config", "--cflags", "--libs", "rviommu"], env=env).decode().split()
+    made = os.path.join(place.here, "shared")
+    os.remove(os.path.join(moved, "lib", "librviommu.a"))
+    run(["gcc", "-std=c11", "-o", made, os.path.join(TOP, "examples/c/iommu.c"), os.path.join(TOP, "examples/c/test_driver.c"), *flags])
+    if run([made], env={**os.environ, "LD_LIBRARY_PATH": os.path.join(moved, "lib")}) != b"passed\n":
+        raise Failure("the driver's test fails on the shared object")
+
+
+def scripts():
+    for folder in ("examples", "crates/iom_rows/data"):
+        yield from sorted(glob.glob(os.path.join(TOP, folder, "*.script")))
+
+
+def is_played_alike(place, how):
+    play = compiled(place, "gcc", "play", ["tests/c/play.c"])
+    image = os.path.join(place.here, "image")
+    for script in scripts():
+        text = script[: -len("script")] + "asm"
+        if os.path.exists(text):
+            run([place.program, "asm", text, image])
+        with open(script, "rb") as lines:
+            wanted = run([place.program, "run", image] if os.path.exists(text) else [place.program], stdin=lines)
+        with open(script, "rb") as lines:
+            seen = run([play, how, *([image] if os.path.exists(text) else [])], stdin=lines)
+        if seen != wanted:
+            raise Failure(f"{os.path.relpath(script, TOP)} is answered otherwise than by the program")
+
+
+def has_all_functions(place):
+    """The header, the archive and the Python module name the same functions."""
+    sys.path.insert(0, os.path.join(TOP, "python"))
+    os.environ["RVIOMMU_LIBRARY"] = os.path.join(place.prefix, "lib", "librviommu.so")
+    from rviommu._library import FUNCTIONS
+
+    with open(os.path.join(place.include, "rviommu.h"), encoding="utf-8") as header:
+        named = {line.split("(")[0].split()[-1] for line in header if line.startswith(("uint32_t rviommu_", "void rviommu_"))}
+    needs("nm")
+    defined = {line.split()[-1] for line in run(["nm", "--defined-only", "--extern-only", place.archive]).decode().splitlines() if " T rviommu_" in line}
+    bound = {"rviommu_" + name for name in FUNCTIONS}
+    if not named == defined == bound:
+        raise Failure(f"functions differ: {sorted(named ^ defined | named ^ bound)}")
+
+
+def python_tests(place):
+    library = os.path.join(place.prefix, "lib", "librviommu.so")
+    run([sys.executable, "-B", "-m", "unittest", "discover", "-s", "tests"], cwd=os.path.join(TOP, "python"),
+        env={**os.environ, "RVIOMMU_LIBRARY": library})
+
+
+def python_package(place):
+    """pip installs the module without the net, and it is used from there."""
+    needs("pip")
+    site = os.path.join(place.here, "site")
+    env = {**os.environ, "RVIOMMU_LIBRARY": os.path.join(place.prefix, "lib", "librviommu.so"), "PIP_NO_INDEX": "1"}
+    run([sys.executable, "-m", "pip", "install", "--quiet", "--no-deps", "--target", site, os.path.join(TOP, "python")], env=env)
+    used = "import rviommu; print(rviommu.__file__.startswith(__import__('os').environ['PYTHONPATH']), rviommu.Platform().line('reg read 0 8'))"
+    env = {name: value for name, value in os.environ.items() if name != "RVIOMMU_LIBRARY"} | {"PYTHONPATH": site}
+    if run([sys.executable, "-B", "-c", used], env=env, cwd=place.here) != b"True 0x3810060610\n":
+        raise Failure("the installed module answers otherwise")
+
+
+def python_readme(place):
+    """The test in python/README.md passes."""
+    with open(os.path.join(TOP, "python", "README.md"), encoding="utf-8") as page:
+        code = page.read().split("```python\n")[1].split("```")[0]
+    env = {**os.environ, "RVIOMMU_LIBRARY": os.path.join(place.prefix, "lib", "librviommu.so"), "PYTHONPATH": os.path.join(TOP, "python")}
+    run([sys.executable, "-B", "-c", code], env=env)
+
+
+CHECKS = [
+    ("the header, the archive and the Python module have the same functions", has_all_functions),
+    ("the driver's test passes, compiled with gcc", lambda place: driver(place, "gcc")),
+    ("the driver's test passes, compiled with clang", lambda place: driver(place, "clang")),
+    ("valgrind finds nothing in the driver's test", lambda place: driver(place, "gcc", VALGRIND)),
+    ("the header is used from C++, with g++", lambda place: from_cpp(place, "g++")),
+    ("the header is used from C++, with clang++", lambda place: from_cpp(place, "clang++")),
+    ("refusals, refused memory and copies", calls),
+    ("valgrind finds nothing in them", lambda place: calls(place, VALGRIND)),
+    ("pkg-config finds the library, and the shared object is used", by_pkg_config),
+    ("each script is played alike, line by line", lambda place: is_played_alike(place, "text")),
+    ("each script is played alike, by numbers", lambda place: is_played_alike(place, "numbers")),
+    ("the Python module's tests", python_tests),
+    ("the test in python/README.md", python_readme),
+    ("the Python module is installed by pip and used", python_package),
+]
+
+
+def main():
+    if len(sys.argv) not in (2, 3):
+        sys.exit(__doc__)
+    program = os.path.abspath(sys.argv[1])
+    prefix = os.path.abspath(sys.argv[2] if len(sys.argv) == 3 else os.path.join(TOP, "c", "out"))
+    passed = failed = 0
+    with tempfile.TemporaryDirectory() as here:
+        for name, function in CHECKS:
+            try:
+                function(Place(program, prefix, here))
+                print(f"{name}: ok")
+                passed += 1
+            except Skip as why:
+                print(f"{name}: not tried, {why}")
+            except Failure as why:
+                print(f"{name}: FAILED, {why}")
+                failed += 1
+    print(f"c_library: {passed} passed, {failed} failed")
+    sys.exit(1 if failed else 0)
+
+
+if __name__ == "__main__":
+    main()
