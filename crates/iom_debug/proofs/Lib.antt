@@ -4,3 +4,4 @@ pub mod Blanks
 pub mod Bounds
 pub mod Remaining
 pub mod Sameness
+pub mod Accessing

@@ -3,6 +3,7 @@ pub mod Script
 pub mod Forms
 pub mod Taking
 pub mod Ways
+pub mod Accesses
 pub mod Walks
 pub mod Texts
 pub mod Answers

@@ -1,5 +1,5 @@
 -- The way that a request is led, and the way that the tables say now.
-use Rattle.std.specs.Prelude.{ℕ, ◌==◌, ◌&&◌, ◌++◌, Bool, true, false, not, List, [], codes, Option, Some, None, Result, Ok, Err, if◌then◌else◌}
+use Rattle.std.specs.Prelude.{ℕ, ◌^◌, ◌==◌, ◌&&◌, ◌++◌, nat_lt, Bool, true, false, not, List, [], codes, Option, Some, None, Result, Ok, Err, if◌then◌else◌}
 use Rattle.iom_bits.specs.Bits.{flag}
 use Rattle.iom_bits.specs.Causes.{cause_number}
 use Rattle.iom_text.specs.Texts.{numeral, hexed}
@@ -52,10 +52,10 @@ unfoldable pub stale_text : Machine → Request → List ℕ
 stale_text m request =
     if is_stale m request then address_text (address_by_tables m request) else codes "same"
 
--- the same of a request that there may be; nothing where it isn't stale
+-- the same of a request that there may be; nothing where it isn't stale. An id has 24 bits
 abbrev pub stale_only : Machine → Option Request → List ℕ
 stale_only m None = []
-stale_only m (Some request) = if is_stale m request then address_text (address_by_tables m request) else []
+stale_only m (Some request) = if nat_lt request.did (2 ^ 24) && is_stale m request then address_text (address_by_tables m request) else []
 
 -- the frame that a way leads a page to
 abbrev pub frame_on : Way → Option ℕ

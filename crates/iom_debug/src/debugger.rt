@@ -4,12 +4,15 @@ ghost use Rattle.iom_core.specs.Run.{end_of};
 ghost use Rattle.iom_tool.specs.Script.{Bad, line_of};
 ghost use Rattle.iom_tool.specs.Console.{console, trace_after};
 ghost use Rattle.iom_tool.specs.Output.{reply, steps_of};
+ghost use Rattle.iom_debug.specs.Accesses.{stale_before_text};
 ghost use Rattle.iom_debug.specs.Script.{debug_line_of};
 ghost use Rattle.iom_debug.specs.Output.{IsAsRun, debug_reply, debug_steps_of};
 
+use crate::accesses::asked_by_line;
 use crate::answers::answer_to;
 use crate::form::{Form, form_of};
 use crate::taking::{store_all, take, take_again};
+use crate::ways::stale_only;
 use iom_core::Platform;
 use iom_tool::{Reply, Session, Trace};
 
@@ -50,6 +53,15 @@ impl<'a> Debugger<'a> {
         ensures same_trace { self.new.trace.ghost_name ≡ self.old.trace.ghost_name }
     {
         answer_line(self.platform, self.trace, text)
+    }
+
+    /// What the tables say now of the access that a line's step makes, where it is stale, as `stale` tells it (`denied 13`,
+    /// `addr=0x80010abc`). Empty where the line is no step, makes no access of a device, or its access isn't stale; also of a line
+    /// of many steps. Nothing is changed.
+    pub fn stale_before(&self, text: &[u8]) -> Reply
+        ensures { result.items ≡ stale_before_text self.now.platform.now text.now }
+    {
+        stale_only(self.platform, asked_by_line(self.platform, text))
     }
 }
 

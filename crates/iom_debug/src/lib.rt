@@ -5,6 +5,7 @@ pub use debugger::Debugger;
 pub use iom_tool::Reply;
 pub use wanting::wanted;
 
+mod accesses;
 mod answers;
 mod debugger;
 mod form;

@@ -89,3 +89,15 @@ pub fn stale_line(platform: &Platform, request: &Request) -> Reply
         said(b"same")
     }
 }
+
+/// What the tables say now of a request that is stale; nothing of one that isn't, and where there is none.
+pub fn stale_only(platform: &Platform, request: Option<Request>) -> Reply
+    ensures { result.items ≡ stale_only platform.now.machine request }
+{
+    match request {
+        Some(request) if request.did < 1 << 24 && is_stale(platform, &request) => {
+            address_line(address_by_tables(platform, &request))
+        }
+        _ => Reply::new(),
+    }
+}
