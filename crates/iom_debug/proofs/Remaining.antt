@@ -1,10 +1,9 @@
 -- Steps that are taken one after the other, seen by those that are left.
-use Rattle.std.proofs.Common.{◌≡◌, ◌+◌, ◌-◌, ◌<◌, ◌∙◌, ℕ, suc, List, [], ◌∷◌, true, false, length, replicate, refl, sym, ap, arith}
+use Rattle.std.proofs.Common.{◌≡◌, ◌+◌, ◌-◌, ◌<◌, ◌∙◌, ℕ, suc, List, ◌∷◌, true, false, length, replicate, refl, ap, arith}
 use Rattle.iom_core.specs.State.{State}
 use Rattle.iom_core.specs.Table.{next}
 use Rattle.iom_core.specs.Run.{end_of}
 use Rattle.iom_core.specs.declared.step.Step.{Step}
-use Rattle.iom_core.specs.declared.step.Answer.TheVariants as answer
 use Rattle.iom_tool.specs.declared.trace.Entry.{Entry}
 use Rattle.iom_tool.specs.Console.{trace_after, traced}
 use Rattle.iom_debug.specs.Taking.{is_done, last_answer, taken}

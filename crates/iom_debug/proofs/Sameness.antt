@@ -1,6 +1,6 @@
 -- The tests for equality of ways tell it.
-use Rattle.std.proofs.Common.{◌≡◌, ◌==◌, ◌&&◌, ◌+◌, ◌*◌, ◌%◌, ℕ, Bool, true, false, not, Option, Some, None, Result, Ok, Err, ◌∙◌, if◌then◌else◌, refl, sym, ap, arith}
-use Rattle.std.specs.Prelude.{IsTrue, ◌≢◌, ◌↔◌}
+use Rattle.std.proofs.Common.{◌≡◌, ◌==◌, ◌&&◌, ◌+◌, ◌*◌, ◌%◌, ℕ, Bool, true, false, Some, None, Result, Ok, Err, ◌∙◌, if◌then◌else◌, refl, sym, ap, arith}
+use Rattle.std.specs.Prelude.{IsTrue, ◌↔◌}
 use Rattle.std.proofs.lemmas.Bool.{eqb-true, false_from_ne_true, true_from_ne_false}
 use Rattle.std.proofs.lemmas.Grind.{common_steps}
 use Rattle.iom_bits.specs.Bits.{flag}

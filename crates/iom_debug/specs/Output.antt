@@ -2,9 +2,7 @@
 use Rattle.std.specs.Prelude.{ℕ, ◌≡◌, List, [], replicate, Option, Some}
 use Rattle.std.specs.Option.{unwrap_or}
 use Rattle.iom_core.specs.State.{State}
-use Rattle.iom_core.specs.Run.{end_of}
 use Rattle.iom_core.specs.declared.step.Step.{Step}
-use Rattle.iom_tool.specs.declared.trace.Entry.{Entry}
 use Rattle.iom_tool.specs.Console.{Console, console_after}
 use Rattle.iom_tool.specs.Output.{reply, steps_in, steps_of}
 use Rattle.iom_tool.specs.Script.{line_of}

@@ -1,9 +1,8 @@
 -- The texts of answers.
-use Rattle.std.specs.Prelude.{ℕ, ◌+◌, ◌*◌, ◌++◌, Bool, nat_le, List, length, take, drop, codes, Option, Some, None, if◌then◌else◌}
+use Rattle.std.specs.Prelude.{ℕ, ◌+◌, ◌*◌, ◌++◌, nat_le, List, length, take, drop, codes, Option, Some, None, if◌then◌else◌}
 use Rattle.hex.specs.Hex.{encode_lower}
 use Rattle.iom_bits.specs.Bits.{flag, has_bit}
 use Rattle.iom_text.specs.Texts.{hexed}
-use Rattle.iom_mem.specs.Memory.{Memory, bytes_at}
 use Rattle.iom_regs.specs.Table.{Registers}
 use Rattle.iom_regs.specs.Views.{queue_of}
 use Rattle.iom_regs.specs.declared.views.Queue.{Queue}

@@ -1,4 +1,4 @@
-use Rattle.std.proofs.Common.{◌≡◌, ◌-◌, ◌+◌, true, false, replicate, arith}
+use Rattle.std.proofs.Common.{◌≡◌, true, false, arith}
 use Rattle.iom_core.specs.Table.{next}
 use Rattle.iom_debug.specs.Forms.{step_by}
 use Rattle.iom_debug.specs.Taking.{is_done}
