@@ -14,13 +14,17 @@ _rviommu() {
         return
     fi
     case ${COMP_WORDS[1]}:$current in
-        asm:-* | run:-* | check:-* | debug:-* | list:-* | upgrade:-*)
+        check:-*)
+            mapfile -t COMPREPLY < <(compgen -W "--stale --help" -- "$current")
+            return
+            ;;
+        asm:-* | run:-* | debug:-* | list:-* | upgrade:-*)
             mapfile -t COMPREPLY < <(compgen -W "--help" -- "$current")
             return
             ;;
     esac
     case ${COMP_WORDS[1]}:$COMP_CWORD in
-        asm:2 | asm:3 | run:2 | check:2 | debug:2 | list:2 | upgrade:2 | upgrade:3) _rviommu_files "$current" ;;
+        asm:2 | asm:3 | run:2 | check:2 | check:3 | debug:2 | list:2 | upgrade:2 | upgrade:3) _rviommu_files "$current" ;;
         list:3) mapfile -t COMPREPLY < <(compgen -W "cmd fault context dir pte u64" -- "$current") ;;
         help:2) mapfile -t COMPREPLY < <(compgen -W "asm run check debug list upgrade" -- "$current") ;;
     esac

@@ -198,4 +198,8 @@ DEBUG_FORMS = [
     b"dev run N MAX",
     b"cmd run MAX",
     b"put ADDR ITEM",
+    b"stale read DID IOVA",
+    b"stale write DID IOVA",
+    b"walk read DID IOVA I",
+    b"walk write DID IOVA I",
 ]

@@ -183,3 +183,79 @@ def _():
                 raise Failure(f"{name} with line {at + 1} changed ends with {status} and {short(out)}")
             played += 1
     want("whether there were some", played > 60, True)
+
+
+# Device 5 is a block device whose first stage maps the page 0x40201 to the frame 0x80010, and 0x40202 to 0x80011.
+MAPPED = b"""ram 0x80000000 0x100000
+disk 5 2 c0ffee
+at 0x800010a0
+context pscid=3 mode=8 ppn=0x80002
+at 0x80002008
+pte ppn=0x80003 flags=1
+at 0x80003008
+pte ppn=0x80004 flags=1
+at 0x80004008
+pte ppn=0x80010 flags=0xd7
+pte ppn=0x80011 flags=0xd7
+at 0x80010002
+bytes 0100
+at 0x80010abc
+bytes 11223344
+at 0x80090000
+cmd vma
+cmd iodir
+"""
+READ = b"dma read 5 0x40201abc 4"
+MAP = b"reg write ddtp 0x20000402\n" + READ + b"\n"
+INVALIDATE = b"reg write cqb 0x20024000\nreg write cqcsr 1\nreg write cqt 1\ncmd run 9\n"
+DEVICE = b"".join(b"dev write 0 " + it + b"\n" for it in (
+    b"Status 3", b"DriverFeaturesSel 1", b"DriverFeatures 3", b"Status 0xb", b"QueueNum 4", b"QueueDescLow 0x40202000",
+    b"QueueDriverLow 0x40201000", b"QueueDeviceLow 0x40202800", b"QueueReady 1", b"Status 0xf", b"QueueNotify 0"))
+
+
+def add_stale(name, given, line, told):
+    """Wants a check to tell this of this line with --stale, or nothing where there is no line, and nothing without --stale."""
+
+    @check(f"check --stale: {name}")
+    def _():
+        with folder() as here:
+            source, image = put(here, "source", MAPPED), os.path.join(here, "image")
+            want_words(["asm", source, image], b"")
+            want_checked(given, b"", given.count(b"# =>"), ["check", image])
+            number = given[: given.rindex(line)].count(b"\n") + 1 if line else 0
+            text = b"line %d: " % number + line + told + b"\n" if line else b""
+            passed = given.count(b"# =>") - sum(number == at and b"# =>" in it for at, it in enumerate(given.splitlines(), 1))
+            want_checked(given, text, passed, ["check", "--stale", image])
+            want_checked(given, text, passed, ["check", image, "--stale"])
+
+
+UNMAP = b"store 0x80004008 8 0\n"
+add_stale("what is cached and what the tables say are one", MAP + READ + b" # => 11223344\n", b"", b"")
+add_stale("a page that is no longer mapped", MAP + UNMAP + READ + b"\n", READ, b" -> 11223344, stale: the tables now say denied 13")
+add_stale("the wanted answer is given, and stale", MAP + UNMAP + READ + b" # => 11223344\n", READ, b" -> 11223344, stale: the tables now say denied 13")
+add_stale("a page that is mapped to another frame, with the same bytes", MAP + b"store 0x80011abc 4 0x44332211\nstore 0x80004008 8 0x200044d7\n" + READ,
+          READ, b" -> 11223344, stale: the tables now say addr=0x80011abc")
+add_stale("a context that is no longer valid", MAP + b"store 0x800010a0 8 0\n" + READ, READ, b" -> 11223344, stale: the tables now say denied 258")
+add_stale("an invalidation in time", MAP + UNMAP + INVALIDATE + READ + b" # => denied 13\n", b"", b"")
+add_stale("a kind of access that is not cached", MAP + UNMAP + b"dma write 5 0x40201abc 00 # => denied 15\n", b"", b"")
+add_stale("lines that make no access", MAP + UNMAP + b"trace 0\ncmd # => idle\nload 0x80010abc 4\nplace page 0\ndma read 5 0 0 # => misuse\n", b"", b"")
+add_stale("a block device's access", DEVICE + b"reg write ddtp 0x20000402\ndev step 0 # => done\n" + UNMAP + b"dev step 0\n", b"dev step 0",
+          b" -> done, stale: the tables now say denied 13")
+
+
+@check("check --stale: a stale access that fails otherwise too is told once, with both")
+def _():
+    with folder() as here:
+        source, image = put(here, "source", MAPPED), os.path.join(here, "image")
+        want_words(["asm", source, image], b"")
+        told = b"line 4: " + READ + b" -> 11223344, wanted 0, stale: the tables now say denied 13\n"
+        want_checked(MAP + UNMAP + READ + b" # => 0", told, 0, ["check", "--stale", image])
+
+
+@check("check --stale: the example stale_translation is told where its comments say so")
+def _():
+    given = read(os.path.join(EXAMPLES, "stale_translation.script"))
+    status, out, errors = run(["check", "--stale"], given)
+    lines = [number for number, line in enumerate(given.splitlines(), 1) if b"so the device still reads" in line or b"# still cached" in line]
+    told = b"".join(b"line %d: dma read 5 0x40201abc 1 -> 11, stale: the tables now say denied 13\n" % number for number in lines)
+    want("how it ends", (status, out, errors), (1, told + b"0 passed, 2 failed\n", b""))

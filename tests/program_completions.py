@@ -99,6 +99,7 @@ TYPED = [
     ("rviommu list two\t fa\t", ["list", "two words.asm", "fault"]),
     ("rviommu upgrade pl\t brack\t", ["upgrade", "plain.asm", "brackets [1].asm"]),
     ("rviommu check pl\t", ["check", "plain.asm"]),
+    ("rviommu check --st\t pl\t", ["check", "--stale", "plain.asm"]),
     *((f"rviommu {word} --h\t", [word, "--help"]) for word in ("asm", "run", "check", "debug", "list", "upgrade")),
     ("rviommu asm plain.asm --h\t", ["asm", "plain.asm", "--help"]),
     # a folder of a word's name is no word
@@ -163,6 +164,8 @@ add_offered("rviommu list image c", ["cmd", "context"])
 add_offered("rviommu list image cmd 0 ", [])
 add_offered("rviommu u", ["upgrade"])
 add_offered("rviommu c", ["check"])
+add_offered("rviommu check -", ["--stale", "--help"])
+add_offered("rviommu debug -", ["--help"])
 add_offered("rviommu help ", ["asm", "run", "check", "debug", "list", "upgrade"])
 add_offered("rviommu d", ["debug"])
 add_offered("rviommu run -", ["--help"])

@@ -249,7 +249,7 @@ def add_word_help(word, parts, ending=0):
 STATEMENTS = [b"ram BASE SIZE", b"at ADDR", b"u64 VALUE", b"bytes HEX", b"cmd NAME", b"context KEY", b"dir ppn", b"pte ppn", b"fault KEY", b"disk DID SECTORS", b"rodisk DID SECTORS"]
 add_word_help("asm", [b"<SOURCE>", b"<IMAGE>", *STATEMENTS])
 add_word_help("run", [b"<IMAGE>"])
-add_word_help("check", [b"[IMAGE]"], ending=1)
+add_word_help("check", [b"[IMAGE]", b"--stale"], ending=1)
 add_word_help("debug", [b"[IMAGE]"])
 add_word_help("list", [b"<IMAGE>", b"<KIND>", b"<ADDR>", b"<COUNT>"])
 add_word_help("upgrade", [b"<IMAGE>", b"<NEW>"])

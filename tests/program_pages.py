@@ -40,7 +40,7 @@ def man_page():
 def _():
     page = man_page()
     forms = [form.decode() for form in FORMS + DEBUG_FORMS + STATEMENTS]
-    wanted = [*commands(), "--help", "--version", "asm SOURCE IMAGE", "run IMAGE", "check [IMAGE]", "debug [IMAGE]", "list IMAGE KIND ADDR COUNT", "upgrade IMAGE NEW", *forms, *KINDS, *ANSWERS, *TEXTS]
+    wanted = [*commands(), "--help", "--version", "asm SOURCE IMAGE", "run IMAGE", "check [--stale] [IMAGE]", "debug [IMAGE]", "list IMAGE KIND ADDR COUNT", "upgrade IMAGE NEW", *forms, *KINDS, *ANSWERS, *TEXTS]
     missing = [it for it in wanted if not re.search(r"(?m)(^|[\s,])" + re.escape(it) + r"(?=[\s,.;=]|$)", page)]
     want("what the man page lacks", missing, [])
 

@@ -15,6 +15,8 @@ pub struct Answered<'a> {
     pub line: &'a [u8],
     /// Not empty.
     pub answer: &'a [u8],
+    /// What the tables said of its access before it, where this was stale and is to be told; else empty.
+    pub tables: &'a [u8],
 }
 
 impl<'a> Answered<'a> {
@@ -23,8 +25,11 @@ impl<'a> Answered<'a> {
         wanted(self.line).filter(|wanted| *wanted != self.answer)
     }
 
-    // Whether the line fails: it wants another answer, or is bad and doesn't want that.
+    // Whether the line fails: it wants another answer, is bad and doesn't want that, or is stale.
     fn fails(&self) -> bool {
+        if !self.tables.is_empty() {
+            return true;
+        }
         match wanted(self.line) {
             Some(wanted) => wanted != self.answer,
             None => self.answer == b"bad".as_slice(),
@@ -41,10 +46,17 @@ impl Display for Answered<'_> {
             self.number,
             self.answer.escape_ascii()
         )?;
-        match self.missed() {
-            Some(wanted) => write!(f, ", wanted {}", wanted.escape_ascii()),
-            None => Ok(()),
+        if let Some(wanted) = self.missed() {
+            write!(f, ", wanted {}", wanted.escape_ascii())?;
         }
+        if self.tables.is_empty() {
+            return Ok(());
+        }
+        write!(
+            f,
+            ", stale: the tables now say {}",
+            self.tables.escape_ascii()
+        )
     }
 }
 
@@ -60,14 +72,17 @@ fn before_comment(line: &[u8]) -> &[u8] {
 /// How many lines of a script gave the answer that they want, and how many failed.
 #[derive(Drop)]
 pub struct Tally {
+    /// Whether a line fails also where its access is stale.
+    pub is_stale_told: bool,
     passed: u64,
     failed: u64,
 }
 
 impl Tally {
     /// That of no line.
-    pub fn new() -> Self {
+    pub fn new(is_stale_told: bool) -> Self {
         Tally {
+            is_stale_told,
             passed: 0,
             failed: 0,
         }

@@ -3,7 +3,7 @@
 use crate::checking::{Answered, Tally};
 use crate::fault::Fault;
 use crate::lines::{Lines, MOST_LINES};
-use iom_debug::Debugger;
+use iom_debug::{Debugger, Reply};
 use iom_tool::{RunFault, Trace};
 use std::alloc::Global;
 use std::io::{BufRead, Write};
@@ -18,6 +18,14 @@ pub enum Telling {
 }
 
 impl Telling {
+    // What the tables say of the access that a line makes, where it is stale and that is to be told; else nothing.
+    fn tables_of(&self, debugger: &Debugger<'_>, line: &[u8]) -> Reply {
+        match self {
+            Telling::Failures(tally) if tally.is_stale_told => debugger.stale_before(line),
+            _ => Reply::new(),
+        }
+    }
+
     // Tells what is to be told of a line.
     fn tell<W: Write>(&mut self, answered: Answered<'_>, writer: &mut W) -> Result<(), RunFault> {
         match self {
@@ -50,6 +58,7 @@ fn carried_out<R: BufRead, W: Write>(
         let Some(line) = lines.next_line()? else {
             return Ok(());
         };
+        let tables = telling.tables_of(debugger, line);
         let reply = debugger.line(line);
         let answer = reply.as_slice();
         if !answer.is_empty() {
@@ -58,6 +67,7 @@ fn carried_out<R: BufRead, W: Write>(
                     number,
                     line,
                     answer,
+                    tables: tables.as_slice(),
                 },
                 writer,
             )?;

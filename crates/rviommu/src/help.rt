@@ -73,7 +73,14 @@ pub const CHECK: &str = "\
 A line may end with a comment '# => ANSWER', which names the answer that it
 wants. Told are each line whose answer is another, each line that is bad and
 doesn't want it, and at the end how many passed and how many failed. The status
-is 1 where one failed. An example:
+is 1 where one failed. The lines of the script are those of
+`rviommu debug --help`.
+
+With --stale a line fails also where it is an access of a device, dma or dev
+step, that goes by a translation or a context which the tables in memory no
+longer give: an invalidation is missing.
+
+An example:
 
   $ echo 'load 0x80000000 8 # => 0x8' | rviommu check seven.image
   line 1: load 0x80000000 8 -> 0x7, wanted 0x8
@@ -94,6 +101,10 @@ The lines of a script are those of `rviommu --help` and these:
   dev run N MAX                 dev step N while it is done, MAX times at most
   cmd run MAX                   cmd while it is done, MAX times at most
   put ADDR ITEM ..              the hart stores an item of `asm --help`
+  stale read DID IOVA           where a device's access would go if nothing were
+  stale write DID IOVA          cached: same, or the address or the cause
+  walk read DID IOVA I          part I of the way of a device's access where
+  walk write DID IOVA I         nothing is cached, the first 0
 
 An example:
 

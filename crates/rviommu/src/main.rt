@@ -42,13 +42,10 @@ fn play<'a, R: BufRead, W: Write>(
     match how {
         How::Run => Ok(iom_tool::play(alloc, image, reader, writer)?.ended?),
         How::Debug => carry_out(alloc, image, Telling::Answers, reader, writer),
-        How::Check => carry_out(
-            alloc,
-            image,
-            Telling::Failures(Tally::new()),
-            reader,
-            writer,
-        ),
+        How::Check { is_stale_told } => {
+            let telling = Telling::Failures(Tally::new(is_stale_told));
+            carry_out(alloc, image, telling, reader, writer)
+        }
     }
 }
 

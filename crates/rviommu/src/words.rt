@@ -2,12 +2,15 @@
 
 use crate::fault::Fault;
 use crate::help;
-use clap::{Arg, ArgMatches, Command, Error};
+use clap::{Arg, ArgAction, ArgMatches, Command, Error};
 use iom_asm::Item;
 use std::alloc::{AllocError, Global};
 
 /// The operand that says what is listed.
 const KIND: &str = "KIND";
+
+/// The option of a check that tells accesses that are stale.
+const STALE: &str = "stale";
 
 /// The names of the items that can be listed.
 const KINDS: [&str; 6] = ["cmd", "fault", "context", "dir", "pte", "u64"];
@@ -19,8 +22,8 @@ pub enum How {
     Run,
     /// Each is answered, and may be one of `debug`.
     Debug,
-    /// Those that fail are told.
-    Check,
+    /// Those that fail are told, and where it is asked for those whose accesses are stale.
+    Check { is_stale_told: bool },
 }
 
 /// What the program is asked to do.
@@ -57,11 +60,20 @@ struct Verb {
     operands: &'static [Operand],
 }
 
-/// An operand.
+/// An operand or an option.
 struct Operand {
     name: &'static str,
     help: &'static str,
-    is_required: bool,
+    need: Need,
+}
+
+/// Whether an operand has to be there.
+#[derive(Clone, Copy)]
+enum Need {
+    Required,
+    Optional,
+    /// It is an option of this name, without a value.
+    Flag,
 }
 
 const VERBS: [Verb; 6] = [
@@ -73,12 +85,12 @@ const VERBS: [Verb; 6] = [
             Operand {
                 name: "SOURCE",
                 help: "The file of the text",
-                is_required: true,
+                need: Need::Required,
             },
             Operand {
                 name: "IMAGE",
                 help: "The file to write the image to",
-                is_required: true,
+                need: Need::Required,
             },
         ],
     },
@@ -89,18 +101,25 @@ const VERBS: [Verb; 6] = [
         operands: &[Operand {
             name: "IMAGE",
             help: "The file of the image",
-            is_required: true,
+            need: Need::Required,
         }],
     },
     Verb {
         name: "check",
         about: "Runs a script and tells each line whose answer isn't the wanted one",
         after_help: help::CHECK,
-        operands: &[Operand {
-            name: "IMAGE",
-            help: "The file of the image; without it the built-in one",
-            is_required: false,
-        }],
+        operands: &[
+            Operand {
+                name: STALE,
+                help: "Tells also each access that the tables in memory would answer otherwise",
+                need: Need::Flag,
+            },
+            Operand {
+                name: "IMAGE",
+                help: "The file of the image; without it the built-in one",
+                need: Need::Optional,
+            },
+        ],
     },
     Verb {
         name: "debug",
@@ -109,7 +128,7 @@ const VERBS: [Verb; 6] = [
         operands: &[Operand {
             name: "IMAGE",
             help: "The file of the image; without it the built-in one",
-            is_required: false,
+            need: Need::Optional,
         }],
     },
     Verb {
@@ -120,22 +139,22 @@ const VERBS: [Verb; 6] = [
             Operand {
                 name: "IMAGE",
                 help: "The file of the image",
-                is_required: true,
+                need: Need::Required,
             },
             Operand {
                 name: KIND,
                 help: "What the items are",
-                is_required: true,
+                need: Need::Required,
             },
             Operand {
                 name: "ADDR",
                 help: "The physical address of the first",
-                is_required: true,
+                need: Need::Required,
             },
             Operand {
                 name: "COUNT",
                 help: "How many there are",
-                is_required: true,
+                need: Need::Required,
             },
         ],
     },
@@ -147,12 +166,12 @@ const VERBS: [Verb; 6] = [
             Operand {
                 name: "IMAGE",
                 help: "The file of the image",
-                is_required: true,
+                need: Need::Required,
             },
             Operand {
                 name: "NEW",
                 help: "The file to write the new image to",
-                is_required: true,
+                need: Need::Required,
             },
         ],
     },
@@ -160,13 +179,13 @@ const VERBS: [Verb; 6] = [
 
 // An operand, as clap takes it.
 fn arg<'a>(alloc: Global, operand: &Operand) -> Arg<'a> {
-    let arg = Arg::new(alloc, operand.name)
-        .required(operand.is_required)
-        .help(operand.help);
-    if operand.name == KIND {
-        return arg.value_parser(KINDS.as_slice());
+    let arg = Arg::new(alloc, operand.name).help(operand.help);
+    match operand.need {
+        Need::Required if operand.name == KIND => arg.required(true).value_parser(KINDS.as_slice()),
+        Need::Required => arg.required(true),
+        Need::Optional => arg,
+        Need::Flag => arg.long(operand.name).action(ArgAction::SetTrue),
     }
-    arg
 }
 
 // A subcommand, as clap takes it.
@@ -231,7 +250,10 @@ fn task_in<'a>(matches: &ArgMatches<'a>) -> Result<Task<'a>, Fault<'a>> {
         }),
         Some(("run", found)) => Ok(script(How::Run, found)),
         Some(("debug", found)) => Ok(script(How::Debug, found)),
-        Some(("check", found)) => Ok(script(How::Check, found)),
+        Some(("check", found)) => {
+            let is_stale_told = found.get_flag(STALE);
+            Ok(script(How::Check { is_stale_told }, found))
+        }
         Some(("upgrade", found)) => Ok(Task::Upgrade {
             image: value(found, "IMAGE"),
             new: value(found, "NEW"),
