@@ -73,7 +73,7 @@ enum rviommu_place {
 };
 
 /* An entry of the translation cache, in the standard the IOTLB. */
-struct rviommu_page {
+struct rviommu_page_place {
     uint64_t page;  /* the IOVA divided by 4096 */
     uint64_t frame; /* the physical address of its frame divided by 4096 */
     uint32_t did;   /* the device id */
@@ -87,7 +87,7 @@ struct rviommu_page {
 };
 
 /* An entry of the context cache, in the standard the DDTC ("Device-context fields"). */
-struct rviommu_context {
+struct rviommu_context_place {
     uint64_t gppn;   /* iohgatp.PPN */
     uint64_t ppn;    /* fsc.PPN */
     uint32_t did;    /* the device id */
@@ -188,8 +188,8 @@ uint32_t rviommu_disk(rviommu_t *handle, size_t device, size_t offset, uint8_t *
 
 /* What stands at a place of the translation cache, 64 places at most, or of the context cache, 16; the oldest is place 0.
  * Answers an enum rviommu_place; the entry is put for RVIOMMU_LIVE, and unchanged else. */
-uint32_t rviommu_page(rviommu_t *handle, uint64_t place, struct rviommu_page *page);
-uint32_t rviommu_context(rviommu_t *handle, uint64_t place, struct rviommu_context *context);
+uint32_t rviommu_page(rviommu_t *handle, uint64_t place, struct rviommu_page_place *page);
+uint32_t rviommu_context(rviommu_t *handle, uint64_t place, struct rviommu_context_place *context);
 
 /*
  * Texts.

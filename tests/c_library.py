@@ -143,6 +143,17 @@ def python_package(place):
         raise Failure("the installed module answers otherwise")
 
 
+def readme(place):
+    """The program in c/README.md."""
+    with open(os.path.join(TOP, "c", "README.md"), encoding="utf-8") as page:
+        code = page.read().split("```c\n")[1].split("```")[0]
+    source = os.path.join(place.here, "readme.c")
+    with open(source, "w", encoding="utf-8") as file:
+        file.write(code)
+    if run([compiled(place, "gcc", "readme", [source])]) != b"ddtp 0x20000402\ndenied 258\n":
+        raise Failure("the program in c/README.md prints something else")
+
+
 def python_readme(place):
     """The test in python/README.md passes."""
     with open(os.path.join(TOP, "python", "README.md"), encoding="utf-8") as page:
@@ -158,6 +169,7 @@ CHECKS = [
     ("valgrind finds nothing in the driver's test", lambda place: driver(place, "gcc", VALGRIND)),
     ("the header is used from C++, with g++", lambda place: from_cpp(place, "g++")),
     ("the header is used from C++, with clang++", lambda place: from_cpp(place, "clang++")),
+    ("the program in c/README.md", readme),
     ("refusals, refused memory and copies", calls),
     ("valgrind finds nothing in them", lambda place: calls(place, VALGRIND)),
     ("pkg-config finds the library, and the shared object is used", by_pkg_config),

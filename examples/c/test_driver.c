@@ -80,7 +80,7 @@ int main(void) {
     struct iommu_port port = {&platform, readl, readq, writel, writeq, load, store};
     struct iommu iommu;
     struct iommu_fault fault;
-    struct rviommu_page page;
+    struct rviommu_page_place page;
     uint64_t word = 0;
 
     want("the probe", (uint64_t)iommu_probe(&iommu, port, FIRST_PAGE), 0);

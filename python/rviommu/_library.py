@@ -13,7 +13,7 @@ class Handle(Structure):
 
 
 class Page(Structure):
-    """struct rviommu_page"""
+    """struct rviommu_page_place"""
 
     _fields_ = [("page", c_uint64), ("frame", c_uint64)]
     _fields_ += [(name, c_uint32) for name in ("did", "pscid", "gscid", "level")]
@@ -21,7 +21,7 @@ class Page(Structure):
 
 
 class Context(Structure):
-    """struct rviommu_context"""
+    """struct rviommu_context_place"""
 
     _fields_ = [("gppn", c_uint64), ("ppn", c_uint64)]
     _fields_ += [(name, c_uint32) for name in ("did", "pscid", "gscid", "gmode", "mode", "custom")]

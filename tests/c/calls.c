@@ -121,7 +121,7 @@ static void test_lines(void) {
 
 static void test_looks(void) {
     rviommu_t platform = {NULL}, copy = {NULL};
-    struct rviommu_context context;
+    struct rviommu_context_place context;
     uint64_t base = 0, size = 0, value = 0;
     uint8_t bytes[2] = {0, 0};
     want("opened", rviommu_open(image, image_length, &platform), RVIOMMU_OK);

@@ -6,7 +6,7 @@ use iom_cache::Key;
 use iom_ddt::Context;
 use iom_nested::Hit;
 
-/// A place of the translation cache, in C `struct rviommu_page`.
+/// A place of the translation cache, in C `struct rviommu_page_place`.
 #[repr(C)]
 #[derive(Drop)]
 pub struct PagePlace {
@@ -32,7 +32,7 @@ pub struct PagePlace {
     pub is_global: bool,
 }
 
-/// A place of the context cache, in C `struct rviommu_context`: the device id and the fields of its context ("Device-context
+/// A place of the context cache, in C `struct rviommu_context_place`: the device id and the fields of its context ("Device-context
 /// fields").
 #[repr(C)]
 #[derive(Drop)]
