@@ -1,11 +1,7 @@
 -- The names of registers, in the standards' spelling, each with the place of its register.
 use Rattle.std.specs.Prelude.{ℕ, List, codes, bytes_eq, Option, Some, None, if◌then◌else◌}
 
--- offset and size, in bytes
-pub record Place : Type 0 where
-  pub off : ℕ
-  pub size : ℕ
-
+-- an offset and a size, in bytes
 abbrev pub place : ℕ → ℕ → Option (ℕ × ℕ)
 place off size = Some (off, size)
 
