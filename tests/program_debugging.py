@@ -82,6 +82,27 @@ def _():
     ])
 
 
+@check("debug: whether an access is stale, what the tables say, and their walk")
+def _():
+    mapped = b"ram 0x80000000 0x100000\nat 0x800010a0\ncontext pscid=3 mode=8 ppn=0x80002\nat 0x80002008\npte ppn=0x80003 flags=1\n"
+    mapped += b"at 0x80003008\npte ppn=0x80004 flags=1\nat 0x80004008\npte ppn=0x80010 flags=0xd7\n"
+    want_debugged([
+        ("stale read 5 0x40201abc", "same"), ("reg write ddtp 0x20000402", "done"), ("dma read 5 0x40201abc 4", "00000000"),
+        ("stale read 5 0x40201abc", "same"), ("put 0x80004008 pte ppn=0x80011 flags=0xd7", "done"),
+        ("stale read 5 0x40201abc", "addr=0x80011abc"), ("stale write 5 0x40201abc", "same"), ("put 0x80004008 u64 0", "done"),
+        ("stale read 5 0x40201fff", "denied 13"), ("stale write 5 0x40201abc", "same"), ("stale read 5 0x40202abc", "same"),
+        ("store 0x800010a0 8 0", "done"), ("stale read 5 0x40201abc", "denied 258"), ("stale write 5 0x40201abc", "denied 258"),
+        ("walk read 5 0x40201abc 0", "ddtp mode=0x2 root=0x80001"), ("walk read 5 0x40201abc 2", "denied 258 iotval2=0x0"),
+        ("walk read 5 0x40201abc 3", "none"), ("walk read 5 0x40201abc 0xffffffffffffffff", "none"), ("walk read 0x1000000 0 0", "bad"),
+        ("walk read 5 0", "bad"), ("walk fetch 5 0 0", "bad"), ("store 0x800010a0 8 1", "done"),
+        ("walk write 5 0x40201abc 2", "first level=0x2 at=0x80002008 in=0x80002008 pte ppn=0x80003 flags=0x1 pointer"),
+        ("walk write 5 0x40201abc 4", "first level=0x0 at=0x80004008 in=0x80004008 pte ppn=0x0 flags=0x0 V=0"),
+        ("put 0x80004008 pte ppn=0x80011 flags=0xd7", "done"), ("walk write 5 0x40201abc 5", "frame=0x80011 addr=0x80011abc"),
+        ("reg write ddtp 0", "done"), ("walk write 5 0 1", "denied 256 iotval2=0x0"),
+        ("stale read 0x1000000 0", "bad"), ("stale read 5", "bad"), ("stale fetch 5 0", "bad"), ("trace 8", "none"),
+    ], mapped)
+
+
 @check("debug: each example and row of run is answered as run answers it")
 def _():
     played = 0
