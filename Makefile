@@ -8,7 +8,7 @@
 #   make bench [OTHER=FILE]   lines per second, and images loaded, assembled and listed, beside another program where one is named
 #   make fuzz OTHER=FILE      cases made to harm, beside another program; MINUTES=1 and SEED=1 where they aren't given
 #   make peer                 the program beside QEMU's IOMMU (QEMU 10), 5,000 cases; CASES=5000 and SEED=1 where they aren't given
-#   make c-library            the C library, its header and pkg-config file into c/out; the Python module takes it from there
+#   make library              the C library, its header and pkg-config file into c/out; the Python module takes it from there
 #   make install PREFIX=..    copy the program to PREFIX/bin, /usr/local/bin where PREFIX is not given, with its man page and
 #                             completions for bash and zsh
 #   make dist, make deb       pack the program into dist/, as an archive or as a Debian package
@@ -24,7 +24,7 @@ sources = $(shell find crates -name out -prune -o -type f \( -name '*.rt' -o -na
 has_rt = command -v rt >/dev/null || { echo "rt, the command of the Rattle kit, is not on the path" >&2; exit 1; }
 has_python = command -v python3 >/dev/null || { echo "python3 is not on the path" >&2; exit 1; }
 
-.PHONY: run build test rows cost bench fuzz peer c-library install dist deb
+.PHONY: run build test rows cost bench fuzz peer library install dist deb
 
 $(program): crates.txt $(sources)
 	@$(has_rt)
@@ -70,7 +70,7 @@ peer: $(program)
 	@$(has_python)
 	tests/peer/peer.py $(program) $(CASES) $(SEED)
 
-c-library:
+library:
 	@$(has_rt)
 	@$(has_python)
 	c/build.py

@@ -77,7 +77,9 @@ def stripped(program):
 
 
 def examples():
-    return {f"examples/{name}": read(f"examples/{name}") for name in sorted(os.listdir(os.path.join(TOP, "examples")))}
+    folder = os.path.join(TOP, "examples")
+    names = sorted(name for name in os.listdir(folder) if os.path.isfile(os.path.join(folder, name)))
+    return {f"examples/{name}": read(f"examples/{name}") for name in names}
 
 
 def archived(names, date):
