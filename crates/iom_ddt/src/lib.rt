@@ -3,10 +3,10 @@
 
 pub use context::Context;
 pub use directory::{is_too_wide, locate};
+pub use encoding::{context_of, encode_context};
 pub use listing::{DirectoryPath, Met, path};
-pub use words::{context_of, encode_context};
 
 mod context;
 mod directory;
+mod encoding;
 mod listing;
-mod words;

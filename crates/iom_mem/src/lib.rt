@@ -9,9 +9,9 @@ ghost use Rattle.iom_mem.specs.Sizes.{is_good_size, is_paged};
 use std::alloc::{AllocError, Global};
 use std::marker::Model;
 use thiserror::Error;
-use words::{all_words, read_bytes, read_words, word_from, write_bytes};
+use word_bytes::{all_words, read_bytes, read_words, word_from, write_bytes};
 
-mod words;
+mod word_bytes;
 
 /// Why there is no memory of the base and size that were asked for.
 #[derive(Clone, Copy, Debug, PartialEq, Error)]

@@ -50,6 +50,7 @@ pub struct Reached {
 /// First-stage tables stand in the guest's memory where there is a second stage, and are read through it. The fault is an
 /// `Access` where an entry of either stage is outside memory, a `Page` fault of the first stage, or a `Guest` fault of the
 /// second, each for the access's own kind.
+#[inline(always)]
 #[tactic(auto, unfolding(crate::specs::Nested::translation))]
 pub fn translate(ram: &Ram, context: &Context, iova: u64, kind: Kind) -> Result<Hit, Fault>
     requires well_formed { IsWellFormed context.now }
@@ -70,6 +71,7 @@ pub fn one_hit_a_page()
 
 /// Where the first stage of a context leads an IOVA, as `translate` does it, with the same faults; a Bare one leads to the IOVA
 /// itself.
+#[inline(always)]
 pub fn first_stage(ram: &Ram, context: &Context, iova: u64, kind: Kind) -> Result<Reached, Fault>
     requires well_formed { IsWellFormed context.now }
     ensures reached { result

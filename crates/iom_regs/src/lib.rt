@@ -4,9 +4,9 @@
 pub use regs::Regs;
 pub use views::{CommandErrors, FaultErrors, Mode, Queue, Which};
 
-mod file;
 mod flags;
 mod layout;
+mod mapped;
 mod regs;
 mod ring;
 mod views;

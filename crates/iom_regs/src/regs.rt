@@ -2,7 +2,7 @@ ghost use Rattle.std.specs.Prelude.{◌≡◌, ◌+◌, ◌^◌, ◌<◌, ◌≤
 ghost use Rattle.std.specs.Bool.{OnTrue, OnFalse};
 ghost use Rattle.iom_regs.specs.Table.{is_legal};
 
-use crate::file::File;
+use crate::mapped::MappedRegisters;
 use crate::views::{CommandErrors, FaultErrors, Mode, Queue, Which};
 use iom_bits::field;
 use std::marker::Model;
@@ -11,7 +11,7 @@ use std::marker::Model;
 /// pending where their causes stand.
 #[derive(Clone, Copy)]
 pub struct Regs {
-    file: File,
+    mapped: MappedRegisters,
 }
 
 impl Model for Regs {
@@ -20,11 +20,11 @@ impl Model for Regs {
 
     ghost Value = { Registers };
 
-    ghost view = { λ r. r.file };
+    ghost view = { λ r. r.mapped };
 
-    ghost inverse = { λ r. record { file = r } };
+    ghost inverse = { λ r. record { mapped = r } };
 
-    ghost invariant = { λ r. with_pending r.file ≡ r.file };
+    ghost invariant = { λ r. with_pending r.mapped ≡ r.mapped };
 }
 
 impl Regs {
@@ -39,7 +39,7 @@ impl Regs {
         ensures { result ≡ reset }
     {
         Regs {
-            file: File::reset(),
+            mapped: MappedRegisters::reset(),
         }
     }
 
@@ -55,7 +55,7 @@ impl Regs {
         if !is_legal(off, size) {
             return None;
         }
-        let wide = self.file.wide(off / 8 * 8);
+        let wide = self.mapped.wide(off / 8 * 8);
         Some(if size == 8 {
             wide
         } else {
@@ -85,11 +85,11 @@ impl Regs {
             return false;
         }
         if size == 8 {
-            self.file.set_wide(off, value);
+            self.mapped.set_wide(off, value);
         } else {
-            self.file.set_four(off, value);
+            self.mapped.set_four(off, value);
         }
-        self.file.settle();
+        self.mapped.settle();
         true
     }
 
@@ -99,7 +99,7 @@ impl Regs {
         ensures sound { IsSound self.now }
         ensures settled { with_pending self.now ≡ self.now }
     {
-        self.file.mode()
+        self.mapped.mode()
     }
 
     /// The PPN of the device directory's root, 44 bits: its physical address divided by 4096. It is ddtp.PPN.
@@ -108,7 +108,7 @@ impl Regs {
         ensures sound { IsSound self.now }
         ensures settled { with_pending self.now ≡ self.now }
     {
-        self.file.root()
+        self.mapped.root()
     }
 
     /// One of the two queues as its registers tell it: its base, its size, its head and tail, and whether it is on ("In-memory
@@ -121,7 +121,7 @@ impl Regs {
         ensures sound { IsSound self.now }
         ensures settled { with_pending self.now ≡ self.now }
     {
-        self.file.queue(which)
+        self.mapped.queue(which)
     }
 
     /// What stops the command queue: two bits of cqcsr ("Command-queue CSR (cqcsr)").
@@ -129,7 +129,7 @@ impl Regs {
         ensures errors { result ≡ command_errors_of self.now }
         ensures settled { with_pending self.now ≡ self.now }
     {
-        self.file.command_errors()
+        self.mapped.command_errors()
     }
 
     /// What stops the fault queue: two bits of fqcsr ("Fault queue CSR (fqcsr)").
@@ -137,63 +137,63 @@ impl Regs {
         ensures errors { result ≡ fault_errors_of self.now }
         ensures settled { with_pending self.now ≡ self.now }
     {
-        self.file.fault_errors()
+        self.mapped.fault_errors()
     }
 
     /// The command at the head is done: cqh goes on by one entry, from the last to the first.
     pub fn pass_command(&mut self)
         ensures { self.new ≡ command_passed self.old }
     {
-        self.file.pass_command();
-        self.file.settle();
+        self.mapped.pass_command();
+        self.mapped.settle();
     }
 
     /// The command queue could not be read, or a fence's store not be done: sets cqmf ("Command-queue CSR (cqcsr)").
     pub fn set_cqmf(&mut self)
         ensures { self.new ≡ with_cqmf self.old }
     {
-        self.file.raise_cqmf();
-        self.file.settle();
+        self.mapped.raise_cqmf();
+        self.mapped.settle();
     }
 
     /// The command at the head is illegal: sets cmd_ill ("Command-queue CSR (cqcsr)").
     pub fn set_cmd_ill(&mut self)
         ensures { self.new ≡ with_cmd_ill self.old }
     {
-        self.file.raise_cmd_ill();
-        self.file.settle();
+        self.mapped.raise_cmd_ill();
+        self.mapped.settle();
     }
 
     /// A fence asked for an interrupt: sets fence_w_ip ("Command-queue CSR (cqcsr)").
     pub fn set_fence(&mut self)
         ensures { self.new ≡ with_fence self.old }
     {
-        self.file.raise_fence();
-        self.file.settle();
+        self.mapped.raise_fence();
+        self.mapped.settle();
     }
 
     /// A fault record is stored: fqt goes on by one entry, from the last to the first, and fip is set where fie is.
     pub fn pass_record(&mut self)
         ensures { self.new ≡ record_passed self.old }
     {
-        self.file.pass_record();
-        self.file.settle();
+        self.mapped.pass_record();
+        self.mapped.settle();
     }
 
     /// The fault queue is full: sets fqof ("Fault queue CSR (fqcsr)").
     pub fn set_fqof(&mut self)
         ensures { self.new ≡ with_fqof self.old }
     {
-        self.file.raise_fqof();
-        self.file.settle();
+        self.mapped.raise_fqof();
+        self.mapped.settle();
     }
 
     /// The fault queue could not be written: sets fqmf ("Fault queue CSR (fqcsr)").
     pub fn set_fqmf(&mut self)
         ensures { self.new ≡ with_fqmf self.old }
     {
-        self.file.raise_fqmf();
-        self.file.settle();
+        self.mapped.raise_fqmf();
+        self.mapped.settle();
     }
 }
 

@@ -1,5 +1,0 @@
-use Rattle.iom_mem.proofs.Digits.{below_by_shifts}
-use Rattle.iom_mem.proofs.words.below.Goals as goal
-
-pub returns : goal.returns
-returns c = below_by_shifts c.args.word c.args.low c.args.count c.requires.few c.requires.fits

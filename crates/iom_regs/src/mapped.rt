@@ -1,0 +1,300 @@
+ghost use Rattle.std.specs.Prelude.{◌≡◌, ◌+◌, ◌/◌, ◌%◌, ◌^◌, ◌<◌, ◌≤◌, IsTrue};
+ghost use Rattle.iom_bits.specs.Bits.{with_bit};
+ghost use Rattle.iom_regs.specs.Table.{is_legal, entries_of};
+
+use crate::flags::{
+    commands_control, faults_control, pending_after, pending_cleared, turns_on, with_high, with_low,
+};
+use crate::layout::{
+    BEFORE_IPSR, CAPABILITIES, CMD_ILL, CQB, CQB_HIGH, CQCSR, CQH, CQMF, CQT, DDTP, DDTP_HIGH,
+    FCTL, FENCE_W_IP, FQB, FQB_HIGH, FQCSR, FQH, FQMF, FQOF, IPSR,
+};
+use crate::ring::{Ring, entries};
+use crate::views::{CommandErrors, FaultErrors, Mode, Queue, Which};
+use iom_bits::{field, has_bit, with_field};
+use std::marker::Model;
+
+// capabilities: version 1.0, Sv39, Sv48, Sv39x4, Sv48x4, interrupts by wire alone, 56 bits of physical address.
+const CAPABLE: u64 = 0x38_1006_0610;
+
+// fctl: interrupts by wire.
+const BY_WIRE: u64 = 2;
+
+/// The register file before the rule of pending interrupts: `settle` follows each change.
+#[derive(Clone, Copy)]
+pub struct MappedRegisters {
+    ddtp: u64,
+    commands: Ring,
+    faults: Ring,
+    ipsr: u64,
+}
+
+impl Model for MappedRegisters {
+    ghost use Rattle.iom_regs.specs.Table.{Registers};
+    ghost use Rattle.iom_regs.specs.Sound.{IsSound};
+
+    ghost Value = { Registers };
+
+    ghost view = { λ r. record {
+      ddtp = r.ddtp;
+      cqb = r.commands.base;
+      cqh = r.commands.head;
+      cqt = r.commands.tail;
+      fqb = r.faults.base;
+      fqh = r.faults.head;
+      fqt = r.faults.tail;
+      cqcsr = r.commands.control;
+      fqcsr = r.faults.control;
+      ipsr = r.ipsr;
+    } };
+
+    ghost inverse = { λ r. record {
+      ddtp = r.ddtp;
+      commands = record { base = r.cqb; head = r.cqh; tail = r.cqt; control = r.cqcsr };
+      faults = record { base = r.fqb; head = r.fqh; tail = r.fqt; control = r.fqcsr };
+      ipsr = r.ipsr;
+    } };
+
+    ghost invariant = { λ r. IsSound (record {
+      ddtp = r.ddtp;
+      cqb = r.commands.base;
+      cqh = r.commands.head;
+      cqt = r.commands.tail;
+      fqb = r.faults.base;
+      fqh = r.faults.head;
+      fqt = r.faults.tail;
+      cqcsr = r.commands.control;
+      fqcsr = r.faults.control;
+      ipsr = r.ipsr;
+    }) };
+}
+
+impl MappedRegisters {
+    ghost use Rattle.iom_regs.specs.Table.{Ddtp, Cqcsr, Fqcsr, reset, shown_at, slot_at, written, written_at, written_wide, with_pending};
+    ghost use Rattle.iom_regs.specs.Sound.{IsSound};
+    ghost use Rattle.iom_regs.specs.Queues.{tail_passed};
+    ghost use Rattle.iom_regs.specs.Views.{command_errors_of, fault_errors_of, mode_of, root_of, queue_of};
+
+    /// The registers at reset: every register that can change is 0.
+    pub fn reset() -> Self
+        ensures { result ≡ reset }
+    {
+        MappedRegisters {
+            ddtp: 0,
+            commands: Ring::reset(),
+            faults: Ring::reset(),
+            ipsr: 0,
+        }
+    }
+
+    /// What stands between a device and memory: ddtp.iommu_mode ("Device-directory-table pointer (ddtp)").
+    pub fn mode(&self) -> Mode
+        ensures mode { result ≡ mode_of self.now }
+        ensures sound { IsSound self.now }
+    {
+        match field(self.ddtp, 0, 4) {
+            0 => Mode::Off,
+            1 => Mode::Bare,
+            levels => Mode::Levels((levels - 1) as u8),
+        }
+    }
+
+    /// The PPN of the device directory's root, 44 bits: its physical address divided by 4096. It is ddtp.PPN.
+    pub fn root(&self) -> u64
+        ensures root { result ≡ root_of self.now }
+        ensures sound { IsSound self.now }
+    {
+        field(self.ddtp, 10, 44)
+    }
+
+    /// One of the two queues as its registers tell it: its base, its size, its head and tail, and whether it is on.
+    pub fn queue(&self, which: Which) -> Queue
+        ensures queue { result ≡ queue_of self.now which }
+        ensures entries { result.entries ≤ 2 ^ 32 }
+        ensures sound { IsSound self.now }
+    {
+        let ring = match which {
+            Which::Commands => &self.commands,
+            Which::Faults => &self.faults,
+        };
+        Queue {
+            on: ring.is_on(),
+            base: field(ring.base, 10, 44),
+            entries: entries(ring.base),
+            head: ring.head,
+            tail: ring.tail,
+        }
+    }
+
+    /// What stops the command queue: two bits of cqcsr.
+    pub fn command_errors(&self) -> CommandErrors
+        ensures { result ≡ command_errors_of self.now }
+    {
+        CommandErrors {
+            memory_fault: has_bit(self.commands.control, CQMF),
+            illegal: has_bit(self.commands.control, CMD_ILL),
+        }
+    }
+
+    /// What stops the fault queue: two bits of fqcsr.
+    pub fn fault_errors(&self) -> FaultErrors
+        ensures { result ≡ fault_errors_of self.now }
+    {
+        FaultErrors {
+            memory_fault: has_bit(self.faults.control, FQMF),
+            overflow: has_bit(self.faults.control, FQOF),
+        }
+    }
+
+    /// The eight bytes at offset `off`, a multiple of 8, as a number; 0 where there is no register of this model.
+    pub fn wide(&self, off: u64) -> u64
+        requires { off % 8 ≡ 0 }
+        ensures low { result % 2 ^ 32 ≡ shown_at self.now (slot_at off) }
+        ensures high { result / 2 ^ 32 ≡ shown_at self.now (slot_at (off + 4)) }
+    {
+        match off {
+            CAPABILITIES => CAPABLE,
+            FCTL => BY_WIRE,
+            DDTP => self.ddtp,
+            CQB => self.commands.base,
+            CQH => self.commands.head + (self.commands.tail << 32),
+            FQB => self.faults.base,
+            FQH => self.faults.head + (self.faults.tail << 32),
+            CQCSR => self.commands.control + (self.faults.control << 32),
+            BEFORE_IPSR => self.ipsr << 32,
+            _ => 0,
+        }
+    }
+
+    // ddtp by a written number: one with a mode above 4 changes nothing, and of any other the reserved bits are left out.
+    fn set_ddtp(&mut self, value: u64)
+        ensures { self.new ≡ written Ddtp value self.old }
+    {
+        if field(value, 0, 4) <= 4 {
+            self.ddtp = field(value, 0, 4) + (field(value, 10, 44) << 10);
+        }
+    }
+
+    /// Writes eight bytes at offset `off`, where a write of eight bytes is legal: a whole register, or nothing where none stands
+    /// there.
+    pub fn set_wide(&mut self, off: u64, value: u64)
+        requires { IsTrue (is_legal off 8) }
+        ensures { self.new ≡ written_wide (slot_at off) value self.old }
+    {
+        match off {
+            DDTP => self.set_ddtp(value),
+            CQB => self.commands.set_base(value),
+            FQB => self.faults.set_base(value),
+            _ => {}
+        }
+    }
+
+    /// Writes four bytes at offset `off`, where a write of four bytes is legal: a whole register, a half of one, or nothing.
+    /// `value` is below 2^32.
+    pub fn set_four(&mut self, off: u64, value: u64)
+        requires legal { IsTrue (is_legal off 4) }
+        requires fits { value < 2 ^ 32 }
+        ensures { self.new ≡ written_at (slot_at off) value self.old }
+    {
+        match off {
+            DDTP => self.set_ddtp(with_low(self.ddtp, value)),
+            DDTP_HIGH => self.set_ddtp(with_high(self.ddtp, value)),
+            CQB => self.commands.set_base_low(value),
+            CQB_HIGH => self.commands.set_base_high(value),
+            CQT => self.commands.set_tail(value),
+            FQB => self.faults.set_base_low(value),
+            FQB_HIGH => self.faults.set_base_high(value),
+            FQH => self.faults.set_head(value),
+            CQCSR => self.control_commands(value),
+            FQCSR => self.control_faults(value),
+            IPSR => self.ipsr = pending_cleared(self.ipsr, value),
+            _ => {}
+        }
+    }
+
+    // cqcsr by a written number. Where it turns the queue on, cqh is 0 from then on.
+    fn control_commands(&mut self, value: u64)
+        ensures { self.new ≡ written Cqcsr value self.old }
+    {
+        if turns_on(self.commands.control, value) {
+            self.commands.head = 0;
+        }
+        self.commands.control = commands_control(self.commands.control, value);
+    }
+
+    // fqcsr by a written number. Where it turns the queue on, fqt is 0 from then on.
+    fn control_faults(&mut self, value: u64)
+        ensures { self.new ≡ written Fqcsr value self.old }
+    {
+        if turns_on(self.faults.control, value) {
+            self.faults.tail = 0;
+        }
+        self.faults.control = faults_control(self.faults.control, value);
+    }
+
+    /// The command queue's head, cqh, goes on by one entry, from the last to the first.
+    pub fn pass_command(&mut self)
+        ensures { self.new ≡ record self.old { cqh = (self.old.cqh + 1) % entries_of self.old.cqb } }
+    {
+        let next = self.commands.head + 1;
+        self.commands.set_head(next);
+    }
+
+    /// The fault queue's tail, fqt, goes on by one entry, from the last to the first, and fip is set where fie is.
+    pub fn pass_record(&mut self)
+        ensures { self.new ≡ tail_passed self.old }
+    {
+        let next = self.faults.tail + 1;
+        self.faults.set_tail(next);
+        if field(self.faults.control, 1, 1) == 1 {
+            self.ipsr = with_field(self.ipsr, 1, 1, 1);
+        }
+    }
+
+    /// Sets cqmf, bit 8 of cqcsr: the command queue met a memory fault ("Command-queue CSR (cqcsr)").
+    pub fn raise_cqmf(&mut self)
+        ensures { self.new ≡ record self.old { cqcsr = with_bit self.old.cqcsr 8 } }
+    {
+        self.commands.raise(CQMF);
+    }
+
+    /// Sets cmd_ill, bit 10 of cqcsr: the command at the head is illegal ("Command-queue CSR (cqcsr)").
+    pub fn raise_cmd_ill(&mut self)
+        ensures { self.new ≡ record self.old { cqcsr = with_bit self.old.cqcsr 10 } }
+    {
+        self.commands.raise(CMD_ILL);
+    }
+
+    /// Sets fence_w_ip, bit 11 of cqcsr: an IOFENCE.C asked for an interrupt ("Command-queue CSR (cqcsr)").
+    pub fn raise_fence(&mut self)
+        ensures { self.new ≡ record self.old { cqcsr = with_bit self.old.cqcsr 11 } }
+    {
+        self.commands.raise(FENCE_W_IP);
+    }
+
+    /// Sets fqmf, bit 8 of fqcsr: the fault queue met a memory fault ("Fault queue CSR (fqcsr)").
+    pub fn raise_fqmf(&mut self)
+        ensures { self.new ≡ record self.old { fqcsr = with_bit self.old.fqcsr 8 } }
+    {
+        self.faults.raise(FQMF);
+    }
+
+    /// Sets fqof, bit 9 of fqcsr: the fault queue was full ("Fault queue CSR (fqcsr)").
+    pub fn raise_fqof(&mut self)
+        ensures { self.new ≡ record self.old { fqcsr = with_bit self.old.fqcsr 9 } }
+    {
+        self.faults.raise(FQOF);
+    }
+
+    /// The rule of pending interrupts: cip and fip of ipsr are each set where a cause of theirs stands and its interrupt is enabled
+    /// ("Interrupt pending status register (ipsr)").
+    pub fn settle(&mut self)
+        ensures value { self.new ≡ with_pending self.old }
+        ensures settled { with_pending self.new ≡ self.new }
+    {
+        let command = field(self.commands.control, 1, 1) == 1
+            && field(self.commands.control, 8, 4) != 0;
+        let fault = field(self.faults.control, 1, 1) == 1 && field(self.faults.control, 8, 2) != 0;
+        self.ipsr = pending_after(self.ipsr, 0, command) + pending_after(self.ipsr, 1, fault);
+    }
+}
