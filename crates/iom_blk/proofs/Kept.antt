@@ -1,42 +1,44 @@
 -- A disk that may only be read stays as it is.
-use Rattle.std.proofs.Common.{◌≡◌, ◌+◌, ◌++◌, ◌-◌, ◌%◌, ◌^◌, ◌==◌, ◌&&◌, ℕ, Bool, true, false, List, Result, Ok, Err, length, refl, arith, nat_le, nat_lt}
-use Rattle.iom_virtq.specs.Bus.{Reply, is_granted}
+use Rattle.std.proofs.Common.{◌≡◌, ◌++◌, ◌==◌, ℕ, Bool, true, false, List, Result, Ok, Err, length, refl, arith, nat_le, nat_lt}
 use Rattle.iom_virtq.specs.Chains.{Linked}
 use Rattle.iom_virtq.specs.Adding.{add_result}
 use Rattle.iom_virtq.specs.declared.parts.More.{More}
 use Rattle.iom_virtq.specs.declared.parts.More.TheVariants.{Next, Complete}
 use Rattle.iom_virtq.specs.declared.parts.ChainFault.{ChainFault}
+use Rattle.iom_blk.specs.declared.broken.Broken.{Broken}
 use Rattle.iom_blk.specs.Device.{Device, sectors}
-use Rattle.iom_blk.specs.Phases.{broken, completed, after_index, after_ring, after_add, after_descriptor, with_descriptor, judged, after_header, after_data, after_used, after, took}
+use Rattle.iom_blk.specs.Phases.{broken, completed, after_index, after_ring, after_add, after_descriptor, with_descriptor, judged, after_header, after_data, after_used, after, is_ahead}
 use Rattle.iom_blk.specs.Requests.{number_at, is_in, is_out, readable, writable, is_served, moves, moves_data}
 use Rattle.iom_blk.specs.Sound.{IsSound, HoldsIn}
 use Rattle.iom_blk.specs.declared.phase.Phase.{Phase}
 use Rattle.iom_blk.specs.declared.phase.Phase.TheVariants.{Index, Ring, Descriptor, Header, Data, Status, UsedId, UsedLen, UsedIdx}
-use Rattle.iom_blk.proofs.Broken.{of_both}
+use Rattle.iom_blk.proofs.Breaks.{of_both}
 
 abbrev Same : Device → Device → Type 0
 Same d e = e.disk ≡ d.disk
 
-pub broken_keeps : (d : Device) → (broken d).disk ≡ d.disk
+pub broken_keeps : (d : Device) (reason : Broken) → (broken d reason).disk ≡ d.disk
 unfolding broken
-broken_keeps d = refl
+broken_keeps d reason = refl
 
 index_keeps : (d : Device) (idx : ℕ) → Same d (after_index d idx)
 unfolding after_index
 index_keeps d idx =
     of_both (Same d) (idx == d.seen) _ _ (λ _. refl)
-    (λ _. of_both (Same d) (nat_lt d.size ((idx + 2 ^ 16 - d.seen) % 2 ^ 16)) _ _ (λ _. broken_keeps d) (λ _. refl))
+    (λ _. of_both (Same d) (is_ahead d idx) _ _ (λ _. broken_keeps d _) (λ _. refl))
 
 ring_keeps : (d : Device) (head : ℕ) → Same d (after_ring d head)
 unfolding after_ring
-ring_keeps d head = of_both (Same d) (nat_le d.size head) _ _ (λ _. broken_keeps d) (λ _. refl)
+ring_keeps d head = of_both (Same d) (nat_le d.size head) _ _ (λ _. broken_keeps d _) (λ _. refl)
 
 completed_keeps : (d : Device) → Same d (completed d)
 unfolding completed
-completed_keeps d = of_both (Same d) (nat_le 16 (readable d.chain) && nat_le 1 (writable d.chain)) _ _ (λ _. refl) (λ _. broken_keeps d)
+completed_keeps d =
+    of_both (Same d) (nat_lt (readable d.chain) 16) _ _ (λ _. broken_keeps d _)
+    (λ _. of_both (Same d) (nat_lt (writable d.chain) 1) _ _ (λ _. broken_keeps d _) (λ _. refl))
 
 add_keeps : (d : Device) (addr len flags : ℕ) (added : Result More ChainFault) → Same d (after_add d addr len flags added)
-add_keeps d addr len flags (Err fault) = broken_keeps d
+add_keeps d addr len flags (Err fault) = broken_keeps d _
 add_keeps d addr len flags (Ok (Next next)) = refl
 add_keeps d addr len flags (Ok Complete) = completed_keeps (with_descriptor d addr len flags)
 
@@ -96,8 +98,3 @@ after_keeps d UsedIdx bytes held only = used_keeps d
 
 pub goes_on : (d : Device) (bytes : List ℕ) → IsSound d → d.read_only ≡ true → (after d d.phase bytes).disk ≡ d.disk
 goes_on d bytes sound only = after_keeps d d.phase bytes sound.phase only
-
-pub took_keeps : (d : Device) (reply : Reply) → IsSound d → d.read_only ≡ true → (took d reply).disk ≡ d.disk
-unfolding took
-took_keeps d reply sound only =
-    of_both (Same d) (is_granted reply.access) _ _ (λ _. goes_on d reply.bytes sound only) (λ _. broken_keeps d)

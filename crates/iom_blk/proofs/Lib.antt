@@ -1,5 +1,6 @@
 pub mod Asking
-pub mod Broken
+pub mod Breaks
 pub mod Kept
 pub mod Ready
+pub mod Reasons
 pub mod Served

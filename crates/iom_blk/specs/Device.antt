@@ -1,6 +1,7 @@
 -- A block device with one split queue: VIRTIO 1.2, "Split Virtqueues", "Virtio Over MMIO" and "Block Device".
-use Rattle.std.specs.Prelude.{ℕ, ◌/◌, Bool, false, List, [], length}
+use Rattle.std.specs.Prelude.{ℕ, ◌/◌, Bool, false, List, [], length, Option, None}
 use Rattle.iom_virtq.specs.Chains.{Linked}
+use Rattle.iom_blk.specs.declared.broken.Broken.{Broken}
 use Rattle.iom_blk.specs.declared.phase.Phase.{Phase}
 use Rattle.iom_blk.specs.declared.phase.Phase.TheVariants.{Index}
 
@@ -18,11 +19,13 @@ pub record Device : Type 0 where
   pub size : ℕ
   pub desc : ℕ
   pub avail : ℕ
-  pub ring : ℕ
+  pub used_ring : ℕ
   pub ready : Bool
   -- InterruptStatus and Status
   pub interrupts : ℕ
   pub status : ℕ
+  -- what broke it since it was reset
+  pub broken : Option Broken
   -- whether the driver notified; how many requests were taken up and how many given back, modulo 2^16
   pub pending : Bool
   pub seen : ℕ
@@ -52,10 +55,11 @@ at_reset disk read_only = record {
   size = 0;
   desc = 0;
   avail = 0;
-  ring = 0;
+  used_ring = 0;
   ready = false;
   interrupts = 0;
   status = 0;
+  broken = None;
   pending = false;
   seen = 0;
   used = 0;

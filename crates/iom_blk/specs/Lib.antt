@@ -1,3 +1,4 @@
+pub mod Breaking
 pub mod Device
 pub mod Phases
 pub mod Registers

@@ -4,12 +4,14 @@ use Rattle.std.specs.Prelude.{ℕ, ◌+◌, ◌-◌, ◌*◌, ◌%◌, ◌^◌, 
 use Rattle.iom_bits.specs.Bits.{has_bit, with_bit}
 use Rattle.iom_bits.specs.Bytes.{bytes_of_number}
 use Rattle.iom_virtq.specs.Adding.{add_result, with_part}
-use Rattle.iom_virtq.specs.Bus.{Ask, Read, Write, Reply, is_granted}
+use Rattle.iom_virtq.specs.Bus.{Ask, Read, Write, Reply}
 use Rattle.iom_virtq.specs.declared.access.Access.{Access}
 use Rattle.iom_virtq.specs.declared.access.Access.TheVariants as access
 use Rattle.iom_virtq.specs.declared.parts.More.{More}
 use Rattle.iom_virtq.specs.declared.parts.More.TheVariants.{Next, Complete}
 use Rattle.iom_virtq.specs.declared.parts.ChainFault.{ChainFault}
+use Rattle.iom_blk.specs.declared.broken.Broken.{Broken}
+use Rattle.iom_blk.specs.declared.broken.Broken.TheVariants as broke
 use Rattle.iom_blk.specs.declared.phase.Phase.{Phase}
 use Rattle.iom_blk.specs.declared.phase.Phase.TheVariants as phase
 use Rattle.iom_blk.specs.declared.want.Moved.{Moved}
@@ -28,7 +30,7 @@ is_broken d = has_bit d.status 6
 
 -- the entry of the used ring that is written next
 abbrev pub used_entry : Device → ℕ
-used_entry d = d.ring + 4 + 8 * (d.used % d.size)
+used_entry d = d.used_ring + 4 + 8 * (d.used % d.size)
 
 -- what a phase asks the bus for
 unfoldable pub ask_of : Device → Phase → Ask
@@ -44,27 +46,36 @@ ask_of d (phase.Data position) =
 ask_of d phase.Status = Write (status_address d.chain) (d.answer ∷ [])
 ask_of d phase.UsedId = Write (used_entry d) (bytes_of_number 4 d.head)
 ask_of d phase.UsedLen = Write (used_entry d + 4) (bytes_of_number 4 d.used_length)
-ask_of d phase.UsedIdx = Write (d.ring + 2) (bytes_of_number 2 ((d.used + 1) % 2 ^ 16))
+ask_of d phase.UsedIdx = Write (d.used_ring + 2) (bytes_of_number 2 ((d.used + 1) % 2 ^ 16))
 
 -- what a step asks the bus for; None: the step is idle
 unfoldable pub asks : Device → Option Ask
 asks d = if is_active d then Some (ask_of d d.phase) else None
 
--- A device that broke: DEVICE_NEEDS_RESET is set, and bit 1 of InterruptStatus, a configuration change.
-unfoldable pub broken : Device → Device
-broken d = record d { status = with_bit d.status 6; interrupts = with_bit d.interrupts 1; phase = phase.Index }
+-- A device that breaks: DEVICE_NEEDS_RESET is set, and bit 1 of InterruptStatus, a configuration change; and what broke it is kept.
+unfoldable pub broken : Device → Broken → Device
+broken d reason = record d {
+  status = with_bit d.status 6;
+  interrupts = with_bit d.interrupts 1;
+  phase = phase.Index;
+  broken = Some reason;
+}
+
+-- whether an available index is ahead of the requests that were taken by more than the queue size
+abbrev pub is_ahead : Device → ℕ → Bool
+is_ahead d idx = nat_lt d.size ((idx + 2 ^ 16 - d.seen) % 2 ^ 16)
 
 -- the available index: nothing new, more than there can be, or a request to take up
 unfoldable pub after_index : Device → ℕ → Device
 after_index d idx =
     if idx == d.seen then record d { pending = false }
-    else if nat_lt d.size ((idx + 2 ^ 16 - d.seen) % 2 ^ 16) then broken d
+    else if is_ahead d idx then broken d broke.IndexAhead
     else record d { phase = phase.Ring }
 
 -- the head of the request
 unfoldable pub after_ring : Device → ℕ → Device
 after_ring d head =
-    if nat_le d.size head then broken d
+    if nat_le d.size head then broken d broke.BadHead
     else record d {
       phase = phase.Descriptor head;
       head = head;
@@ -80,10 +91,12 @@ with_descriptor d addr len flags = record d { chain = with_part d.chain addr len
 
 unfoldable pub completed : Device → Device
 completed d =
-    if nat_le 16 (readable d.chain) && nat_le 1 (writable d.chain) then record d { phase = phase.Header } else broken d
+    if nat_lt (readable d.chain) 16 then broken d broke.ShortHeader
+    else if nat_lt (writable d.chain) 1 then broken d broke.NothingWritable
+    else record d { phase = phase.Header }
 
 abbrev pub after_add : Device → ℕ → ℕ → ℕ → Result More ChainFault → Device
-after_add d addr len flags (Err fault) = broken d
+after_add d addr len flags (Err fault) = broken d (broke.Descriptor fault)
 after_add d addr len flags (Ok (Next next)) = record (with_descriptor d addr len flags) { phase = phase.Descriptor next }
 after_add d addr len flags (Ok Complete) = completed (with_descriptor d addr len flags)
 
@@ -143,8 +156,13 @@ after d phase.UsedLen bytes = record d { phase = phase.UsedIdx }
 after d phase.UsedIdx bytes = after_used d
 
 -- the device after a reply: one that is refused breaks it
+abbrev pub replied : Device → Access → List ℕ → Device
+replied d access.Ok bytes = after d d.phase bytes
+replied d (access.Denied cause) bytes = broken d (broke.Denied cause)
+replied d access.Outside bytes = broken d broke.Outside
+
 unfoldable pub took : Device → Reply → Device
-took d reply = if is_granted reply.access then after d d.phase reply.bytes else broken d
+took d reply = replied d reply.access reply.bytes
 
 -- how a step is told from outside
 abbrev pub moved_of : Access → Moved

@@ -58,8 +58,8 @@ is_power size = size == 1 || size == 2 || size == 4 || size == 8 || size == 16 |
 
 unfoldable pub is_queue : Device → Bool
 is_queue d =
-    is_power d.size && d.desc % 16 == 0 && d.avail % 2 == 0 && d.ring % 4 == 0 && nat_le (d.desc + 16 * d.size) (2 ^ 64)
-    && nat_le (d.avail + (4 + 2 * d.size)) (2 ^ 64) && nat_le (d.ring + (4 + 8 * d.size)) (2 ^ 64)
+    is_power d.size && d.desc % 16 == 0 && d.avail % 2 == 0 && d.used_ring % 4 == 0 && nat_le (d.desc + 16 * d.size) (2 ^ 64)
+    && nat_le (d.avail + (4 + 2 * d.size)) (2 ^ 64) && nat_le (d.used_ring + (4 + 8 * d.size)) (2 ^ 64)
 
 -- QueueReady: bit 0 makes the queue ready where it may be; without it a request that is under way is abandoned
 unfoldable pub with_ready : Device → Bool → Device
@@ -101,8 +101,8 @@ with_queue d off value =
     else if off == 0x84 then record d { desc = with_field_of d.desc 32 32 value }
     else if off == 0x90 then record d { avail = with_field_of d.avail 0 32 value }
     else if off == 0x94 then record d { avail = with_field_of d.avail 32 32 value }
-    else if off == 0xa0 then record d { ring = with_field_of d.ring 0 32 value }
-    else if off == 0xa4 then record d { ring = with_field_of d.ring 32 32 value }
+    else if off == 0xa0 then record d { used_ring = with_field_of d.used_ring 0 32 value }
+    else if off == 0xa4 then record d { used_ring = with_field_of d.used_ring 32 32 value }
     else d
 
 -- what a written number makes of the device

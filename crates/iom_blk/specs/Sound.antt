@@ -1,21 +1,22 @@
 -- What every access and every step keeps.
-use Rattle.std.specs.Prelude.{ℕ, ◌≡◌, ◌+◌, ◌*◌, ◌%◌, ◌^◌, ◌<◌, ◌≤◌, Bool, true, List, length}
+use Rattle.std.specs.Prelude.{ℕ, ◌≡◌, ◌+◌, ◌*◌, ◌%◌, ◌^◌, ◌<◌, ◌≤◌, Bool, true, List, length, is_some}
 use Rattle.iom_virtq.specs.Chains.{Linked}
 use Rattle.iom_blk.specs.declared.phase.Phase.{Phase}
 use Rattle.iom_blk.specs.declared.phase.Phase.TheVariants.{Index, Ring, Descriptor, Header, Data, Status, UsedId, UsedLen, UsedIdx}
 use Rattle.iom_blk.specs.Device.{Device, sectors}
+use Rattle.iom_blk.specs.Phases.{is_broken}
 use Rattle.iom_blk.specs.Requests.{readable, writable, data_length, moves_data}
 
 -- a queue that may be ready: 1 to 64 descriptors, and no area of it ends above 2^64
-pub record IsGoodQueue (size desc avail ring : ℕ) : Type 0 where
+pub record IsGoodQueue (size desc avail used_ring : ℕ) : Type 0 where
   pub some : 1 ≤ size
   pub most : size ≤ 64
   pub desc_aligned : desc % 16 ≡ 0
   pub avail_aligned : avail % 2 ≡ 0
-  pub ring_aligned : ring % 4 ≡ 0
+  pub used_aligned : used_ring % 4 ≡ 0
   pub desc_fits : desc + 16 * size ≤ 2 ^ 64
   pub avail_fits : avail + (4 + 2 * size) ≤ 2 ^ 64
-  pub ring_fits : ring + (4 + 8 * size) ≤ 2 ^ 64
+  pub used_fits : used_ring + (4 + 8 * size) ≤ 2 ^ 64
 
 -- what is so where a request stands in a phase
 abbrev pub HoldsIn : Bool → ℕ → Linked → List ℕ → ℕ → Bool → Phase → Type 0
@@ -41,6 +42,7 @@ pub record IsDisk (disk : List ℕ) : Type 0 where
 
 pub record IsSound (d : Device) : Type 0 where
   pub disk : IsDisk d.disk
-  pub queue : d.ready ≡ true → IsGoodQueue d.size d.desc d.avail d.ring
+  pub queue : d.ready ≡ true → IsGoodQueue d.size d.desc d.avail d.used_ring
   pub phase : HoldsIn d.ready d.size d.chain d.header (sectors d.disk) d.read_only d.phase
   pub interrupts : d.interrupts < 4
+  pub broken : is_broken d ≡ is_some d.broken

@@ -1,8 +1,9 @@
 //! The device.
 
-ghost use Rattle.std.specs.Prelude.{◌≡◌, ◌+◌, ◌%◌, ◌≤◌, ◌^◌, true, false, Some, None, IfNone, IfSome, IfOk};
+ghost use Rattle.std.specs.Prelude.{◌≡◌, ◌+◌, ◌%◌, ◌≤◌, ◌^◌, true, false, length, is_some, Some, None, IfNone, IfSome, IfOk};
 ghost use Rattle.std.specs.Bool.{OnTrue};
 
+use crate::broken::Broken;
 use crate::bytes::{bytes_of_u16, bytes_of_u32};
 use crate::flags::{DRIVER_OK, FEATURES_OK, NEEDS_RESET};
 use crate::phase::Phase;
@@ -35,13 +36,15 @@ pub struct Blk {
     /// QueueDriver: the IOVA of the available ring; of a ready queue a multiple of 2.
     pub(crate) avail: u64,
     /// QueueDevice: the IOVA of the used ring; of a ready queue a multiple of 4.
-    pub(crate) ring: u64,
+    pub(crate) used_ring: u64,
     /// QueueReady. Of a ready queue each of the three parts ends at IOVA 2^64 or below.
     pub(crate) ready: bool,
     /// InterruptStatus: bit 0 where a buffer was used, bit 1 where the device broke.
     pub(crate) interrupts: u64,
     /// Status, 8 bits ("Device Status Field").
     pub(crate) status: u64,
+    /// What broke it: Some exactly where Status has DEVICE_NEEDS_RESET.
+    pub(crate) broken: Option<Broken>,
     /// Whether the queue was notified (QueueNotify), and the available ring wasn't found empty since.
     pub(crate) pending: bool,
     /// How many requests were taken from the available ring, modulo 2^16: the index that its idx is compared with.
@@ -52,6 +55,17 @@ pub struct Blk {
     pub(crate) phase: Phase,
     /// The request that is under way; where none is, that of before.
     pub(crate) request: Request,
+}
+
+/// A piece of a request's data: in memory, and on the disk.
+#[derive(Clone, Copy)]
+pub(crate) struct Piece {
+    /// The IOVA of its first byte.
+    pub iova: u64,
+    /// How many bytes it has, 1 to 64.
+    pub len: u64,
+    /// How many bytes of the disk come before it.
+    pub at: usize,
 }
 
 impl Model for Blk {
@@ -70,10 +84,11 @@ impl Model for Blk {
       size = b.size;
       desc = b.desc;
       avail = b.avail;
-      ring = b.ring;
+      used_ring = b.used_ring;
       ready = b.ready;
       interrupts = b.interrupts;
       status = b.status;
+      broken = b.broken;
       pending = b.pending;
       seen = b.seen;
       used = b.used;
@@ -95,10 +110,11 @@ impl Model for Blk {
       size = b.size;
       desc = b.desc;
       avail = b.avail;
-      ring = b.ring;
+      used_ring = b.used_ring;
       ready = b.ready;
       interrupts = b.interrupts;
       status = b.status;
+      broken = b.broken;
       pending = b.pending;
       seen = b.seen;
       used = b.used;
@@ -112,9 +128,11 @@ impl Model for Blk {
 }
 
 impl Blk {
-    ghost use Rattle.iom_virtq.specs.Bus.{Reply, IsShortAsk, is_granted};
+    ghost use Rattle.iom_virtq.specs.Bus.{Reply, IsShort, IsShortAsk, is_granted};
+    ghost use Rattle.iom_blk.specs.Breaking.{broken_by};
     ghost use Rattle.iom_blk.specs.Device.{at_reset, sectors};
     ghost use Rattle.iom_blk.specs.Phases.{is_active, is_broken, ask_of, asks, used_entry, took, moved_of};
+    ghost use Rattle.iom_blk.specs.Requests.{data_address, data_count, data_length, place};
     ghost use Rattle.iom_blk.specs.Sound.{IsDisk};
     ghost use Rattle.iom_blk.specs.Wants.{wanted, Answers};
     ghost use Rattle.iom_blk.specs.declared.want.Moved.TheVariants as moved;
@@ -136,7 +154,7 @@ impl Blk {
     }
 
     // A device that was not touched yet, with a disk that is read-only or not.
-    #[tactic(auto, unfolding(crate::specs::Device::at_reset))]
+    #[tactic(auto, unfolding(crate::specs::Device::at_reset), using(crate::proofs::Breaks::no_bit_is_set))]
     fn at_reset(disk: Vec<u8>, read_only: bool) -> Blk
         requires { IsDisk disk.items }
         ensures { result ≡ at_reset disk.items read_only }
@@ -151,10 +169,11 @@ impl Blk {
             size: 0,
             desc: 0,
             avail: 0,
-            ring: 0,
+            used_ring: 0,
             ready: false,
             interrupts: 0,
             status: 0,
+            broken: None,
             pending: false,
             seen: 0,
             used: 0,
@@ -199,8 +218,17 @@ impl Blk {
         self.used
     }
 
+    /// What broke it since it was reset; None exactly where it isn't broken, so that bit 6 of Status, DEVICE_NEEDS_RESET, is 0 (VIRTIO
+    /// 1.2, "Device Status Field"). It stands until the device is reset.
+    pub fn broken(&self) -> Option<Broken>
+        ensures reason { result ≡ self.now.broken }
+        ensures exact { is_some result ≡ is_broken self.now }
+    {
+        self.broken
+    }
+
     /// What the next step asks the bus for: nothing, or one access of 1 to 64 bytes within one page, at an IOVA.
-    #[tactic(auto, unfolding(crate::specs::Phases::asks), using(crate::proofs::Broken::broken_asks_nothing))]
+    #[tactic(auto, unfolding(crate::specs::Phases::asks), using(crate::proofs::Breaks::broken_asks_nothing))]
     pub fn want(&self) -> Want
         ensures asks { wanted result ≡ asks self.now }
         ensures short { IfSome (asks self.now) IsShortAsk }
@@ -222,7 +250,8 @@ impl Blk {
         ensures moved { IfSome (asks self.old)
             (λ ask. (reply : Reply) × B.answers bus.old ask reply bus.new
             × (self.new ≡ took self.old reply) × (result ≡ moved_of reply.access)
-            × OnTrue (is_granted reply.access) (Answers reply.bytes ask)) }
+            × OnTrue (is_granted reply.access) (Answers reply.bytes ask)
+            × (self.new.broken ≡ broken_by self.old reply)) }
         ensures disk { OnTrue self.old.read_only (self.new.disk ≡ self.old.disk) }
     {
         match self.want() {
@@ -254,10 +283,11 @@ impl Blk {
             size: self.size,
             desc: self.desc,
             avail: self.avail,
-            ring: self.ring,
+            used_ring: self.used_ring,
             ready: self.ready,
             interrupts: self.interrupts,
             status: self.status,
+            broken: self.broken,
             pending: self.pending,
             seen: self.seen,
             used: self.used,
@@ -313,24 +343,42 @@ impl Blk {
                 self.used_entry() + 4,
                 &bytes_of_u32(self.request.used_length),
             ),
-            Phase::UsedIdx => Want::write(self.ring + 2, &bytes_of_u16(self.used.wrapping_add(1))),
+            Phase::UsedIdx => Want::write(
+                self.used_ring + 2,
+                &bytes_of_u16(self.used.wrapping_add(1)),
+            ),
         }
     }
 
     // Its phase Data: the data are written of an IN, and read of an OUT.
-    #[tactic(auto, unfolding(crate::specs::Phases::ask_of), using(crate::proofs::Served::place_within))]
+    #[tactic(auto, unfolding(crate::specs::Phases::ask_of))]
     fn data_access(&self, position: u64) -> Want
         requires { self.now.phase ≡ Phase.Data position }
         ensures asks { wanted result ≡ Some (ask_of self.now (Phase.Data position)) }
         ensures short { IsShortAsk (ask_of self.now (Phase.Data position)) }
     {
-        let (iova, len) = self.request.data_piece(position);
+        let Piece { iova, len, at } = self.data_piece(position);
         if self.request.is_in() {
-            let at = self.request.place(position, self.sectors(), self.read_only) as usize;
             Want::write(iova, &self.disk[at..at + len as usize])
         } else {
             Want::Read { iova, len }
         }
+    }
+
+    /// The piece of the data that is to be moved next, after `position` bytes, in memory and on the disk.
+    #[tactic(auto, using(crate::proofs::Served::place_within, crate::proofs::Served::data_count_within))]
+    pub(crate) fn data_piece(&self, position: u64) -> Piece
+        requires { self.now.phase ≡ Phase.Data position }
+        ensures iova { result.iova ≡ data_address self.now.header self.now.chain position }
+        ensures len { result.len ≡ data_count self.now.header self.now.chain position }
+        ensures at { result.at ≡ place self.now.header position }
+        ensures short { IsShort result.iova result.len }
+        ensures on_disk { result.at + result.len ≤ length self.now.disk }
+        ensures within { position + result.len ≤ data_length self.now.header self.now.chain }
+    {
+        let (iova, len) = self.request.data_piece(position);
+        let at = self.request.place(position, self.sectors(), self.read_only) as usize;
+        Piece { iova, len, at }
     }
 
     /// How many sectors of 512 bytes the disk has: at most 65,536, which the configuration field `capacity` shows.
@@ -348,6 +396,6 @@ impl Blk {
         ensures aligned { result % 4 ≡ 0 }
         ensures fits { result + 8 ≤ 2 ^ 64 }
     {
-        self.ring + 4 + 8 * (self.used as u64 % self.size)
+        self.used_ring + 4 + 8 * (self.used as u64 % self.size)
     }
 }

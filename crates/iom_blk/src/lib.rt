@@ -1,10 +1,12 @@
 //! A virtio block device over any bus (VIRTIO 1.2, "Block Device", "Virtio Over MMIO").
 #![tactic(auto)]
 
+pub use broken::Broken;
 pub use device::Blk;
 pub use phase::Phase;
 pub use want::{Moved, Want};
 
+mod broken;
 mod bytes;
 mod device;
 mod flags;

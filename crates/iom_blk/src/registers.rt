@@ -42,13 +42,14 @@ impl Blk {
     /// Writes the `size` bytes of `value` at offset `off`, in bytes, and answers true; false where the registers don't take the
     /// access, and then nothing is changed. Of 4 bytes `value` is below 2^32. What is taken `reg_read` says; read-only registers
     /// and the configuration stay as they are.
-    #[tactic(auto, unfolding(crate::specs::Registers::written), using(crate::proofs::Broken::written_stays))]
+    #[tactic(auto, unfolding(crate::specs::Registers::written), using(crate::proofs::Breaks::written_stays, crate::proofs::Breaks::written_reason))]
     pub fn reg_write(&mut self, off: u64, size: u64, value: u64) -> bool
         requires { size ≡ 4 → value < 2 ^ 32 }
         ensures legal { result ≡ is_legal off size }
         ensures written { OnTrue result (self.new ≡ written self.old off value) }
         ensures refused { OnFalse result (self.new ≡ self.old) }
         ensures broken { (off ≡ 0x70 → 0 < value) → is_broken self.old ≡ true → is_broken self.new ≡ true }
+        ensures reason { (off ≡ 0x70 → 0 < value) → self.new.broken ≡ self.old.broken }
     {
         let legal = is_legal(off, size);
         if legal && off < CONFIG {
@@ -153,8 +154,8 @@ impl Blk {
             QUEUE_DESC_HIGH => self.desc = with_field(self.desc, 32, 32, value),
             QUEUE_DRIVER_LOW => self.avail = with_field(self.avail, 0, 32, value),
             QUEUE_DRIVER_HIGH => self.avail = with_field(self.avail, 32, 32, value),
-            QUEUE_DEVICE_LOW => self.ring = with_field(self.ring, 0, 32, value),
-            QUEUE_DEVICE_HIGH => self.ring = with_field(self.ring, 32, 32, value),
+            QUEUE_DEVICE_LOW => self.used_ring = with_field(self.used_ring, 0, 32, value),
+            QUEUE_DEVICE_HIGH => self.used_ring = with_field(self.used_ring, 32, 32, value),
             _ => {}
         }
     }
@@ -178,21 +179,21 @@ impl Blk {
     #[tactic(auto, unfolding(crate::specs::Registers::is_queue))]
     fn is_queue(&self) -> bool
         ensures queue { result ≡ is_queue self.now }
-        ensures good { OnTrue result (IsGoodQueue self.now.size self.now.desc self.now.avail self.now.ring) }
+        ensures good { OnTrue result (IsGoodQueue self.now.size self.now.desc self.now.avail self.now.used_ring) }
     {
         if !is_power(self.size) {
             return false;
         }
         self.desc % 16 == 0
             && self.avail % 2 == 0
-            && self.ring % 4 == 0
+            && self.used_ring % 4 == 0
             && fits(self.desc, 16 * self.size)
             && fits(self.avail, 4 + 2 * self.size)
-            && fits(self.ring, 4 + 8 * self.size)
+            && fits(self.used_ring, 4 + 8 * self.size)
     }
 
     // Status.
-    #[tactic(auto, unfolding(crate::specs::Registers::with_status, crate::specs::Device::at_reset))]
+    #[tactic(auto, unfolding(crate::specs::Registers::with_status, crate::specs::Device::at_reset), using(crate::proofs::Breaks::status_keeps, crate::proofs::Breaks::no_bit_is_set))]
     fn set_status(&mut self, value: u64)
         ensures { self.new ≡ with_status self.old value }
     {
@@ -209,9 +210,10 @@ impl Blk {
         self.size = 0;
         self.desc = 0;
         self.avail = 0;
-        self.ring = 0;
+        self.used_ring = 0;
         self.interrupts = 0;
         self.status = 0;
+        self.broken = None;
         self.pending = false;
         self.seen = 0;
         self.used = 0;

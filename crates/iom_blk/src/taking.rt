@@ -3,8 +3,9 @@
 ghost use Rattle.std.specs.Prelude.{◌≡◌, ◌+◌, ◌<◌, ◌≤◌, true, false, length, IsSome, IfSome};
 ghost use Rattle.std.specs.Bool.{OnTrue, OnFalse};
 
+use crate::broken::Broken;
 use crate::bytes::{u16_at, u32_at, u64_at};
-use crate::device::Blk;
+use crate::device::{Blk, Piece};
 use crate::flags::{CHANGED, NEEDS_RESET, USED_BUFFER};
 use crate::phase::Phase;
 use crate::request::{HEADER, Request};
@@ -14,19 +15,22 @@ use iom_virtq::{Access, More};
 
 impl Blk {
     ghost use Rattle.iom_virtq.specs.Bus.{is_granted, reply_of};
+    ghost use Rattle.iom_blk.specs.Breaking.{broken_by};
     ghost use Rattle.iom_blk.specs.Phases.{ask_of, asks, broken, is_broken, data_phase, after_index, after_ring, completed, after_descriptor, after_header, after_data, after_used, after, took, moved_of};
     ghost use Rattle.iom_blk.specs.Requests.{readable, writable, is_in, data_length, data_count, header_count};
     ghost use Rattle.iom_blk.specs.Wants.{Answers};
 
     /// Goes on with the bus's answer to what `want` said, which isn't Nothing. `bytes` are those of a read that was granted, as
-    /// many as were asked for; else they aren't looked at. An answer that isn't Ok breaks the device: DEVICE_NEEDS_RESET is set.
-    #[tactic(auto, unfolding(crate::specs::Phases::asks, crate::specs::Phases::took), using(crate::proofs::Asking::asked_is_ready, crate::proofs::Broken::broken_is_broken, crate::proofs::Kept::broken_keeps))]
+    /// many as were asked for; else they aren't looked at. An answer that isn't Ok breaks the device, and so do bytes that can't be:
+    /// DEVICE_NEEDS_RESET is set, and `broken` tells why.
+    #[tactic(auto, unfolding(crate::specs::Phases::asks, crate::specs::Phases::took, crate::specs::Breaking::broken_by), using(crate::proofs::Asking::asked_is_ready, crate::proofs::Breaks::broken_is_broken, crate::proofs::Kept::broken_keeps, crate::proofs::Reasons::broken_tells))]
     pub fn take(&mut self, answer: Access, bytes: &[u8]) -> Moved
         requires asked { IsSome (asks self.old) }
         requires answered { OnTrue (is_granted answer) (IfSome (asks self.old) (Answers bytes.now)) }
         ensures device { self.new ≡ took self.old (reply_of answer bytes.now) }
         ensures moved { result ≡ moved_of answer }
         ensures refused { OnFalse (is_granted answer) (is_broken self.new ≡ true) }
+        ensures broken { self.new.broken ≡ broken_by self.old (reply_of answer bytes.now) }
         ensures disk { OnTrue self.old.read_only (self.new.disk ≡ self.old.disk) }
     {
         let _ = &self.disk;
@@ -36,22 +40,23 @@ impl Blk {
                 Moved::Did
             }
             Access::Denied(cause) => {
-                self.break_down();
+                self.break_down(Broken::Denied(cause));
                 Moved::Denied(cause)
             }
             Access::Outside => {
-                self.break_down();
+                self.break_down(Broken::Outside);
                 Moved::Outside
             }
         }
     }
 
     // Its access was refused, or what it read can't be.
-    #[tactic(auto, unfolding(crate::specs::Phases::broken))]
-    fn break_down(&mut self)
-        ensures { self.new ≡ broken self.old }
+    #[tactic(auto, unfolding(crate::specs::Phases::broken), using(crate::proofs::Breaks::bit_is_set))]
+    fn break_down(&mut self, reason: Broken)
+        ensures { self.new ≡ broken self.old reason }
     {
         self.status = with_field(self.status, NEEDS_RESET, 1, 1);
+        self.broken = Some(reason);
         self.interrupts = with_field(self.interrupts, CHANGED, 1, 1);
         self.phase = Phase::Index;
     }
@@ -90,7 +95,7 @@ impl Blk {
         if idx == self.seen {
             self.pending = false;
         } else if idx.wrapping_sub(self.seen) as u64 > self.size {
-            self.break_down();
+            self.break_down(Broken::IndexAhead);
         } else {
             self.phase = Phase::Ring;
         }
@@ -103,7 +108,7 @@ impl Blk {
         ensures { self.new ≡ after_ring self.old head }
     {
         if head as u64 >= self.size {
-            self.break_down();
+            self.break_down(Broken::BadHead);
         } else {
             self.request = Request::new(head, self.size as u16);
             self.phase = Phase::Descriptor(head);
@@ -120,7 +125,7 @@ impl Blk {
     {
         self.phase = Phase::Index;
         match self.request.chain.add(addr, len, flags, next) {
-            Err(_) => self.break_down(),
+            Err(fault) => self.break_down(Broken::Descriptor(fault)),
             Ok(More::Next(next)) => self.phase = Phase::Descriptor(next),
             Ok(More::Complete) => self.complete(),
         }
@@ -133,10 +138,12 @@ impl Blk {
         requires begun { length self.old.header ≡ 0 }
         ensures { self.new ≡ completed self.old }
     {
-        if self.request.readable() >= HEADER && self.request.writable() >= 1 {
-            self.phase = Phase::Header;
+        if self.request.readable() < HEADER {
+            self.break_down(Broken::ShortHeader);
+        } else if self.request.writable() < 1 {
+            self.break_down(Broken::NothingWritable);
         } else {
-            self.break_down();
+            self.phase = Phase::Header;
         }
     }
 
@@ -156,20 +163,19 @@ impl Blk {
     }
 
     // A piece of the data.
-    #[tactic(auto, unfolding(crate::specs::Phases::after_data), using(crate::proofs::Served::data_count_within))]
+    #[tactic(auto, unfolding(crate::specs::Phases::after_data))]
     fn take_data(&mut self, position: u64, bytes: &[u8])
         requires phase { self.old.phase ≡ Phase.Data position }
         requires answered { is_in self.old.header ≡ false →
             length bytes.now ≡ data_count self.old.header self.old.chain position }
         ensures { self.new ≡ after_data self.old position bytes.now }
     {
-        let (_, count) = self.request.data_piece(position);
+        let Piece { len, at, .. } = self.data_piece(position);
         if self.request.is_in() {
-            return self.pass_data(position, count);
+            return self.pass_data(position, len);
         }
-        let at = self.request.place(position, self.sectors(), self.read_only) as usize;
         self.disk[at..at + bytes.len()].copy_from_slice(bytes);
-        self.pass_data(position, count);
+        self.pass_data(position, len);
     }
 
     // So many bytes behind `position` were moved.

@@ -8,4 +8,5 @@ invariant_of-self-then-is_queue c = record {
   queue = λ _. search rules;
   phase = still _ _ _ _ _ _ _ c.self.invariant.phase;
   interrupts = c.self.invariant.interrupts;
+  broken = c.self.invariant.broken;
 }

@@ -2,7 +2,14 @@ use Rattle.std.proofs.Common.{◌≡◌, subst}
 use Rattle.std.proofs.lemmas.Bool.{OnTrue_from}
 use Rattle.iom_blk.specs.Sound.{IsSound}
 use Rattle.iom_blk.proofs.Kept.{goes_on}
+use Rattle.iom_blk.proofs.Reasons.{asked_is_whole, granted_tells}
 use Rattle.iom_blk.proofs.device.Blk.take.Goals as goal
+
+pub returns-in-Ok-clause-broken : goal.returns-in-Ok-clause-broken
+returns-in-Ok-clause-broken c =
+    let d = c.args.self.now in
+    rw c.go_on.ensures (granted_tells d c.args.answer c.args.bytes.now c.in-Ok.is
+    (asked_is_whole d (subst IsSound c.self.view_is c.self.invariant) c.requires.asked))
 
 pub returns-in-Ok-clause-disk : goal.returns-in-Ok-clause-disk
 returns-in-Ok-clause-disk c =

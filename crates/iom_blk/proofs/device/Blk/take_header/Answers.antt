@@ -13,4 +13,5 @@ invariant_of-self-2 c =
       phase = judged_holds _ _ _ _ _ _ _ _ _ c.self.invariant.phase (ap (λ (d : Device). d.phase) c.self.view_is ∙ c.requires.phase)
           (omega (arith, c.len.ensures.value, c.len.ensures.fits)) (rw (← size) c.judge-self-inside.ensures.phase);
       interrupts = c.self.invariant.interrupts;
+      broken = c.self.invariant.broken;
     }
