@@ -9,7 +9,7 @@ use Rattle.iom_virtq.specs.declared.access.Access.TheVariants as access
 use Rattle.iom_blk.specs.Device.{Device}
 use Rattle.iom_blk.specs.Phases.{asks, moved_of, took}
 use Rattle.iom_blk.specs.Registers.{is_legal, read, written}
-use Rattle.iom_blk.proofs.Broken.{broken_is_broken}
+use Rattle.iom_blk.proofs.Breaks.{broken_is_broken}
 use Rattle.iom_core.specs.State.{State, Machine, with_device}
 use Rattle.iom_core.specs.Access.{effect, effect_at, outside, read_there, served}
 use Rattle.iom_core.specs.declared.access.Denial.{Denial}
@@ -111,8 +111,8 @@ unfolding took
 told_breaks device reply slot did is =
     elim reply.access as (λ (a : Access). reply.access ≡ a → BreaksBy (answer_of (moved_of a)) slot) [
       | access.Ok ↦ λ e. tt
-      | access.Denied cause ↦ λ e. subst IsBroken (sym is) (rw e (broken_is_broken device))
-      | access.Outside ↦ λ e. subst IsBroken (sym is) (rw e (broken_is_broken device))
+      | access.Denied cause ↦ λ e. subst IsBroken (sym is) (rw e (broken_is_broken device _))
+      | access.Outside ↦ λ e. subst IsBroken (sym is) (rw e (broken_is_broken device _))
     ] refl
 
 pub moved_breaks : (state : State) (dev : ℕ) →

@@ -10,7 +10,7 @@ ghost use Rattle.iom_core.specs.Warrants.{Explains, IsUncached, request_at, way_
 
 use crate::access::Request;
 use crate::machine::Machine;
-use crate::platform::is_device_access;
+use crate::platform::device_request;
 use crate::{Answer, Platform, Step, Warrant};
 use iom_bits::Kind;
 use iom_blk::Want;
@@ -142,20 +142,14 @@ impl Platform {
         ensures request { result ≡ request_of_step self.now step.now }
         ensures fits { IfSome result (λ request. request.did < 2 ^ 24) }
     {
-        let (did, iova, len, kind) = match step {
-            Step::DmaRead { did, iova, len } => (*did, *iova, *len, Kind::Read),
-            Step::DmaWrite { did, iova, bytes } => (*did, *iova, bytes.len() as u64, Kind::Write),
-            Step::Device { dev } => return self.request_of_device(*dev),
-            _ => return None,
-        };
-        if !is_device_access(did, iova, len) {
-            return None;
+        match step {
+            Step::DmaRead { did, iova, len } => device_request(*did, *iova, *len, Kind::Read),
+            Step::DmaWrite { did, iova, bytes } => {
+                device_request(*did, *iova, bytes.len() as u64, Kind::Write)
+            }
+            Step::Device { dev } => self.request_of_device(*dev),
+            _ => None,
         }
-        Some(Request {
-            did: did as u32,
-            iova,
-            kind,
-        })
     }
 
     // What a block device asks of the IOMMU.

@@ -1,12 +1,15 @@
-ghost use Rattle.std.specs.Prelude.{ℕ, ◌≡◌, ◌+◌, length, Some, IfOk, slice_get};
+ghost use Rattle.std.specs.Prelude.{ℕ, ◌≡◌, ◌+◌, true, false, length, Some, IfOk, IfSome, IfNone, slice_get};
 ghost use Rattle.std.specs.Option.{option_map};
+ghost use Rattle.iom_core.specs.Access.{access_to};
 ghost use Rattle.iom_core.specs.Table.{is_device_access};
 
+use crate::access::Request;
 use crate::devices::copied;
 use crate::machine::Machine;
 use crate::port::Port;
 use crate::step::{Answer, Step};
 use arrayvec::ArrayVec;
+use iom_bits::Kind;
 use iom_blk::Blk;
 use iom_cache::{ContextCache, TransCache};
 use iom_mem::Ram;
@@ -120,6 +123,7 @@ impl Platform {
     }
 
     /// Carries out one step, and answers what the step table says. It takes no memory.
+    #[inline(always)]
     pub fn step(&mut self, step: &Step) -> Answer
         ensures answer { result ≡ (next self.old step.now).answer }
         ensures state { self.new ≡ (next self.old step.now).state }
@@ -165,6 +169,7 @@ impl Platform {
     }
 
     // A step by its row of the step table.
+    #[inline(always)]
     #[tactic(auto, unfolding(crate::specs::Table::next, crate::specs::Table::asked))]
     fn take(&mut self, step: &Step) -> Answer
         ensures answer { result ≡ (next self.old step.now).answer }
@@ -198,16 +203,16 @@ impl Platform {
         ensures state { self.new
             ≡ (probed self.old (asking_where (is_device_access did iova len) did (Read iova len))).state }
     {
-        if !is_device_access(did, iova, len) {
+        let Some(request) = device_request(did, iova, len, Kind::Read) else {
             return Answer::Misuse;
-        }
+        };
         let mut bytes = ArrayVec::from([0; 64]);
         bytes.truncate(len as usize);
         let mut port = Port {
             machine: &mut self.machine,
-            did: did as u32,
+            did: request.did,
         };
-        match port.read(iova, bytes.as_mut_slice()) {
+        match port.read(request.iova, bytes.as_mut_slice()) {
             Access::Ok => Answer::Bytes(bytes),
             Access::Denied(cause) => Answer::Denied(cause.number()),
             Access::Outside => Answer::BusError,
@@ -221,14 +226,14 @@ impl Platform {
         ensures state { self.new
             ≡ (probed self.old (asking_where (is_device_access did iova (length bytes.now)) did (Write iova bytes.now))).state }
     {
-        if !is_device_access(did, iova, bytes.len() as u64) {
+        let Some(request) = device_request(did, iova, bytes.len() as u64, Kind::Write) else {
             return Answer::Misuse;
-        }
+        };
         let mut port = Port {
             machine: &mut self.machine,
-            did: did as u32,
+            did: request.did,
         };
-        match port.write(iova, bytes) {
+        match port.write(request.iova, bytes) {
             Access::Ok => Answer::Done,
             Access::Denied(cause) => Answer::Denied(cause.number()),
             Access::Outside => Answer::BusError,
@@ -236,9 +241,24 @@ impl Platform {
     }
 }
 
-/// Whether a device may ask for `len` bytes at IOVA `iova`: its id `did` is below 2^24, and the bytes are 1 to 64 within one page
-/// of 4096 bytes.
-pub fn is_device_access(did: u64, iova: u64, len: u64) -> bool
+/// The request of device `did` for `len` bytes at IOVA `iova`; None where it may not ask so: its id is below 2^24, and the bytes are
+/// 1 to 64 within one page of 4096 bytes.
+pub(crate) fn device_request(did: u64, iova: u64, len: u64, kind: Kind) -> Option<Request>
+    ensures some { IfSome result (λ request. (request ≡ access_to did iova kind) × (is_device_access did iova len ≡ true)) }
+    ensures none { IfNone result (is_device_access did iova len ≡ false) }
+{
+    if !is_device_access(did, iova, len) {
+        return None;
+    }
+    Some(Request {
+        did: did as u32,
+        iova,
+        kind,
+    })
+}
+
+// Whether a device may ask for `len` bytes at IOVA `iova`.
+fn is_device_access(did: u64, iova: u64, len: u64) -> bool
     ensures { result ≡ is_device_access did iova len }
 {
     did < 1 << 24 && len > 0 && len <= 64 && iova % 4096 + len <= 4096

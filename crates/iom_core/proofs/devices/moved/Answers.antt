@@ -2,6 +2,7 @@ use Rattle.std.proofs.Common.{◌≡◌, ◌∙◌, Option, Some, None, sym, ap,
 use Rattle.std.specs.Prelude.{IfNone, IfSome}
 use Rattle.std.specs.Bool.{OnTrue}
 use Rattle.iom_virtq.specs.Bus.{Ask, Reply, is_granted}
+use Rattle.iom_blk.specs.Breaking.{broken_by}
 use Rattle.iom_blk.specs.Device.{Device}
 use Rattle.iom_blk.specs.Phases.{asks, moved_of, took}
 use Rattle.iom_blk.specs.Wants.{Answers}
@@ -16,7 +17,8 @@ use Rattle.iom_core.proofs.devices.moved.Goals as goal
 went : (p q : Port) (d e : Device) (told : Moved) (asked : Option Ask) → IfNone asked ((told ≡ Idle) × (e ≡ d) × (q ≡ p)) →
     IfSome asked (λ ask. (reply : Reply) × ((q.machine.ghost_name ≡ p.machine.ghost_name) × (q.did ≡ p.did)
     × (reply ≡ (served p.machine.now p.did ask).reply) × (q.machine.now ≡ (served p.machine.now p.did ask).machine))
-    × (e ≡ took d reply) × (told ≡ moved_of reply.access) × OnTrue (is_granted reply.access) (Answers reply.bytes ask)) →
+    × (e ≡ took d reply) × (told ≡ moved_of reply.access) × OnTrue (is_granted reply.access) (Answers reply.bytes ask)
+    × (e.broken ≡ broken_by d reply)) →
     (told ≡ (moving p.machine.now p.did d asked).told) × (q.machine.now ≡ (moving p.machine.now p.did d asked).machine)
     × (e ≡ (moving p.machine.now p.did d asked).device)
 unfolding moving
