@@ -6,16 +6,16 @@ use Rattle.iom_ddt.specs.Words as context
 use Rattle.iom_queue.specs.Commands.{command_words}
 use Rattle.iom_queue.specs.Records.{record_words}
 use Rattle.iom_mem.specs.Words.{bytes_of_words}
-use Rattle.iom_asm.specs.declared.item.Item.{Item}
-use Rattle.iom_asm.specs.declared.item.Item.TheVariants as item
+use Rattle.iom_items.specs.declared.item.Item.{Item}
+use Rattle.iom_items.specs.declared.item.Item.TheVariants as item
 use Rattle.iom_image.specs.Image.{Image}
-use Rattle.iom_asm.specs.Items.{Entry, name_of, words_in, dir_word, pte_word}
-use Rattle.iom_asm.specs.Forms as forms
-use Rattle.iom_asm.specs.Forms.{where_so, words_for}
-use Rattle.iom_asm.specs.Operands.{◌>>=◌}
+use Rattle.iom_items.specs.Items.{Entry, name_of, words_in, dir_word, pte_word}
+use Rattle.iom_items.specs.Forms as forms
+use Rattle.iom_items.specs.Forms.{where_so, words_for}
+use Rattle.iom_items.specs.Operands.{◌>>=◌}
 use Rattle.iom_asm.specs.Assembly.{Draft, with_bytes, then_so, after_words, after_lines, lines_of, described}
 use Rattle.iom_asm.specs.Retelling.{StandsIn, AreStated, items_of, items_on, items_in}
-use Rattle.iom_asm.proofs.Bounds.{length_of_words}
+use Rattle.iom_items.proofs.Bounds.{length_of_words}
 use Rattle.iom_image.proofs.Found.{same_bytes}
 use Rattle.iom_asm.proofs.Retold.{step_ok, after_item, lines_then, going_on, last_of}
 

@@ -13,9 +13,9 @@ use Rattle.iom_queue.specs.declared.command.Command.{Command}
 use Rattle.iom_queue.specs.Commands.{command_words}
 use Rattle.iom_queue.specs.Records.{record_words}
 use Rattle.iom_mem.specs.Words.{bytes_of_words}
-use Rattle.iom_asm.specs.Items.{dir_word, pte_word}
-use Rattle.iom_asm.specs.Forms.{words_for, numbers, each_number, command, fault, context, dir, pte}
-use Rattle.iom_asm.specs.Operands as maybe
+use Rattle.iom_items.specs.Items.{dir_word, pte_word}
+use Rattle.iom_items.specs.Forms.{words_for, numbers, each_number, command, fault, context, dir, pte}
+use Rattle.iom_items.specs.Operands as maybe
 use Rattle.iom_asm.specs.Assembly.{hex, one_hex, bytes_for}
 
 abbrev Full : {A : Type 0} → Option (List A) → Type 0

@@ -5,11 +5,7 @@ pub mod Cuts
 pub mod Keeping
 pub mod Going
 pub mod Spans
-pub mod Plain
 pub mod Standing
-pub mod Stating
-pub mod Bounds
 pub mod Lasting
 pub mod Retold
 pub mod Following
-pub mod Operating

@@ -11,9 +11,9 @@ use Rattle.iom_queue.specs.Records.{record_words}
 use Rattle.iom_mem.specs.Words.{bytes_of_words}
 use Rattle.iom_asm.specs.declared.asm_fault.AsmFault.{AsmFault}
 use Rattle.iom_asm.specs.declared.asm_fault.AsmFault.TheVariants.{BadLine}
-use Rattle.iom_asm.specs.Items.{Entry, dir_word, pte_word}
-use Rattle.iom_asm.specs.Operands.{operand_of, has_key, is_given, is_one_of, are_operands, ◌>>=◌}
-use Rattle.iom_asm.specs.Forms.{where_so, vma_keys, gvma_keys, fence_keys, fault_keys, context_keys, vma, gvma, fence, iodir, command, fault, context, dir, pte, each_number, numbers, words_for}
+use Rattle.iom_items.specs.Items.{Entry, dir_word, pte_word}
+use Rattle.iom_items.specs.Operands.{operand_of, has_key, is_given, is_one_of, are_operands, ◌>>=◌}
+use Rattle.iom_items.specs.Forms.{where_so, vma_keys, gvma_keys, fence_keys, fault_keys, context_keys, vma, gvma, fence, iodir, command, fault, context, dir, pte, each_number, numbers, words_for}
 use Rattle.iom_asm.specs.Assembly.{Draft, one_hex, bytes_for, opened, moved, first_bytes, disk_of, disk_for, joined, or_bad, then_so, placed, stated, started, after_words}
 
 -- how many of some keys are given

@@ -8,12 +8,12 @@ use Rattle.iom_mem.specs.Words.{bytes_of_words}
 use Rattle.iom_text.specs.Words.{words_of}
 use Rattle.iom_asm.specs.declared.asm_fault.AsmFault.{AsmFault}
 use Rattle.iom_asm.specs.declared.asm_fault.AsmFault.TheVariants.{Outside, Overlap}
-use Rattle.iom_asm.specs.declared.item.Item.{Item}
-use Rattle.iom_asm.specs.declared.item.Item.TheVariants as item
+use Rattle.iom_items.specs.declared.item.Item.{Item}
+use Rattle.iom_items.specs.declared.item.Item.TheVariants as item
 use Rattle.iom_image.specs.Image.{Chunk, Image, IsImage, image_bytes}
-use Rattle.iom_asm.specs.Items.{name_of, words_in}
-use Rattle.iom_asm.specs.Forms.{words_for}
-use Rattle.iom_asm.specs.Lines.{line_of, item_line}
+use Rattle.iom_items.specs.Items.{name_of, words_in}
+use Rattle.iom_items.specs.Forms.{words_for}
+use Rattle.iom_items.specs.Lines.{line_of, item_line}
 use Rattle.iom_asm.specs.Listing.{listed}
 use Rattle.iom_image.specs.Reading.{image_of, opening_of}
 use Rattle.iom_asm.specs.Assembly.{Draft, meets, is_inside, with_bytes, placed, bytes_for, or_bad, then_so, stated, after_words, after_lines, lines_of, ended, described}
@@ -21,7 +21,7 @@ use Rattle.iom_asm.specs.Retelling.{StandsIn, IsStated, AreStated, lines_told}
 use Rattle.iom_asm.proofs.Keeping.{Good, lines_good}
 use Rattle.iom_image.proofs.Images.{read_again}
 use Rattle.iom_asm.proofs.Standing.{IsIn, stands, front_at, behind_at}
-use Rattle.iom_asm.proofs.Bounds.{AreWords, words_fine, length_of_words}
+use Rattle.iom_items.proofs.Bounds.{AreWords, words_fine, length_of_words}
 use Rattle.iom_asm.proofs.Lasting.{now_in, lines_has}
 use Rattle.iom_asm.proofs.Spans.{words_stand}
 use Rattle.iom_image.proofs.Oks.{ok_is}

@@ -7,16 +7,16 @@ use Rattle.iom_mem.specs.Memory.{Memory, size_of, before, bytes_at, word, words_
 use Rattle.iom_mem.specs.Words.{bytes_of_words}
 use Rattle.iom_mem.proofs.Bytes.{bytes_at_inside}
 use Rattle.iom_mem.proofs.Several.{words_at_outside}
-use Rattle.iom_asm.specs.declared.item.Item.{Item}
-use Rattle.iom_asm.specs.declared.item.Item.TheVariants as item
-use Rattle.iom_asm.specs.Items.{words_in}
-use Rattle.iom_asm.specs.Lines.{item_line, line_of}
-use Rattle.iom_asm.specs.Operands.{◌>>=◌}
+use Rattle.iom_items.specs.declared.item.Item.{Item}
+use Rattle.iom_items.specs.declared.item.Item.TheVariants as item
+use Rattle.iom_items.specs.Items.{words_in}
+use Rattle.iom_items.specs.Lines.{item_line, line_of}
+use Rattle.iom_items.specs.Operands.{◌>>=◌}
 use Rattle.iom_asm.specs.Listing.{listed}
 use Rattle.iom_bits.proofs.Bytes.{length_of_number}
 use Rattle.iom_image.proofs.Images.{number_back}
 use Rattle.iom_asm.proofs.Standing.{front_at, behind_at}
-use Rattle.iom_asm.proofs.Bounds.{AreWords}
+use Rattle.iom_items.proofs.Bounds.{AreWords}
 
 some_word : (kind : Item) → 0 < words_in kind
 some_word item.Cmd = omega arith
@@ -33,11 +33,6 @@ some_words item.Context = refl
 some_words item.Dir = refl
 some_words item.Pte = refl
 some_words item.Word = refl
-
--- a word read alone is one of one
-pub one_word : (found : Option ℕ) → option_map (λ word. word ∷ []) found ≡ before found (Some [])
-one_word (Some word) = refl
-one_word None = refl
 
 some_before : (first : Option ℕ) (rest : Option (List ℕ)) → is_some first ≡ true → is_some rest ≡ true → is_some (before first rest) ≡ true
 some_before None rest one two = absurd cc

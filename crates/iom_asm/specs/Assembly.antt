@@ -10,8 +10,8 @@ use Rattle.iom_asm.specs.declared.asm_fault.AsmFault.{AsmFault}
 use Rattle.iom_asm.specs.declared.asm_fault.AsmFault.TheVariants.{BadLine, Outside, Overlap, OutOfMemory}
 use Rattle.iom_image.specs.Image.{Chunk, Disk, Image, end_of, is_new_id, is_disk_size, image_bytes}
 use Rattle.iom_mem.specs.Words.{bytes_of_words}
-use Rattle.iom_asm.specs.Forms.{where_so, words_for}
-use Rattle.iom_asm.specs.Operands.{◌>>=◌}
+use Rattle.iom_items.specs.Forms.{where_so, words_for}
+use Rattle.iom_items.specs.Operands.{◌>>=◌}
 
 -- the second, where the first is no fault
 abbrev pub then_so : {A B : Type 0} → Result A AsmFault → (A → Result B AsmFault) → Result B AsmFault

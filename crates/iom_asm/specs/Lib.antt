@@ -1,8 +1,3 @@
-pub mod Items
-pub mod Lines
-pub mod Operands
-pub mod Given
-pub mod Forms
 pub mod Assembly
 pub mod Drafts
 pub mod Listing

@@ -4,12 +4,12 @@ use Rattle.std.specs.Prelude.{String}
 use Rattle.std.specs.Global.{Global}
 use Rattle.std.specs.String.{string_bytes}
 use Rattle.iom_mem.specs.Memory.{Memory}
-use Rattle.iom_asm.specs.declared.item.Item.{Item}
+use Rattle.iom_items.specs.declared.item.Item.{Item}
 use Rattle.iom_asm.specs.declared.list_fault.ListFault.{ListFault}
 use Rattle.iom_asm.specs.declared.list_fault.ListFault.TheVariants as listing
-use Rattle.iom_asm.specs.Items.{words_in}
-use Rattle.iom_asm.specs.Lines.{item_line}
-use Rattle.iom_asm.specs.Operands.{◌>>=◌}
+use Rattle.iom_items.specs.Items.{words_in}
+use Rattle.iom_items.specs.Lines.{item_line}
+use Rattle.iom_items.specs.Operands.{◌>>=◌}
 
 -- the lines of `count` items from a physical address on, each with its line end; None: a byte of them is outside
 unfoldable pub listed : Memory → Item → ℕ → ℕ → Option (List ℕ)

@@ -2,14 +2,14 @@
 use Rattle.std.specs.Prelude.{ℕ, ◌≡◌, ◌+◌, ◌*◌, ◌^◌, ◌<◌, ◌++◌, List, [], ◌∷◌, length, map, bytes_eq, Option, Some, None, Ok}
 use Rattle.std.specs.Option.{option_map}
 use Rattle.iom_text.specs.Words.{words_of}
-use Rattle.iom_asm.specs.declared.item.Item.{Item}
-use Rattle.iom_asm.specs.declared.item.Item.TheVariants as item
+use Rattle.iom_items.specs.declared.item.Item.{Item}
+use Rattle.iom_items.specs.declared.item.Item.TheVariants as item
 use Rattle.iom_image.specs.Image.{Image, image_bytes}
-use Rattle.iom_asm.specs.Items.{name_of, words_in, dir_of, Entry, pte_of, IsDirEncoding, IsPteEncoding}
-use Rattle.iom_asm.specs.Forms.{where_so, command, fault, context, dir, pte, numbers, words_for}
-use Rattle.iom_asm.specs.Lines.{command_text, record_text, context_text, dir_text, pte_text, words_text, line_of, item_line}
+use Rattle.iom_items.specs.Items.{name_of, words_in}
+use Rattle.iom_items.specs.Forms.{where_so, words_for}
+use Rattle.iom_items.specs.Lines.{line_of, item_line}
 use Rattle.iom_asm.specs.Listing.{listed}
-use Rattle.iom_asm.specs.Operands.{◌>>=◌}
+use Rattle.iom_items.specs.Operands.{◌>>=◌}
 use Rattle.iom_image.specs.Reading.{image_of, opening_of}
 use Rattle.iom_asm.specs.Assembly.{Draft, lines_of, after_lines, described}
 
@@ -48,32 +48,6 @@ AreStated text kind (words ∷ items) addr = IsStated text kind words addr × Ar
 abbrev pub lines_told : Item → List (List ℕ) → List ℕ
 lines_told kind [] = []
 lines_told kind (words ∷ items) = (line_of kind words ++ 10 ∷ []) ++ lines_told kind items
-
--- the line with what a statement's operands say, all of them in order; None: there is no such statement
-unfoldable pub told : Item → List (List ℕ) → Option (List ℕ)
-told item.Cmd operands = option_map command_text (command operands)
-told item.Fault operands = option_map record_text (fault operands)
-told item.Context operands = option_map context_text (context operands)
-told item.Dir operands = option_map dir_text (dir operands)
-told item.Pte operands = option_map pte_text (pte operands)
-told item.Word operands = option_map words_text (numbers operands)
-
--- The line of the words that a statement stands for has the statement's own operands.
-abbrev pub TellsOperands : Type 0
-TellsOperands =
-    (kind : Item) (operands : List (List ℕ)) (words : List ℕ) → words_for (name_of kind) operands ≡ Some words →
-    told kind operands ≡ Some (line_of kind words)
-
--- An entry of a directory and its word stand for each other.
-abbrev pub ReadsDirs : Type 0
-ReadsDirs =
-    (ppn word : ℕ) → word < 2 ^ 64 → (IsDirEncoding ppn word → dir_of word ≡ Some ppn) × (dir_of word ≡ Some ppn → IsDirEncoding ppn word)
-
--- An entry of a page table and its word stand for each other.
-abbrev pub ReadsPtes : Type 0
-ReadsPtes =
-    (entry : Entry) (word : ℕ) → word < 2 ^ 64 →
-    (IsPteEncoding entry word → pte_of word ≡ Some entry) × (pte_of word ≡ Some entry → IsPteEncoding entry word)
 
 -- The image that a text describes is read as that image.
 abbrev pub ReadsAgain : Type 0

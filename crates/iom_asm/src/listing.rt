@@ -8,14 +8,13 @@ ghost use Rattle.iom_mem.specs.Memory.{size_of};
 ghost use Rattle.iom_asm.specs.declared.list_fault.ListFault.TheVariants as listing;
 ghost use Rattle.iom_asm.specs.Listing.{listed, Lists};
 
-use crate::item::Item;
-use crate::lines::item_line;
 use crate::list_fault::ListFault;
+use iom_items::{Item, item_line};
 use iom_mem::Ram;
 use std::alloc::{AllocError, Global};
 
-// Whether so many bytes from an address on are between two others.
-fn covers(base: u64, end: u64, addr: u64, len: u64) -> bool
+/// Whether the `len` bytes from physical address `addr` on are among those from `base` to `end`, which isn't one of them.
+pub(crate) fn covers(base: u64, end: u64, addr: u64, len: u64) -> bool
     ensures { result ≡ (nat_le base addr && nat_le (addr + len) end) }
 {
     base <= addr && addr <= end && len <= end - addr

@@ -5,11 +5,12 @@ ghost use Rattle.std.specs.List.{list_any};
 ghost use Rattle.iom_image.specs.Image.{IsImage};
 ghost use Rattle.iom_image.specs.Own.{disk_seen};
 ghost use Rattle.iom_asm.specs.Assembly.{empty_draft, is_next_disk, with_disk, is_inside, meets, placed, Makes};
-ghost use Rattle.iom_asm.specs.Forms.{where_so};
+ghost use Rattle.iom_items.specs.Forms.{where_so};
 ghost use Rattle.iom_asm.specs.Drafts.{draft_seen};
 
 use crate::asm_fault::AsmFault;
 use crate::draft::Draft;
+use crate::listing::covers;
 use iom_image::{OwnDisk, OwnImage};
 use std::alloc::{AllocError, Global};
 use std::collections::BTreeMap;
@@ -37,7 +38,7 @@ impl Draft {
         ensures { result ≡ is_inside (draft_seen self.now).image self.now.place len }
     {
         let end = self.image.base + self.image.size;
-        self.image.base <= self.place && self.place <= end && len <= end - self.place
+        covers(self.image.base, end, self.place, len)
     }
 
     // Whether one of `len` bytes at the place is placed already: only the last chunk that begins before their end may have one.

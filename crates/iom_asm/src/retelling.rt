@@ -1,6 +1,7 @@
 //! What a text says is told again.
 
-ghost use Rattle.iom_asm.specs.Retelling.{FollowItems, ListsItems, ReadsAgain, ReadsDirs, ReadsPtes, TellsItems, TellsOperands};
+ghost use Rattle.iom_items.specs.Telling.{ReadsDirs, ReadsPtes, TellsOperands};
+ghost use Rattle.iom_asm.specs.Retelling.{FollowItems, ListsItems, ReadsAgain, TellsItems};
 
 /// A law of `assemble`, `load`, `item_line` and `list`, which cite the same definitions: the image that a text describes is
 /// accepted, and read as that image; where an item is stated, its line in the memory that the image starts is that of the stated

@@ -11,9 +11,9 @@ ghost use Rattle.iom_asm.specs.Drafts.{draft_seen, found_seen};
 
 use crate::asm_fault::AsmFault;
 use crate::draft::Draft;
-use crate::forms::words_for;
 use hex::FromHexError;
 use iom_image::OwnDisk;
+use iom_items::words_for;
 use iom_mem::is_ram;
 use iom_text::{number, words};
 use std::alloc::{AllocError, Global};

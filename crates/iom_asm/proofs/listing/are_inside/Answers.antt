@@ -1,5 +1,5 @@
 use Rattle.std.proofs.Common.{◌≡◌, ◌*◌, ◌^◌, sym, ◌∙◌, ap}
-use Rattle.iom_asm.specs.Items.{words_in}
+use Rattle.iom_items.specs.Items.{words_in}
 use Rattle.iom_asm.proofs.Spans.{are_there, none_there, no_item, at_least}
 use Rattle.iom_asm.proofs.listing.are_inside.Goals as goal
 

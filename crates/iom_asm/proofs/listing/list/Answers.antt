@@ -1,6 +1,6 @@
 use Rattle.std.proofs.Common.{◌+◌, refl, sym, ◌∙◌, ap, arith}
 use Rattle.std.specs.Option.{option_map}
-use Rattle.iom_asm.proofs.Plain.{line_ascii}
+use Rattle.iom_items.proofs.Plain.{line_ascii}
 use Rattle.iom_asm.proofs.Spans.{list_goes_on, list_stops, list_done, item_fits}
 use Rattle.iom_asm.proofs.listing.list.Goals as goal
 

@@ -1,6 +1,6 @@
 use Rattle.iom_asm.proofs.Following.{follow_items}
 use Rattle.iom_asm.proofs.Retold.{reads_again, tells_items, lists_items}
-use Rattle.iom_asm.proofs.Stating.{tells_operands, reads_dirs, reads_ptes}
+use Rattle.iom_items.proofs.Stating.{tells_operands, reads_dirs, reads_ptes}
 use Rattle.iom_asm.proofs.retelling.texts_are_told_again.Goals as goal
 
 pub returns-clause-reads : goal.returns-clause-reads

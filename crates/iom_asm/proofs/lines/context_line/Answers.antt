@@ -1,9 +1,0 @@
-use Rattle.std.proofs.Common.{rules, ◌≡◌, sym, ◌∙◌}
-use Rattle.iom_asm.specs.Lines.{context_text}
-use Rattle.iom_asm.proofs.Stating.{context_same}
-use Rattle.iom_asm.proofs.lines.context_line.Goals as goal
-
-pub returns-clause-words : goal.returns-clause-words
-returns-clause-words c fits =
-    let text : c.push_operand-9.new.out.items ≡ context_text c.args.context.now = search rules in
-    text ∙ sym (context_same c.args.context.now fits)

@@ -1,0 +1,5 @@
+pub mod Plain
+pub mod Bounds
+pub mod Stating
+pub mod Operating
+pub mod Alone

@@ -1,0 +1,11 @@
+use Rattle.iom_items.proofs.Stating.{tells_operands, reads_dirs, reads_ptes}
+use Rattle.iom_items.proofs.telling.items_are_told_again.Goals as goal
+
+pub returns-clause-operands : goal.returns-clause-operands
+returns-clause-operands c = tells_operands
+
+pub returns-clause-dirs : goal.returns-clause-dirs
+returns-clause-dirs c = reads_dirs
+
+pub returns-clause-ptes : goal.returns-clause-ptes
+returns-clause-ptes c = reads_ptes

@@ -1,0 +1,6 @@
+pub mod Items
+pub mod Lines
+pub mod Operands
+pub mod Given
+pub mod Forms
+pub mod Telling

@@ -1,0 +1,54 @@
+ghost use Rattle.std.specs.Prelude.{◌≡◌, ◌*◌};
+ghost use Rattle.iom_items.specs.Items.{item_named, words_in};
+
+/// What some words of memory are read as.
+#[derive(Clone, Copy, Debug, PartialEq)]
+pub enum Item {
+    /// A command of the command queue, 16 bytes.
+    Cmd,
+    /// A fault record, 32 bytes.
+    Fault,
+    /// A device context, the leaf of a device directory (DDT), 32 bytes.
+    Context,
+    /// A non-leaf entry of a device directory (DDT), which points to a further table, 8 bytes.
+    Dir,
+    /// An entry of a page table (PTE), 8 bytes.
+    Pte,
+    /// A word, 8 bytes.
+    Word,
+}
+
+impl Item {
+    /// The item of this name: `cmd`, `fault`, `context`, `dir`, `pte` or `u64`; None of any other.
+    #[tactic(auto, unfolding(crate::specs::Items::item_named))]
+    pub fn named(name: &[u8]) -> Option<Item>
+        ensures { result ≡ item_named name.now }
+    {
+        if name == b"cmd".as_slice() {
+            Some(Item::Cmd)
+        } else if name == b"fault".as_slice() {
+            Some(Item::Fault)
+        } else if name == b"context".as_slice() {
+            Some(Item::Context)
+        } else if name == b"dir".as_slice() {
+            Some(Item::Dir)
+        } else if name == b"pte".as_slice() {
+            Some(Item::Pte)
+        } else if name == b"u64".as_slice() {
+            Some(Item::Word)
+        } else {
+            None
+        }
+    }
+
+    /// How many bytes it has: 8, 16 or 32.
+    pub fn size(self) -> u64
+        ensures { result ≡ 8 * words_in self }
+    {
+        match self {
+            Item::Cmd => 16,
+            Item::Fault | Item::Context => 32,
+            Item::Dir | Item::Pte | Item::Word => 8,
+        }
+    }
+}

@@ -1,0 +1,17 @@
+//! Items in memory (commands, fault records, contexts, entries of directories and page tables): their lines, and the words of the
+//! statements that state them.
+#![tactic(auto)]
+
+pub use forms::{Words, words_for};
+pub use given::operands_are_what_is_given;
+pub use item::Item;
+pub use lines::{Line, context_line, item_line};
+pub use telling::items_are_told_again;
+
+mod forms;
+mod given;
+mod item;
+mod lines;
+mod operands;
+mod reading;
+mod telling;

@@ -1,0 +1,243 @@
+ghost use Rattle.std.specs.Prelude.{◌≡◌, ◌+◌, ◌*◌, ◌++◌, ◌<◌, ◌≤◌, [], ◌∷◌, length};
+ghost use Rattle.std.specs.Option.{option_map};
+ghost use Rattle.iom_text.specs.Texts.{hexed};
+ghost use Rattle.iom_ddt.specs.Contexts.{IsWellFormed};
+ghost use Rattle.iom_ddt.specs.Words.{words_of};
+ghost use Rattle.iom_items.specs.declared.item.Item.TheVariants as item;
+ghost use Rattle.iom_items.specs.Lines.{operand, command_text, record_text, context_text, numbers_text, words_text, line_of, item_line};
+
+use crate::item::Item;
+use crate::reading::{four_at, pair_at, word_at};
+use arrayvec::ArrayVec;
+use iom_bits::{field, flag};
+use iom_ddt::{Context, context_of};
+use iom_mem::Ram;
+use iom_queue::{Command, Record, decode_command, decode_record};
+use iom_text::hexed;
+
+/// The line of an item, at most 256 bytes, without a line end.
+pub type Line = ArrayVec<u8, 256>;
+
+// Appends a text, for which there is room.
+fn push_text(out: &mut Line, text: &[u8])
+    requires { length out.old.items + length text.now ≤ 256 }
+    ensures text { out.new.items ≡ out.old.items ++ text.now }
+    ensures room { length out.new.items ≡ length out.old.items + length text.now }
+{
+    let _fits = out.try_extend_from_slice(text);
+}
+
+// Appends a blank, a key, `=` and a number in hex.
+fn push_operand(out: &mut Line, key: &[u8], value: u64)
+    requires { length out.old.items + length key.now + 20 ≤ 256 }
+    ensures text { out.new.items ≡ out.old.items ++ operand key.now value }
+    ensures room { length out.new.items ≤ length out.old.items + length key.now + 20 }
+{
+    push_text(out, b" ");
+    push_text(out, key);
+    push_text(out, b"=");
+    push_text(out, hexed(value).as_slice());
+}
+
+// A line that begins with a text.
+fn begun(text: &[u8]) -> Line
+    requires { length text.now ≤ 256 }
+    ensures { result.items ≡ text.now }
+{
+    let mut line = Line::new();
+    push_text(&mut line, text);
+    line
+}
+
+// The line of a command: `cmd`, its name and its operands.
+fn command_line(command: &Command) -> Line
+    ensures { result.items ≡ command_text command.now }
+{
+    match *command {
+        Command::Vma {
+            av,
+            page,
+            pscv,
+            pscid,
+            gv,
+            gscid,
+        } => {
+            let mut line = begun(b"cmd vma");
+            push_operand(&mut line, b"av", flag(av));
+            push_operand(&mut line, b"page", page);
+            push_operand(&mut line, b"pscv", flag(pscv));
+            push_operand(&mut line, b"pscid", pscid as u64);
+            push_operand(&mut line, b"gv", flag(gv));
+            push_operand(&mut line, b"gscid", gscid as u64);
+            line
+        }
+        Command::Gvma {
+            av,
+            page,
+            pscid,
+            gv,
+            gscid,
+        } => {
+            let mut line = begun(b"cmd gvma");
+            push_operand(&mut line, b"av", flag(av));
+            push_operand(&mut line, b"page", page);
+            push_operand(&mut line, b"pscid", pscid as u64);
+            push_operand(&mut line, b"gv", flag(gv));
+            push_operand(&mut line, b"gscid", gscid as u64);
+            line
+        }
+        Command::Fence {
+            av,
+            wsi,
+            pr,
+            pw,
+            value,
+            addr,
+        } => {
+            let mut line = begun(b"cmd fence");
+            push_operand(&mut line, b"av", flag(av));
+            push_operand(&mut line, b"wsi", flag(wsi));
+            push_operand(&mut line, b"pr", flag(pr));
+            push_operand(&mut line, b"pw", flag(pw));
+            push_operand(&mut line, b"data", value as u64);
+            push_operand(&mut line, b"addr", addr);
+            line
+        }
+        Command::Iodir { dv, did } => {
+            let mut line = begun(b"cmd iodir");
+            push_operand(&mut line, b"dv", flag(dv));
+            push_operand(&mut line, b"did", did as u64);
+            line
+        }
+    }
+}
+
+// The line of a fault record: `fault` and its operands.
+fn record_line(fault: &Record) -> Line
+    ensures { result.items ≡ record_text fault.now }
+{
+    let mut line = begun(b"fault");
+    push_operand(&mut line, b"cause", fault.cause as u64);
+    push_operand(&mut line, b"pid", fault.pid as u64);
+    push_operand(&mut line, b"pv", flag(fault.pv));
+    push_operand(&mut line, b"priv", flag(fault.privileged));
+    push_operand(&mut line, b"ttyp", fault.ttyp as u64);
+    push_operand(&mut line, b"did", fault.did as u64);
+    push_operand(&mut line, b"iotval", fault.iotval);
+    push_operand(&mut line, b"iotval2", fault.iotval2);
+    line
+}
+
+/// The line of a context: `context` and its operands, without a line end. For a well-formed context it is the line of its words.
+pub fn context_line(context: &Context) -> Line
+    ensures text { result.items ≡ context_text context.now }
+    ensures words { IsWellFormed context.now → result.items ≡ line_of item.Context (words_of context.now) }
+{
+    let mut line = begun(b"context");
+    push_operand(&mut line, b"dtf", flag(context.dtf));
+    push_operand(&mut line, b"custom", context.custom as u64);
+    push_operand(&mut line, b"gmode", context.gmode as u64);
+    push_operand(&mut line, b"gppn", context.gppn);
+    push_operand(&mut line, b"gscid", context.gscid as u64);
+    push_operand(&mut line, b"tav", flag(context.tav));
+    push_operand(&mut line, b"pscid", context.pscid as u64);
+    push_operand(&mut line, b"mode", context.mode as u64);
+    push_operand(&mut line, b"ppn", context.ppn);
+    line
+}
+
+// Appends words as numbers, a space before each.
+fn push_numbers(out: &mut Line, words: &[u64])
+    requires { length out.old.items + 19 * length words.now ≤ 256 }
+    ensures { out.new.items ≡ out.old.items ++ numbers_text words.now }
+{
+    match words {
+        [] => {}
+        [first, rest @ ..] => {
+            push_text(out, b" ");
+            push_text(out, hexed(*first).as_slice());
+            push_numbers(out, rest);
+        }
+    }
+}
+
+// The line of at most eight words: `u64` and the numbers.
+fn words_line(words: &[u64]) -> Line
+    requires { length words.now ≤ 8 }
+    ensures { result.items ≡ words_text words.now }
+{
+    let mut line = begun(b"u64");
+    push_numbers(&mut line, words);
+    line
+}
+
+// The line of a directory entry, or of its word where it is none.
+fn dir_line(word: u64) -> Line
+    ensures { result.items ≡ line_of item.Dir (word ∷ []) }
+{
+    if field(word, 0, 10) != 1 || field(word, 54, 10) != 0 {
+        return words_line(&[word]);
+    }
+    let mut line = begun(b"dir");
+    push_operand(&mut line, b"ppn", field(word, 10, 44));
+    line
+}
+
+// The line of a page-table entry, or of its word where a reserved bit is set.
+fn pte_line(word: u64) -> Line
+    ensures { result.items ≡ line_of item.Pte (word ∷ []) }
+{
+    if field(word, 54, 10) != 0 {
+        return words_line(&[word]);
+    }
+    let mut line = begun(b"pte");
+    push_operand(&mut line, b"ppn", field(word, 10, 44));
+    push_operand(&mut line, b"flags", field(word, 0, 10));
+    line
+}
+
+// The line of a command, or of the two words where they stand for none.
+fn pair_line(words: [u64; 2]) -> Line
+    ensures { result.items ≡ line_of item.Cmd words }
+{
+    match decode_command(words) {
+        Some(command) => command_line(&command),
+        None => words_line(&words),
+    }
+}
+
+// The line of a fault record, or of the four words where they stand for none.
+fn four_as_record(words: [u64; 4]) -> Line
+    ensures { result.items ≡ line_of item.Fault words }
+{
+    match decode_record(words) {
+        Some(fault) => record_line(&fault),
+        None => words_line(&words),
+    }
+}
+
+// The line of a context, or of the four words where they stand for none.
+fn four_as_context(words: [u64; 4]) -> Line
+    ensures { result.items ≡ line_of item.Context words }
+{
+    match context_of(words) {
+        Ok(context) => context_line(&context),
+        Err(_) => words_line(&words),
+    }
+}
+
+/// The line of the item at physical address `addr`, of any alignment: its statement with all operands in order, or
+/// `u64` and its words where they are no such item; None where a byte of it is outside.
+#[tactic(auto, unfolding(crate::specs::Lines::item_line))]
+pub fn item_line(ram: &Ram, item: Item, addr: u64) -> Option<Line>
+    ensures { option_map (λ line. line.items) result ≡ item_line ram.now item addr }
+{
+    Some(match item {
+        Item::Cmd => pair_line(pair_at(ram, addr)?),
+        Item::Fault => four_as_record(four_at(ram, addr)?),
+        Item::Context => four_as_context(four_at(ram, addr)?),
+        Item::Dir => dir_line(word_at(ram, addr)?),
+        Item::Pte => pte_line(word_at(ram, addr)?),
+        Item::Word => words_line(&[word_at(ram, addr)?]),
+    })
+}
