@@ -3,7 +3,7 @@ use Rattle.std.proofs.Common.{◌≡◌, ◌==◌, ◌<◌, nat_le, Bool, get_or
 use Rattle.std.proofs.lemmas.Bool.{eqb-true}
 use Rattle.iom_core.specs.declared.step.Step.TheVariants as step
 use Rattle.iom_text.specs.Words.{is_end, words_of, number, first_number}
-use Rattle.iom_asm.specs.declared.item.Item.{Item}
+use Rattle.iom_items.specs.declared.item.Item.{Item}
 use Rattle.iom_tool.specs.declared.script.Question.TheVariants as question
 use Rattle.std.specs.List.{list_all}
 use Rattle.hex.specs.Hex.{is_hex_digit}
@@ -14,7 +14,7 @@ use Rattle.std.proofs.lemmas.List.Sums.{AllPass-from_list_all}
 use Rattle.iom_text.proofs.Cuts.{past, none_of}
 use Rattle.iom_text.proofs.Firsts.{one_word_left}
 use Rattle.iom_text.proofs.Leading.{the_word}
-use Rattle.iom_asm.specs.Operands.{◌>>=◌}
+use Rattle.iom_items.specs.Operands.{◌>>=◌}
 use Rattle.iom_tool.specs.Script.{load, store, reg_read, reg_write, dma_read, dma_write, dev_read, dev_write, dev_step, place_page, place_context, shown, trace}
 use Rattle.iom_tool.specs.Operands.{one, with_first, data_in}
 use Rattle.iom_tool.specs.Words.{bytes_of}

@@ -11,8 +11,8 @@ use Rattle.iom_cache.specs.Places.{place_in}
 use Rattle.iom_cache.specs.declared.key.Key.{Key}
 use Rattle.iom_cache.specs.declared.place.Place.{Place}
 use Rattle.iom_cache.specs.declared.place.Place.TheVariants.{Beyond, Empty, Live}
-use Rattle.iom_asm.specs.declared.item.Item.{Item}
-use Rattle.iom_asm.specs.Lines.{context_text, item_line}
+use Rattle.iom_items.specs.declared.item.Item.{Item}
+use Rattle.iom_items.specs.Lines.{context_text, item_line}
 use Rattle.iom_tool.specs.Console.{Console}
 use Rattle.iom_text.specs.Texts.{hexed}
 use Rattle.iom_tool.specs.Texts.{entry_text}

@@ -2,7 +2,7 @@
 use Rattle.std.specs.Prelude.{ℕ, List, [], ◌∷◌, Option, Some, None}
 use Rattle.iom_text.specs.Words.{number}
 use Rattle.iom_tool.specs.Words.{bytes_of}
-use Rattle.iom_asm.specs.Operands.{◌>>=◌}
+use Rattle.iom_items.specs.Operands.{◌>>=◌}
 
 -- one number and no more
 abbrev pub one : List (List ℕ) → Option ℕ

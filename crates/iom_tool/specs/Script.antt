@@ -1,4 +1,4 @@
--- What a line of a script says: nothing, a step, a question, or no line that there is.
+-- What a line of a script says: nothing, a step, a question, or none of these.
 use Rattle.std.specs.Prelude.{ℕ, ◌==◌, ◌||◌, nat_lt, List, [], ◌∷◌, length, codes, bytes_eq, Option, Some, None, if◌then◌else◌}
 use Rattle.std.specs.List.{list_any}
 use Rattle.iom_core.specs.declared.step.Step.{Step}
@@ -6,9 +6,9 @@ use Rattle.iom_core.specs.declared.step.Step.TheVariants as step
 use Rattle.iom_tool.specs.declared.script.Question.{Question}
 use Rattle.iom_tool.specs.declared.script.Question.TheVariants as question
 use Rattle.iom_text.specs.Words.{words_of, number}
-use Rattle.iom_asm.specs.declared.item.Item.{Item}
-use Rattle.iom_asm.specs.Items.{item_named}
-use Rattle.iom_asm.specs.Operands.{◌>>=◌}
+use Rattle.iom_items.specs.declared.item.Item.{Item}
+use Rattle.iom_items.specs.Items.{item_named}
+use Rattle.iom_items.specs.Operands.{◌>>=◌}
 use Rattle.iom_tool.specs.Words.{bytes_of}
 
 -- load ADDR SIZE
@@ -177,7 +177,7 @@ question_of verb operands =
 pub data Line : Type 0 where
   -- it has no words
   Blank : Line
-  -- it is no line that there is
+  -- it is none of these
   Bad : Line
   Does : Step → Line
   Asks : Question → Line
@@ -195,3 +195,10 @@ meaning (verb ∷ operands) = line_by (step_of verb operands) (question_of verb 
 unfoldable pub line_of : List ℕ → Line
 line_of text =
     if nat_lt 512 (length text) || list_any (λ c. c == 10) text then Bad else meaning (words_of text)
+
+-- the step that a line is
+abbrev pub step_in : Line → Option Step
+step_in Blank = None
+step_in Bad = None
+step_in (Does step) = Some step
+step_in (Asks question) = None

@@ -24,6 +24,7 @@ pub fn cut_line(text: &[u8]) -> &[u8]
 
 /// Carries out the line of this text, which has no line end, puts its answer, below 320 bytes, in place of what `out` holds, and
 /// answers whether there is one: a blank line has none.
+#[inline(always)]
 #[tactic(auto, unfolding(crate::specs::Script::line_of, crate::specs::Script::meaning))]
 pub fn answer_to(platform: &mut Platform, trace: &mut Trace, text: &[u8], out: &mut Draft) -> bool
     requires { list_any (λ c. c == 10) text.now ≡ false }

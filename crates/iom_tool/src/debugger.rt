@@ -7,11 +7,11 @@ use crate::draft::Draft;
 use crate::script::Question;
 use crate::text::{push_entry, push_hexed, push_text};
 use crate::trace::Trace;
-use iom_asm::{Item, context_line, item_line};
 use iom_bits::Kind;
 use iom_cache::{Key, Place};
 use iom_core::Platform;
 use iom_ddt::Context;
+use iom_items::{Item, context_line, item_line};
 use iom_mem::Ram;
 use iom_nested::Hit;
 

@@ -4,18 +4,21 @@
 pub use fault::RunFault;
 pub use feeder::Feeder;
 pub use playing::{Played, play};
+pub use reading::step_of;
 pub use rest::Rest;
 pub use running::run;
 pub use session::{Reply, Session};
 pub use trace::{Entry, Trace};
 
 mod answering;
+mod data;
 mod debugger;
 mod draft;
 mod fault;
 mod feeder;
 mod operands;
 mod playing;
+mod reading;
 mod rest;
 mod running;
 mod script;
@@ -23,4 +26,3 @@ mod session;
 mod text;
 mod trace;
 mod watched;
-mod words;

@@ -5,7 +5,7 @@ ghost use Rattle.std.specs.Option.{option_map};
 ghost use Rattle.iom_text.specs.Words.{words_of};
 ghost use Rattle.iom_tool.specs.Operands.{one, with_first, data_in};
 
-use crate::words::bytes_of;
+use crate::data::bytes_of;
 use arrayvec::ArrayVec;
 use iom_text::{is_over, past_blanks, take_number, take_word};
 

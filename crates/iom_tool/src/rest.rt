@@ -139,6 +139,31 @@ impl Rest {
         let _fits = self.line.try_extend_from_slice(&part[..count]);
     }
 
+    // Carries out the line that is kept, and writes its answer.
+    fn answer_kept<W: Write>(
+        &mut self,
+        platform: &mut Platform,
+        trace: &mut Trace,
+        writer: &mut WatchedWriter<'_, W>,
+    ) -> Result<(), RunFault>
+        requires { writer.old.failed ≡ false }
+        ensures console { console platform.new trace.new
+            ≡ console_after (console platform.old trace.old) (steps_of self.old.line.items) }
+        ensures ok { OnOk result (Appends (W.contents writer.old.inner.now) (W.contents writer.new.inner.now)
+            (output_to (console platform.old trace.old) self.old.line.items)) }
+        ensures front { WritesFront (W.contents writer.old.inner.now) (W.contents writer.new.inner.now)
+            (output_to (console platform.old trace.old) self.old.line.items) }
+        ensures fault { IfErr result (λ fault. fault ≡ RunFault.Write) }
+        ensures told { writer.new.failed ≡ is_err result }
+        ensures same_writer { writer.new.inner.ghost_name ≡ writer.old.inner.ghost_name }
+        ensures line { self.new.line.items ≡ self.old.line.items }
+        ensures lines { self.new.lines ≡ self.old.lines }
+        ensures bytes { self.new.bytes ≡ self.old.bytes }
+    {
+        let line = cut_line(self.line.as_slice());
+        answer(platform, trace, line, &mut self.draft, writer)
+    }
+
     // Answers the line that what is kept, this part and a line end make.
     fn line_done<W: Write>(
         &mut self,
@@ -166,13 +191,7 @@ impl Rest {
             return answer(platform, trace, part, &mut self.draft, writer);
         }
         self.keep(part);
-        answer(
-            platform,
-            trace,
-            cut_line(self.line.as_slice()),
-            &mut self.draft,
-            writer,
-        )?;
+        self.answer_kept(platform, trace, writer)?;
         self.line.clear();
         Ok(())
     }
@@ -259,13 +278,7 @@ impl Rest {
         if self.line.is_empty() {
             return flush(writer);
         }
-        answer(
-            platform,
-            trace,
-            cut_line(self.line.as_slice()),
-            &mut self.draft,
-            writer,
-        )?;
+        self.answer_kept(platform, trace, writer)?;
         flush(writer)
     }
 }

@@ -3,8 +3,8 @@ ghost use Rattle.iom_text.specs.Words.{words_of};
 ghost use Rattle.iom_tool.specs.Script.{load, store, reg_read, reg_write, reg, cmd, dma_read, dma_write, dma, dev_read, dev_write, dev_step, dev, place_page, place_context, place, shown, show, trace, step_of, question_of};
 
 use crate::operands::{four, numbers_and_data, one, three, two};
-use iom_asm::Item;
 use iom_core::Step;
+use iom_items::Item;
 use iom_text::{is_over, take_word};
 
 /// A question about the platform or the trace. It is no step.

@@ -53,7 +53,7 @@ impl Trace {
         let _oldest = self.entries.push_back(Entry { step, answer });
     }
 
-    /// The step at place `i`, any number; the oldest is at place 0. None where there are so many steps or fewer.
+    /// The step at place `i`, any number; the oldest is at place 0. None where the trace has `i` steps or fewer.
     pub fn entry(&self, i: u64) -> Option<&Entry>
         ensures { option_copied result ≡ slice_get self.now i }
     {

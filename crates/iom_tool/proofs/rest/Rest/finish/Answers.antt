@@ -7,18 +7,14 @@ returns-then-is_empty-clause-fed g c start text h =
     let nothing = none_kept c.args.self.now.line.items c.if-is_empty.ensures in
     flushed _ _ text _ _ (end_is_last _ _ _ _ _ _ h nothing.1) c.flush.ensures.kept c.flush.ensures.fault
 
-pub returns-in_err-answer-clause-fed : goal.returns-in_err-answer-clause-fed
-returns-in_err-answer-clause-fed g c start text h =
+pub returns-in_err-answer_kept-clause-fed : goal.returns-in_err-answer_kept-clause-fed
+returns-in_err-answer_kept-clause-fed g c start text h =
     let p = err_from_is_err_and c.from_residual.result c.from_residual.ensures.1 in
-    rw (p.1, p.2, c.in_err-answer.ensures.fault) (
-    end_fails _ _ _ _ _ _ _ _ h c.if-is_empty.ensures
-    (rw (c.cut_line.ensures.same, c.as_slice.ensures.value) at c.in_err-answer.ensures.console)
-    (rw (c.cut_line.ensures.same, c.as_slice.ensures.value) at c.in_err-answer.ensures.front))
+    rw (p.1, p.2, c.in_err-answer_kept.ensures.fault) (
+    end_fails _ _ _ _ _ _ _ _ h c.if-is_empty.ensures c.in_err-answer_kept.ensures.console c.in_err-answer_kept.ensures.front)
 
 pub returns-clause-fed : goal.returns-clause-fed
 returns-clause-fed g c start text h =
     flushed _ _ text _ _
-    (end_answered _ _ _ _ _ _ _ _ h c.if-is_empty.ensures
-    (rw (c.cut_line.ensures.same, c.as_slice.ensures.value) at c.in_ok-answer.ensures.console)
-    (rw (c.cut_line.ensures.same, c.as_slice.ensures.value) at c.in_ok-answer.ensures.ok))
+    (end_answered _ _ _ _ _ _ _ _ h c.if-is_empty.ensures c.in_ok-answer_kept.ensures.console c.in_ok-answer_kept.ensures.ok)
     c.flush-2.ensures.kept c.flush-2.ensures.fault

@@ -18,27 +18,27 @@ returns-then-is_empty-clause-fed g c start text h short =
     (ap (λ l. line_of (l ++ c.args.part.now)) (sym begun))
     c.answer.ensures.console c.answer.ensures.ok c.answer.ensures.front c.answer.ensures.fault nothing.1
 
-pub returns-in_err-answer-clause-fed : goal.returns-in_err-answer-clause-fed
-returns-in_err-answer-clause-fed g c start text h short =
+pub returns-in_err-answer_kept-clause-fed : goal.returns-in_err-answer_kept-clause-fed
+returns-in_err-answer_kept-clause-fed g c start text h short =
     let p = err_from_is_err_and c.from_residual.result c.from_residual.ensures.1 in
-    rw (p.1, p.2, c.in_err-answer.ensures.fault) (
+    rw (p.1, p.2, c.in_err-answer_kept.ensures.fault) (
     line_fails start (progress (g.W.Write.contents c.args.writer.now.inner.now) (console c.args.platform.now c.args.trace.now))
     c.args.self.now.line.items c.keep.new.self.line.items c.args.self.now.lines text c.args.part.now
-    (console c.answer-2.new.platform c.answer-2.new.trace) (g.W.Write.contents c.answer-2.new.writer.inner.now)
+    (console c.answer_kept.new.platform c.answer_kept.new.trace) (g.W.Write.contents c.answer_kept.new.writer.inner.now)
     h c.requires.one short c.requires.few
     (kept_line c.keep.new.self.line.items (open_line text ++ c.args.part.now)
     (kept_grows c.args.self.now.line.items (open_line text) c.args.part.now c.keep.new.self.line.items h.keeps c.keep.ensures.line))
-    (rw (c.cut_line.ensures.same, c.as_slice.ensures.value) at c.in_err-answer.ensures.console)
-    (rw (c.cut_line.ensures.same, c.as_slice.ensures.value) at c.in_err-answer.ensures.front))
+    c.in_err-answer_kept.ensures.console
+    c.in_err-answer_kept.ensures.front)
 
 pub returns-clause-fed : goal.returns-clause-fed
 returns-clause-fed g c start text h short =
-    rw (c.clear.ensures, c.keep.ensures.lines) (
+    rw (c.clear.ensures, c.in_ok-answer_kept.ensures.lines, c.keep.ensures.lines) (
     line_ends start (progress (g.W.Write.contents c.args.writer.now.inner.now) (console c.args.platform.now c.args.trace.now))
     c.args.self.now.line.items c.keep.new.self.line.items c.args.self.now.lines text c.args.part.now
-    (console c.answer-2.new.platform c.answer-2.new.trace) (g.W.Write.contents c.answer-2.new.writer.inner.now)
+    (console c.answer_kept.new.platform c.answer_kept.new.trace) (g.W.Write.contents c.answer_kept.new.writer.inner.now)
     h c.requires.one short c.requires.few
     (kept_line c.keep.new.self.line.items (open_line text ++ c.args.part.now)
     (kept_grows c.args.self.now.line.items (open_line text) c.args.part.now c.keep.new.self.line.items h.keeps c.keep.ensures.line))
-    (rw (c.cut_line.ensures.same, c.as_slice.ensures.value) at c.in_ok-answer.ensures.console)
-    (rw (c.cut_line.ensures.same, c.as_slice.ensures.value) at c.in_ok-answer.ensures.ok))
+    c.in_ok-answer_kept.ensures.console
+    c.in_ok-answer_kept.ensures.ok)

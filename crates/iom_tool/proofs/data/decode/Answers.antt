@@ -2,7 +2,7 @@ use Rattle.std.proofs.Common.{◌≡◌, ◌+◌, ◌*◌, ◌<◌, ◌≤◌, l
 use Rattle.std.proofs.lemmas.Bool.{cases_lt}
 use Rattle.iom_tool.proofs.Pairs.{pair_fails, pair_put, pairs_begin, pairs_end}
 use Rattle.iom_tool.proofs.Values.{each_below, not_all}
-use Rattle.iom_tool.proofs.words.decode.Goals as goal
+use Rattle.iom_tool.proofs.data.decode.Goals as goal
 
 pub loop-i-preserved : goal.loop-i-preserved
 loop-i-preserved c =

@@ -2,7 +2,7 @@ use Rattle.std.proofs.Common.{◌≡◌, ◌<◌, ◌≤◌, ◌*◌, ◌++◌, 
 use Rattle.std.specs.Option.{option_map}
 use Rattle.std.specs.Result.{result_ok}
 use Rattle.hex.specs.Hex.{decode_pairs}
-use Rattle.iom_tool.proofs.words.decode.Given as goal
+use Rattle.iom_tool.proofs.data.decode.Given as goal
 
 -- where only digits were met what is left gives the bytes that follow
 abbrev pub invariant-loop-i : goal.invariant-loop-i
