@@ -1,3 +1,4 @@
 pub mod Ways
 pub mod Fetches
 pub mod Passing
+pub mod Sameness

@@ -5,7 +5,7 @@ ghost use Rattle.iom_core.specs.Access.{request_key};
 ghost use Rattle.iom_cache.specs.Places.{place_in};
 ghost use Rattle.iom_cache.specs.declared.place.Place.TheVariants.{Live};
 ghost use Rattle.iom_reasons.specs.Stale.{by_tables};
-ghost use Rattle.iom_reasons.specs.Standing.{IsContextNow, IsHitNow, IsStanding, found_now, request_of};
+ghost use Rattle.iom_reasons.specs.Standing.{IsContextNow, IsHitNow, IsStanding, found_now, is_context_now, is_hit_now, request_of, standing_of};
 
 use crate::staleness::way_by_tables;
 use crate::{Located, Standing, Way};
@@ -18,6 +18,16 @@ use iom_regs::Mode;
 /// Whether the directory says now what place `i` of the context cache holds, and else what it says of that device; the oldest place
 /// is 0 ("Caching in-memory data structures"). Any `i` has an answer.
 pub fn stale_context(platform: &Platform, i: u64) -> Standing<Located>
+    ensures standing { IsStanding (IsContextNow platform.now.machine) (found_now platform.now.machine)
+        (place_in (slice_get platform.now.machine.contexts i)) result }
+    ensures told { result ≡ standing_of (is_context_now platform.now.machine) (found_now platform.now.machine)
+        (place_in (slice_get platform.now.machine.contexts i)) }
+{
+    context_at(platform, i)
+}
+
+// The same.
+fn context_at(platform: &Platform, i: u64) -> Standing<Located>
     ensures { IsStanding (IsContextNow platform.now.machine) (found_now platform.now.machine)
         (place_in (slice_get platform.now.machine.contexts i)) result }
 {
@@ -56,6 +66,16 @@ fn found_now(platform: &Platform, did: u32) -> Located
 /// one at the first byte of its page; the oldest place is 0 ("Caching in-memory data structures"). It holds what they say where they
 /// lead that request by the same hit, under a context that gives it that key. Any `i` has an answer.
 pub fn stale_page(platform: &Platform, i: u64) -> Standing<Way>
+    ensures standing { IsStanding (IsHitNow platform.now.machine) (λ key. by_tables platform.now.machine (request_of key))
+        (place_in (slice_get platform.now.machine.pages i)) result }
+    ensures told { result ≡ standing_of (is_hit_now platform.now.machine) (λ key. by_tables platform.now.machine (request_of key))
+        (place_in (slice_get platform.now.machine.pages i)) }
+{
+    page_at(platform, i)
+}
+
+// The same.
+fn page_at(platform: &Platform, i: u64) -> Standing<Way>
     ensures { IsStanding (IsHitNow platform.now.machine) (λ key. by_tables platform.now.machine (request_of key))
         (place_in (slice_get platform.now.machine.pages i)) result }
 {

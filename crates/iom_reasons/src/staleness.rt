@@ -5,7 +5,7 @@ ghost use Rattle.iom_ddt.specs.Contexts.{IsWellFormed, is_bare};
 ghost use Rattle.iom_nested.specs.Nested.{translation};
 ghost use Rattle.iom_cache.specs.Places.{look};
 ghost use Rattle.iom_core.specs.Access.{context_look, led, led_by_context, led_by_page};
-ghost use Rattle.iom_reasons.specs.Stale.{IsStale, by_tables, told, uncached};
+ghost use Rattle.iom_reasons.specs.Stale.{Fits, IsStale, by_tables, stale_way, told, uncached};
 
 use crate::Way;
 use crate::way::is_same;
@@ -19,11 +19,13 @@ use iom_regs::Mode;
 
 /// What the tables say now of a request whose way is another, since a cache has it otherwise; None where the request isn't
 /// stale. Nothing is cached, reported or changed. The device id is below 2^24, the IOVA any.
-#[tactic(auto, using(crate::proofs::Ways::told_apart))]
+#[tactic(auto, unfolding(crate::specs::Stale::stale_way), using(crate::proofs::Ways::told_apart))]
 pub fn stale(platform: &Platform, request: &Request) -> Option<Way>
     requires { request.now.did < 2 ^ 24 }
     ensures stale { IsTrue (is_some result) ↔ IsStale platform.now.machine request.now }
     ensures tables { IfSome result (λ way. way ≡ by_tables platform.now.machine request.now) }
+    ensures told { result ≡ stale_way platform.now.machine request.now }
+    ensures fits { IfSome result Fits }
 {
     let tables = way_by_tables(platform, request);
     if is_same(&way_now(platform, request), &tables) {
@@ -89,7 +91,8 @@ fn way_by_context(platform: &Platform, request: &Request, context: &Context) -> 
 #[tactic(auto, unfolding(iom_core::specs::Access::led))]
 pub fn way_by_tables(platform: &Platform, request: &Request) -> Way
     requires { request.now.did < 2 ^ 24 }
-    ensures { result ≡ by_tables platform.now.machine request.now }
+    ensures way { result ≡ by_tables platform.now.machine request.now }
+    ensures fits { Fits result }
 {
     match platform.registers().mode() {
         Mode::Off => Way::Denied(Denial::plain(Cause::Off)),
@@ -103,9 +106,10 @@ pub fn way_by_tables(platform: &Platform, request: &Request) -> Way
 fn way_by_new_directory(platform: &Platform, request: &Request) -> Way
     requires directory { 1 ≤ levels_of (mode_of platform.now.machine.registers) }
     requires width { request.now.did < 2 ^ 24 }
-    ensures { result ≡ told (led_by_context (uncached platform.now.machine) request.now
+    ensures way { result ≡ told (led_by_context (uncached platform.now.machine) request.now
         (context_look (uncached platform.now.machine) request.now.did).filled
         (context_look (uncached platform.now.machine) request.now.did).used).way }
+    ensures fits { Fits result }
 {
     match locate(platform.ram(), platform.registers(), request.did) {
         Ok(context) => way_by_new_context(platform, request, &context),
@@ -117,7 +121,8 @@ fn way_by_new_directory(platform: &Platform, request: &Request) -> Way
 #[tactic(auto, unfolding(iom_core::specs::Access::page_look))]
 fn way_by_new_context(platform: &Platform, request: &Request, context: &Context) -> Way
     requires { IsWellFormed context.now }
-    ensures { result ≡ told (led_by_context (uncached platform.now.machine) request.now None (Ok context.now)).way }
+    ensures way { result ≡ told (led_by_context (uncached platform.now.machine) request.now None (Ok context.now)).way }
+    ensures fits { Fits result }
 {
     if context.is_bare() {
         Way::Context(*context)
@@ -130,8 +135,9 @@ fn way_by_new_context(platform: &Platform, request: &Request, context: &Context)
 fn way_by_walk(ram: &Ram, request: &Request, context: &Context) -> Way
     requires well_formed { IsWellFormed context.now }
     requires staged { is_bare context.now ≡ false }
-    ensures { result ≡ told (led_by_page context.now None None
+    ensures way { result ≡ told (led_by_page context.now None None
         (translation ram.now context.now request.now.iova request.now.kind)).way }
+    ensures fits { Fits result }
 {
     match translate(ram, context, request.iova, request.kind) {
         Ok(hit) => Way::Walked(*context, hit),

@@ -1,4 +1,5 @@
 ghost use Rattle.std.specs.Prelude.{◌≡◌, ◌↔◌, IsTrue};
+ghost use Rattle.iom_reasons.specs.Stale.{is_same_way};
 
 use iom_core::Denial;
 use iom_ddt::Context;
@@ -19,6 +20,14 @@ pub enum Way {
 
 // Whether two ways are one.
 pub fn is_same(way: &Way, other: &Way) -> bool
+    ensures one { IsTrue result ↔ (way.now ≡ other.now) }
+    ensures test { result ≡ is_same_way way.now other.now }
+{
+    is_equal(way, other)
+}
+
+// The same by the parts.
+fn is_equal(way: &Way, other: &Way) -> bool
     ensures { IsTrue result ↔ (way.now ≡ other.now) }
 {
     match (way, other) {
