@@ -1,11 +1,15 @@
 -- A line that `debug` has more is no line of `run`.
-use Rattle.std.proofs.Common.{◌≡◌, ◌||◌, ◌==◌, ℕ, List, [], ◌∷◌, Bool, true, false, Option, Some, None, codes, length, nat_lt, refl, ap, if◌then◌else◌}
+use Rattle.std.proofs.Common.{◌≡◌, ◌||◌, ◌==◌, ℕ, List, [], ◌∷◌, Bool, true, false, Option, Some, None, codes, length, nat_lt, refl, sym, ap, subst, if◌then◌else◌}
 use Rattle.std.specs.Prelude.{bytes_eq}
 use Rattle.std.specs.List.{list_any}
 use Rattle.std.proofs.lemmas.Slice.Eq.{bytes_eq-Decides}
 use Rattle.iom_core.specs.declared.step.Step.{Step}
 use Rattle.iom_text.specs.Words.{words_of}
-use Rattle.iom_tool.specs.Script.{Line, Blank, Bad, Does, Asks, line_by, line_of, meaning, step_of, question_of}
+use Rattle.iom_tool.specs.Script.{Line, Blank, Bad, Does, Asks, line_by, line_of, meaning, step_in, step_of, question_of}
+use Rattle.iom_tool.specs.Output.{steps_in}
+use Rattle.iom_core.specs.State.{State}
+use Rattle.iom_debug.specs.Output.{debug_steps, debug_steps_of}
+use Rattle.iom_debug.specs.Reasons.{Account, GoesAlong}
 use Rattle.iom_tool.specs.Script as run
 use Rattle.iom_debug.specs.Script.{DebugLine, Plain, debug_line_of, form_by, form_in, form_of, or_form, reg, reg_read, reg_write, dev, dev_read, dev_write, dev_show, dev_run, cmd, put}
 
@@ -101,6 +105,10 @@ at_stale : (words : List (List ℕ)) → Apart (codes "stale") words
 unfolding form_by step_of question_of
 at_stale words line is = refl
 
+at_why : (words : List (List ℕ)) → Apart (codes "why") words
+unfolding form_by step_of question_of
+at_why words line is = refl
+
 at_walk : (words : List (List ℕ)) → Apart (codes "walk") words
 unfolding form_by step_of question_of
 at_walk words line is = refl
@@ -131,11 +139,12 @@ form_apart verb words =
     tried verb words (codes "dev") (at_dev words) (λ no_dev.
     tried verb words (codes "cmd") (at_cmd words) (λ no_cmd.
     tried verb words (codes "stale") (at_stale words) (λ no_stale.
+    tried verb words (codes "why") (at_why words) (λ no_why.
     tried verb words (codes "walk") (at_walk words) (λ no_walk.
     tried verb words (codes "queue") (at_queue words) (λ no_queue.
     tried verb words (codes "dump") (at_dump words) (λ no_dump.
     tried verb words (codes "disk") (at_disk words) (λ no_disk.
-    λ line is. absurd (cc (rw (no_reg, no_dev, no_cmd, no_stale, no_walk, no_queue, no_dump, no_disk) at is))))))))))
+    λ line is. absurd (cc (rw (no_reg, no_dev, no_cmd, no_stale, no_why, no_walk, no_queue, no_dump, no_disk) at is)))))))))))
 
 at_put : (words : List (List ℕ)) → run_line (codes "put") words ≡ Bad
 unfolding step_of question_of
@@ -167,3 +176,25 @@ as_run text none = rw none (no_form (line_of text))
 
 pub more : (text : List ℕ) (line : DebugLine) → form_of text ≡ Some line → debug_line_of text ≡ line
 more text line is = rw (is, apart text line is) refl
+
+-- a line that is a step, and one that is none
+pub stepped : (text : List ℕ) (step : Step) → Some step ≡ step_in (line_of text) → debug_line_of text ≡ Plain (Does step)
+stepped text step is = by (line_of text) is where
+  by : (line : Line) → Some step ≡ step_in line → or_form line (form_of text) ≡ Plain (Does step)
+  by Blank is = absurd (cc is)
+  by Bad is = absurd (cc is)
+  by (Does own) is = ap (λ s. Plain (Does s)) (let same : step ≡ own = cc is in sym same)
+  by (Asks question) is = absurd (cc is)
+
+pub no_steps : (line : Line) → None ≡ step_in line → steps_in line ≡ []
+no_steps Blank is = refl
+no_steps Bad is = refl
+no_steps (Does step) is = absurd (cc is)
+no_steps (Asks question) is = refl
+
+-- what is told goes along with the steps of what a line is
+pub along_line : (account : Account) (state : State) (text : List ℕ) (line : DebugLine) (number : ℕ) (after : Account) (left : State) →
+    debug_line_of text ≡ line → GoesAlong account state (debug_steps state line) number after left →
+    GoesAlong account state (debug_steps_of state text) number after left
+along_line account state text line number after left is along =
+    subst (λ (l : DebugLine). GoesAlong account state (debug_steps state l) number after left) (sym is) along

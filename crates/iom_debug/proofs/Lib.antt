@@ -2,6 +2,5 @@ pub mod Forms
 pub mod Apart
 pub mod Blanks
 pub mod Bounds
+pub mod Telling
 pub mod Remaining
-pub mod Sameness
-pub mod Accessing

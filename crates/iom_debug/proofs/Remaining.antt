@@ -1,55 +1,121 @@
 -- Steps that are taken one after the other, seen by those that are left.
-use Rattle.std.proofs.Common.{◌≡◌, ◌+◌, ◌-◌, ◌<◌, ◌∙◌, ℕ, suc, List, ◌∷◌, true, false, length, replicate, refl, ap, arith}
+use Rattle.std.proofs.Common.{◌≡◌, ◌+◌, ◌-◌, ◌*◌, ◌<◌, ◌≤◌, ◌∙◌, ℕ, suc, List, [], ◌∷◌, Bool, true, false, not, length, drop, get_or, replicate, drop-cons, drop_of_length-le, refl, sym, ap, subst, arith}
 use Rattle.iom_core.specs.State.{State}
 use Rattle.iom_core.specs.Table.{next}
 use Rattle.iom_core.specs.Run.{end_of}
 use Rattle.iom_core.specs.declared.step.Step.{Step}
+use Rattle.iom_core.specs.declared.step.Step.TheVariants as step
 use Rattle.iom_tool.specs.declared.trace.Entry.{Entry}
 use Rattle.iom_tool.specs.Console.{trace_after, traced}
-use Rattle.iom_debug.specs.Taking.{is_done, last_answer, taken}
+use Rattle.iom_debug.specs.Reasons.{Account, GoesAlong, last_stale}
+use Rattle.iom_debug.specs.Script.{stores_at}
+use Rattle.iom_debug.specs.Taking.{Desk, Took, is_done, last_answer, taken}
+use Rattle.iom_debug.proofs.Telling.{along_more, along_none}
 
--- some steps from a start, after `count` of them that were done: `rest` is left at this state and this trace
-pub record Left (start : State) (first : List Entry) (all : List Step) (state : State) (trace : List Entry) (rest : List Step) (count : ℕ) : Type 0 where
-  pub state_is : end_of start (taken start all) ≡ end_of state (taken state rest)
-  pub trace_is : trace_after first start (taken start all) ≡ trace_after trace state (taken state rest)
-  pub count_is : length (taken start all) ≡ count + length (taken state rest)
-  pub last_is : last_answer start all ≡ last_answer state rest
+-- some steps of one number from a start, after `count` of them that were done: `rest` is left here
+pub record Left (start : Desk) (number : ℕ) (all : List Step) (here : Desk) (rest : List Step) (count : ℕ) : Type 0 where
+  pub state_is : end_of start.state (taken start.state all) ≡ end_of here.state (taken here.state rest)
+  pub trace_is : trace_after start.trace start.state (taken start.state all) ≡ trace_after here.trace here.state (taken here.state rest)
+  pub stale_is : last_stale start.account.stale start.state (taken start.state all)
+      ≡ last_stale here.account.stale here.state (taken here.state rest)
+  pub along : (after : Account) (left : State) → GoesAlong here.account here.state (taken here.state rest) number after left →
+      GoesAlong start.account start.state (taken start.state all) number after left
+  pub count_is : length (taken start.state all) ≡ count + length (taken here.state rest)
+  pub last_is : last_answer start.state all ≡ last_answer here.state rest
 
-pub begins : (start : State) (first : List Entry) (all : List Step) → Left start first all start first all 0
-begins start first all = record { state_is = refl; trace_is = refl; count_is = omega arith; last_is = refl }
-
-pub goes_on : (start : State) (first : List Entry) (all : List Step) (state : State) (trace : List Entry) (step : Step) (rest : List Step) (count : ℕ) →
-    Left start first all state trace (step ∷ rest) count → is_done (next state step).answer ≡ true →
-    Left start first all (next state step).state (traced trace step (next state step).answer) rest (count + 1)
-goes_on start first all state trace step rest count left done = record {
-  state_is = left.state_is ∙ rw done refl;
-  trace_is = left.trace_is ∙ rw done refl;
-  count_is =
-      let is : length (taken state (step ∷ rest)) ≡ suc (length (taken (next state step).state rest)) = rw done refl in
-      let before = left.count_is in omega (arith, is, before);
-  last_is = left.last_is ∙ rw done refl;
+pub begins : (start : Desk) (number : ℕ) (all : List Step) → Left start number all start all 0
+begins start number all = record {
+  state_is = refl;
+  trace_is = refl;
+  stale_is = refl;
+  along = λ after left is. is;
+  count_is = omega arith;
+  last_is = refl;
 }
 
 -- where the next step isn't done
-pub record Stopped (start : State) (first : List Entry) (all : List Step) (state : State) (trace : List Entry) (step : Step) (count : ℕ) : Type 0 where
-  pub state_is : end_of start (taken start all) ≡ (next state step).state
-  pub trace_is : trace_after first start (taken start all) ≡ traced trace step (next state step).answer
-  pub count_is : length (taken start all) ≡ count + 1
-  pub last_is : last_answer start all ≡ (next state step).answer
+pub record Stopped (start : Desk) (number : ℕ) (all : List Step) (here : Desk) (step : Step) (count : ℕ) (after : Desk) : Type 0 where
+  pub state_is : after.state ≡ end_of start.state (taken start.state all)
+  pub trace_is : after.trace ≡ trace_after start.trace start.state (taken start.state all)
+  pub stale_is : after.account.stale ≡ last_stale start.account.stale start.state (taken start.state all)
+  pub along : GoesAlong start.account start.state (taken start.state all) number after.account after.state
+  pub count_is : length (taken start.state all) ≡ count + 1
+  pub last_is : last_answer start.state all ≡ (next here.state step).answer
 
-pub stops : (start : State) (first : List Entry) (all : List Step) (state : State) (trace : List Entry) (step : Step) (rest : List Step) (count : ℕ) →
-    Left start first all state trace (step ∷ rest) count → is_done (next state step).answer ≡ false →
-    Stopped start first all state trace step count
-stops start first all state trace step rest count left other = record {
-  state_is = left.state_is ∙ rw other refl;
-  trace_is = left.trace_is ∙ rw other refl;
-  count_is =
-      let is : length (taken state (step ∷ rest)) ≡ 1 = rw other refl in
-      let before = left.count_is in omega (arith, is, before);
-  last_is = left.last_is ∙ rw other refl;
-}
+module _ (start : Desk) (number : ℕ) (all : List Step) (here : Desk) (step : Step) (rest : List Step) (count : ℕ) (after : Desk)
+    (left : Left start number all here (step ∷ rest) count) (took : Took here step number after) where
+  pub goes_on : is_done (next here.state step).answer ≡ true → Left start number all after rest (count + 1)
+  goes_on done =
+      let there = (next here.state step).state in
+      let is : taken here.state (step ∷ rest) ≡ step ∷ taken there rest = rw done refl in
+      record {
+        state_is = left.state_is ∙ ap (end_of here.state) is ∙ ap (λ (s : State). end_of s (taken s rest)) (sym took.state);
+        trace_is = left.trace_is ∙ ap (trace_after here.trace here.state) is
+            ∙ ap (λ (t : List Entry). trace_after t there (taken there rest)) (sym took.trace)
+            ∙ ap (λ (s : State). trace_after after.trace s (taken s rest)) (sym took.state);
+        stale_is = left.stale_is ∙ ap (last_stale here.account.stale here.state) is
+            ∙ ap (λ found. last_stale found there (taken there rest)) (sym took.stale)
+            ∙ ap (λ (s : State). last_stale after.account.stale s (taken s rest)) (sym took.state);
+        along = λ last end more. left.along last end
+            (subst (λ (steps : List Step). GoesAlong here.account here.state steps number last end) (sym is)
+            (along_more here.account after.account last here.state after.state end step (taken there rest) number took.along
+            (subst (λ (s : State). GoesAlong after.account after.state (taken s rest) number last end) took.state more)));
+        count_is =
+            let one : length (taken here.state (step ∷ rest)) ≡ suc (length (taken there rest)) = ap length is in
+            let same : length (taken there rest) ≡ length (taken after.state rest) = ap (λ (s : State). length (taken s rest)) (sym took.state) in
+            let before = left.count_is in omega (arith, one, same, before);
+        last_is = left.last_is ∙ rw done (ap (λ (s : State). last_answer s rest) (sym took.state));
+      }
+
+  pub stops : is_done (next here.state step).answer ≡ false → Stopped start number all here step count after
+  stops other =
+      let is : taken here.state (step ∷ rest) ≡ step ∷ [] = rw other refl in
+      record {
+        state_is = took.state ∙ sym (left.state_is ∙ ap (end_of here.state) is);
+        trace_is = took.trace ∙ sym (left.trace_is ∙ ap (trace_after here.trace here.state) is);
+        stale_is = took.stale ∙ sym (left.stale_is ∙ ap (last_stale here.account.stale here.state) is);
+        along = left.along after.account after.state
+            (subst (λ (steps : List Step). GoesAlong here.account here.state steps number after.account after.state) (sym is) took.along);
+        count_is =
+            let one : length (taken here.state (step ∷ rest)) ≡ 1 = ap length is in
+            let before = left.count_is in omega (arith, one, before);
+        last_is = left.last_is ∙ rw other refl;
+      }
+
+-- where none is left
+pub ends : (start : Desk) (number : ℕ) (all : List Step) (here : Desk) (count : ℕ) → Left start number all here [] count →
+    GoesAlong start.account start.state (taken start.state all) number here.account here.state
+ends start number all here count left =
+    left.along here.account here.state (along_none here.account here.state number)
 
 -- a step that is repeated
 pub again : (step : Step) (most i : ℕ) → i < most → replicate (most - i) step ≡ step ∷ replicate (most - (i + 1)) step
 again step most i lt =
     let is : most - i ≡ suc (most - (i + 1)) = omega arith in ap (λ n. replicate n step) is
+
+pub none_left : (step : Step) (most i : ℕ) → most ≤ i → replicate (most - i) step ≡ []
+none_left step most i over =
+    let is : most - i ≡ 0 = omega arith in ap (λ n. replicate n step) is
+
+-- words that are stored one after the other
+pub stored : (addr : ℕ) (words : List ℕ) (i : ℕ) → i < length words →
+    stores_at (addr + 8 * i) (drop i words)
+    ≡ step.Store (addr + 8 * i) 8 (get_or words i 0) ∷ stores_at (addr + 8 * (i + 1)) (drop (i + 1) words)
+stored addr words i low =
+    let further : addr + 8 * i + 8 ≡ addr + 8 * (i + 1) = omega arith in
+    let one : suc i ≡ i + 1 = omega arith in
+    ap (stores_at (addr + 8 * i)) (drop-cons words i 0 low)
+    ∙ ap (λ a. step.Store (addr + 8 * i) 8 (get_or words i 0) ∷ stores_at a (drop (suc i) words)) further
+    ∙ ap (λ k. step.Store (addr + 8 * i) 8 (get_or words i 0) ∷ stores_at (addr + 8 * (i + 1)) (drop k words)) one
+
+pub all_stored : (addr : ℕ) (words : List ℕ) (i : ℕ) → length words ≤ i → stores_at (addr + 8 * i) (drop i words) ≡ []
+all_stored addr words i over = ap (stores_at (addr + 8 * i)) (drop_of_length-le words over)
+
+-- of a test that was turned
+pub was_true : (b : Bool) → not b ≡ false → b ≡ true
+was_true true is = refl
+was_true false is = absurd (cc is)
+
+pub was_false : (b : Bool) → not b ≡ true → b ≡ false
+was_false true is = absurd (cc is)
+was_false false is = refl

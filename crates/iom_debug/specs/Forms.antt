@@ -24,6 +24,9 @@ line_in (form.Put addr words) = Stores (stores_at addr words.items)
 -- the numbers of a question are in their ranges
 abbrev pub InRange : Inquiry → Type 0
 InRange (inquiry.Stale request) = request.did < 2 ^ 24
+InRange (inquiry.StaleContext i) = Unit {0}
+InRange (inquiry.StalePage i) = Unit {0}
+InRange (inquiry.Why i) = Unit {0}
 InRange (inquiry.Walk request i) = request.did < 2 ^ 24
 InRange (inquiry.Queue which) = Unit {0}
 InRange (inquiry.Dump addr count) = count ≤ 64

@@ -1,9 +1,9 @@
 pub mod Names
 pub mod Script
 pub mod Forms
-pub mod Taking
 pub mod Ways
-pub mod Accesses
+pub mod Reasons
+pub mod Taking
 pub mod Walks
 pub mod Texts
 pub mod Answers

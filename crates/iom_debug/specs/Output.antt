@@ -1,5 +1,5 @@
 -- What is answered to a line, and which steps it is.
-use Rattle.std.specs.Prelude.{ℕ, ◌≡◌, List, [], replicate, Option, Some}
+use Rattle.std.specs.Prelude.{ℕ, ◌≡◌, List, [], replicate, Option, Some, None}
 use Rattle.std.specs.Option.{unwrap_or}
 use Rattle.iom_core.specs.State.{State}
 use Rattle.iom_core.specs.declared.step.Step.{Step}
@@ -10,13 +10,14 @@ use Rattle.iom_debug.specs.Script.{DebugLine, Plain, Inquires, Again, Stores, de
 use Rattle.iom_tool.specs.Texts.{text_of}
 use Rattle.iom_debug.specs.Taking.{last_answer, run_text, taken}
 use Rattle.iom_debug.specs.Answers.{inquired}
+use Rattle.iom_debug.specs.declared.reason.Reason.{Reason}
 
--- None: nothing
-abbrev pub debug_reply : Console → DebugLine → Option (List ℕ)
-debug_reply now (Plain line) = reply now line
-debug_reply now (Inquires inquiry) = Some (inquired now inquiry)
-debug_reply now (Again step most) = Some (run_text now.state (replicate most step))
-debug_reply now (Stores steps) = Some (text_of (last_answer now.state steps))
+-- by what is told of the last steps; None: nothing
+abbrev pub debug_reply : Console → List Reason → DebugLine → Option (List ℕ)
+debug_reply now told (Plain line) = reply now line
+debug_reply now told (Inquires inquiry) = Some (inquired now told inquiry)
+debug_reply now told (Again step most) = Some (run_text now.state (replicate most step))
+debug_reply now told (Stores steps) = Some (text_of (last_answer now.state steps))
 
 -- the steps that a line is
 abbrev pub debug_steps : State → DebugLine → List Step
@@ -27,6 +28,13 @@ debug_steps state (Stores steps) = taken state steps
 
 abbrev pub debug_steps_of : State → List ℕ → List Step
 debug_steps_of state text = debug_steps state (debug_line_of text)
+
+-- the step of a line that repeats one, and how often at most
+abbrev pub repeated_in : DebugLine → Option (Step × ℕ)
+repeated_in (Plain line) = None
+repeated_in (Inquires inquiry) = None
+repeated_in (Again step most) = Some (step, most)
+repeated_in (Stores steps) = None
 
 -- an answer, empty where there is none, and what stands after it, are those that `run` has
 pub record IsAsRun (now : Console) (text given : List ℕ) (left : Console) : Type 0 where

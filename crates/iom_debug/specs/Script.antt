@@ -9,8 +9,8 @@ use Rattle.iom_bits.specs.declared.causes.Kind.TheVariants.{Read, Write}
 use Rattle.iom_core.specs.declared.access.Request.{Request}
 use Rattle.iom_core.specs.declared.step.Step.{Step}
 use Rattle.iom_core.specs.declared.step.Step.TheVariants as step
-use Rattle.iom_asm.specs.Forms.{where_so, words_for}
-use Rattle.iom_asm.specs.Operands.{◌>>=◌}
+use Rattle.iom_items.specs.Forms.{where_so, words_for}
+use Rattle.iom_items.specs.Operands.{◌>>=◌}
 use Rattle.iom_tool.specs.Script.{Line, Blank, Bad, Does, Asks, line_of}
 use Rattle.iom_debug.specs.Names.{register_named, mmio_named}
 use Rattle.iom_debug.specs.declared.form.Inquiry.{Inquiry}
@@ -123,11 +123,39 @@ request kind did iova = do
   where_so (nat_lt did (2 ^ 24)) (Some (record { did = did; iova = iova; kind = kind }))
 
 -- stale read|write DID IOVA
-unfoldable pub stale : List (List ℕ) → Option DebugLine
-stale (kind ∷ did ∷ iova ∷ []) = do
+unfoldable pub stale_request : List ℕ → List (List ℕ) → Option DebugLine
+stale_request kind (did ∷ iova ∷ []) = do
   asked ← request kind did iova
   Some (Inquires (inquiry.Stale asked))
-stale _ = None
+stale_request kind _ = None
+
+-- stale context I
+unfoldable pub stale_context : List (List ℕ) → Option DebugLine
+stale_context (i ∷ []) = do
+  i ← number i
+  Some (Inquires (inquiry.StaleContext i))
+stale_context _ = None
+
+-- stale page I
+unfoldable pub stale_page : List (List ℕ) → Option DebugLine
+stale_page (i ∷ []) = do
+  i ← number i
+  Some (Inquires (inquiry.StalePage i))
+stale_page _ = None
+
+unfoldable pub stale : List (List ℕ) → Option DebugLine
+stale [] = None
+stale (what ∷ operands) =
+    if bytes_eq what (codes "context") then stale_context operands
+    else if bytes_eq what (codes "page") then stale_page operands
+    else stale_request what operands
+
+-- why I
+unfoldable pub why : List (List ℕ) → Option DebugLine
+why (i ∷ []) = do
+  i ← number i
+  Some (Inquires (inquiry.Why i))
+why _ = None
 
 -- walk read|write DID IOVA I
 unfoldable pub walk : List (List ℕ) → Option DebugLine
@@ -174,6 +202,7 @@ form_by verb operands =
     else if bytes_eq verb (codes "dev") then dev operands
     else if bytes_eq verb (codes "cmd") then cmd operands
     else if bytes_eq verb (codes "stale") then stale operands
+    else if bytes_eq verb (codes "why") then why operands
     else if bytes_eq verb (codes "walk") then walk operands
     else if bytes_eq verb (codes "queue") then queue operands
     else if bytes_eq verb (codes "dump") then dump operands

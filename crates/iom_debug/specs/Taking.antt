@@ -1,12 +1,31 @@
 -- Steps that are taken one after the other, while each is done.
-use Rattle.std.specs.Prelude.{ℕ, ◌++◌, Bool, true, false, List, [], ◌∷◌, length, codes, if◌then◌else◌}
+use Rattle.std.specs.Prelude.{ℕ, ◌≡◌, ◌++◌, Bool, true, false, List, [], ◌∷◌, length, codes, if◌then◌else◌}
 use Rattle.iom_text.specs.Texts.{hexed}
 use Rattle.iom_core.specs.State.{State}
-use Rattle.iom_core.specs.Table.{next}
+use Rattle.iom_core.specs.Table.{next, request_of_step}
 use Rattle.iom_core.specs.declared.step.Step.{Step}
 use Rattle.iom_core.specs.declared.step.Answer.{Answer}
 use Rattle.iom_core.specs.declared.step.Answer.TheVariants as answer
+use Rattle.iom_tool.specs.Console.{traced}
 use Rattle.iom_tool.specs.Texts.{text_of}
+use Rattle.iom_tool.specs.declared.trace.Entry.{Entry}
+use Rattle.iom_debug.specs.Reasons.{Account, GoesAlong, later, stale_in}
+
+-- what the lines of `debug` drive: a platform, the trace of its last steps, and what is told beside them
+pub record Desk : Type 0 where
+  pub state : State
+  pub trace : List Entry
+  pub account : Account
+
+abbrev pub desk : State → List Entry → Account → Desk
+desk state trace account = record { state = state; trace = trace; account = account }
+
+-- what a step of a line of this number leaves
+pub record Took (before : Desk) (step : Step) (number : ℕ) (after : Desk) : Type 0 where
+  pub state : after.state ≡ (next before.state step).state
+  pub trace : after.trace ≡ traced before.trace step (next before.state step).answer
+  pub stale : after.account.stale ≡ later before.account.stale (stale_in before.state (request_of_step before.state step))
+  pub along : GoesAlong before.account before.state (step ∷ []) number after.account after.state
 
 unfoldable pub is_done : Answer → Bool
 is_done answer.Done = true

@@ -1,5 +1,5 @@
 -- The texts of answers.
-use Rattle.std.specs.Prelude.{ℕ, ◌+◌, ◌*◌, ◌++◌, nat_le, List, length, take, drop, codes, Option, Some, None, if◌then◌else◌}
+use Rattle.std.specs.Prelude.{ℕ, ◌+◌, ◌*◌, ◌++◌, nat_le, List, [], length, take, drop, codes, Option, Some, None, if◌then◌else◌}
 use Rattle.hex.specs.Hex.{encode_lower}
 use Rattle.iom_bits.specs.Bits.{flag, has_bit}
 use Rattle.iom_text.specs.Texts.{hexed}
@@ -9,12 +9,15 @@ use Rattle.iom_regs.specs.declared.views.Queue.{Queue}
 use Rattle.iom_regs.specs.declared.views.Which.{Which}
 use Rattle.iom_regs.specs.declared.views.Which.TheVariants.{Commands, Faults}
 use Rattle.iom_virtq.specs.Bus.{Ask, Read, Write}
+use Rattle.iom_virtq.specs.declared.parts.ChainFault.TheVariants as chain
 use Rattle.iom_blk.specs.Device.{Device}
 use Rattle.iom_blk.specs.Phases.{asks}
+use Rattle.iom_blk.specs.declared.broken.Broken.{Broken}
+use Rattle.iom_blk.specs.declared.broken.Broken.TheVariants as broke
 use Rattle.iom_blk.specs.declared.phase.Phase.{Phase}
 use Rattle.iom_blk.specs.declared.phase.Phase.TheVariants as phase
 use Rattle.iom_core.specs.State.{disk_of}
-use Rattle.iom_asm.specs.Lines.{operand}
+use Rattle.iom_items.specs.Lines.{operand}
 
 -- What stopped a queue. RISC-V IOMMU Architecture 1.0, "Command-queue CSR (cqcsr)": cmd_ill, bit 10, and cqmf, bit 8; "Fault queue CSR
 -- (fqcsr)": fqof, bit 9, and fqmf, bit 8
@@ -70,8 +73,27 @@ abbrev pub counts_text : Device → List ℕ
 counts_text device =
     operand (codes "head") device.head ++ operand (codes "seen") device.seen ++ operand (codes "used") device.used
 
+-- what broke it
+unfoldable pub reason_text : Broken → List ℕ
+reason_text broke.IndexAhead = codes "index-ahead"
+reason_text broke.BadHead = codes "bad-head"
+reason_text (broke.Descriptor chain.Indirect) = codes "indirect"
+reason_text (broke.Descriptor chain.ReadAfterWrite) = codes "readable-after-writable"
+reason_text (broke.Descriptor chain.TooLong) = codes "loop"
+reason_text (broke.Descriptor chain.BadNext) = codes "bad-next"
+reason_text (broke.Descriptor chain.Wraps) = codes "wraps"
+reason_text broke.ShortHeader = codes "short-header"
+reason_text broke.NothingWritable = codes "nothing-writable"
+reason_text (broke.Denied cause) = codes "denied"
+reason_text broke.Outside = codes "bus-error"
+
+abbrev pub broken_text : Option Broken → List ℕ
+broken_text None = []
+broken_text (Some reason) = codes " broken=" ++ reason_text reason
+
 unfoldable pub blk_text : Device → List ℕ
-blk_text device = codes " phase=" ++ phase_text device.phase ++ ask_text (asks device) ++ counts_text device
+blk_text device =
+    codes " phase=" ++ phase_text device.phase ++ ask_text (asks device) ++ counts_text device ++ broken_text device.broken
 
 -- a block device, with its id
 abbrev pub device_text : Option (ℕ × Device) → List ℕ

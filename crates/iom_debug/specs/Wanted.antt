@@ -3,7 +3,7 @@ use Rattle.std.specs.Prelude.{ℕ, ◌+◌, ◌==◌, List, [], ◌∷◌, take,
 use Rattle.std.specs.List.{list_all, position, position_or_len}
 use Rattle.std.specs.Option.{option_map}
 use Rattle.iom_text.specs.Words.{is_blank}
-use Rattle.iom_asm.specs.Operands.{◌>>=◌}
+use Rattle.iom_items.specs.Operands.{◌>>=◌}
 
 -- what stands behind the first `#`; None: there is none
 abbrev pub comment_of : List ℕ → Option (List ℕ)

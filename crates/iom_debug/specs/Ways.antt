@@ -1,65 +1,84 @@
--- The way that a request is led, and the way that the tables say now.
-use Rattle.std.specs.Prelude.{ℕ, ◌^◌, ◌==◌, ◌&&◌, ◌++◌, nat_lt, Bool, true, false, not, List, [], codes, Option, Some, None, Result, Ok, Err, if◌then◌else◌}
+-- Where the tables lead a request, and what they say now of what is cached, as texts.
+use Rattle.std.specs.Prelude.{ℕ, ◌+◌, ◌*◌, ◌%◌, ◌++◌, List, [], codes, slice_get, Option, Some, None, Result, Ok, Err}
+use Rattle.std.specs.Option.{option_map}
 use Rattle.iom_bits.specs.Bits.{flag}
 use Rattle.iom_bits.specs.Causes.{cause_number}
 use Rattle.iom_text.specs.Texts.{numeral, hexed}
-use Rattle.iom_ddt.specs.declared.context.Context.{Context}
 use Rattle.iom_nested.specs.declared.translation.Hit.{Hit}
+use Rattle.iom_cache.specs.Keys.{gscid_of, pscid_of}
+use Rattle.iom_cache.specs.Places.{place_in}
 use Rattle.iom_core.specs.State.{Machine}
-use Rattle.iom_core.specs.Access.{Way, ByRegister, ByContext, Walked, Denied, address_on, led}
 use Rattle.iom_core.specs.declared.access.Denial.{Denial}
 use Rattle.iom_core.specs.declared.access.Request.{Request}
-use Rattle.iom_reasons.specs.Stale.{uncached}
+use Rattle.iom_reasons.specs.Stale.{by_tables, stale_way}
+use Rattle.iom_reasons.specs.Standing.{found_now, is_context_now, is_hit_now, request_of, standing_of}
+use Rattle.iom_reasons.specs.declared.standing.Located.{Located}
+use Rattle.iom_reasons.specs.declared.standing.Located.TheVariants as found
+use Rattle.iom_reasons.specs.declared.standing.Standing.{Standing}
+use Rattle.iom_reasons.specs.declared.standing.Standing.TheVariants as standing
+use Rattle.iom_reasons.specs.declared.way.Way.{Way}
+use Rattle.iom_reasons.specs.declared.way.Way.TheVariants as way
+use Rattle.iom_items.specs.Lines.{context_text, operand}
 
--- tests for equality
-abbrev pub is_same_context : Context → Context → Bool
-is_same_context c other =
-    flag c.dtf == flag other.dtf && c.custom == other.custom && c.gmode == other.gmode && c.gppn == other.gppn
-    && c.gscid == other.gscid && flag c.tav == flag other.tav && c.pscid == other.pscid && c.mode == other.mode
-    && c.ppn == other.ppn
-
-abbrev pub is_same_hit : Hit → Hit → Bool
-is_same_hit hit other = hit.frame == other.frame && hit.level == other.level && flag hit.global == flag other.global
-
-abbrev pub is_same_denial : Denial → Denial → Bool
-is_same_denial denial other =
-    cause_number denial.cause == cause_number other.cause && denial.iotval2 == other.iotval2
-    && flag denial.reported == flag other.reported
-
-unfoldable pub is_same_way : Way → Way → Bool
-is_same_way ByRegister ByRegister = true
-is_same_way (ByContext c) (ByContext other) = is_same_context c other
-is_same_way (Walked c hit) (Walked other found) = is_same_context c other && is_same_hit hit found
-is_same_way (Denied denial) (Denied other) = is_same_denial denial other
-is_same_way way other = false
-
--- the way that the tables say now
-abbrev pub way_by_tables : Machine → Request → Way
-way_by_tables m request = (led (uncached m) request).way
-
-abbrev pub is_stale : Machine → Request → Bool
-is_stale m request = not (is_same_way (led m request).way (way_by_tables m request))
-
--- the physical address that a way leads to, or the cause of its denial
-abbrev pub address_text : Result ℕ Denial → List ℕ
-address_text (Ok addr) = codes "addr=" ++ hexed addr
-address_text (Err denial) = codes "denied " ++ numeral 10 (cause_number denial.cause)
+-- the physical address that a way leads an IOVA to, or its denial
+abbrev pub address_of : Way → ℕ → Result ℕ Denial
+address_of way.Register iova = Ok iova
+address_of (way.Context context) iova = Ok iova
+address_of (way.Walked context hit) iova = Ok (hit.frame * 4096 + iova % 4096)
+address_of (way.Denied denial) iova = Err denial
 
 abbrev pub address_by_tables : Machine → Request → Result ℕ Denial
-address_by_tables m request = address_on (way_by_tables m request) request.iova
+address_by_tables m request = address_of (by_tables m request) request.iova
 
-unfoldable pub stale_text : Machine → Request → List ℕ
-stale_text m request =
-    if is_stale m request then address_text (address_by_tables m request) else codes "same"
+-- where the tables lead a request that is stale; None: it isn't
+abbrev pub stale_address : Machine → Request → Option (Result ℕ Denial)
+stale_address m request = option_map (λ way. address_of way request.iova) (stale_way m request)
 
--- the same of a request that there may be; nothing where it isn't stale. An id has 24 bits
-abbrev pub stale_only : Machine → Option Request → List ℕ
-stale_only m None = []
-stale_only m (Some request) = if nat_lt request.did (2 ^ 24) && is_stale m request then address_text (address_by_tables m request) else []
+abbrev pub denied_text : Denial → List ℕ
+denied_text denial = codes "denied " ++ numeral 10 (cause_number denial.cause)
 
--- the frame that a way leads a page to
-abbrev pub frame_on : Way → Option ℕ
-frame_on ByRegister = None
-frame_on (ByContext context) = None
-frame_on (Walked context hit) = Some hit.frame
-frame_on (Denied denial) = None
+abbrev pub address_text : Result ℕ Denial → List ℕ
+address_text (Ok addr) = codes "addr=" ++ hexed addr
+address_text (Err denial) = denied_text denial
+
+abbrev pub stale_text : Option (Result ℕ Denial) → List ℕ
+stale_text None = codes "same"
+stale_text (Some address) = address_text address
+
+-- a place of a cache beside the tables: what they say now, by the text of that
+abbrev pub standing_text : {T : Type 0} → (T → List ℕ) → Standing T → List ℕ
+standing_text say standing.Beyond = codes "none"
+standing_text say standing.Empty = codes "empty"
+standing_text say standing.Current = codes "same"
+standing_text say (standing.Stale now) = say now
+
+-- what the directory says of a device
+abbrev pub found_text : Located → List ℕ
+found_text found.NoDirectory = codes "no directory"
+found_text (found.Context context) = context_text context
+found_text (found.Fault why) = codes "denied " ++ numeral 10 (cause_number why)
+
+abbrev pub stale_context_text : Machine → ℕ → List ℕ
+stale_context_text m i =
+    standing_text found_text (standing_of (is_context_now m) (found_now m) (place_in (slice_get m.contexts i)))
+
+-- a key and a value, or `-` where there is none
+abbrev pub id_operand : List ℕ → Option ℕ → List ℕ
+id_operand key None = codes " " ++ key ++ codes "=-"
+id_operand key (Some id) = operand key id
+
+abbrev pub hit_text : Hit → List ℕ
+hit_text hit = operand (codes "frame") hit.frame ++ operand (codes "level") hit.level ++ operand (codes "global") (flag hit.global)
+
+-- what the tables say of a page: the ids that its key would have, and its hit
+abbrev pub page_text : Way → List ℕ
+page_text way.Register = codes "register"
+page_text (way.Context context) = codes "context"
+page_text (way.Walked context hit) =
+    codes "page" ++ id_operand (codes "pscid") (pscid_of context) ++ id_operand (codes "gscid") (gscid_of context) ++ hit_text hit
+page_text (way.Denied denial) = denied_text denial
+
+abbrev pub stale_page_text : Machine → ℕ → List ℕ
+stale_page_text m i =
+    standing_text page_text
+    (standing_of (is_hit_now m) (λ key. by_tables m (request_of key)) (place_in (slice_get m.pages i)))

@@ -8,26 +8,33 @@ ghost use Rattle.iom_blk.specs.Wants.{wanted};
 ghost use Rattle.iom_tool.specs.Console.{console};
 ghost use Rattle.iom_debug.specs.Answers.{inquired};
 ghost use Rattle.iom_debug.specs.Forms.{InRange};
-ghost use Rattle.iom_debug.specs.Texts.{ask_text, blk_text, bytes_text, device_text, disk_text, part_of, phase_text, queue_text, stop_text, view_text};
+ghost use Rattle.iom_debug.specs.Texts.{ask_text, blk_text, broken_text, bytes_text, device_text, disk_text, part_of, phase_text, queue_text, reason_text, stop_text, view_text};
 
 use crate::form::Inquiry;
+use crate::reason::why_line;
+use crate::reasons::Reasons;
+use crate::standings::{context_standing_line, page_standing_line};
 use crate::text::{push_bytes, push_hexed, push_operand, push_text, said};
 use crate::walks::walk_line;
 use crate::ways::stale_line;
 use iom_bits::{flag, has_bit};
-use iom_blk::{Blk, Phase, Want};
+use iom_blk::{Blk, Broken, Phase, Want};
 use iom_core::Platform;
 use iom_mem::Ram;
 use iom_regs::{Queue, Regs, Which};
 use iom_tool::{Reply, Trace};
+use iom_virtq::ChainFault;
 
 /// The answer to a question. Nothing is changed.
-pub fn answer_to(platform: &Platform, trace: &Trace, inquiry: &Inquiry) -> Reply
+pub fn answer_to(platform: &Platform, trace: &Trace, reasons: &Reasons, inquiry: &Inquiry) -> Reply
     requires { InRange inquiry.now }
-    ensures { result.items ≡ inquired (console platform.now trace.now) inquiry.now }
+    ensures { result.items ≡ inquired (console platform.now trace.now) reasons.now.told inquiry.now }
 {
     match *inquiry {
         Inquiry::Stale(request) => stale_line(platform, &request),
+        Inquiry::StaleContext(i) => context_standing_line(platform, i),
+        Inquiry::StalePage(i) => page_standing_line(platform, i),
+        Inquiry::Why(i) => why_line(reasons.reason(i)),
         Inquiry::Walk(request, i) => walk_line(platform, &request, i),
         Inquiry::Queue(which) => queue_line(platform.registers(), which),
         Inquiry::Dump(addr, count) => memory_line(platform.ram(), addr, count),
@@ -173,7 +180,39 @@ fn push_want(out: &mut Reply, want: &Want)
     }
 }
 
-// Appends what a block device does next.
+// What broke a block device.
+#[tactic(auto, unfolding(crate::specs::Texts::reason_text))]
+fn reason_text(reason: Broken) -> &'static [u8]
+    ensures text { result.now ≡ reason_text reason }
+    ensures short { length result.now ≤ 23 }
+{
+    match reason {
+        Broken::IndexAhead => b"index-ahead",
+        Broken::BadHead => b"bad-head",
+        Broken::Descriptor(ChainFault::Indirect) => b"indirect",
+        Broken::Descriptor(ChainFault::ReadAfterWrite) => b"readable-after-writable",
+        Broken::Descriptor(ChainFault::TooLong) => b"loop",
+        Broken::Descriptor(ChainFault::BadNext) => b"bad-next",
+        Broken::Descriptor(ChainFault::Wraps) => b"wraps",
+        Broken::ShortHeader => b"short-header",
+        Broken::NothingWritable => b"nothing-writable",
+        Broken::Denied(_) => b"denied",
+        Broken::Outside => b"bus-error",
+    }
+}
+
+// Appends what broke a block device, where it is broken.
+fn push_broken(out: &mut Reply, broken: Option<Broken>)
+    requires { length out.old.items ≤ 256 }
+    ensures text { out.new.items ≡ out.old.items ++ broken_text broken }
+{
+    if let Some(reason) = broken {
+        push_text(out, b" broken=");
+        push_text(out, reason_text(reason));
+    }
+}
+
+// Appends what a block device does next, and what broke it.
 #[tactic(auto, unfolding(crate::specs::Texts::blk_text))]
 fn push_blk(out: &mut Reply, device: &Blk)
     requires { length out.old.items ≤ 32 }
@@ -185,6 +224,7 @@ fn push_blk(out: &mut Reply, device: &Blk)
     push_operand(out, b"head", u64::from(device.head()));
     push_operand(out, b"seen", u64::from(device.seen()));
     push_operand(out, b"used", u64::from(device.used()));
+    push_broken(out, device.broken());
 }
 
 // A block device, with its id.

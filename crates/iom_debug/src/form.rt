@@ -4,13 +4,13 @@ ghost use Rattle.std.specs.Prelude.{◌≡◌, ◌+◌, ◌*◌, ◌^◌, ◌<�
 ghost use Rattle.std.specs.Option.{option_map};
 ghost use Rattle.iom_debug.specs.Forms.{Fits, line_in};
 ghost use Rattle.iom_text.specs.Words.{words_of};
-ghost use Rattle.iom_debug.specs.Script.{is_count, is_limit, reg_read, reg_write, reg, dev_read, dev_write, dev_show, dev_run, dev, cmd_run, cmd, item_words, put, kind_named, request, stale, walk, queue_named, queue, dump, disk, form_by, form_in, form_of};
+ghost use Rattle.iom_debug.specs.Script.{is_count, is_limit, reg_read, reg_write, reg, dev_read, dev_write, dev_show, dev_run, dev, cmd_run, cmd, item_words, put, kind_named, request, stale_request, stale_context, stale_page, stale, why, walk, queue_named, queue, dump, disk, form_by, form_in, form_of};
 
 use crate::names::{mmio_named, register_named};
 use arrayvec::ArrayVec;
-use iom_asm::words_for;
 use iom_bits::Kind;
 use iom_core::{Request, Step};
+use iom_items::words_for;
 use iom_regs::Which;
 use iom_text::{number, take_number, take_word, words};
 
@@ -19,6 +19,12 @@ use iom_text::{number, take_number, take_word, words};
 pub enum Inquiry {
     /// Whether a request is stale, and what the tables say of it then.
     Stale(Request),
+    /// Whether the directory says now what place I of the context cache holds, the oldest 0, and what else.
+    StaleContext(u64),
+    /// Whether the tables say now what place I of the translation cache holds, the oldest 0, and what else.
+    StalePage(u64),
+    /// What is told of step I of the trace, the oldest 0.
+    Why(u64),
     /// The part of this number, from 0, of the walk of a request as the tables stand now.
     Walk(Request, u64),
     /// What a queue's registers tell, and what stopped it.
@@ -256,16 +262,70 @@ fn request(kind: &[u8], did: &[u8], iova: &[u8]) -> Option<Request>
     })
 }
 
-// What follows `stale`: a request.
+// What follows `stale` where it is about a request.
+#[tactic(auto, unfolding(crate::specs::Script::stale_request))]
+fn stale_request(kind: &[u8], operands: &[&[u8]]) -> Option<Form>
+    ensures line { option_map line_in result ≡ stale_request kind.now (map (λ word. word.now) operands.now) }
+    ensures fits { IfSome result Fits }
+{
+    let [did, iova] = operands else {
+        return None;
+    };
+    Some(Form::Inquires(Inquiry::Stale(request(kind, did, iova)?)))
+}
+
+// What follows `stale context`: a place of the context cache.
+#[tactic(auto, unfolding(crate::specs::Script::stale_context))]
+fn stale_context(operands: &[&[u8]]) -> Option<Form>
+    ensures line { option_map line_in result ≡ stale_context (map (λ word. word.now) operands.now) }
+    ensures fits { IfSome result Fits }
+{
+    let [i] = operands else {
+        return None;
+    };
+    Some(Form::Inquires(Inquiry::StaleContext(number(i)?)))
+}
+
+// What follows `stale page`: a place of the translation cache.
+#[tactic(auto, unfolding(crate::specs::Script::stale_page))]
+fn stale_page(operands: &[&[u8]]) -> Option<Form>
+    ensures line { option_map line_in result ≡ stale_page (map (λ word. word.now) operands.now) }
+    ensures fits { IfSome result Fits }
+{
+    let [i] = operands else {
+        return None;
+    };
+    Some(Form::Inquires(Inquiry::StalePage(number(i)?)))
+}
+
+// What follows `stale`: a place of a cache, or a request.
 #[tactic(auto, unfolding(crate::specs::Script::stale))]
 fn stale(operands: &[&[u8]]) -> Option<Form>
     ensures line { option_map line_in result ≡ stale (map (λ word. word.now) operands.now) }
     ensures fits { IfSome result Fits }
 {
-    let [kind, did, iova] = operands else {
+    let [what, operands @ ..] = operands else {
         return None;
     };
-    Some(Form::Inquires(Inquiry::Stale(request(kind, did, iova)?)))
+    if *what == b"context".as_slice() {
+        stale_context(operands)
+    } else if *what == b"page".as_slice() {
+        stale_page(operands)
+    } else {
+        stale_request(what, operands)
+    }
+}
+
+// What follows `why`: which step.
+#[tactic(auto, unfolding(crate::specs::Script::why))]
+fn why(operands: &[&[u8]]) -> Option<Form>
+    ensures line { option_map line_in result ≡ why (map (λ word. word.now) operands.now) }
+    ensures fits { IfSome result Fits }
+{
+    let [i] = operands else {
+        return None;
+    };
+    Some(Form::Inquires(Inquiry::Why(number(i)?)))
 }
 
 // What follows `walk`: a request, and which part.
@@ -354,6 +414,8 @@ fn form_by(verb: &[u8], operands: &[&[u8]]) -> Option<Form>
         cmd(operands)
     } else if verb == b"stale".as_slice() {
         stale(operands)
+    } else if verb == b"why".as_slice() {
+        why(operands)
     } else if verb == b"walk".as_slice() {
         walk(operands)
     } else if verb == b"queue".as_slice() {

@@ -1,15 +1,21 @@
 //! The language of `debug`: the script of `run`, and more questions about the platform.
 #![tactic(auto)]
 
-pub use debugger::Debugger;
+pub use debugger::{Debugger, repeated};
 pub use iom_tool::Reply;
+pub use reason::Reason;
+pub use reasons::Reasons;
+pub use taking::{StepAnswer, counted};
+pub use walks::part_line;
 pub use wanting::wanted;
 
-mod accesses;
 mod answers;
 mod debugger;
 mod form;
 mod names;
+mod reason;
+mod reasons;
+mod standings;
 mod taking;
 mod text;
 mod walks;

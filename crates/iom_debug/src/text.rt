@@ -4,7 +4,7 @@ ghost use Rattle.std.specs.Prelude.{◌≡◌, ◌+◌, ◌*◌, ◌++◌, ◌�
 ghost use Rattle.hex.specs.Hex.{encode_lower};
 ghost use Rattle.iom_bits.specs.Causes.{cause_number};
 ghost use Rattle.iom_text.specs.Texts.{numeral, hexed};
-ghost use Rattle.iom_asm.specs.Lines.{operand};
+ghost use Rattle.iom_items.specs.Lines.{operand};
 ghost use Rattle.iom_tool.specs.Texts.{text_of};
 
 use hex::encode_to_slice;
@@ -66,14 +66,23 @@ pub fn push_bytes(out: &mut Reply, bytes: &[u8])
     push_text(out, &digits[..end]);
 }
 
+/// Appends a name and a number in decimal.
+pub fn push_number(out: &mut Reply, name: &[u8], number: u64)
+    requires { length out.old.items + length name.now + 20 ≤ 320 }
+    ensures text { out.new.items ≡ out.old.items ++ name.now ++ numeral 10 number }
+    ensures room { length out.new.items ≤ length out.old.items + length name.now + 20 }
+{
+    push_text(out, name);
+    push_text(out, decimal(number).as_slice());
+}
+
 // Appends the text of a denial: its cause in decimal.
 fn push_denied(out: &mut Reply, cause: u16)
     requires { length out.old.items + 27 ≤ 320 }
     ensures text { out.new.items ≡ out.old.items ++ codes "denied " ++ numeral 10 cause }
     ensures room { length out.new.items ≤ length out.old.items + 27 }
 {
-    push_text(out, b"denied ");
-    push_text(out, decimal(u64::from(cause)).as_slice());
+    push_number(out, b"denied ", u64::from(cause));
 }
 
 /// Appends the text of a denial by its cause.

@@ -2,17 +2,17 @@
 
 ghost use Rattle.std.specs.Prelude.{◌≡◌, ◌+◌, ◌++◌, ◌<◌, ◌≤◌, ◌^◌, [], ◌∷◌, codes, length, Some};
 ghost use Rattle.std.specs.Option.{option_copied};
-ghost use Rattle.iom_asm.specs.Lines.{line_of, operand, pte_text};
-ghost use Rattle.iom_asm.specs.declared.item.Item.TheVariants as item;
+ghost use Rattle.iom_items.specs.Lines.{line_of, operand, pte_text};
+ghost use Rattle.iom_items.specs.declared.item.Item.TheVariants as item;
 ghost use Rattle.iom_tool.specs.Debugger.{item_text};
 ghost use Rattle.iom_debug.specs.Walks.{end_text, first_text, got_text, in_text, met_text, mode_number, part_text, row_text, second_text, walk_text};
 
 use crate::text::{push_hexed, push_operand, push_text, said};
 use crate::ways::{address_by_tables, push_address};
-use iom_asm::{Item, item_line};
 use iom_bits::field;
 use iom_core::{Denial, Platform, Request};
 use iom_ddt::Met;
+use iom_items::{Item, item_line};
 use iom_mem::Ram;
 use iom_reasons::{Part, Way, parts};
 use iom_regs::Mode;
@@ -32,8 +32,8 @@ pub fn walk_line(platform: &Platform, request: &Request, i: u64) -> Reply
     }
 }
 
-// One part.
-fn part_line(platform: &Platform, request: &Request, part: &Part) -> Reply
+/// One part of the walk of a request as the tables stand now.
+pub fn part_line(platform: &Platform, request: &Request, part: &Part) -> Reply
     requires { request.now.did < 2 ^ 24 }
     ensures { result.items ≡ part_text platform.now.machine request.now part.now }
 {

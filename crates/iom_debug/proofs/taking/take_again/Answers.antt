@@ -1,8 +1,10 @@
-use Rattle.std.proofs.Common.{◌≡◌, true, false, arith}
+use Rattle.std.proofs.Common.{◌≡◌, ◌∙◌, ◌+◌, ◌-◌, ◌++◌, codes, length, replicate, ap, true, false, arith}
+use Rattle.iom_text.specs.Texts.{hexed}
+use Rattle.iom_tool.specs.Texts.{text_of}
 use Rattle.iom_core.specs.Table.{next}
 use Rattle.iom_debug.specs.Forms.{step_by}
-use Rattle.iom_debug.specs.Taking.{is_done}
-use Rattle.iom_debug.proofs.Remaining.{again, goes_on, stops}
+use Rattle.iom_debug.specs.Taking.{count_text, is_done, taken}
+use Rattle.iom_debug.proofs.Remaining.{again, begins, ends, goes_on, none_left, stops}
 use Rattle.iom_debug.proofs.taking.take_again.Goals as goal
 
 pub loop-i-preserved : goal.loop-i-preserved
@@ -11,13 +13,41 @@ loop-i-preserved c =
     let done : is_done (next c.loop-i.platform (step_by c.args.actor)).answer ≡ true = cc in
     record {
       within = omega arith;
-      left = rw (c.keep-in-loop-i.ensures, c.step-answer.ensures.state, c.step-answer.ensures.answer, c.step_by-step.ensures)
-          (goes_on _ _ _ _ _ _ _ _ (rw same at c.loop-i.invariant.left) done);
+      left = goes_on _ _ _ _ (step_by c.args.actor) _ _ _ (rw same at c.loop-i.invariant.left) (rw c.step_by-step.ensures at c.take-answered.ensures.took) done;
     }
 
-pub returns-then-not-is_done-clause-reply : goal.returns-then-not-is_done-clause-reply
-returns-then-not-is_done-clause-reply c =
+pub loop-i-init : goal.loop-i-init
+loop-i-init c =
+    let all : c.args.most - 0 ≡ c.args.most = omega arith in
+    record { within = omega arith; left = rw all (begins _ _ _) }
+
+pub returns-then-not-answered-clause-reply : goal.returns-then-not-answered-clause-reply
+unfolding count_text
+returns-then-not-answered-clause-reply c =
     let same = again (step_by c.args.actor) c.args.most c.loop-i.i c.loop-i-test.true in
     let other : is_done (next c.loop-i.platform (step_by c.args.actor)).answer ≡ false = cc in
-    let stopped = stops _ _ _ _ _ _ _ _ (rw same at c.loop-i.invariant.left) other in
-    rw (stopped.count_is, stopped.last_is, ← c.step_by-step.ensures, ← c.step-answer.ensures.answer) c.counted-out.ensures
+    let stopped = stops _ _ _ _ _ _ _ _ (rw same at c.loop-i.invariant.left) (rw c.step_by-step.ensures at c.take-answered.ensures.took) other in
+    rw (stopped.count_is, stopped.last_is)
+    (c.counted.ensures ∙ ap (λ t. hexed (c.loop-i.i + 1) ++ codes " " ++ t) (c.as_slice.ensures.value ∙ c.take-answered.ensures.text
+    ∙ ap (λ s. text_of (next c.loop-i.platform s).answer) c.step_by-step.ensures))
+
+pub returns-then-not-answered-clause-along : goal.returns-then-not-answered-clause-along
+returns-then-not-answered-clause-along c =
+    let same = again (step_by c.args.actor) c.args.most c.loop-i.i c.loop-i-test.true in
+    let other : is_done (next c.loop-i.platform (step_by c.args.actor)).answer ≡ false = cc in
+    let stopped = stops _ _ _ _ _ _ _ _ (rw same at c.loop-i.invariant.left) (rw c.step_by-step.ensures at c.take-answered.ensures.took) other in
+    stopped.along
+
+pub returns-clause-reply : goal.returns-clause-reply
+unfolding count_text text_of
+returns-clause-reply c =
+    let none = none_left (step_by c.args.actor) c.args.most c.loop-i.i (omega arith) in
+    let left = rw none at c.loop-i.invariant.left in
+    let counted = left.count_is in
+    let count : length (taken c.args.platform.now (replicate c.args.most (step_by c.args.actor))) ≡ c.args.most = omega (arith, counted) in
+    rw (count, left.last_is) c.counted-2.ensures
+
+pub returns-clause-along : goal.returns-clause-along
+returns-clause-along c =
+    let none = none_left (step_by c.args.actor) c.args.most c.loop-i.i (omega arith) in
+    ends _ _ _ _ _ (rw none at c.loop-i.invariant.left)
