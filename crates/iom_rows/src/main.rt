@@ -1,11 +1,18 @@
 //! Plays whole scripts: for each file NAME.script of the folder that it is given, what the script writes on the image of
-//! NAME.asm, or on the built-in one where there is no such file, is to be what NAME.expect has. Prints each answer that is
-//! otherwise.
+//! NAME.asm, or on the built-in one where there is no such file, is to be what NAME.expect has. Of each step of these scripts,
+//! and of lists of steps at random, what explains it is to be what a history beside the platform tells. Prints each answer that is
+//! otherwise, and of each script the first step that is told otherwise.
 #![tactic(auto)]
 
+use agreement::Met;
+use iom_core::Step;
 use std::alloc::Global;
 use std::process::ExitCode;
 use std::{env, fs, io};
+
+mod agreement;
+mod generated;
+mod steps;
 
 // What a script writes on an image.
 fn written(alloc: Global, image: &[u8], script: &[u8]) -> anyhow::Result<Vec<u8>> {
@@ -53,14 +60,59 @@ fn image(rt: &HostRuntime, name: &str) -> anyhow::Result<Vec<u8>> {
     Ok(iom_asm::assemble(rt.alloc(), text.as_slice())?)
 }
 
-// Whether a script writes what is expected of it.
+// Whether each step from an image on is explained as a history tells it.
+fn is_agreed(
+    rt: &HostRuntime,
+    name: &str,
+    image: &[u8],
+    steps: &[Step],
+    met: &mut Met,
+) -> anyhow::Result<bool> {
+    let Some(found) = agreement::first_difference(rt.alloc(), image, steps, met)? else {
+        return Ok(true);
+    };
+    let (step, explained, told) = (found.step, found.explained, found.told);
+    println!(rt;
+        "{name}: step {step} is explained by {explained:?}, and the history tells {told:?}"
+    )?;
+    Ok(false)
+}
+
+// Whether each step of the lists at random is explained as a history tells it, and all was met there.
+fn is_agreed_at_random(rt: &HostRuntime) -> anyhow::Result<bool> {
+    let alloc = rt.alloc();
+    let text = generated::text(alloc)?;
+    let image = iom_asm::assemble(alloc, text.as_slice())?;
+    let mut met = Met::none();
+    let mut is_well = true;
+    for number in 0..generated::SCRIPTS {
+        let steps = generated::steps(alloc, number)?;
+        let name = format!(in alloc; "list {number}")?;
+        is_well &= is_agreed(
+            rt,
+            name.as_str(),
+            image.as_slice(),
+            steps.as_slice(),
+            &mut met,
+        )?;
+    }
+    if !met.is_full() {
+        println!(rt; "the lists at random have no access of some kind")?;
+    }
+    Ok(is_well && met.is_full())
+}
+
+// Whether a script writes what is expected of it, and its steps are explained as a history tells them.
 fn is_as_expected(rt: &HostRuntime, name: &str) -> anyhow::Result<bool> {
     let script = fs::read(rt, format!(in rt.alloc(); "{name}.script")?)?;
     let expected = fs::read(rt, format!(in rt.alloc(); "{name}.expect")?)?;
     let image = image(rt, name)?;
     let written = written(rt.alloc(), image.as_slice(), script.as_slice())?;
     compare(rt, name, written.as_slice(), expected.as_slice())?;
-    Ok(written == expected)
+    let steps = steps::of_script(rt.alloc(), image.as_slice(), script.as_slice())?;
+    let mut met = Met::none();
+    let is_agreed = is_agreed(rt, name, image.as_slice(), steps.as_slice(), &mut met)?;
+    Ok(written == expected && is_agreed)
 }
 
 // Plays the scripts of the folder that is given, and ends with status 0 where all answers are the expected ones.
@@ -74,13 +126,15 @@ fn main(rt: HostRuntime) -> anyhow::Result<ExitCode> {
         println!(rt; "{folder} has no script")?;
         return Ok(ExitCode::FAILURE);
     }
-    let mut is_well = true;
+    let mut is_well = is_agreed_at_random(&rt)?;
     for script in &scripts {
         is_well &= is_as_expected(&rt, script.as_str())?;
     }
     if !is_well {
         return Ok(ExitCode::FAILURE);
     }
-    println!(rt; "all answers are the expected ones")?;
+    println!(rt;
+        "all answers are the expected ones, and all steps are explained as they are told"
+    )?;
     Ok(ExitCode::SUCCESS)
 }

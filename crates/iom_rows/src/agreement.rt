@@ -1,0 +1,162 @@
+//! Whether what explains past steps is what a history beside the platform told of them.
+
+ghost use Rattle.std.specs.Prelude.{◌<◌, IfOk, length};
+ghost use Rattle.iom_core.specs.Warrants.{IsUncached};
+
+use iom_asm::LoadFault;
+use iom_core::{Platform, Step, Warrant, explain};
+use iom_history::{History, Origin};
+use std::alloc::{AllocError, Global};
+
+/// A step that is explained otherwise than a history told it.
+#[derive(Clone, Copy)]
+pub struct Difference {
+    /// Which step it is, from 0.
+    pub step: usize,
+    /// Where its translation comes from by `explain`.
+    pub explained: Option<Origin>,
+    /// Where it comes from by the history.
+    pub told: Option<Origin>,
+}
+
+/// How many accesses that were let through had which origin.
+#[derive(Drop)]
+pub struct Met {
+    /// By ddtp alone.
+    pub register: u64,
+    /// By a context alone.
+    pub context: u64,
+    /// By page tables that were walked at the access.
+    pub walked: u64,
+    /// By a translation of the cache, under the context under which it was walked.
+    pub cached: u64,
+    /// By a translation of the cache, under a newer context.
+    pub older: u64,
+}
+
+impl Met {
+    /// Of no access.
+    pub fn none() -> Met {
+        Met {
+            register: 0,
+            context: 0,
+            walked: 0,
+            cached: 0,
+            older: 0,
+        }
+    }
+
+    // Counts an access of the step with this number.
+    fn count(&mut self, origin: Origin, number: u64) {
+        let met = match origin {
+            Origin::Register => &mut self.register,
+            Origin::Context { .. } => &mut self.context,
+            Origin::Walked { walk, .. } if walk == number => &mut self.walked,
+            Origin::Walked {
+                context,
+                current,
+                ..
+            } if context == current => &mut self.cached,
+            Origin::Walked { .. } => &mut self.older,
+        };
+        *met = met.saturating_add(1);
+    }
+
+    /// Whether each was met.
+    pub fn is_full(&self) -> bool {
+        [
+            self.register,
+            self.context,
+            self.walked,
+            self.cached,
+            self.older,
+        ]
+        .iter()
+        .all(|met| *met > 0)
+    }
+}
+
+// The number by which a history is given step n.
+fn numbered(n: usize) -> u64 {
+    (n as u64).wrapping_mul(3).wrapping_add(10)
+}
+
+// A warrant as a history tells it.
+fn by_numbers(warrant: Warrant) -> Origin {
+    match warrant {
+        Warrant::Register => Origin::Register,
+        Warrant::Context { context } => Origin::Context {
+            context: numbered(context),
+        },
+        Warrant::Walked {
+            context,
+            walk,
+            current,
+        } => Origin::Walked {
+            context: numbered(context),
+            walk: numbered(walk),
+            current: numbered(current),
+        },
+    }
+}
+
+// The platform that an image starts. Its caches hold nothing.
+#[tactic(auto, using(crate::proofs::Uncached::uncached))]
+fn started(alloc: Global, image: &[u8]) -> Result<Platform, LoadFault>
+    ensures { IfOk result (λ platform. IsUncached platform) }
+{
+    iom_asm::load(alloc, image)
+}
+
+// Where the translation of step n comes from, by what explains it.
+fn explained(
+    alloc: Global,
+    start: &Platform,
+    steps: &[Step],
+    n: usize,
+) -> Result<Option<Origin>, AllocError>
+    requires below { n < length steps.now }
+    requires uncached { IsUncached start.now }
+{
+    Ok(explain(alloc, start, steps, n)?.map(by_numbers))
+}
+
+// The first of the steps from `start` on that is explained otherwise than a history tells it.
+fn compared(
+    alloc: Global,
+    start: &Platform,
+    steps: &[Step],
+    met: &mut Met,
+) -> Result<Option<Difference>, AllocError>
+    requires { IsUncached start.now }
+{
+    let mut platform = start.try_clone(alloc)?;
+    let mut history = History::new(&platform);
+    for n in 0..steps.len() {
+        let told = history.step(&mut platform, &steps[n], numbered(n)).origin;
+        let explained = explained(alloc, start, steps, n)?;
+        if told != explained {
+            return Ok(Some(Difference {
+                step: n,
+                explained,
+                told,
+            }));
+        }
+        if let Some(origin) = told {
+            met.count(origin, numbered(n));
+        }
+    }
+    Ok(None)
+}
+
+/// The first of the steps from an image on that is explained otherwise than a history tells it; None where there is none. What
+/// they met is counted.
+pub fn first_difference(
+    alloc: Global,
+    image: &[u8],
+    steps: &[Step],
+    met: &mut Met,
+) -> anyhow::Result<Option<Difference>> {
+    let start = started(alloc, image)?;
+    Ok(compared(alloc, &start, steps, met)?)
+}
