@@ -10,14 +10,15 @@
 #   make peer                 the program beside QEMU's IOMMU (QEMU 10), 5,000 cases; CASES=5000 and SEED=1 where they aren't given
 #   make library              the C library, its header and pkg-config file into c/out; the Python module takes it from there
 #   make install PREFIX=..    copy the program to PREFIX/bin, /usr/local/bin where PREFIX is not given, with its man page and
-#                             completions for bash and zsh
-#   make dist, make deb       pack the program into dist/, as an archive or as a Debian package
+#                             completions for bash and zsh, and the C library to PREFIX/lib and PREFIX/include
+#   make dist, make deb       pack both into dist/, as an archive or as a Debian package
 
 PREFIX = /usr/local
 MINUTES = 1
 SEED = 1
 CASES = 5000
 program = crates/rviommu/out/rviommu
+library = c/out/lib/librviommu.so
 sources = $(shell find crates -name out -prune -o -type f \( -name '*.rt' -o -name '*.antt' \) -print)
 
 # On standard error, so that standard output has the program's answers alone.
@@ -32,6 +33,12 @@ $(program): crates.txt $(sources)
 	@packaging/build.py
 	@touch $@
 
+$(library): crates.txt $(sources) c/build.py include/rviommu.h
+	@$(has_rt)
+	@$(has_python)
+	@c/build.py >/dev/null
+	@touch $@
+
 build: $(program)
 
 run: $(program)
@@ -44,9 +51,9 @@ test:
 	sh tests/refused_memory.sh
 	@test -x $(program) || packaging/build.py
 	tests/program.py $(program)
-	tests/package.py $(program)
 	c/build.py
 	tests/c_library.py $(program)
+	tests/package.py $(program)
 
 rows:
 	@$(has_rt)
@@ -75,7 +82,7 @@ library:
 	@$(has_python)
 	c/build.py
 
-install: $(program)
+install: $(program) $(library)
 	install -d $(DESTDIR)$(PREFIX)/bin
 	install -m 755 $(program) $(DESTDIR)$(PREFIX)/bin/rviommu
 	install -d $(DESTDIR)$(PREFIX)/share/man/man1
@@ -84,9 +91,14 @@ install: $(program)
 	install -m 644 completions/rviommu.bash $(DESTDIR)$(PREFIX)/share/bash-completion/completions/rviommu
 	install -d $(DESTDIR)$(PREFIX)/share/zsh/site-functions
 	install -m 644 completions/_rviommu $(DESTDIR)$(PREFIX)/share/zsh/site-functions/_rviommu
+	install -d $(DESTDIR)$(PREFIX)/include
+	install -m 644 include/rviommu.h $(DESTDIR)$(PREFIX)/include/rviommu.h
+	install -d $(DESTDIR)$(PREFIX)/lib/pkgconfig
+	install -m 644 c/out/lib/librviommu.a c/out/lib/librviommu.so $(DESTDIR)$(PREFIX)/lib
+	install -m 644 c/out/lib/pkgconfig/rviommu.pc $(DESTDIR)$(PREFIX)/lib/pkgconfig/rviommu.pc
 
-dist: $(program)
+dist: $(program) $(library)
 	@packaging/package.py dist $(program)
 
-deb: $(program)
+deb: $(program) $(library)
 	@packaging/package.py deb $(program)

@@ -100,6 +100,95 @@ struct rviommu_context_place {
     bool tav;        /* ta bit 0 */
 };
 
+/* What the tables in memory say, beside the caches. */
+enum rviommu_standing {
+    RVIOMMU_CURRENT = 0, /* the same as the caches */
+    RVIOMMU_NOTHING = 1, /* of a place: no entry stands there */
+    RVIOMMU_NO_SUCH = 2, /* there are fewer places or parts, or the device id isn't below 2^24 */
+    RVIOMMU_STALE = 3    /* something else, which is put */
+};
+
+/* How a request is led. */
+enum rviommu_way_kind {
+    RVIOMMU_BY_REGISTER = 0, /* by ddtp, whose mode is Bare: the physical address is the IOVA */
+    RVIOMMU_BY_CONTEXT = 1,  /* by a context whose stages are both Bare: the physical address is the IOVA */
+    RVIOMMU_BY_WALK = 2,     /* by the stages of a context, which lead the IOVA's page to a frame */
+    RVIOMMU_TO_NOWHERE = 3   /* nowhere: it is denied */
+};
+
+/* The way that a request is led. What its kind doesn't have is 0. */
+struct rviommu_way {
+    struct rviommu_context_place context; /* the device's context, of BY_CONTEXT and BY_WALK */
+    uint64_t frame;                       /* the physical address of the page's frame divided by 4096, of BY_WALK */
+    uint64_t iotval2;                     /* of a guest page fault its address, in the form of a fault record's iotval2 */
+    uint32_t kind;                        /* an enum rviommu_way_kind */
+    uint32_t level;                       /* the level of the first stage's leaf, of BY_WALK; 0 where that stage is Bare */
+    uint32_t cause;                       /* the cause of the denial, of TO_NOWHERE */
+    bool is_global;                       /* the first stage's mapping is global, of BY_WALK */
+    bool is_reported;                     /* the denial makes a fault record, of TO_NOWHERE */
+};
+
+/* What ddtp and the directory say of a device id ("Process to locate the Device-context"). */
+enum rviommu_located_kind {
+    RVIOMMU_NO_DIRECTORY = 0, /* ddtp's mode is Off or Bare */
+    RVIOMMU_HAS_CONTEXT = 1,  /* the device's context */
+    RVIOMMU_NO_CONTEXT = 2    /* that there is none, and why */
+};
+
+struct rviommu_located {
+    struct rviommu_context_place context; /* of HAS_CONTEXT, else 0 */
+    uint32_t kind;                        /* an enum rviommu_located_kind */
+    uint32_t cause;                       /* why there is none, of NO_CONTEXT, else 0 */
+};
+
+/* What is looked at to lead a request. */
+enum rviommu_part_kind {
+    RVIOMMU_PART_DDTP = 0,    /* ddtp: its mode, and as `word` its PPN */
+    RVIOMMU_PART_ENTRY = 1,   /* a non-leaf entry of the device directory */
+    RVIOMMU_PART_CONTEXT = 2, /* a leaf entry of the device directory: the context's words, tc in `word` */
+    RVIOMMU_PART_FIRST = 3,   /* an entry of the first stage's tables */
+    RVIOMMU_PART_SECOND = 4,  /* an entry of the second stage's tables */
+    RVIOMMU_PART_END = 5      /* the end: the way that the request is led */
+};
+
+/* What decides of an entry of a page table. All but POINTER and LEAF are faults. */
+enum rviommu_ruling {
+    RVIOMMU_ENTRY_OUTSIDE = 0,             /* it lies outside memory */
+    RVIOMMU_ENTRY_GUEST = 1,               /* the second stage leads its guest-physical address nowhere */
+    RVIOMMU_ENTRY_INVALID = 2,             /* V is 0 */
+    RVIOMMU_ENTRY_WRITE_ONLY = 3,          /* R is 0 and W is 1 */
+    RVIOMMU_ENTRY_RESERVED = 4,            /* one of bits 63:54 is set */
+    RVIOMMU_ENTRY_RESERVED_IN_POINTER = 5, /* A, D or U is set in a pointer */
+    RVIOMMU_ENTRY_LAST_LEVEL = 6,          /* a pointer at level 0 */
+    RVIOMMU_ENTRY_POINTER = 7,             /* it points to a table of the next level */
+    RVIOMMU_ENTRY_MISALIGNED = 8,          /* a leaf whose PPN isn't aligned to its size */
+    RVIOMMU_ENTRY_NOT_USER = 9,            /* a leaf with U = 0 */
+    RVIOMMU_ENTRY_NOT_READABLE = 10,       /* a leaf with R = 0, for a read */
+    RVIOMMU_ENTRY_NOT_WRITABLE = 11,       /* a leaf with W = 0, for a write */
+    RVIOMMU_ENTRY_NOT_ACCESSED = 12,       /* a leaf with A = 0 */
+    RVIOMMU_ENTRY_NOT_DIRTY = 13,          /* a leaf with D = 0, for a write */
+    RVIOMMU_ENTRY_LEAF = 14                /* a leaf that maps the address */
+};
+
+/* A part of a walk. What its kind doesn't have is 0. */
+struct rviommu_walk_part {
+    uint64_t place;         /* where an entry or a context stands: its physical address, but of FIRST its guest-physical one under a second
+                               stage */
+    uint64_t read_at;       /* the physical address that it was read at, of FIRST and SECOND */
+    uint64_t guest;         /* the guest-physical address that is translated, of SECOND */
+    uint64_t word;          /* the entry's word; of CONTEXT tc; of DDTP its PPN */
+    uint64_t iohgatp;       /* of CONTEXT */
+    uint64_t ta;            /* of CONTEXT */
+    uint64_t fsc;           /* of CONTEXT */
+    uint32_t kind;          /* an enum rviommu_part_kind */
+    uint32_t mode;          /* ddtp.iommu_mode, of DDTP: 0 Off, 1 Bare, 2 to 4 for one to three levels */
+    uint32_t level;         /* the level of the entry's table, of FIRST and SECOND */
+    uint32_t ruling;        /* an enum rviommu_ruling, of FIRST and SECOND */
+    bool has_word;          /* it was read: no byte of it is outside memory, and its place leads somewhere */
+    bool has_read_at;       /* of FIRST and SECOND: there is a physical address that it was read at */
+    struct rviommu_way way; /* of END */
+};
+
 /*
  * Start and end. `handle` is closed, or was never used; an open one's memory would be lost.
  */
@@ -190,6 +279,22 @@ uint32_t rviommu_disk(rviommu_t *handle, size_t device, size_t offset, uint8_t *
  * Answers an enum rviommu_place; the entry is put for RVIOMMU_LIVE, and unchanged else. */
 uint32_t rviommu_page(rviommu_t *handle, uint64_t place, struct rviommu_page_place *page);
 uint32_t rviommu_context(rviommu_t *handle, uint64_t place, struct rviommu_context_place *context);
+
+/* One of the parts of a walk, at most 29: all that is looked at to lead a request of a device for an IOVA where nothing is cached, in
+ * order ("Process to translate an IOVA"). Part 0 is ddtp, the last is the end. Answers RVIOMMU_OK; or RVIOMMU_NO_SUCH where there are
+ * fewer parts or the device id isn't below 2^24, and `part` is unchanged then. */
+uint32_t rviommu_part(rviommu_t *handle, uint64_t did, uint64_t iova, bool is_write, uint64_t number, struct rviommu_walk_part *part);
+
+/* Whether a request is stale: the caches lead it otherwise than the tables do ("Caching in-memory data structures"). Answers
+ * RVIOMMU_CURRENT; RVIOMMU_STALE, and puts the way that the tables say; or RVIOMMU_NO_SUCH where the device id isn't below 2^24. `way` is
+ * unchanged unless it is stale. */
+uint32_t rviommu_stale(rviommu_t *handle, uint64_t did, uint64_t iova, bool is_write, struct rviommu_way *way);
+
+/* Whether the tables still say what a place of a cache holds. Answers an enum rviommu_standing; of a stale place of the translation cache
+ * the way is put that the tables say of a request at the first byte of its page, and of one of the context cache what ddtp and the
+ * directory say of its device; unchanged else. */
+uint32_t rviommu_stale_page(rviommu_t *handle, uint64_t place, struct rviommu_way *way);
+uint32_t rviommu_stale_context(rviommu_t *handle, uint64_t place, struct rviommu_located *located);
 
 /*
  * Texts.

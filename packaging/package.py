@@ -1,9 +1,9 @@
 #!/usr/bin/env -S python3 -B
-"""package.py dist|deb [PROGRAM]    Packs the built program into dist/, as an archive or as a Debian package.
+"""package.py dist|deb [PROGRAM [PREFIX]]    Packs the built program and the C library into dist/, as an archive or as a Debian package.
 
-Two packings of one commit with one program are equal byte for byte: each file has the date of the version in CHANGELOG.md,
+Two packings of one commit with one program and library are equal byte for byte: each file has the date of the version in CHANGELOG.md,
 one owner and fixed rights, and the order is by name. Prints the file that was written. PROGRAM is the built program,
-crates/rviommu/out/rviommu where it is not given.
+crates/rviommu/out/rviommu where it is not given; PREFIX is where c/build.py made the library, c/out where it is not given.
 """
 import datetime
 import gzip
@@ -36,7 +36,8 @@ Description: proved platform model of the RISC-V IOMMU
  whose every memory access is translated. It takes an image and a script
  of hart accesses, command steps and device steps, and answers each line:
  which access a device is allowed, which fault record it leaves, and what
- stays cached until an invalidation.
+ stays cached until an invalidation. The same is there as a C library, with
+ its header, archive, shared object and pkg-config file.
 """
 
 COPYRIGHT = """\
@@ -65,21 +66,41 @@ def version_and_date():
     return newest[1], int(day.timestamp())
 
 
-def stripped(program):
-    """The program without its symbols, where there is a strip; else as it is."""
+def stripped(path, *words):
+    """A program or a library without its symbols, where there is a strip; else as it is."""
     with tempfile.TemporaryDirectory() as folder:
-        copy = os.path.join(folder, "rviommu")
-        shutil.copyfile(program, copy)
+        copy = os.path.join(folder, os.path.basename(path))
+        shutil.copyfile(path, copy)
         if shutil.which("strip"):
-            subprocess.run(["strip", "--remove-section=.comment", "--remove-section=.note", copy], check=True)
+            subprocess.run(["strip", *words, "--remove-section=.comment", "--remove-section=.note", copy], check=True)
         with open(copy, "rb") as file:
             return file.read()
 
 
-def examples():
-    folder = os.path.join(TOP, "examples")
-    names = sorted(name for name in os.listdir(folder) if os.path.isfile(os.path.join(folder, name)))
-    return {f"examples/{name}": read(f"examples/{name}") for name in names}
+def examples(*folders):
+    """The files of examples/, or of a folder in it."""
+    folder = os.path.join("examples", *folders)
+    names = sorted(name for name in os.listdir(os.path.join(TOP, folder)) if os.path.isfile(os.path.join(TOP, folder, name)))
+    return {f"{folder}/{name}": read(f"{folder}/{name}") for name in names}
+
+
+def library(prefix, top, lib):
+    """The files of the C library, by their paths below `top`: the header in include, the others in the folder `lib`."""
+
+    def made(*names):
+        return os.path.join(prefix, "lib", *names)
+
+    with open(made("pkgconfig", "rviommu.pc"), encoding="utf-8") as file:
+        flags = file.read()
+    up = "/".join([".."] * (lib.count("/") + 2))
+    flags = flags.replace("${pcfiledir}/../..\n", "${pcfiledir}/" + up + "\n").replace("${prefix}/lib\n", "${prefix}/" + lib + "\n")
+    files = {
+        "include/rviommu.h": read("include/rviommu.h"),
+        f"{lib}/librviommu.a": stripped(made("librviommu.a"), "--strip-debug", "--enable-deterministic-archives"),
+        f"{lib}/librviommu.so": stripped(made("librviommu.so"), "--strip-unneeded"),
+        f"{lib}/pkgconfig/rviommu.pc": flags.encode(),
+    }
+    return {top + path: data for path, data in files.items()}
 
 
 def archived(names, date):
@@ -123,7 +144,7 @@ def write(name, data):
     print(os.path.relpath(path, TOP))
 
 
-def dist(program):
+def dist(program, prefix):
     version, date = version_and_date()
     files = {
         "rviommu": stripped(program),
@@ -132,7 +153,10 @@ def dist(program):
         "completions/_rviommu": read("completions/_rviommu"),
         "README.md": read("README.md"),
         "CHANGELOG.md": read("CHANGELOG.md"),
+        "c/README.md": read("c/README.md"),
         **examples(),
+        **examples("c"),
+        **library(prefix, "", "lib"),
     }
     top = f"rviommu-{version}-linux-x86_64"
     names = [(f"{top}/{path}", data, 0o755 if path == "rviommu" else 0o644) for path, data in files.items()]
@@ -144,7 +168,7 @@ def debian_changelog(version, date):
     return f"rviommu ({version}) unstable; urgency=low\n\n  * See CHANGELOG.md.\n\n -- {MAINTAINER}  {day}\n".encode()
 
 
-def installed(program, version, date):
+def installed(program, prefix, version, date):
     """The files of the Debian package, by their paths."""
     doc = "usr/share/doc/rviommu"
     return {
@@ -156,19 +180,22 @@ def installed(program, version, date):
         f"{doc}/CHANGELOG.md": read("CHANGELOG.md"),
         f"{doc}/changelog.gz": zipped(debian_changelog(version, date)),
         f"{doc}/copyright": COPYRIGHT.encode(),
-        **{f"{doc}/{path}": data for path, data in examples().items()},
+        f"{doc}/c/README.md": read("c/README.md"),
+        **{f"{doc}/{path}": data for path, data in (examples() | examples("c")).items()},
+        **library(prefix, "usr/", "lib/x86_64-linux-gnu"),
     }
 
 
-def deb(program):
+def deb(program, prefix):
     version, date = version_and_date()
     if not shutil.which("dpkg-deb"):
         sys.exit("package: there is no dpkg-deb on the path (Debian's package dpkg has it)")
-    files = installed(program, version, date)
+    files = installed(program, prefix, version, date)
     sums = "".join(f"{hashlib.md5(data).hexdigest()}  {path}\n" for path, data in sorted(files.items()))
     size = sum(-(-len(data) // 1024) for data in files.values())
     files["DEBIAN/control"] = CONTROL.format(version=version, maintainer=MAINTAINER, size=size).encode()
     files["DEBIAN/md5sums"] = sums.encode()
+    files["DEBIAN/triggers"] = b"activate-noawait ldconfig\n"
     os.makedirs(MADE, exist_ok=True)
     name = f"rviommu_{version}_amd64.deb"
     with tempfile.TemporaryDirectory() as root:
@@ -189,13 +216,16 @@ def deb(program):
 
 def main():
     kinds = {"dist": dist, "deb": deb}
-    if len(sys.argv) not in (2, 3) or sys.argv[1] not in kinds:
+    if len(sys.argv) not in (2, 3, 4) or sys.argv[1] not in kinds:
         sys.exit(__doc__)
-    program = sys.argv[2] if len(sys.argv) == 3 else os.path.join(TOP, "crates/rviommu/out/rviommu")
+    program = sys.argv[2] if len(sys.argv) > 2 else os.path.join(TOP, "crates/rviommu/out/rviommu")
+    prefix = sys.argv[3] if len(sys.argv) > 3 else os.path.join(TOP, "c", "out")
     if not os.path.isfile(program):
         sys.exit(f"package: there is no program {program}: 'make build' builds it")
+    if not os.path.isfile(os.path.join(prefix, "lib", "librviommu.so")):
+        sys.exit(f"package: there is no C library in {prefix}: 'make library' builds it")
     os.umask(0o022)
-    kinds[sys.argv[1]](os.path.abspath(program))
+    kinds[sys.argv[1]](os.path.abspath(program), os.path.abspath(prefix))
 
 
 if __name__ == "__main__":

@@ -2,8 +2,9 @@
 """c_library.py PROGRAM [PREFIX]    Uses the C library and the Python module that c/build.py made in PREFIX, c/out where it is not given.
 
 Each script of examples/ and of crates/iom_rows/data is played through the library, line by line and by numbers, and compared with
-PROGRAM. Prints one line a check, and 'c_library: N passed, M failed' at the end. The status is 1 where a check failed.
+PROGRAM, and so are 100,000 lines of generated scripts, under the address sanitizer and under valgrind. Prints one line a check, and 'c_library: N passed, M failed' at the end. The status is 1 where a check failed.
 """
+import functools
 import glob
 import os
 import shutil
@@ -11,9 +12,15 @@ import subprocess
 import sys
 import tempfile
 
+import fuzz
+
 TOP = os.path.normpath(os.path.join(os.path.dirname(os.path.abspath(__file__)), os.pardir))
 STRICT = ["-O1", "-g", "-pedantic", "-Wall", "-Wextra", "-Werror"]
 COMPILERS = {"gcc": "-std=c11", "clang": "-std=c11", "g++": "-std=c++11", "clang++": "-std=c++11"}
+SANITIZER = ["-fsanitize=address,undefined", "-fno-sanitize-recover=all"]
+SEED = 1
+# Of the generated scripts: how many lines have each number of stages, and how many are of scripts made to harm.
+PLAIN_LINES, HARMFUL_LINES = 20_000, 40_000
 VALGRIND = ["valgrind", "-q", "--leak-check=full", "--error-exitcode=9"]
 
 
@@ -110,6 +117,50 @@ def is_played_alike(place, how):
             raise Failure(f"{os.path.relpath(script, TOP)} is answered otherwise than by the program")
 
 
+def plain_scripts():
+    """Scripts of accesses none of which is refused, and the text of their image: 1 MiB that is 0."""
+    generate = os.path.join(TOP, "bench", "generate.py")
+    for stages in range(3):
+        yield [fuzz.BUILT_IN.strip()], run([sys.executable, generate, str(stages), "176", str(PLAIN_LINES), str(SEED)])
+
+
+def harmful_scripts():
+    """Scripts of the repository with the changes of tests/fuzz.py, each with the text of its image."""
+    found, mutator, lines = fuzz.cases(), fuzz.Mutator(SEED), 0
+    names = sorted(found)
+    while lines < HARMFUL_LINES:
+        text, script = found[mutator.random.choice(names)]
+        donor = found[mutator.random.choice(names)]
+        script = mutator.watched(mutator.lines(script, donor[1], mutator.random.choice([0, 1, 2, 4, 8])))
+        lines += len(script)
+        yield mutator.disks(text), "".join(f"{line}\n" for line in script).encode()
+
+
+@functools.lru_cache(maxsize=None)
+def generated(program, here):
+    """Generated scripts: the paths of the images and of the scripts, in turn, and the program's answers to all of them."""
+    paths, answers = [], b""
+    for number, (text, script) in enumerate([*plain_scripts(), *harmful_scripts()]):
+        source, image, path = (os.path.join(here, f"{name}{number}") for name in ("text", "image", "script"))
+        with open(source, "w", encoding="utf-8") as file:
+            file.write("\n".join(text))
+        with open(path, "wb") as file:
+            file.write(script)
+        run([program, "asm", source, image])
+        answers += run([program, "run", image], input=script)
+        paths += [image, path]
+    return paths, answers
+
+
+def is_generated_alike(place, how, checker=()):
+    """The generated scripts are played alike, without a report of the sanitizer or of the checker."""
+    needs(*checker[:1])
+    paths, answers = generated(place.program, place.here)
+    name, more = ("play-checked", []) if checker else ("play-sanitized", SANITIZER)
+    if run([*checker, compiled(place, "gcc", name, ["tests/c/play.c"], *more), how, *paths]) != answers:
+        raise Failure("the generated scripts are answered otherwise than by the program")
+
+
 def has_all_functions(place):
     """The header, the archive and the Python module name the same functions."""
     sys.path.insert(0, os.path.join(TOP, "python"))
@@ -175,6 +226,9 @@ CHECKS = [
     ("pkg-config finds the library, and the shared object is used", by_pkg_config),
     ("each script is played alike, line by line", lambda place: is_played_alike(place, "text")),
     ("each script is played alike, by numbers", lambda place: is_played_alike(place, "numbers")),
+    ("100,000 generated lines are played alike by numbers, and the sanitizer reports nothing", lambda place: is_generated_alike(place, "numbers")),
+    ("the same line by line", lambda place: is_generated_alike(place, "text")),
+    ("the same by numbers under valgrind", lambda place: is_generated_alike(place, "numbers", VALGRIND)),
     ("the Python module's tests", python_tests),
     ("the test in python/README.md", python_readme),
     ("the Python module is installed by pip and used", python_package),

@@ -1,5 +1,5 @@
 #!/usr/bin/env -S python3 -B
-"""package.py PROGRAM    Packs the built program, installs each package into an empty root, uses it from there, and removes it.
+"""package.py PROGRAM    Packs the built program and the C library, installs each package into an empty root, uses it from there, and removes it.
 
 Prints one line a check, and 'package: N passed, M failed' at the end. The status is 1 where a check failed.
 """
@@ -78,9 +78,40 @@ def archive_is_used(program):
         top = os.path.join(root, top)
         answers_an_example(os.path.join(top, "rviommu"), os.path.join(top, "examples"))
         shows_its_page(os.path.join(top, "rviommu.1"))
+        serves_c(top)
         for name in ("README.md", "CHANGELOG.md", "completions/_rviommu", "completions/rviommu.bash"):
             if not os.path.isfile(os.path.join(top, name)):
                 raise Failure(f"the archive has no {name}")
+
+
+def serves_c(root):
+    """The C library below a folder is found by pkg-config, and the driver's test passes on its archive and on its shared object."""
+    needs("pkg-config")
+    needs("gcc")
+    (flags_file,) = [path for path in files_of(root) if path.endswith("rviommu.pc")]
+    folder = os.path.dirname(os.path.join(root, flags_file))
+    flags = run(["pkg-config", "--cflags", "--libs", "rviommu"], env={**os.environ, "PKG_CONFIG_PATH": folder}).decode().split()
+    sources = [os.path.join(TOP, "examples/c", name) for name in ("iommu.c", "test_driver.c")]
+    with tempfile.TemporaryDirectory() as here:
+        made = os.path.join(here, "test")
+        run(["gcc", "-std=c11", "-o", made, *sources, *flags])
+        if run([made], env={**os.environ, "LD_LIBRARY_PATH": os.path.dirname(folder)}) != b"passed\n":
+            raise Failure("the driver's test fails on the shared object")
+        run(["gcc", "-std=c11", "-o", made, *sources, *flags[:1], os.path.join(os.path.dirname(folder), "librviommu.a")])
+        if run([made]) != b"passed\n":
+            raise Failure("the driver's test fails on the archive")
+
+
+def is_installed(program):
+    """What make install copies is used from there."""
+    needs("make")
+    with tempfile.TemporaryDirectory() as root:
+        old = ["-o", program, "-o", "c/out/lib/librviommu.so"]
+        run(["make", "-s", *old, "install", f"program={program}", f"DESTDIR={root}", "PREFIX=/opt/rviommu"], cwd=TOP)
+        top = os.path.join(root, "opt/rviommu")
+        answers_an_example(os.path.join(top, "bin/rviommu"), os.path.join(TOP, "examples"))
+        shows_its_page(os.path.join(top, "share/man/man1/rviommu.1"))
+        serves_c(top)
 
 
 def files_of(root):
@@ -104,6 +135,7 @@ def package_is_installed_and_removed(program):
         docs = os.path.join(root, "usr/share/doc/rviommu/examples")
         answers_an_example(os.path.join(root, "usr/bin/rviommu"), docs)
         shows_its_page(os.path.join(root, "usr/share/man/man1/rviommu.1.gz"))
+        serves_c(root)
         run([*dpkg, "--purge", "rviommu"])
         left = [name for name in files_of(root) if name not in before and not name.startswith(("var/", "dpkg.log"))]
         if left:
@@ -116,8 +148,9 @@ def lintian_has_no_errors(program):
 
 
 CHECKS = [
+    ("make install's program, man page and C library are used", is_installed),
     ("the archive is packed alike twice", lambda program: is_packed_alike("dist", program)),
-    ("the archive's program, examples and man page are used", archive_is_used),
+    ("the archive's program, examples, man page and C library are used", archive_is_used),
     ("the Debian package is packed alike twice", lambda program: (needs("dpkg-deb"), is_packed_alike("deb", program))),
     ("the Debian package is installed into an empty root, used and removed", package_is_installed_and_removed),
     ("lintian finds no error in the Debian package", lintian_has_no_errors),

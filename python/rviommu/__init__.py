@@ -7,16 +7,19 @@ a `Refusal`. Addresses and lengths are in bytes. `rviommu.forms` puts together w
 import ctypes
 
 from . import forms
-from ._library import LIBRARY, Handle, Page, Context as CachedContext
+from ._library import LIBRARY, Handle, Located, Page, Part, Way, Context as CachedContext
 from .forms import Context, FaultRecord, Fence, Gvma, Iodir, Pte, Vma
+from .reasons import LocatedKind, PartKind, Ruling, WayKind
 
 __all__ = ["AssemblyError", "BadAccess", "BusError", "CachedContext", "Context", "Denied", "FaultRecord", "Fence", "Gvma", "ImageError",
-           "Iodir", "Misuse", "NoDevice", "Outside", "Page", "Platform", "Pte", "Refusal", "Vma", "assemble", "forms"]
+           "Iodir", "Located", "LocatedKind", "Misuse", "NoDevice", "Outside", "Page", "Part", "PartKind", "Platform", "Pte", "Refusal", "Ruling",
+           "Vma", "Way", "WayKind", "assemble", "forms"]
 __version__ = "0.3.0"
 
 _VALUE, _DONE, _BYTES, _IDLE, _DENIED, _BUS_ERROR, _BAD_ACCESS, _NO_DEVICE, _MISUSE = range(9)
 _OK, _OUT_OF_MEMORY, _OUTSIDE, _LITTLE_ROOM, _NO_DISK = 0, 7, 10, 11, 12
 _LIVE, _EMPTY = 0, 1
+_STALE = 3
 _ROOM = 321
 _FQB, _FQH, _FQT, _CQB, _CQH, _CQT = 0x28, 0x30, 0x34, 0x18, 0x20, 0x24
 
@@ -278,3 +281,33 @@ class Platform:
     def contexts(self):
         """The places of the context cache, the DDTC, oldest first; None for an empty one."""
         return self._places("context", CachedContext)
+
+    def _request(self, did):
+        if not 0 <= did < 1 << 24:
+            raise ValueError(f"{did:#x} is no device id")
+        return self._open
+
+    def walk(self, did, iova, is_write=False):
+        """The parts of a walk: all that is looked at to lead a request where nothing is cached. The first is ddtp, the last the end."""
+        handle, parts, part = self._request(did), [], Part()
+        while LIBRARY.rviommu_part(handle, did, iova, is_write, len(parts), part) == _OK:
+            parts.append(part)
+            part = Part()
+        return parts
+
+    def stale(self, did, iova, is_write=False):
+        """The way that the tables say of a request that the caches lead otherwise; None where they don't."""
+        way = Way()
+        return way if LIBRARY.rviommu_stale(self._request(did), did, iova, is_write, way) == _STALE else None
+
+    def _stale_place(self, name, place, now):
+        return now if getattr(LIBRARY, "rviommu_" + name)(self._open, place, now) == _STALE else None
+
+    def stale_page(self, place):
+        """The way that the tables say of a place of the translation cache that holds something else; None where it doesn't."""
+        return self._stale_place("stale_page", place, Way())
+
+    def stale_context(self, place):
+        """What ddtp and the directory say of the device of a place of the context cache that holds something else; None where it
+        doesn't."""
+        return self._stale_place("stale_context", place, Located())

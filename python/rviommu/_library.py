@@ -28,6 +28,28 @@ class Context(Structure):
     _fields_ += [("dtf", c_bool), ("tav", c_bool)]
 
 
+class Way(Structure):
+    """struct rviommu_way"""
+
+    _fields_ = [("context", Context), ("frame", c_uint64), ("iotval2", c_uint64)]
+    _fields_ += [(name, c_uint32) for name in ("kind", "level", "cause")]
+    _fields_ += [("is_global", c_bool), ("is_reported", c_bool)]
+
+
+class Located(Structure):
+    """struct rviommu_located"""
+
+    _fields_ = [("context", Context), ("kind", c_uint32), ("cause", c_uint32)]
+
+
+class Part(Structure):
+    """struct rviommu_walk_part"""
+
+    _fields_ = [(name, c_uint64) for name in ("place", "read_at", "guest", "word", "iohgatp", "ta", "fsc")]
+    _fields_ += [(name, c_uint32) for name in ("kind", "mode", "level", "ruling")]
+    _fields_ += [("has_word", c_bool), ("has_read_at", c_bool), ("way", Way)]
+
+
 HANDLE, NUMBER, SIZE, BYTES = POINTER(Handle), POINTER(c_uint64), POINTER(c_size_t), POINTER(c_uint8)
 
 # What each function takes; each answers a uint32_t but for those of NOTHING.
@@ -53,6 +75,10 @@ FUNCTIONS = {
     "disk": (HANDLE, c_size_t, c_size_t, BYTES, c_size_t),
     "page": (HANDLE, c_uint64, POINTER(Page)),
     "context": (HANDLE, c_uint64, POINTER(Context)),
+    "part": (HANDLE, c_uint64, c_uint64, c_bool, c_uint64, POINTER(Part)),
+    "stale": (HANDLE, c_uint64, c_uint64, c_bool, POINTER(Way)),
+    "stale_page": (HANDLE, c_uint64, POINTER(Way)),
+    "stale_context": (HANDLE, c_uint64, POINTER(Located)),
     "assemble": (c_char_p, c_size_t, BYTES, c_size_t, SIZE, NUMBER),
     "text": (c_uint32, c_char_p, c_size_t, SIZE),
 }

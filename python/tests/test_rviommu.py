@@ -2,8 +2,8 @@
 import unittest
 
 import rviommu
-from rviommu import (AssemblyError, BadAccess, BusError, Context, Denied, FaultRecord, Fence, Gvma, ImageError, Iodir, Misuse, NoDevice, Outside, Platform,
-                     Pte, Vma, assemble, forms)
+from rviommu import (AssemblyError, BadAccess, BusError, Context, Denied, FaultRecord, Fence, Gvma, ImageError, Iodir, LocatedKind, Misuse, NoDevice, Outside,
+                     PartKind, Platform, Pte, Ruling, Vma, WayKind, assemble, forms)
 
 RAM = 0x80000000
 ROOT, DATA, IOVA, DID = 0x80002000, 0x80010000, 0x40201000, 5
@@ -76,6 +76,52 @@ class Steps(unittest.TestCase):
         self.assertIsNone(platform.take_fault())
         platform.send(Iodir(did=DID))
         self.assertEqual(platform.contexts(), [None])
+
+
+class Reasons(unittest.TestCase):
+    def test_walk(self):
+        ddtp, context, *entries, end = mapped(pscid=9).walk(DID, IOVA + 5)
+        self.assertEqual((ddtp.kind, ddtp.mode, ddtp.word), (PartKind.DDTP, 2, 0x80001))
+        self.assertEqual((context.kind, context.place, context.word), (PartKind.CONTEXT, 0x80001000 + 32 * DID, 1))
+        self.assertEqual((context.iohgatp, context.ta, context.fsc), (0, 9 << 12, forms.SV39 << 60 | ROOT >> 12))
+        places = [(it.kind, it.place, it.read_at, it.level, it.ruling) for it in entries]
+        self.assertEqual(places, [(PartKind.FIRST, ROOT + 8, ROOT + 8, 2, Ruling.POINTER), (PartKind.FIRST, 0x80003008, 0x80003008, 1, Ruling.POINTER),
+                                  (PartKind.FIRST, 0x80004008, 0x80004008, 0, Ruling.LEAF)])
+        self.assertEqual(entries[2].word, DATA >> 2 | 0xD7)
+        self.assertEqual((end.kind, end.way.kind, end.way.frame, end.way.context.pscid, end.way.context.did), (PartKind.END, WayKind.WALK, DATA >> 12, 9, DID))
+
+    def test_walk_of_both_stages(self):
+        platform = mapped(gmode=forms.SV39, gppn=0x80008)
+        *_, first, end = platform.walk(DID, IOVA)
+        self.assertEqual((first.kind, first.place, first.has_read_at, first.ruling), (PartKind.FIRST, ROOT + 8, False, Ruling.GUEST))
+        self.assertEqual((end.way.kind, end.way.cause, end.way.iotval2 & ~3), (WayKind.NOWHERE, 21, ROOT + 8))
+        second = platform.walk(DID, IOVA)[2]
+        self.assertEqual((second.kind, second.guest, second.place, second.ruling), (PartKind.SECOND, ROOT + 8, 0x80008000 + 8 * 2, Ruling.INVALID))
+
+    def test_no_walk(self):
+        platform = Platform()
+        ddtp, end = platform.walk(DID, IOVA)
+        self.assertEqual((ddtp.mode, end.way.kind, end.way.cause, end.way.is_reported), (0, WayKind.NOWHERE, 256, True))
+        for did in (-1, 1 << 24):
+            with self.assertRaises(ValueError):
+                platform.walk(did, IOVA)
+
+    def test_stale(self):
+        platform = mapped(pscid=9)
+        platform.dma_read(DID, IOVA, 1)
+        self.assertEqual((platform.stale(DID, IOVA), platform.stale_page(0), platform.stale_context(0)), (None, None, None))
+        platform.put(0x80004008, Pte(0x80020, "vrwuad"))
+        way = platform.stale(DID, IOVA)
+        self.assertEqual((way.kind, way.frame, way.context.ppn), (WayKind.WALK, 0x80020, ROOT >> 12))
+        self.assertEqual(platform.stale_page(0).frame, 0x80020)
+        self.assertIsNone(platform.stale(DID, IOVA, is_write=True))
+        platform.store(0x80001000 + 32 * DID, 0)
+        self.assertEqual((platform.stale(DID, IOVA).kind, platform.stale(DID, IOVA).cause), (WayKind.NOWHERE, 258))
+        located = platform.stale_context(0)
+        self.assertEqual((located.kind, located.cause), (LocatedKind.NO_CONTEXT, 258))
+        self.assertIsNone(platform.stale_context(1))
+        platform.reg_write(DDTP, 1)
+        self.assertEqual((platform.stale_context(0).kind, platform.stale_page(0).kind), (LocatedKind.NO_DIRECTORY, WayKind.REGISTER))
 
 
 class Starts(unittest.TestCase):

@@ -149,6 +149,92 @@ static void test_looks(void) {
     rviommu_close(&platform);
 }
 
+/* Device 5 is led by Sv39 from IOVA 0x40201000 to 0x80010000. */
+static void map(rviommu_t *platform) {
+    static const uint64_t words[][2] = {{0x800010a0, 1}, {0x800010b8, 0x8000000000080002}, {0x80002008, 0x20000c01}, {0x80003008, 0x20001001}, {0x80004008, 0x200040d7}};
+    for (size_t i = 0; i < sizeof words / sizeof *words; i++) {
+        want("a table's word", rviommu_store(platform, words[i][0], 8, words[i][1]), RVIOMMU_DONE);
+    }
+    want("ddtp", rviommu_reg_write(platform, 0x10, 8, 0x20000402), RVIOMMU_DONE);
+}
+
+static void test_walk(rviommu_t *platform) {
+    struct rviommu_walk_part part;
+    memset(&part, 0, sizeof part);
+    want("ddtp", rviommu_part(platform, 5, 0x40201abc, false, 0, &part), RVIOMMU_OK);
+    want("its kind", part.kind, RVIOMMU_PART_DDTP);
+    want("its mode", part.mode, 2);
+    want("its PPN", part.word, 0x80001);
+    want("the context", rviommu_part(platform, 5, 0x40201abc, false, 1, &part), RVIOMMU_OK);
+    want("its kind", part.kind, RVIOMMU_PART_CONTEXT);
+    want("its place", part.place, 0x800010a0);
+    want("its tc", part.word, 1);
+    want("its fsc", part.fsc, 0x8000000000080002);
+    want("the leaf", rviommu_part(platform, 5, 0x40201abc, false, 4, &part), RVIOMMU_OK);
+    want("its kind", part.kind, RVIOMMU_PART_FIRST);
+    want("its place", part.place, 0x80004008);
+    want("where it was read", part.has_read_at ? part.read_at : 0, 0x80004008);
+    want("its word", part.has_word ? part.word : 0, 0x200040d7);
+    want("its level", part.level, 0);
+    want("its row", part.ruling, RVIOMMU_ENTRY_LEAF);
+    want("the end", rviommu_part(platform, 5, 0x40201abc, false, 5, &part), RVIOMMU_OK);
+    want("its kind", part.kind, RVIOMMU_PART_END);
+    want("its way", part.way.kind, RVIOMMU_BY_WALK);
+    want("its frame", part.way.frame, 0x80010);
+    want("its device", part.way.context.did, 5);
+    want("its root", part.way.context.ppn, 0x80002);
+    want("a part past the end", rviommu_part(platform, 5, 0x40201abc, false, 6, &part), RVIOMMU_NO_SUCH);
+    want("a part far past the end", rviommu_part(platform, 5, 0x40201abc, false, UINT64_MAX, &part), RVIOMMU_NO_SUCH);
+    want("a part of no device", rviommu_part(platform, 1 << 24, 0x40201abc, false, 0, &part), RVIOMMU_NO_SUCH);
+    want("which is left", part.kind, RVIOMMU_PART_END);
+}
+
+static void test_stale(rviommu_t *platform) {
+    struct rviommu_way way;
+    struct rviommu_located located;
+    uint64_t cause;
+    uint8_t byte;
+    way.kind = 77;
+    located.kind = 77;
+    want("a read", rviommu_dma_read(platform, 5, 0x40201abc, &byte, 1, &cause), RVIOMMU_BYTES);
+    want("which isn't stale", rviommu_stale(platform, 5, 0x40201abc, false, &way), RVIOMMU_CURRENT);
+    want("nor its page", rviommu_stale_page(platform, 0, &way), RVIOMMU_CURRENT);
+    want("nor its context", rviommu_stale_context(platform, 0, &located), RVIOMMU_CURRENT);
+    want("a page of no place", rviommu_stale_page(platform, 1, &way), RVIOMMU_NO_SUCH);
+    want("a context of no place", rviommu_stale_context(platform, UINT64_MAX, &located), RVIOMMU_NO_SUCH);
+    want("no device", rviommu_stale(platform, 1 << 24, 0x40201abc, false, &way), RVIOMMU_NO_SUCH);
+    want("what is left", way.kind + located.kind, 154);
+    want("another leaf", rviommu_store(platform, 0x80004008, 8, 0x200080d7), RVIOMMU_DONE);
+    want("a stale read", rviommu_stale(platform, 5, 0x40201abc, false, &way), RVIOMMU_STALE);
+    want("its frame by the tables", way.frame, 0x80020);
+    want("a write, which isn't cached", rviommu_stale(platform, 5, 0x40201abc, true, &way), RVIOMMU_CURRENT);
+    want("no context", rviommu_store(platform, 0x800010a0, 8, 0), RVIOMMU_DONE);
+    want("a stale page", rviommu_stale_page(platform, 0, &way), RVIOMMU_STALE);
+    want("its way", way.kind, RVIOMMU_TO_NOWHERE);
+    want("its cause", way.cause, 258);
+    want("a stale context", rviommu_stale_context(platform, 0, &located), RVIOMMU_STALE);
+    want("what is said of it", located.kind, RVIOMMU_NO_CONTEXT);
+    want("why", located.cause, 258);
+    want("another context", rviommu_store(platform, 0x800010a0, 8, 0x11), RVIOMMU_DONE);
+    want("a stale context", rviommu_stale_context(platform, 0, &located), RVIOMMU_STALE);
+    want("what is said of it", located.kind, RVIOMMU_HAS_CONTEXT);
+    want("its DTF", located.context.dtf, true);
+    want("its device", located.context.did, 5);
+}
+
+static void test_reasons(void) {
+    rviommu_t platform = {NULL};
+    char answer[321];
+    size_t length;
+    want("opened", rviommu_open_built_in(&platform), RVIOMMU_OK);
+    map(&platform);
+    test_walk(&platform);
+    test_stale(&platform);
+    want("no look is a step", rviommu_line(&platform, "trace 9", 7, answer, sizeof answer, &length), RVIOMMU_OK);
+    want_text("the last step", answer, "store 0x800010a0 0x8 0x11 -> done");
+    rviommu_close(&platform);
+}
+
 static void test_words(void) {
     char words[32] = "old";
     size_t length = 9;
@@ -167,6 +253,7 @@ int main(void) {
     test_refused_memory();
     test_lines();
     test_looks();
+    test_reasons();
     test_words();
     printf(failed ? "failed\n" : "passed\n");
     return failed;

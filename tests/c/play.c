@@ -1,5 +1,6 @@
 /*
  * play text|numbers [IMAGE] < SCRIPT: plays a script on an image, or on the built-in one, through the C library, as the program does.
+ * play text|numbers IMAGE SCRIPT [IMAGE SCRIPT].. plays several, one after another.
  * With `text` each line is given to rviommu_line. With `numbers` each step is given to its function and its answer is told by what
  * that put; the other lines, which are questions or no lines, are given to rviommu_line.
  */
@@ -158,18 +159,21 @@ static void play(rviommu_t *platform, bool numbers, const char *line, size_t len
     by_text(platform, line, length);
 }
 
-int main(int argc, char **argv) {
+static FILE *opened(const char *path) {
+    FILE *file = fopen(path, "rb");
+    if (file == NULL) {
+        fail(path);
+    }
+    return file;
+}
+
+/* Plays a script on an image; on the built-in one where there is none. */
+static void play_all(bool numbers, const char *image_path, FILE *script_file) {
     rviommu_t platform = {NULL};
     uint32_t told;
     size_t length;
-    if (argc < 2) {
-        fail("how?");
-    }
-    if (argc > 2) {
-        FILE *file = fopen(argv[2], "rb");
-        if (file == NULL) {
-            fail("no image");
-        }
+    if (image_path != NULL) {
+        FILE *file = opened(image_path);
         uint8_t *image = contents(file, &length);
         fclose(file);
         told = rviommu_open(image, length, &platform);
@@ -182,14 +186,29 @@ int main(int argc, char **argv) {
         rviommu_text(told, words, sizeof words, &length);
         fail(words);
     }
-    uint8_t *script = contents(stdin, &length);
+    uint8_t *script = contents(script_file, &length);
     for (size_t at = 0; at < length;) {
         const uint8_t *end = memchr(script + at, '\n', length - at);
         size_t count = end == NULL ? length - at : (size_t)(end - (script + at));
-        play(&platform, strcmp(argv[1], "numbers") == 0, (const char *)script + at, count);
+        play(&platform, numbers, (const char *)script + at, count);
         at += count + 1;
     }
     free(script);
     rviommu_close(&platform);
+}
+
+int main(int argc, char **argv) {
+    if (argc < 2) {
+        fail("how?");
+    }
+    bool numbers = strcmp(argv[1], "numbers") == 0;
+    if (argc <= 3) {
+        play_all(numbers, argc == 3 ? argv[2] : NULL, stdin);
+    }
+    for (int i = 2; argc > 3 && i + 1 < argc; i += 2) {
+        FILE *script = opened(argv[i + 1]);
+        play_all(numbers, argv[i], script);
+        fclose(script);
+    }
     return 0;
 }

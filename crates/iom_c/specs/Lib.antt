@@ -3,3 +3,4 @@ pub mod Answers
 pub mod Buffers
 pub mod Faults
 pub mod Looks
+pub mod Reasons

@@ -8,5 +8,8 @@ mod opening;
 mod owned;
 mod parts;
 mod places;
+mod reasons;
 mod steps;
 mod texts;
+mod walks;
+mod ways;

@@ -30,6 +30,17 @@ fn take_step(handle: &mut Handle, alloc: Global, step: Step, number: &mut u64) -
     code
 }
 
+// The same of a step that is answered no number.
+#[inline(always)]
+fn give_step(handle: &mut Handle, alloc: Global, step: Step) -> u32
+    requires open { IsSome handle.old.held }
+    ensures answer { IfSome handle.old.held (λ own. result ≡ code_of (next own.platform step).answer) }
+    ensures after { IfSome handle.old.held (λ own. handle.new.held ≡ Some (stepped own step)) }
+{
+    let mut number = 0;
+    take_step(handle, alloc, step, &mut number)
+}
+
 /// The hart reads `size` bytes, 1, 2, 4 or 8, at physical address `addr`, a multiple of the size: value, bus error or misuse.
 #[unsafe(no_mangle)]
 pub extern "C" fn rviommu_load(
@@ -63,13 +74,7 @@ pub extern "C" fn rviommu_store(
     ensures answer { result ≡ code_of (next own.platform (step.Store addr size value)).answer }
     ensures after { handle.new.held ≡ Some (stepped own (step.Store addr size value)) }
 {
-    let mut number = 0;
-    take_step(
-        handle,
-        alloc,
-        Step::Store { addr, size, value },
-        &mut number,
-    )
+    give_step(handle, alloc, Step::Store { addr, size, value })
 }
 
 /// The hart reads `size` bytes, 4 or 8, of the IOMMU's registers at offset `off`, in bytes ("Memory-mapped register interface"):
@@ -105,13 +110,7 @@ pub extern "C" fn rviommu_reg_write(
     ensures answer { result ≡ code_of (next own.platform (step.RegWrite off size value)).answer }
     ensures after { handle.new.held ≡ Some (stepped own (step.RegWrite off size value)) }
 {
-    let mut number = 0;
-    take_step(
-        handle,
-        alloc,
-        Step::RegWrite { off, size, value },
-        &mut number,
-    )
+    give_step(handle, alloc, Step::RegWrite { off, size, value })
 }
 
 /// Device `did`, below 2^24, reads as many bytes as there is room for in `bytes`, 1 to 64, at IOVA `iova`, all in one page of 4096
@@ -190,8 +189,7 @@ pub extern "C" fn rviommu_command(alloc: Global, handle: &mut Handle) -> u32
     ensures answer { result ≡ code_of (next own.platform step.Command).answer }
     ensures after { handle.new.held ≡ Some (stepped own step.Command) }
 {
-    let mut number = 0;
-    take_step(handle, alloc, Step::Command, &mut number)
+    give_step(handle, alloc, Step::Command)
 }
 
 /// The hart reads `size` bytes, 1, 2 or 4, of the registers of block device `dev`, counted from 0, at offset `off`, in bytes: value,
@@ -230,18 +228,13 @@ pub extern "C" fn rviommu_dev_write(
     ensures answer { result ≡ code_of (next own.platform (step.DevWrite dev off size value)).answer }
     ensures after { handle.new.held ≡ Some (stepped own (step.DevWrite dev off size value)) }
 {
-    let mut number = 0;
-    take_step(
-        handle,
-        alloc,
-        Step::DevWrite {
-            dev,
-            off,
-            size,
-            value,
-        },
-        &mut number,
-    )
+    let step = Step::DevWrite {
+        dev,
+        off,
+        size,
+        value,
+    };
+    give_step(handle, alloc, step)
 }
 
 /// Block device `dev`, counted from 0, goes on by one access: done, idle, denied, bus error or no device.
