@@ -10,7 +10,7 @@ _rviommu() {
     local current=${COMP_WORDS[COMP_CWORD]}
     COMPREPLY=()
     if [ "$COMP_CWORD" -eq 1 ]; then
-        mapfile -t COMPREPLY < <(compgen -W "asm run check debug list upgrade help --help --version" -- "$current")
+        mapfile -t COMPREPLY < <(compgen -W "asm run check debug explain list upgrade help --help --version" -- "$current")
         return
     fi
     case ${COMP_WORDS[1]}:$current in
@@ -18,15 +18,15 @@ _rviommu() {
             mapfile -t COMPREPLY < <(compgen -W "--stale --help" -- "$current")
             return
             ;;
-        asm:-* | run:-* | debug:-* | list:-* | upgrade:-*)
+        asm:-* | run:-* | debug:-* | explain:-* | list:-* | upgrade:-*)
             mapfile -t COMPREPLY < <(compgen -W "--help" -- "$current")
             return
             ;;
     esac
     case ${COMP_WORDS[1]}:$COMP_CWORD in
-        asm:2 | asm:3 | run:2 | check:2 | check:3 | debug:2 | list:2 | upgrade:2 | upgrade:3) _rviommu_files "$current" ;;
+        asm:2 | asm:3 | run:2 | check:2 | check:3 | debug:2 | explain:2 | list:2 | upgrade:2 | upgrade:3) _rviommu_files "$current" ;;
         list:3) mapfile -t COMPREPLY < <(compgen -W "cmd fault context dir pte u64" -- "$current") ;;
-        help:2) mapfile -t COMPREPLY < <(compgen -W "asm run check debug list upgrade" -- "$current") ;;
+        help:2) mapfile -t COMPREPLY < <(compgen -W "asm run check debug explain list upgrade" -- "$current") ;;
     esac
 }
 complete -F _rviommu rviommu

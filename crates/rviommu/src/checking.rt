@@ -15,7 +15,7 @@ pub struct Answered<'a> {
     pub line: &'a [u8],
     /// Not empty.
     pub answer: &'a [u8],
-    /// What the tables said of its access before it, where this was stale and is to be told; else empty.
+    /// What the tables said of its last access that was stale, before its step, where that is to be told; else empty.
     pub tables: &'a [u8],
 }
 
@@ -60,8 +60,8 @@ impl Display for Answered<'_> {
     }
 }
 
-// What stands before a line's comment, without the blanks around it.
-fn before_comment(line: &[u8]) -> &[u8] {
+/// What stands before a line's comment, without the blanks around it.
+pub fn before_comment(line: &[u8]) -> &[u8] {
     let line = match line.iter().position(|c| *c == b'#') {
         Some(at) => &line[..at],
         None => line,

@@ -3,7 +3,7 @@
 use crate::checking::{Answered, Tally};
 use crate::fault::Fault;
 use crate::lines::{Lines, MOST_LINES};
-use iom_debug::{Debugger, Reply};
+use iom_debug::{Debugger, Reasons, Reply};
 use iom_tool::{RunFault, Trace};
 use std::alloc::Global;
 use std::io::{BufRead, Write};
@@ -18,10 +18,10 @@ pub enum Telling {
 }
 
 impl Telling {
-    // What the tables say of the access that a line makes, where it is stale and that is to be told; else nothing.
-    fn tables_of(&self, debugger: &Debugger<'_>, line: &[u8]) -> Reply {
+    // What the tables said of the last line's last access that was stale, where that is to be told; else nothing.
+    fn tables_of(&self, debugger: &Debugger<'_>) -> Reply {
         match self {
-            Telling::Failures(tally) if tally.is_stale_told => debugger.stale_before(line),
+            Telling::Failures(tally) if tally.is_stale_told => debugger.stale_told(),
             _ => Reply::new(),
         }
     }
@@ -58,8 +58,8 @@ fn carried_out<R: BufRead, W: Write>(
         let Some(line) = lines.next_line()? else {
             return Ok(());
         };
-        let tables = telling.tables_of(debugger, line);
-        let reply = debugger.line(line);
+        let reply = debugger.line(number, line);
+        let tables = telling.tables_of(debugger);
         let answer = reply.as_slice();
         if !answer.is_empty() {
             telling.tell(
@@ -90,7 +90,8 @@ pub fn carry_out<R: BufRead, W: Write>(
 ) -> Result<(), Fault<'static>> {
     let mut platform = iom_asm::load(alloc, image)?;
     let mut trace = Trace::new(alloc)?;
-    let mut debugger = Debugger::new(&mut platform, &mut trace);
+    let mut reasons = Reasons::new(&platform);
+    let mut debugger = Debugger::new(&mut platform, &mut trace, &mut reasons);
     let mut lines = Lines::new(alloc, reader);
     carried_out(&mut debugger, &mut lines, &mut telling, writer)?;
     telling.sum_up(writer)

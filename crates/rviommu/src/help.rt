@@ -76,8 +76,8 @@ doesn't want it, and at the end how many passed and how many failed. The status
 is 1 where one failed. The lines of the script are those of
 `rviommu debug --help`.
 
-With --stale a line fails also where it is an access of a device, dma or dev
-step, that goes by a translation or a context which the tables in memory no
+With --stale a line fails also where an access of a device, by dma, dev step
+or dev run, goes by a translation or a context which the tables in memory no
 longer give: an invalidation is missing.
 
 An example:
@@ -103,13 +103,45 @@ The lines of a script are those of `rviommu --help` and these:
   put ADDR ITEM ..              the hart stores an item of `asm --help`
   stale read DID IOVA           where a device's access would go if nothing were
   stale write DID IOVA          cached: same, or the address or the cause
+  stale context I               place I of a cache beside what the tables in
+  stale page I                  memory say now: same, or what they say
   walk read DID IOVA I          part I of the way of a device's access where
   walk write DID IOVA I         nothing is cached, the first 0
+  why I                         the lines where what step I of the trace used
+                                was cached, and whether it was stale
 
 An example:
 
   $ echo 'dump 0x80000000 4' | rviommu debug seven.image
   07000000";
+
+/// What stands at the end of the help of `explain`.
+pub const EXPLAIN: &str = "\
+The lines of a script are those of `rviommu debug --help`. Each is told with
+its number and its answer, and each step of a line of many before that line.
+Below a step that is an access of a device stands its reason:
+
+  asks: ..      what a block device asks for
+  caches: ..    what the caches held for it, and which lines had filled that
+  walk: ..      the parts of its walk, where not all of it was cached
+  warrant: ..   the lines that its translation comes from
+  stale: ..     what the tables said, where they said something else
+
+At the end stand how many accesses there were, how many were granted, denied
+for each cause, led by the caches alone, and stale, with their lines.
+
+An example:
+
+  $ echo 'dma read 5 0 1' | rviommu explain seven.image
+  1: dma read 0x5 0x0 0x1 -> denied 256
+      walk: ddtp mode=0x0 root=0x0
+      walk: denied 256 iotval2=0x0
+      warrant: none, it is denied
+  accesses: 1
+  granted: 0
+  denied 256: 1
+  from the caches: 0
+  stale: 0";
 
 /// What stands at the end of the help of `list`.
 pub const LIST: &str = "\

@@ -3,6 +3,7 @@
 
 use checking::Tally;
 use debugging::{Telling, carry_out};
+use explaining::explain;
 use fault::Fault;
 use iom_asm::Item;
 use iom_tool::RunFault;
@@ -16,12 +17,15 @@ use std::rt::Env;
 use tied::{Shared, Tied};
 use words::{How, Task, task_of};
 
+mod access;
 mod checking;
 mod debugging;
+mod explaining;
 mod fault;
 mod files;
 mod help;
 mod lines;
+mod summary;
 mod tied;
 mod words;
 
@@ -31,7 +35,7 @@ const READ_BLOCK: usize = 0x8000;
 // The bytes that are written at once.
 const WRITE_BLOCK: usize = 0x1_0000;
 
-// Runs, debugs or checks the script that a reader gives.
+// Runs, debugs, checks or explains the script that a reader gives.
 fn play<'a, R: BufRead, W: Write>(
     alloc: Global,
     image: &[u8],
@@ -41,6 +45,7 @@ fn play<'a, R: BufRead, W: Write>(
 ) -> Result<(), Fault<'a>> {
     match how {
         How::Run => Ok(iom_tool::play(alloc, image, reader, writer)?.ended?),
+        How::Explain => explain(alloc, image, reader, writer),
         How::Debug => carry_out(alloc, image, Telling::Answers, reader, writer),
         How::Check { is_stale_told } => {
             let telling = Telling::Failures(Tally::new(is_stale_told));

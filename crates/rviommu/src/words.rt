@@ -24,6 +24,8 @@ pub enum How {
     Debug,
     /// Those that fail are told, and where it is asked for those whose accesses are stale.
     Check { is_stale_told: bool },
+    /// Each is told with its answer and the reasons of its accesses.
+    Explain,
 }
 
 /// What the program is asked to do.
@@ -76,7 +78,7 @@ enum Need {
     Flag,
 }
 
-const VERBS: [Verb; 6] = [
+const VERBS: [Verb; 7] = [
     Verb {
         name: "asm",
         about: "Assembles a text into an image",
@@ -125,6 +127,16 @@ const VERBS: [Verb; 6] = [
         name: "debug",
         about: "Runs a script that may ask more about the platform",
         after_help: help::DEBUG,
+        operands: &[Operand {
+            name: "IMAGE",
+            help: "The file of the image; without it the built-in one",
+            need: Need::Optional,
+        }],
+    },
+    Verb {
+        name: "explain",
+        about: "Runs a script and tells why each access is answered so",
+        after_help: help::EXPLAIN,
         operands: &[Operand {
             name: "IMAGE",
             help: "The file of the image; without it the built-in one",
@@ -250,6 +262,7 @@ fn task_in<'a>(matches: &ArgMatches<'a>) -> Result<Task<'a>, Fault<'a>> {
         }),
         Some(("run", found)) => Ok(script(How::Run, found)),
         Some(("debug", found)) => Ok(script(How::Debug, found)),
+        Some(("explain", found)) => Ok(script(How::Explain, found)),
         Some(("check", found)) => {
             let is_stale_told = found.get_flag(STALE);
             Ok(script(How::Check { is_stale_told }, found))

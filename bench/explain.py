@@ -1,0 +1,63 @@
+#!/usr/bin/env python3
+"""explain.py PROGRAM    Lines per second of `explain` beside those of a run, on 300,000 device reads in 24 and in 176 pages.
+
+The reads are those of the scripts of bench.py, behind the lines that set the IOMMU up: one stage and both, with 24 pages (all found in the
+translation cache once it is warm) and with 176 (most of them not). The script is standard input and a file standard output. Each runs nine
+times, in turn; the ratio is the median over the turns of their speeds, explain's to the run's. The status is 1 where a run fails, or explain
+doesn't tell each line.
+"""
+import os
+import statistics
+import subprocess
+import sys
+import tempfile
+import time
+
+READS, TIMES, SEED = 300_000, 9, 1
+SCRIPTS = [("one stage, 24 pages", 1, 24), ("one stage, 176 pages", 1, 176), ("both stages, 24 pages", 2, 24), ("both stages, 176 pages", 2, 176)]
+
+
+def write_script(path, stages, pages):
+    """Writes the lines that set up, and then as many reads; returns how many lines there are."""
+    generate = os.path.join(os.path.dirname(os.path.abspath(__file__)), "generate.py")
+    words = [sys.executable, generate, str(stages), str(pages), str(READS * 4), str(SEED)]
+    made = subprocess.run(words, stdout=subprocess.PIPE, check=True).stdout.splitlines(keepends=True)
+    first = next(at for at, line in enumerate(made) if line.startswith(b"reg write 16")) + 1
+    reads = [line for line in made[first:] if line.startswith(b"dma read")][:READS]
+    with open(path, "wb") as file:
+        file.writelines(made[:first] + reads)
+    return first + len(reads)
+
+
+def timed(words, script, output):
+    with open(script, "rb") as given, open(output, "wb") as out:
+        start = time.perf_counter()
+        subprocess.run(words, stdin=given, stdout=out, check=True)
+        return time.perf_counter() - start
+
+
+def measured(program, room, name, stages, pages):
+    """Prints the speeds on one script; returns whether each line was told."""
+    script, output = f"{room}/script", f"{room}/output"
+    lines = write_script(script, stages, pages)
+    taken = [(timed([program], script, output), timed([program, "explain"], script, output)) for _ in range(TIMES)]
+    with open(output, "rb") as file:
+        told = sum(line[:1].isdigit() for line in file)
+    ran, explained = (min(it) for it in zip(*taken))
+    ratio = statistics.median(run / own for run, own in taken)
+    print(f"{name}: run {lines / ran:,.0f} lines per second, explain {lines / explained:,.0f}; ratio {ratio:.2f}", flush=True)
+    if told != lines:
+        print(f"{name}: {told:,} lines are told of {lines:,}")
+    return told == lines
+
+
+def main():
+    if len(sys.argv) != 2:
+        sys.exit("usage: explain.py PROGRAM")
+    program = os.path.abspath(sys.argv[1])
+    with tempfile.TemporaryDirectory(prefix="rviommu-explain-") as room:
+        is_well = [measured(program, room, *script) for script in SCRIPTS]
+    sys.exit(0 if all(is_well) else 1)
+
+
+main()

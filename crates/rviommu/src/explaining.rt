@@ -1,0 +1,246 @@
+//! Scripts whose lines are told with the reasons of their accesses.
+
+use crate::access::{Asked, Caches, Found, Warrant, asked_by, found_by, push_walk};
+use crate::checking::before_comment;
+use crate::fault::Fault;
+use crate::lines::{Lines, MOST_LINES};
+use crate::summary::{Outcome, Summary};
+use iom_core::{Answer, Denial, Step};
+use iom_debug::{Debugger, Reason, Reasons, Reply, StepAnswer, counted, repeated};
+use iom_tool::{RunFault, Trace, step_of};
+use std::alloc::Global;
+use std::io::{BufRead, Write};
+
+/// The most bytes of an answer to a step.
+const MOST_IN_ANSWER: usize = 128;
+
+/// The last step that a trace keeps.
+const LAST: u8 = 31;
+
+/// How many bytes the lines of a walk take: 29 parts at most, each a text of at most 320 bytes behind a word, and a line end.
+const WALK_ROOM: usize = 29 * 331;
+
+/// What is told of a script's accesses, and where.
+#[derive(Drop)]
+struct Account<'w, W> {
+    writer: &'w mut W,
+    // The lines of the walk of the access that is made.
+    walk: Vec<u8>,
+    summary: Summary,
+}
+
+/// What is known of an access before it is made.
+#[derive(Clone, Copy)]
+struct Before {
+    found: Found,
+    asked: Option<Asked>,
+}
+
+// The place of the last step in the trace.
+fn newest(trace: &Trace) -> u8 {
+    for at in 0..LAST {
+        if trace.entry(u64::from(LAST - at)).is_some() {
+            return LAST - at;
+        }
+    }
+    0
+}
+
+// The text of the last step and of its answer.
+fn newest_text(debugger: &mut Debugger<'_>, number: u64) -> Reply {
+    let at = newest(debugger.trace);
+    let question = [
+        b't',
+        b'r',
+        b'a',
+        b'c',
+        b'e',
+        b' ',
+        b'0' + at / 10,
+        b'0' + at % 10,
+    ];
+    debugger.line(number, &question)
+}
+
+// The cause that the last step was denied for, if it was.
+fn newest_denial(debugger: &Debugger<'_>) -> Option<u16> {
+    let entry = debugger.trace.entry(u64::from(newest(debugger.trace)))?;
+    match entry.answer {
+        Answer::Denied(cause) => Some(cause),
+        _ => None,
+    }
+}
+
+impl<W: Write> Account<'_, W> {
+    // Looks at the access that a step is about to make, if it makes one.
+    fn look(
+        &mut self,
+        debugger: &Debugger<'_>,
+        step: &Step,
+    ) -> Result<Option<Before>, Fault<'static>> {
+        self.walk.clear();
+        let Some(request) = debugger.platform.request_of(step) else {
+            return Ok(None);
+        };
+        let found = found_by(debugger.platform, &request);
+        if !found.is_cached {
+            push_walk(&mut self.walk, debugger.platform, &request)?;
+        }
+        let asked = asked_by(debugger.platform, step);
+        Ok(Some(Before { found, asked }))
+    }
+
+    // Takes a step, and tells it and its reason.
+    fn take(
+        &mut self,
+        debugger: &mut Debugger<'_>,
+        number: u64,
+        step: Step,
+    ) -> Result<StepAnswer, Fault<'static>> {
+        let before = self.look(debugger, &step)?;
+        let answer = debugger.take(number, step);
+        let text = newest_text(debugger, number);
+        let text = text.as_slice().escape_ascii();
+        writeln!(self.writer, "{number}: {text}").map_err(|_| RunFault::Write)?;
+        let denied = newest_denial(debugger);
+        let reason = debugger.reasons.newest().copied();
+        if let (Some(before), Some(reason)) = (before, reason) {
+            self.tell(before, reason, denied)?;
+        }
+        Ok(answer)
+    }
+
+    // Tells the reason of an access that was denied for this cause, if it was.
+    fn tell(
+        &mut self,
+        before: Before,
+        reason: Reason,
+        denied: Option<u16>,
+    ) -> Result<(), Fault<'static>> {
+        if let Some(asked) = before.asked {
+            writeln!(self.writer, "    asks: {asked}").map_err(|_| RunFault::Write)?;
+        }
+        if let Some(caches) = Caches::new(before.found, reason.origin, denied) {
+            writeln!(self.writer, "    caches: {caches}").map_err(|_| RunFault::Write)?;
+        }
+        let walk = self.walk.as_slice();
+        self.writer.write_all(walk).map_err(|_| RunFault::Write)?;
+        let warrant = Warrant(reason.origin);
+        writeln!(self.writer, "    warrant: {warrant}").map_err(|_| RunFault::Write)?;
+        self.tell_stale(reason.stale)?;
+        self.summary.count(&Outcome {
+            number: reason.number,
+            denied,
+            is_cached: before.found.is_cached,
+            is_stale: reason.stale.is_some(),
+        })?;
+        Ok(())
+    }
+
+    // Tells what the tables said of an access that was stale.
+    fn tell_stale(&mut self, stale: Option<Result<u64, Denial>>) -> Result<(), RunFault> {
+        let told = match stale {
+            None => return Ok(()),
+            Some(Ok(addr)) => writeln!(self.writer, "    stale: the tables now say addr={addr:#x}"),
+            Some(Err(denial)) => {
+                let cause = denial.cause.number();
+                writeln!(self.writer, "    stale: the tables now say denied {cause}")
+            }
+        };
+        told.map_err(|_| RunFault::Write)
+    }
+
+    // Tells how the accesses went.
+    fn sum_up(&mut self) -> Result<(), Fault<'static>> {
+        let summary = &self.summary;
+        summary.tell(self.writer)
+    }
+
+    // Takes the steps of a line of many, while they are done. The line's own answer comes back.
+    fn take_all(
+        &mut self,
+        debugger: &mut Debugger<'_>,
+        number: u64,
+        line: &[u8],
+        most: u64,
+    ) -> Result<Reply, Fault<'static>> {
+        for taken in 1..=most {
+            let Some((step, _)) = repeated(line) else {
+                break;
+            };
+            let answer = self.take(debugger, number, step)?;
+            if taken == most || !answer.is_done {
+                let text = answer.text.as_slice();
+                return Ok(counted(taken, &text[..text.len().min(MOST_IN_ANSWER)]));
+            }
+        }
+        Ok(Reply::new())
+    }
+
+    // Carries out a line, and tells it: a step with its reason, and a line of many steps behind them.
+    fn line(
+        &mut self,
+        debugger: &mut Debugger<'_>,
+        number: u64,
+        line: &[u8],
+    ) -> Result<(), Fault<'static>> {
+        if let Some(step) = step_of(line) {
+            self.take(debugger, number, step)?;
+            return Ok(());
+        }
+        let reply = match repeated(line) {
+            Some((_, most)) => self.take_all(debugger, number, line, most)?,
+            None => debugger.line(number, line),
+        };
+        if reply.is_empty() {
+            return Ok(());
+        }
+        let text = before_comment(line).escape_ascii();
+        let reply = reply.as_slice().escape_ascii();
+        let told = writeln!(self.writer, "{number}: {text} -> {reply}");
+        told.map_err(|_| RunFault::Write)?;
+        Ok(())
+    }
+}
+
+// Carries out the lines, each told before the next is read.
+fn carried_out<R: BufRead, W: Write>(
+    debugger: &mut Debugger<'_>,
+    lines: &mut Lines<R>,
+    account: &mut Account<'_, W>,
+) -> Result<(), Fault<'static>> {
+    for number in 1..=MOST_LINES {
+        let Some(line) = lines.next_line()? else {
+            return Ok(());
+        };
+        account.line(debugger, number, line)?;
+    }
+    match lines.next_line()? {
+        Some(_) => Err(Fault::Run(RunFault::TooLong)),
+        None => Ok(()),
+    }
+}
+
+/// Carries out the script that a reader gives on an image, tells each line and the reasons of its accesses, and at the end how they
+/// went. The faults are those of `run`.
+pub fn explain<R: BufRead, W: Write>(
+    alloc: Global,
+    image: &[u8],
+    reader: &mut R,
+    writer: &mut W,
+) -> Result<(), Fault<'static>> {
+    let mut platform = iom_asm::load(alloc, image)?;
+    let mut trace = Trace::new(alloc)?;
+    let walk = Vec::with_capacity(alloc, WALK_ROOM)?;
+    let summary = Summary::new(alloc);
+    let mut reasons = Reasons::new(&platform);
+    let mut debugger = Debugger::new(&mut platform, &mut trace, &mut reasons);
+    let mut lines = Lines::new(alloc, reader);
+    let mut account = Account {
+        writer,
+        walk,
+        summary,
+    };
+    carried_out(&mut debugger, &mut lines, &mut account)?;
+    account.sum_up()
+}
