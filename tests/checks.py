@@ -200,6 +200,9 @@ DEBUG_FORMS = [
     b"put ADDR ITEM",
     b"stale read DID IOVA",
     b"stale write DID IOVA",
+    b"stale context I",
+    b"stale page I",
     b"walk read DID IOVA I",
     b"walk write DID IOVA I",
+    b"why I",
 ]

@@ -19,9 +19,12 @@ import program_checking  # noqa: F401
 import program_completions  # noqa: F401
 import program_debugging  # noqa: F401
 import program_documents  # noqa: F401
+import program_explaining  # noqa: F401
 import program_images  # noqa: F401
 import program_memory  # noqa: F401
+import program_names  # noqa: F401
 import program_pages  # noqa: F401
+import program_parts  # noqa: F401
 import program_walks  # noqa: F401
 
 # Conversations over two pipes.
@@ -179,6 +182,8 @@ add_refused("check", "image", "more")
 add_refused("check", "--jump")
 add_refused("debug", "image", "more")
 add_refused("debug", "--stale")
+add_refused("explain", "image", "more")
+add_refused("explain", "--stale")
 add_refused("list", "image", "u64", "0")
 add_refused("list", "image", "word", "0", "1")
 add_refused("list", "image", "u64", "0X1", "1")

@@ -243,6 +243,10 @@ add_stale("a block device's access", DEVICE + b"reg write ddtp 0x20000402\ndev s
           b" -> done, stale: the tables now say denied 13")
 
 
+add_stale("an access of many that a line makes", DEVICE + b"reg write ddtp 0x20000402\ndev step 0 # => done\n" + UNMAP + b"dev run 0 99\n", b"dev run 0 99",
+          b" -> 0x3 idle, stale: the tables now say denied 13")
+
+
 @check("check --stale: a stale access that fails otherwise too is told once, with both")
 def _():
     with folder() as here:

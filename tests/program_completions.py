@@ -100,7 +100,8 @@ TYPED = [
     ("rviommu upgrade pl\t brack\t", ["upgrade", "plain.asm", "brackets [1].asm"]),
     ("rviommu check pl\t", ["check", "plain.asm"]),
     ("rviommu check --st\t pl\t", ["check", "--stale", "plain.asm"]),
-    *((f"rviommu {word} --h\t", [word, "--help"]) for word in ("asm", "run", "check", "debug", "list", "upgrade")),
+    ("rviommu ex\t pl\t", ["explain", "plain.asm"]),
+    *((f"rviommu {word} --h\t", [word, "--help"]) for word in ("asm", "run", "check", "debug", "explain", "list", "upgrade")),
     ("rviommu asm plain.asm --h\t", ["asm", "plain.asm", "--help"]),
     # a folder of a word's name is no word
     ("rviommu ru\t", ["run"]),
@@ -166,6 +167,8 @@ add_offered("rviommu u", ["upgrade"])
 add_offered("rviommu c", ["check"])
 add_offered("rviommu check -", ["--stale", "--help"])
 add_offered("rviommu debug -", ["--help"])
-add_offered("rviommu help ", ["asm", "run", "check", "debug", "list", "upgrade"])
+add_offered("rviommu help ", ["asm", "run", "check", "debug", "explain", "list", "upgrade"])
 add_offered("rviommu d", ["debug"])
+add_offered("rviommu e", ["explain"])
+add_offered("rviommu explain -", ["--help"])
 add_offered("rviommu run -", ["--help"])

@@ -82,6 +82,34 @@ def _():
     ])
 
 
+# The queue of the example of a broken ring: what is put right in it, what is put wrong, how the steps end, and what broke the device.
+SET_UP = [f"dev write 0 {it}" for it in [
+    "Status 0", "Status 3", "DriverFeaturesSel 1", "DriverFeatures 3", "Status 0xb", "QueueNum 4", "QueueDescLow 0x80040000",
+    "QueueDriverLow 0x80041000", "QueueDeviceLow 0x80042000", "QueueReady 1", "Status 0xf", "QueueNotify 0"]]
+WELL_PUT = [
+    "reg write ddtp 1", "put 0x80041000 u64 0x10000", "put 0x80040000 u64 0x80050000 0x0001000100000010",
+    "put 0x80040010 u64 0x80051000 0x0002000300000200", "put 0x80040020 u64 0x80050010 0x0000000200000001"]
+BREAKING = [
+    ("put 0x80041000 u64 0x50000", "0x2 idle", "index-ahead"), ("put 0x80041000 u64 0x400010000", "0x3 idle", "bad-head"),
+    ("put 0x80040008 u64 0x0000000400000010", "0x4 idle", "indirect"), ("put 0x80040028 u64 1", "0x6 idle", "readable-after-writable"),
+    ("put 0x80040008 u64 0x0000000100000010", "0x8 idle", "loop"), ("put 0x80040008 u64 0x0004000100000010", "0x4 idle", "bad-next"),
+    ("put 0x80040010 u64 0xffffffffffffffff", "0x5 idle", "wraps"), ("put 0x80040008 u64 0x000100010000000f", "0x6 idle", "short-header"),
+    ("put 0x80040008 u64 0x10", "0x4 idle", "nothing-writable"), ("put 0x80040008 u64 0xf", "0x4 idle", "short-header"),
+    ("reg write ddtp 0", "0x1 denied 256", "denied"), ("put 0x80040010 u64 0x90000000", "0x7 bus error", "bus-error"),
+]
+
+
+@check("debug: what broke a block device, until it is reset")
+def _():
+    shown = "did=0x5 phase=index next=none head=0x0 seen=0x0 used=0x0"
+    lines = []
+    for wrong, ends, reason in BREAKING:
+        lines += [(it, "done") for it in [*WELL_PUT, wrong, *SET_UP]]
+        lines += [("dev run 0 20", ends), ("dev show 0", f"{shown} broken={reason}"), ("dev write 0 QueueReady 0", "done")]
+        lines += [("dev show 0", f"{shown} broken={reason}"), ("dev write 0 Status 0", "done"), ("dev show 0", shown)]
+    want_debugged(lines, read(os.path.join(EXAMPLES, "broken_ring.asm")))
+
+
 @check("debug: whether an access is stale, what the tables say, and their walk")
 def _():
     mapped = b"ram 0x80000000 0x100000\nat 0x800010a0\ncontext pscid=3 mode=8 ppn=0x80002\nat 0x80002008\npte ppn=0x80003 flags=1\n"
@@ -189,3 +217,36 @@ def _():
     want("the lines that it lacks", lacking, [])
     if b"--stale" in out:
         raise Failure("it has an option of check")
+
+
+@check("debug: where a step's translation came from, and what the caches hold beside the tables")
+def _():
+    mapped = b"ram 0x80000000 0x100000\nat 0x800010a0\ncontext pscid=3 mode=8 ppn=0x80002\ncontext\nat 0x80002008\npte ppn=0x80003 flags=1\n"
+    mapped += b"at 0x80003008\npte ppn=0x80004 flags=1\nat 0x80004008\npte ppn=0x80010 flags=0xd7\n"
+    walked = "walked context=3 walk=3 current=3"
+    want_debugged([
+        ("why 0", "none"), ("reg write ddtp 0x20000402", "done"), ("dma read 5 0x40201abc 4", "00000000"), ("why 0", "no access"), ("why 1", walked),
+        ("stale context 0", "same"), ("stale page 0", "same"), ("stale context 1", "none"), ("stale page 1", "none"),
+        ("put 0x80004008 pte ppn=0x80011 flags=0xd7", "done"), ("stale page 0", "page pscid=0x3 gscid=- frame=0x80011 level=0x0 global=0x0"),
+        ("dma read 5 0x40201abc 4", "00000000"), ("why 3", walked + " stale addr=0x80011abc"),
+        ("put 0x80004008 u64 0", "done"), ("stale page 0", "denied 13"), ("dma write 5 0x40201abc 00", "denied 15"), ("why 5", "denied"),
+        ("store 0x800010a0 8 0", "done"), ("stale context 0", "denied 258"), ("stale page 0", "denied 258"),
+        ("dma read 5 0x40201abc 4", "00000000"), ("why 7", walked + " stale denied 258"),
+        ("put 0x80004008 pte ppn=0x80010 flags=0xd7", "done"), ("put 0x800010a0 context pscid=4 mode=8 ppn=0x80002", "done"),
+        ("stale context 0", "context dtf=0x0 custom=0x0 gmode=0x0 gppn=0x0 gscid=0x0 tav=0x0 pscid=0x4 mode=0x8 ppn=0x80002"),
+        ("stale page 0", "page pscid=0x4 gscid=- frame=0x80010 level=0x0 global=0x0"), ("put 0x800010a0 context", "done"), ("stale page 0", "context"),
+        ("dma read 6 0x80000000 1", "00"), ("dma read 6 0x80000001 1", "00"), ("trace 18", "dma read 0x6 0x80000001 0x1 -> 00"), ("trace 19", "none"),
+    ], mapped)
+    want_debugged([
+        ("reg write ddtp 0x20000402", "done"), ("dma read 6 0x80000000 1", "00"), ("dma read 6 0x80000001 1", "00"), ("why 1", "context 2"),
+        ("why 2", "context 2"), ("reg write ddtp 1", "done"), ("stale context 0", "no directory"), ("dma read 6 0x80000001 1", "00"),
+        ("why 4", "register"), ("why 5", "none"), ("why 0xffffffffffffffff", "none"), ("stale context 0xffffffffffffffff", "none"),
+        ("why", "bad"), ("why 0 0", "bad"), ("stale context", "bad"), ("stale page", "bad"), ("stale page 0 0", "bad"), ("stale page x", "bad"),
+        ("trace 5", "none"),
+    ], mapped)
+
+
+@check("debug: of 33 steps the last 32 are told, each step of a line by its number")
+def _():
+    many = [("reg write ddtp 1", "done"), ("dma read 5 0x80000000 1", "01")] + [("cmd run 1", "0x1 idle")] * 30
+    want_debugged([*many, ("why 0", "no access"), ("why 1", "register"), ("cmd", "idle"), ("why 0", "register"), ("why 1", "no access"), ("why 32", "none")])

@@ -246,6 +246,13 @@ def _():
         want(f"the answer to {line!r}", last_answer(IMAGE, [*ON, line]), wanted)
 
 
+@check("README: a trace has the last 32 steps, the oldest 0")
+def _():
+    stores = [f"store 0x80000000 1 {it}" for it in range(40)]
+    seen = answers(IMAGE, [*stores, "trace 0", "trace 31", "trace 32"])[-3:]
+    want("the first, the last and the one behind it", seen, [*(f"store 0x80000000 0x1 {it:#x} -> done" for it in (8, 39)), "none"])
+
+
 @check("README: the translation cache has 64 places, the context cache 16")
 def _():
     for kind, places, line in (("page", 64, "dma read 0 {:#x} 1"), ("context", 16, "dma read {} 0 1")):

@@ -236,7 +236,7 @@ def add_word_help(word, parts, ending=0):
             put(here, "source", b"ram 0x80000000 0x1000\nu64 7\n")
             subprocess.run([PROGRAM, "asm", "source", "seven.image"], cwd=here, check=True)
             lines = out.decode()[out.index(b"\n  $ ") + 1 :].splitlines()
-            shown = [line.strip() for line in lines if line.startswith("  ")]
+            shown = [line[2:] for line in lines if line.startswith("  ")]
             command = "\n".join(line[2:] for line in shown if line.startswith("$ "))
             answers = "".join(line + "\n" for line in shown if not line.startswith("$ "))
             put(here, "rviommu", b'#!/bin/sh\nexec "$PROGRAM" "$@"\n')
@@ -251,5 +251,6 @@ add_word_help("asm", [b"<SOURCE>", b"<IMAGE>", *STATEMENTS])
 add_word_help("run", [b"<IMAGE>"])
 add_word_help("check", [b"[IMAGE]", b"--stale"], ending=1)
 add_word_help("debug", [b"[IMAGE]"])
+add_word_help("explain", [b"[IMAGE]"])
 add_word_help("list", [b"<IMAGE>", b"<KIND>", b"<ADDR>", b"<COUNT>"])
 add_word_help("upgrade", [b"<IMAGE>", b"<NEW>"])

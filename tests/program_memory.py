@@ -81,6 +81,7 @@ add_refused(["run", "image"])
 add_refused(["check"])
 add_refused(["check", "--stale", "image"])
 add_refused(["debug", "image"])
+add_refused(["explain", "image"])
 add_refused(["list", "image", "u64", "0x80000000", "100"])
 add_refused(["upgrade", "image", "new"])
 

@@ -40,14 +40,14 @@ def man_page():
 def _():
     page = man_page()
     forms = [form.decode() for form in FORMS + DEBUG_FORMS + STATEMENTS]
-    wanted = [*commands(), "--help", "--version", "asm SOURCE IMAGE", "run IMAGE", "check [--stale] [IMAGE]", "debug [IMAGE]", "list IMAGE KIND ADDR COUNT", "upgrade IMAGE NEW", *forms, *KINDS, *ANSWERS, *TEXTS]
+    wanted = [*commands(), "--help", "--version", "asm SOURCE IMAGE", "run IMAGE", "check [--stale] [IMAGE]", "debug [IMAGE]", "explain [IMAGE]", "list IMAGE KIND ADDR COUNT", "upgrade IMAGE NEW", *forms, *KINDS, *ANSWERS, *TEXTS]
     missing = [it for it in wanted if not re.search(r"(?m)(^|[\s,])" + re.escape(it) + r"(?=[\s,.;=]|$)", page)]
     want("what the man page lacks", missing, [])
 
 
 @check("man page: each line of a script that it shows is answered as it says")
 def _():
-    shown = re.findall(r"(?m)^(?!line )(.+?) -> (.+)$", man_page())
+    shown = re.findall(r"(?m)^(?!line |\d+: )(.+?) -> (.+)$", man_page())
     want("how many lines it shows", len(shown), len(FORMS) + len(DEBUG_FORMS))
     for form, (line, _) in zip(sorted(FORMS + DEBUG_FORMS), sorted(shown)):
         want("the word of a line", line.split()[0], form.decode().split()[0])
@@ -63,7 +63,7 @@ def _():
 def _():
     page = man_page()
     block = page[page.index("$ printf 'ram") : page.index("help, --help")]
-    lines = [line for line in block.splitlines() if re.match(r"\$ |0x|u64 |line \d|\d+ passed|07000000", line)]
+    lines = [line for line in block.splitlines() if re.match(r"\$ |0x|u64 |line \d|\d+ passed|07000000|\d+: | +\w+: |accesses: |granted: |denied \d+: |from the caches: |stale: ", line)]
     with folder() as here:
         put(here, "rviommu", b'#!/bin/sh\nexec "$PROGRAM" "$@"\n')
         os.chmod(os.path.join(here, "rviommu"), 0o755)
