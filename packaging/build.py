@@ -83,10 +83,10 @@ class Build:
     def command(self, name):
         return ["rt", "run"] if name == self.top else ["rt", "lib"]
 
-    def build_one(self, name):
+    def build_one(self, name, yields):
         where = os.path.join(CRATES, name)
         how = {"stdin": subprocess.DEVNULL, "stdout": subprocess.PIPE, "stderr": subprocess.STDOUT}
-        done = subprocess.run(self.command(name), cwd=where, check=False, **how)
+        done = subprocess.run([*["nice"] * yields, *self.command(name)], cwd=where, check=False, **how)
         with self.changed:
             seconds = time.monotonic() - self.running.pop(name)
             if done.returncode == 0:
@@ -123,8 +123,10 @@ class Build:
             while len(self.ready) < len(self.crates):
                 for name in self.next_ones() if not self.failed else []:
                     if len(self.running) < at_once:
+                        # What the most others wait for has the processors first.
+                        yields = any(self.ways[it] > self.ways[name] for it in self.running)
                         self.running[name] = time.monotonic()
-                        threading.Thread(target=self.build_one, args=(name,)).start()
+                        threading.Thread(target=self.build_one, args=(name, yields)).start()
                 if not self.running:
                     break
                 self.changed.wait()
