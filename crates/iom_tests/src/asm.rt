@@ -400,6 +400,7 @@ fn otherwise_told(ram: &Ram, lines: &[Line<'_>]) -> Option<usize> {
 // So many items from an address on, and their lines; None where the listing is refused.
 type Listing<'a> = (Item, u64, u64, Option<&'a str>);
 
+// Whether a listing is as wanted.
 fn is_listed(alloc: Global, ram: &Ram, listing: &Listing<'_>) -> bool {
     let (item, addr, count, want) = listing;
     match list(alloc, ram, *item, *addr, *count) {

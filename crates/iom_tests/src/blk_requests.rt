@@ -449,7 +449,7 @@ const CASES: &[Case] = &[
     (1, 0, 100, 0, 1, 1),
     (1, 2, 0, 0, 0, 1),
     (1, 3, 0, 0, 1, 1),
-    // FLUSH, with its feature and without; types that there are not, by all four bytes
+    // FLUSH, with its feature and without; unknown types, by all four bytes
     (4, 9, 0, 0x200, 0, 1),
     (4, 0, 512, 0x200, 0, 0),
     (4, 0, 0, 0, 2, 1),

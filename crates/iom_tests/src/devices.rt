@@ -326,6 +326,7 @@ fn fill_memory(ram: &mut Ram) {
     }
 }
 
+// A disk of 24 sectors, each run of 64 bytes with its own number.
 fn full_disk(alloc: Global) -> Result<Vec<u8>, AllocError> {
     let mut disk = Vec::new(alloc);
     for byte in 1..=192_u8 {

@@ -53,6 +53,7 @@ enum Access<'a> {
     NoWords(u64),
 }
 
+// Whether these bytes, at most four, are read from an address on.
 fn reads(ram: &Ram, addr: u64, want: &[u8]) -> bool {
     let mut out = [7; 4];
     let Some(out) = out.get_mut(..want.len()) else {
@@ -66,6 +67,7 @@ fn refuses(ram: &Ram, addr: u64) -> bool {
     !ram.read(addr, &mut out) && out == [7; 4]
 }
 
+// Whether these words, at most two, are read from an address on.
 fn reads_words(ram: &Ram, addr: u64, want: &[u64]) -> bool {
     let mut out = [7; 2];
     let Some(out) = out.get_mut(..want.len()) else {

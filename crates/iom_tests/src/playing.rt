@@ -34,6 +34,7 @@ fn is_cached(platform: &Platform) -> bool {
     platform.ram().word(0x8000_4008) == Some(0) && platform.contexts().find(5).is_some()
 }
 
+// Whether the script is answered on this image, and its context cached at the end.
 fn is_played(alloc: Global, image: &[u8]) -> Result<bool, Fail> {
     let mut script = SCRIPT;
     let mut answers = Vec::new(alloc);

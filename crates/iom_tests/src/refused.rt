@@ -237,6 +237,7 @@ fn caches_are_made_for_an_image(rt: HostRuntime) -> Result<(), Fail> {
     Ok(())
 }
 
+// Whether an empty script is played after so many allocations.
 fn is_played_after(alloc: Global, spent: usize) -> Result<bool, Fail> {
     spend(alloc, spent)?;
     let mut script: &[u8] = b"";

@@ -51,6 +51,7 @@ const DRIVEN: &[Driven] = &[
     (13, (21, Some(0xf), Some(0))),
 ];
 
+// How the accepted image that comes behind so many others is to end.
 fn ending_of(driven: &[Driven], accepted: usize) -> Option<Ending> {
     let mut left = accepted;
     for (count, ending) in driven {

@@ -74,6 +74,7 @@ fn refusing(refused: u64) -> Tables {
     }
 }
 
+// The end of a walk at a leaf.
 fn leaf(frame: u64, level: u8, global: bool) -> Outcome {
     Outcome::Leaf(Leaf {
         frame,
