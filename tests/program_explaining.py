@@ -101,7 +101,7 @@ def _():
         status, out, errors = run(words, b"reg write ddtp 0x20000402\n" + DEVICE + b"dev step 0\ndev run 0 9\ndev show 0\n")
     want("status and standard error", (status, errors), WELL)
     lines = [line for line in out.decode().splitlines() if re.match(r"1[3-9]|    (asks|caches|warrant|stale)", line)]
-    device = "did=0x5 phase=index next=none head=0x3 seen=0x0 used=0x0"
+    device = "did=0x5 phase=index next=none head=0x3 seen=0x0 used=0x0 broken=nothing-writable"
     want("what is told of its steps", lines, [
         "13: dev step 0x0 -> done", "    asks: available index, read did=0x5 iova=0x40201002 len=0x2", "    caches: no context, no page",
         "    warrant: walked context=13 walk=13 current=13",
