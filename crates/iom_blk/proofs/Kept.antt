@@ -1,6 +1,6 @@
 -- A disk that may only be read stays as it is.
 use Rattle.std.proofs.Common.{◌≡◌, ◌++◌, ◌==◌, ℕ, Bool, true, false, List, Result, Ok, Err, length, refl, arith, nat_le, nat_lt}
-use Rattle.iom_virtq.specs.Chains.{Linked}
+use Rattle.iom_virtq.specs.Chains.{DescriptorChain}
 use Rattle.iom_virtq.specs.Adding.{add_result}
 use Rattle.iom_virtq.specs.declared.parts.More.{More}
 use Rattle.iom_virtq.specs.declared.parts.More.TheVariants.{Next, Complete}
@@ -65,17 +65,17 @@ unfolding after_used
 used_keeps d = refl
 
 -- its data are those of an IN
-served_as : (header : List ℕ) (chain : Linked) (sectors : ℕ) (read_only : Bool) → is_served header chain sectors read_only ≡ true → read_only ≡ true →
+served_as : (header : List ℕ) (chain : DescriptorChain) (sectors : ℕ) (read_only : Bool) → is_served header chain sectors read_only ≡ true → read_only ≡ true →
     is_out header ≡ false
 unfolding is_served
 served_as header chain sectors read_only served only = grind (arith, served, only)
 
-moved_as : (header : List ℕ) (chain : Linked) (sectors : ℕ) (read_only : Bool) → moves_data header chain sectors read_only ≡ true →
+moved_as : (header : List ℕ) (chain : DescriptorChain) (sectors : ℕ) (read_only : Bool) → moves_data header chain sectors read_only ≡ true →
     (is_served header chain sectors read_only ≡ true) × (moves header ≡ true)
 unfolding moves_data
 moved_as header chain sectors read_only moved = (grind (arith, moved), grind (arith, moved))
 
-moved_in : (header : List ℕ) (chain : Linked) (sectors : ℕ) (read_only : Bool) → moves_data header chain sectors read_only ≡ true → read_only ≡ true →
+moved_in : (header : List ℕ) (chain : DescriptorChain) (sectors : ℕ) (read_only : Bool) → moves_data header chain sectors read_only ≡ true → read_only ≡ true →
     is_in header ≡ true
 moved_in header chain sectors read_only moved only =
     let parts = moved_as header chain sectors read_only moved in

@@ -1,12 +1,12 @@
 -- A queue that is made ready.
 use Rattle.std.proofs.Common.{ℕ, Bool, true, List, refl}
-use Rattle.iom_virtq.specs.Chains.{Linked}
+use Rattle.iom_virtq.specs.Chains.{DescriptorChain}
 use Rattle.iom_blk.specs.declared.phase.Phase.{Phase}
 use Rattle.iom_blk.specs.declared.phase.Phase.TheVariants.{Index, Ring, Descriptor, Header, Data, Status, UsedId, UsedLen, UsedIdx}
 use Rattle.iom_blk.specs.Sound.{HoldsIn}
 
 -- what holds of a request holds too where the queue is ready
-pub still : (ready : Bool) (size : ℕ) (chain : Linked) (header : List ℕ) (sectors : ℕ) (read_only : Bool) (phase : Phase) →
+pub still : (ready : Bool) (size : ℕ) (chain : DescriptorChain) (header : List ℕ) (sectors : ℕ) (read_only : Bool) (phase : Phase) →
     HoldsIn ready size chain header sectors read_only phase → HoldsIn true size chain header sectors read_only phase
 still ready size chain header sectors read_only Index held = held
 still ready size chain header sectors read_only Ring held = refl

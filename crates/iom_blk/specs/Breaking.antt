@@ -3,7 +3,7 @@
 use Rattle.std.specs.Prelude.{ℕ, List, Option, Some, None, Result, Ok, Err, nat_le, nat_lt, if◌then◌else◌}
 use Rattle.iom_virtq.specs.Adding.{add_result, with_part}
 use Rattle.iom_virtq.specs.Bus.{Reply}
-use Rattle.iom_virtq.specs.Chains.{Linked}
+use Rattle.iom_virtq.specs.Chains.{DescriptorChain}
 use Rattle.iom_virtq.specs.declared.access.Access.{Access}
 use Rattle.iom_virtq.specs.declared.access.Access.TheVariants as access
 use Rattle.iom_virtq.specs.declared.parts.More.{More}
@@ -18,14 +18,14 @@ use Rattle.iom_blk.specs.Phases.{is_ahead}
 use Rattle.iom_blk.specs.Requests.{number_at, readable, writable}
 
 -- what a whole chain lacks: a header of 16 bytes, or else a status byte
-unfoldable pub lack_of : Linked → Option Broken
+unfoldable pub lack_of : DescriptorChain → Option Broken
 lack_of chain =
     if nat_lt (readable chain) 16 then Some broke.ShortHeader
     else if nat_lt (writable chain) 1 then Some broke.NothingWritable
     else None
 
 -- a descriptor that the chain refuses, or with which it is whole
-abbrev pub broken_by_part : Linked → Result More ChainFault → Option Broken
+abbrev pub broken_by_part : DescriptorChain → Result More ChainFault → Option Broken
 broken_by_part chain (Err fault) = Some (broke.Descriptor fault)
 broken_by_part chain (Ok (Next next)) = None
 broken_by_part chain (Ok Complete) = lack_of chain

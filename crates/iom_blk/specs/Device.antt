@@ -1,6 +1,6 @@
 -- A block device with one split queue: VIRTIO 1.2, "Split Virtqueues", "Virtio Over MMIO" and "Block Device".
 use Rattle.std.specs.Prelude.{ℕ, ◌/◌, Bool, false, List, [], length, Option, None}
-use Rattle.iom_virtq.specs.Chains.{Linked}
+use Rattle.iom_virtq.specs.Chains.{DescriptorChain}
 use Rattle.iom_blk.specs.declared.broken.Broken.{Broken}
 use Rattle.iom_blk.specs.declared.phase.Phase.{Phase}
 use Rattle.iom_blk.specs.declared.phase.Phase.TheVariants.{Index}
@@ -34,7 +34,7 @@ pub record Device : Type 0 where
   -- length that the used ring will tell
   pub phase : Phase
   pub head : ℕ
-  pub chain : Linked
+  pub chain : DescriptorChain
   pub header : List ℕ
   pub answer : ℕ
   pub used_length : ℕ

@@ -4,7 +4,7 @@ use Rattle.std.specs.Prelude.{ℕ, ◌+◌, ◌-◌, ◌*◌, ◌/◌, ◌%◌, 
 use Rattle.iom_bits.specs.Bits.{has_bit}
 use Rattle.iom_bits.specs.Bytes.{number_of_bytes}
 use Rattle.iom_virtq.specs.declared.parts.Side.TheVariants.{Readable, Writable}
-use Rattle.iom_virtq.specs.Chains.{Linked, Item, bytes_on, address_of, run_length}
+use Rattle.iom_virtq.specs.Chains.{DescriptorChain, Item, bytes_on, address_of, run_length}
 
 -- the number of `count` bytes from a place on, the lowest byte first
 unfoldable pub number_at : List ℕ → ℕ → ℕ → ℕ
@@ -28,14 +28,14 @@ abbrev pub is_flush : List ℕ → Bool
 is_flush header = kind_of header == 4
 
 -- how many bytes the device reads, and how many it writes
-unfoldable pub readable : Linked → ℕ
+unfoldable pub readable : DescriptorChain → ℕ
 readable chain = length (bytes_on chain Readable)
 
-unfoldable pub writable : Linked → ℕ
+unfoldable pub writable : DescriptorChain → ℕ
 writable chain = length (bytes_on chain Writable)
 
 -- how many data bytes there are: of an IN all that are written but the status byte, of an OUT all that are read behind the header
-unfoldable pub data_length : List ℕ → Linked → ℕ
+unfoldable pub data_length : List ℕ → DescriptorChain → ℕ
 data_length header chain =
     if is_in header then writable chain - 1 else if is_out header then readable chain - 16 else 0
 
@@ -43,19 +43,19 @@ abbrev pub moves : List ℕ → Bool
 moves header = is_in header || is_out header
 
 -- whether data may be moved: whole sectors, all of them on the disk, and no OUT where the disk is read-only
-unfoldable pub is_served : List ℕ → Linked → ℕ → Bool → Bool
+unfoldable pub is_served : List ℕ → DescriptorChain → ℕ → Bool → Bool
 is_served header chain sectors read_only =
     data_length header chain % 512 == 0 && nat_le (sector_of header + data_length header chain / 512) sectors
     && not (read_only && is_out header)
 
 -- whether there are data to move
-unfoldable pub moves_data : List ℕ → Linked → ℕ → Bool → Bool
+unfoldable pub moves_data : List ℕ → DescriptorChain → ℕ → Bool → Bool
 moves_data header chain sectors read_only =
     moves header && is_served header chain sectors read_only && nat_lt 0 (data_length header chain)
 
 -- the status byte: VIRTIO_BLK_S_OK 0, VIRTIO_BLK_S_IOERR 1, VIRTIO_BLK_S_UNSUPP 2. A FLUSH is served where VIRTIO_BLK_F_FLUSH,
 -- bit 9, was accepted
-unfoldable pub status_of : List ℕ → Linked → ℕ → Bool → ℕ → ℕ
+unfoldable pub status_of : List ℕ → DescriptorChain → ℕ → Bool → ℕ → ℕ
 status_of header chain sectors read_only features =
     if moves header then (if is_served header chain sectors read_only then 0 else 1)
     else if is_flush header && has_bit features 9 then 0
@@ -63,32 +63,32 @@ status_of header chain sectors read_only features =
 
 -- "The Virtqueue Used Ring", len: how many bytes were written from the first writable one on without a gap. They are all where the
 -- data of an IN were moved, or where the status byte stands alone
-unfoldable pub used_length : List ℕ → Linked → ℕ → ℕ
+unfoldable pub used_length : List ℕ → DescriptorChain → ℕ → ℕ
 used_length header chain answer = if (is_in header && answer == 0) || writable chain == 1 then writable chain else 0
 
 -- the header bytes that are still to be read, and how many of them the next piece has
-abbrev pub header_left : List ℕ → Linked → List Item
+abbrev pub header_left : List ℕ → DescriptorChain → List Item
 header_left header chain = drop (length header) (bytes_on chain Readable)
 
-unfoldable pub header_address : List ℕ → Linked → ℕ
+unfoldable pub header_address : List ℕ → DescriptorChain → ℕ
 header_address header chain = address_of (header_left header chain)
 
-unfoldable pub header_count : List ℕ → Linked → ℕ
+unfoldable pub header_count : List ℕ → DescriptorChain → ℕ
 header_count header chain = min (run_length (header_left header chain)) (16 - length header)
 
 -- the same of the data, of which `position` bytes were moved
-abbrev pub data_left : List ℕ → Linked → ℕ → List Item
+abbrev pub data_left : List ℕ → DescriptorChain → ℕ → List Item
 data_left header chain position =
     if is_in header then drop position (bytes_on chain Writable) else drop (16 + position) (bytes_on chain Readable)
 
-unfoldable pub data_address : List ℕ → Linked → ℕ → ℕ
+unfoldable pub data_address : List ℕ → DescriptorChain → ℕ → ℕ
 data_address header chain position = address_of (data_left header chain position)
 
-unfoldable pub data_count : List ℕ → Linked → ℕ → ℕ
+unfoldable pub data_count : List ℕ → DescriptorChain → ℕ → ℕ
 data_count header chain position = min (run_length (data_left header chain position)) (data_length header chain - position)
 
 -- where the status byte is to be written
-unfoldable pub status_address : Linked → ℕ
+unfoldable pub status_address : DescriptorChain → ℕ
 status_address chain = address_of (drop (writable chain - 1) (bytes_on chain Writable))
 
 -- where on the disk the data behind `position` bytes stand

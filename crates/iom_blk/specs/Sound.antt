@@ -1,6 +1,6 @@
 -- What every access and every step keeps.
 use Rattle.std.specs.Prelude.{ℕ, ◌≡◌, ◌+◌, ◌*◌, ◌%◌, ◌^◌, ◌<◌, ◌≤◌, Bool, true, List, length, is_some}
-use Rattle.iom_virtq.specs.Chains.{Linked}
+use Rattle.iom_virtq.specs.Chains.{DescriptorChain}
 use Rattle.iom_blk.specs.declared.phase.Phase.{Phase}
 use Rattle.iom_blk.specs.declared.phase.Phase.TheVariants.{Index, Ring, Descriptor, Header, Data, Status, UsedId, UsedLen, UsedIdx}
 use Rattle.iom_blk.specs.Device.{Device, sectors}
@@ -19,7 +19,7 @@ pub record IsGoodQueue (size desc avail used_ring : ℕ) : Type 0 where
   pub used_fits : used_ring + (4 + 8 * size) ≤ 2 ^ 64
 
 -- what is so where a request stands in a phase
-abbrev pub HoldsIn : Bool → ℕ → Linked → List ℕ → ℕ → Bool → Phase → Type 0
+abbrev pub HoldsIn : Bool → ℕ → DescriptorChain → List ℕ → ℕ → Bool → Phase → Type 0
 HoldsIn ready size chain header sectors read_only Index = Unit {0}
 HoldsIn ready size chain header sectors read_only Ring = ready ≡ true
 HoldsIn ready size chain header sectors read_only (Descriptor i) =

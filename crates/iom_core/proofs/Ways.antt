@@ -75,20 +75,20 @@ by_page : (m : Machine) (request : Request) (context : Context) → (context_loo
     led m request ≡ led_by_page context (context_look m request.did).filled (page_look m request context).filled (page_look m request context).used →
     HowLed m request
 by_page m request context used bare is =
-    let learnt = (context_look m request.did).filled in
+    let fill = (context_look m request.did).filled in
     let page = (page_look m request context).filled in
     let Goal : Result Hit Fault → Type 0 = λ r. (page_look m request context).used ≡ r → HowLed m request in
     let by_used : (r : Result Hit Fault) → Goal r = λ r. elim r as Goal [
-      | Ok hit ↦ λ e. WasWalked context hit used bare e (is ∙ ap (led_by_page context learnt page) e)
-      | Err fault ↦ λ e. WasFault context fault used bare e (is ∙ ap (led_by_page context learnt page) e)
+      | Ok hit ↦ λ e. WasWalked context hit used bare e (is ∙ ap (led_by_page context fill page) e)
+      | Err fault ↦ λ e. WasFault context fault used bare e (is ∙ ap (led_by_page context fill page) e)
     ] in by_used (page_look m request context).used refl
 
 by_bareness : (m : Machine) (request : Request) (context : Context) → (context_look m request.did).used ≡ Ok context →
     led m request ≡ led_by_context m request (context_look m request.did).filled (Ok context) → HowLed m request
 by_bareness m request context used is =
-    let learnt = (context_look m request.did).filled in
-    let split : Bool → Led = λ b. if b then record { way = ByContext context; context = learnt; page = None }
-    else led_by_page context learnt (page_look m request context).filled (page_look m request context).used in
+    let fill = (context_look m request.did).filled in
+    let split : Bool → Led = λ b. if b then record { way = ByContext context; context = fill; page = None }
+    else led_by_page context fill (page_look m request context).filled (page_look m request context).used in
     let Goal : Bool → Type 0 = λ b. is_bare context ≡ b → HowLed m request in
     let by_bare : (b : Bool) → Goal b = λ b. elim b as Goal [
       | true ↦ λ bare. WasByContext context used bare (is ∙ ap split bare)
@@ -98,11 +98,11 @@ by_bareness m request context used is =
 by_context : (m : Machine) (request : Request) →
     led m request ≡ led_by_context m request (context_look m request.did).filled (context_look m request.did).used → HowLed m request
 by_context m request is =
-    let learnt = (context_look m request.did).filled in
+    let fill = (context_look m request.did).filled in
     let Goal : Result Context Cause → Type 0 = λ r. (context_look m request.did).used ≡ r → HowLed m request in
     let by_used : (r : Result Context Cause) → Goal r = λ r. elim r as Goal [
-      | Ok context ↦ λ e. by_bareness m request context e (is ∙ ap (led_by_context m request learnt) e)
-      | Err why ↦ λ e. WasNowhere why e (is ∙ ap (led_by_context m request learnt) e)
+      | Ok context ↦ λ e. by_bareness m request context e (is ∙ ap (led_by_context m request fill) e)
+      | Err why ↦ λ e. WasNowhere why e (is ∙ ap (led_by_context m request fill) e)
     ] in by_used (context_look m request.did).used refl
 
 pub how_led : (m : Machine) (request : Request) → HowLed m request

@@ -77,16 +77,16 @@ refused why = record { way = Denied (plain why); context = None; page = None }
 
 -- by the page
 abbrev pub led_by_page : Context → Option (ℕ × Context) → Option (Key × Hit) → Result Hit Fault → Led
-led_by_page context learnt page (Ok hit) = record { way = Walked context hit; context = learnt; page = page }
-led_by_page context learnt page (Err fault) =
-    record { way = Denied (translating context fault); context = learnt; page = page }
+led_by_page context fill page (Ok hit) = record { way = Walked context hit; context = fill; page = page }
+led_by_page context fill page (Err fault) =
+    record { way = Denied (translating context fault); context = fill; page = page }
 
 -- by the context, which is filled before the page is walked, so also where the walk fails
 abbrev pub led_by_context : Machine → Request → Option (ℕ × Context) → Result Context Cause → Led
-led_by_context m request learnt (Ok context) =
-    if is_bare context then record { way = ByContext context; context = learnt; page = None }
-    else led_by_page context learnt (page_look m request context).filled (page_look m request context).used
-led_by_context m request learnt (Err why) = record { way = Denied (plain why); context = learnt; page = None }
+led_by_context m request fill (Ok context) =
+    if is_bare context then record { way = ByContext context; context = fill; page = None }
+    else led_by_page context fill (page_look m request context).filled (page_look m request context).used
+led_by_context m request fill (Err why) = record { way = Denied (plain why); context = fill; page = None }
 
 -- by the mode: with Off all is disallowed, with Bare the address is the IOVA itself, otherwise the directory has the device's
 -- context
@@ -107,8 +107,8 @@ address_on (Walked context hit) iova = Ok (hit.frame * 4096 + iova % 4096)
 address_on (Denied denial) iova = Err denial
 
 -- the machine after the look-ups
-abbrev pub learnt : Machine → Led → Machine
-learnt m led = record m {
+abbrev pub with_fills : Machine → Led → Machine
+with_fills m led = record m {
   contexts = filled_by context_room led.context m.contexts;
   pages = filled_by page_room led.page m.pages;
 }

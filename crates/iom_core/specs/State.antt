@@ -36,14 +36,15 @@ abbrev pub EachFits : List (ℕ × Device) → Type 0
 EachFits [] = Unit {0}
 EachFits (own ∷ more) = (own.0 < 2 ^ 24) × EachFits more
 
--- no two devices have one id
-abbrev pub EachOther : ℕ → List (ℕ × Device) → Type 0
-EachOther did [] = Unit {0}
-EachOther did (own ∷ more) = (own.0 ≢ did) × EachOther did more
+-- no device has this id
+abbrev pub NoneHasId : ℕ → List (ℕ × Device) → Type 0
+NoneHasId did [] = Unit {0}
+NoneHasId did (own ∷ more) = (own.0 ≢ did) × NoneHasId did more
 
+-- no two devices have one id
 abbrev pub AreDistinct : List (ℕ × Device) → Type 0
 AreDistinct [] = Unit {0}
-AreDistinct (own ∷ more) = EachOther own.0 more × AreDistinct more
+AreDistinct (own ∷ more) = NoneHasId own.0 more × AreDistinct more
 
 -- the block devices that a platform may have
 pub record AreDevices (devices : List (ℕ × Device)) : Type 0 where

@@ -10,7 +10,7 @@ ghost use Rattle.iom_nested.specs.Nested.{HitFits};
 ghost use Rattle.iom_cache.specs.Places.{find, look};
 ghost use Rattle.std.specs.Bool.{OnFalse};
 ghost use Rattle.iom_virtq.specs.Bus.{Read, Write, is_granted, reply_of};
-ghost use Rattle.iom_core.specs.Access.{address_on, context_look, learnt, led, led_by_context, plain, record_left, request_key, served, translating, with_delivery};
+ghost use Rattle.iom_core.specs.Access.{address_on, context_look, led, led_by_context, plain, record_left, request_key, served, translating, with_delivery, with_fills};
 
 use crate::machine::Machine;
 use iom_bits::{Cause, Kind};
@@ -112,14 +112,14 @@ impl Machine {
         }
     }
 
-    // The physical address that a request leads to. What is learnt on the way is cached.
+    // The physical address that a request leads to. What is found on the way is cached.
     #[inline(always)]
     #[tactic(auto, unfolding(crate::specs::Access::led))]
     fn address(&mut self, request: &Request) -> Result<u64, Denial>
         requires { request.now.did < 2 ^ 24 }
         ensures address { result
             ≡ address_on (led self.old request.now).way request.now.iova }
-        ensures learnt { self.new ≡ learnt self.old (led self.old request.now) }
+        ensures filled { self.new ≡ with_fills self.old (led self.old request.now) }
     {
         match self.registers.mode() {
             Mode::Off => Err(Denial::plain(Cause::Off)),
@@ -136,7 +136,7 @@ impl Machine {
         requires width { request.now.did < 2 ^ 24 }
         ensures address { result ≡ address_on (led_by_context self.old request.now
             (context_look self.old request.now.did).filled (context_look self.old request.now.did).used).way request.now.iova }
-        ensures learnt { self.new ≡ learnt self.old (led_by_context self.old request.now
+        ensures filled { self.new ≡ with_fills self.old (led_by_context self.old request.now
             (context_look self.old request.now.did).filled (context_look self.old request.now.did).used) }
     {
         if is_too_wide(&self.registers, request.did) {
@@ -150,7 +150,7 @@ impl Machine {
 
     // The same by a context that the directory has. It is filled also where the walk fails.
     #[inline(never)]
-    #[tactic(auto, using(crate::proofs::Learnt::apart))]
+    #[tactic(auto, using(crate::proofs::NewContext::apart))]
     fn address_by_new_context(&mut self, request: &Request) -> Result<u64, Denial>
         requires directory { 1 ≤ levels_of (mode_of self.old.registers) }
         requires width { request.now.did < 2 ^ 24 }
@@ -158,7 +158,7 @@ impl Machine {
         ensures address { result ≡ address_on (led_by_context self.old request.now
             (look request.now.did None (located self.old.memory self.old.registers request.now.did)).filled
             (located self.old.memory self.old.registers request.now.did)).way request.now.iova }
-        ensures learnt { self.new ≡ learnt self.old (led_by_context self.old request.now
+        ensures filled { self.new ≡ with_fills self.old (led_by_context self.old request.now
             (look request.now.did None (located self.old.memory self.old.registers request.now.did)).filled
             (located self.old.memory self.old.registers request.now.did)) }
     {
@@ -179,8 +179,8 @@ impl Machine {
         requires { IsWellFormed context.now }
         ensures address { result
             ≡ address_on (led_by_context self.old request.now None (Ok context.now)).way request.now.iova }
-        ensures learnt { self.new
-            ≡ learnt self.old (led_by_context self.old request.now None (Ok context.now)) }
+        ensures filled { self.new
+            ≡ with_fills self.old (led_by_context self.old request.now None (Ok context.now)) }
     {
         if context.is_bare() {
             return Ok(request.iova);
@@ -207,8 +207,8 @@ impl Machine {
         requires new { find (same_key key) self.old.pages ≡ None }
         ensures address { result
             ≡ address_on (led_by_context self.old request.now None (Ok context.now)).way request.now.iova }
-        ensures learnt { self.new
-            ≡ learnt self.old (led_by_context self.old request.now None (Ok context.now)) }
+        ensures filled { self.new
+            ≡ with_fills self.old (led_by_context self.old request.now None (Ok context.now)) }
     {
         match translate(&self.ram, context, request.iova, request.kind) {
             Ok(hit) => {

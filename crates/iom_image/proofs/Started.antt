@@ -3,7 +3,7 @@ use Rattle.std.proofs.Common.{◌≡◌, ℕ, suc, ◌^◌, ◌≤◌, ◌<◌, 
 use Rattle.std.specs.List.{list_any}
 use Rattle.std.proofs.lemmas.Bool.{and_parts, ltb-true, not-true, eq-eqb, true≢false}
 use Rattle.iom_blk.specs.Device.{Device}
-use Rattle.iom_core.specs.State.{State, AreDevices, AreDistinct, EachFits, EachOther}
+use Rattle.iom_core.specs.State.{State, AreDevices, AreDistinct, EachFits, NoneHasId}
 use Rattle.iom_image.specs.declared.fault.LoadFault.{LoadFault}
 use Rattle.iom_image.specs.Image.{Disk, Image, AreDisks, AreBytes}
 use Rattle.iom_image.specs.Loading.{devices_of, state_from}
@@ -35,7 +35,7 @@ met_last : (id : ℕ) (ids : List ℕ) → is_met id (ids ++ id ∷ []) ≡ true
 met_last id [] = rw (eq-eqb id id refl) refl
 met_last id (first ∷ ids) = met_later (first == id) (is_met id (ids ++ id ∷ [])) (met_last id ids)
 
-others_other : (has_flags : Bool) (ids : List ℕ) (disks : List Disk) (id : ℕ) → is_met id ids ≡ true → AreDisks has_flags ids disks → EachOther id (devices_from disks)
+others_other : (has_flags : Bool) (ids : List ℕ) (disks : List Disk) (id : ℕ) → is_met id ids ≡ true → AreDisks has_flags ids disks → NoneHasId id (devices_from disks)
 others_other has_flags ids [] id met good = tt
 others_other has_flags ids (disk ∷ disks) id met good =
     let new = not-true (is_met disk.id ids) (and_parts (nat_lt disk.id (2 ^ 24)) (not (is_met disk.id ids)) good.0.id).1 in (

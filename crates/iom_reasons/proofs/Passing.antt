@@ -301,21 +301,21 @@ unfolding translation
 translated_stages_pass memory context iova kind hit is = stages_pass memory context iova kind hit (hit_of kind _ hit is)
 
 -- by the way that is led
-page_passes : (m : Machine) (request : Request) (context : Context) (learnt : Option (ℕ × Context)) (key : Key) (found : Result Hit Fault) →
+page_passes : (m : Machine) (request : Request) (context : Context) (fill : Option (ℕ × Context)) (key : Key) (found : Result Hit Fault) →
     translation m.memory context request.iova request.kind ≡ found →
-    IsGranted (way_of (led_by_page context learnt (look key None found).filled (look key None found).used).way) →
+    IsGranted (way_of (led_by_page context fill (look key None found).filled (look key None found).used).way) →
     All Passes (stage_parts m.memory request.iova request.kind (Ok context))
-page_passes m request context learnt key (Ok hit) is granted = translated_stages_pass m.memory context request.iova request.kind hit is
-page_passes m request context learnt key (Err fault) is granted = absurd granted
+page_passes m request context fill key (Ok hit) is granted = translated_stages_pass m.memory context request.iova request.kind hit is
+page_passes m request context fill key (Err fault) is granted = absurd granted
 
-context_passes : (m : Machine) (request : Request) (context : Context) (learnt : Option (ℕ × Context)) (bare : Bool) → is_bare context ≡ bare →
-    IsGranted (way_of (if bare then record { way = ByContext context; context = learnt; page = None }
-    else led_by_page context learnt (page_look (uncached m) request context).filled (page_look (uncached m) request context).used).way) →
+context_passes : (m : Machine) (request : Request) (context : Context) (fill : Option (ℕ × Context)) (bare : Bool) → is_bare context ≡ bare →
+    IsGranted (way_of (if bare then record { way = ByContext context; context = fill; page = None }
+    else led_by_page context fill (page_look (uncached m) request context).filled (page_look (uncached m) request context).used).way) →
     All Passes (stage_parts m.memory request.iova request.kind (Ok context))
 unfolding page_look
-context_passes m request context learnt true is granted = bare_stages_pass m.memory context request.iova request.kind is
-context_passes m request context learnt false is granted =
-    page_passes m request context learnt (request_key request context) (translation m.memory context request.iova request.kind) refl granted
+context_passes m request context fill true is granted = bare_stages_pass m.memory context request.iova request.kind is
+context_passes m request context fill false is granted =
+    page_passes m request context fill (request_key request context) (translation m.memory context request.iova request.kind) refl granted
 
 found_passes : (m : Machine) (request : Request) (found : Result Context Cause) → located m.memory m.registers request.did ≡ found →
     IsGranted (way_of (led_by_context (uncached m) request (look request.did None found).filled (look request.did None found).used).way) →

@@ -8,7 +8,7 @@ use Rattle.iom_cache.specs.Places.{Look, look}
 use Rattle.iom_core.specs.State.{Machine}
 use Rattle.iom_core.specs.Access.{context_look, led_by_context}
 use Rattle.iom_core.specs.declared.access.Request.{Request}
-use Rattle.iom_core.proofs.Learnt.{apart}
+use Rattle.iom_core.proofs.NewContext.{apart}
 use Rattle.iom_core.specs.Access as access
 use Rattle.iom_reasons.specs.Stale.{told, uncached}
 use Rattle.iom_reasons.specs.declared.way.Way.{Way}

@@ -50,7 +50,7 @@ pub fn way_now(platform: &Platform, request: &Request) -> Way
 }
 
 // The same by the directory, where ddtp's mode has one.
-#[tactic(auto, unfolding(iom_core::specs::Access::context_look), using(iom_core::proofs::Wide::too_wide_located, iom_core::proofs::Learnt::apart))]
+#[tactic(auto, unfolding(iom_core::specs::Access::context_look), using(iom_core::proofs::Wide::too_wide_located, iom_core::proofs::NewContext::apart))]
 fn way_by_directory(platform: &Platform, request: &Request) -> Way
     requires directory { 1 ≤ levels_of (mode_of platform.now.machine.registers) }
     requires width { request.now.did < 2 ^ 24 }
@@ -102,7 +102,7 @@ pub fn way_by_tables(platform: &Platform, request: &Request) -> Way
 }
 
 // The same by the directory, where ddtp's mode has one.
-#[tactic(auto, using(crate::proofs::Ways::looked_uncached, iom_core::proofs::Learnt::apart))]
+#[tactic(auto, using(crate::proofs::Ways::looked_uncached, iom_core::proofs::NewContext::apart))]
 fn way_by_new_directory(platform: &Platform, request: &Request) -> Way
     requires directory { 1 ≤ levels_of (mode_of platform.now.machine.registers) }
     requires width { request.now.did < 2 ^ 24 }

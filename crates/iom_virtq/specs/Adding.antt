@@ -10,7 +10,7 @@ use Rattle.iom_virtq.specs.declared.parts.More.{More}
 use Rattle.iom_virtq.specs.declared.parts.More.TheVariants.{Next, Complete}
 use Rattle.iom_virtq.specs.declared.parts.ChainFault.{ChainFault}
 use Rattle.iom_virtq.specs.declared.parts.ChainFault.TheVariants.{Indirect, ReadAfterWrite, TooLong, BadNext, Wraps}
-use Rattle.iom_virtq.specs.Chains.{Linked, same_side}
+use Rattle.iom_virtq.specs.Chains.{DescriptorChain, same_side}
 
 -- the flags by their bits: VIRTQ_DESC_F_NEXT, VIRTQ_DESC_F_WRITE, VIRTQ_DESC_F_INDIRECT; others are ignored
 abbrev pub names_next : ℕ → Bool
@@ -30,7 +30,7 @@ abbrev pub has_written : List Part → Bool
 has_written parts = list_any (is_on Writable) parts
 
 -- the first refusal that applies
-unfoldable pub refusal_of : Linked → ℕ → ℕ → ℕ → ℕ → Option ChainFault
+unfoldable pub refusal_of : DescriptorChain → ℕ → ℕ → ℕ → ℕ → Option ChainFault
 refusal_of chain addr len flags next =
     if is_indirect flags then Some Indirect
     else if not (is_written flags) && has_written chain.parts then Some ReadAfterWrite
@@ -43,7 +43,7 @@ refusal_of chain addr len flags next =
 abbrev pub part_of : ℕ → ℕ → ℕ → Part
 part_of addr len flags = record { side = if is_written flags then Writable else Readable; addr = addr; len = len }
 
-abbrev pub with_part : Linked → ℕ → ℕ → ℕ → Linked
+abbrev pub with_part : DescriptorChain → ℕ → ℕ → ℕ → DescriptorChain
 with_part chain addr len flags = record chain { parts = chain.parts ++ part_of addr len flags ∷ [] }
 
 -- what comes after the descriptor
@@ -54,7 +54,7 @@ abbrev pub added_or : Option ChainFault → More → Result More ChainFault
 added_or None more = Ok more
 added_or (Some fault) more = Err fault
 
-unfoldable pub add_result : Linked → ℕ → ℕ → ℕ → ℕ → Result More ChainFault
+unfoldable pub add_result : DescriptorChain → ℕ → ℕ → ℕ → ℕ → Result More ChainFault
 add_result chain addr len flags next = added_or (refusal_of chain addr len flags next) (more_of flags next)
 
 -- a next descriptor is below the limit

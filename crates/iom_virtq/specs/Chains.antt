@@ -7,7 +7,7 @@ use Rattle.iom_virtq.specs.declared.parts.Side.TheVariants.{Readable, Writable}
 use Rattle.iom_virtq.specs.declared.parts.Part.{Part}
 
 -- a chain: how many descriptors its queue has, and its parts in their order
-pub record Linked : Type 0 where
+pub record DescriptorChain : Type 0 where
   pub limit : ℕ
   pub parts : List Part
 
@@ -37,7 +37,7 @@ items_from side number [] = []
 items_from side number (part ∷ parts) = bytes_of number part.addr (len_on part side) ++ items_from side (number + 1) parts
 
 -- the bytes of a side of a chain
-abbrev pub bytes_on : Linked → Side → List Item
+abbrev pub bytes_on : DescriptorChain → Side → List Item
 bytes_on chain side = items_from side 0 chain.parts
 
 -- where the first of some bytes is

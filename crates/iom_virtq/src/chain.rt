@@ -37,9 +37,9 @@ pub struct Chain {
 impl Model for Chain {
     ghost use Rattle.std.specs.Prelude.{◌≡◌, ◌≤◌, take, true};
     ghost use Rattle.std.specs.List.{list_all};
-    ghost use Rattle.iom_virtq.specs.Chains.{Linked, fits};
+    ghost use Rattle.iom_virtq.specs.Chains.{DescriptorChain, fits};
 
-    ghost Value = { Linked };
+    ghost Value = { DescriptorChain };
 
     ghost view = { λ c. record { limit = c.limit; parts = take c.count c.parts } };
 

@@ -7,6 +7,6 @@ pub returns-in-Some-clause-address : goal.returns-in-Some-clause-address
 unfolding context_look
 returns-in-Some-clause-address c = search (rules, too_wide_located)
 
-pub returns-in-Some-clause-learnt : goal.returns-in-Some-clause-learnt
+pub returns-in-Some-clause-filled : goal.returns-in-Some-clause-filled
 unfolding context_look
-returns-in-Some-clause-learnt c = search (rules, too_wide_located)
+returns-in-Some-clause-filled c = search (rules, too_wide_located)
