@@ -48,9 +48,8 @@ def kit():
 
 
 def build_crate():
-    """Proves and builds the program, and with it all that the crate stands on, and then the crate."""
-    subprocess.run([os.path.join(TOP, "packaging", "build.py")], stdout=sys.stderr, check=True)
-    subprocess.run(["rt", "lib"], cwd=os.path.join(CRATES, "iom_c"), stdout=sys.stderr, check=True)
+    """Proves and builds the crate, and all that it stands on."""
+    subprocess.run([os.path.join(TOP, "packaging", "build.py"), "iom_c"], stdout=sys.stderr, check=True)
     os.utime(ARCHIVE)
 
 

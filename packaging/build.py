@@ -1,11 +1,17 @@
 #!/usr/bin/env -S python3 -B
-"""build.py [CRATE]    Builds a program, rviommu where none is named, and the crates that it stands on, side by side.
+"""build.py [CRATE]    Builds a crate, the program rviommu where none is named, and the crates that it stands on, side by side.
 
 Each crate is proved as it is built, and one that is current costs a few seconds. As many crates are built at a time as the
 machine has processors and memory for. Progress is told on standard error; standard output stays empty.
 The status is 1 where a crate could not be built.
+
+rt locks a crate and all that it stands on for as long as it works on it. So each crate is built in a tree of its own, in
+the folder out/ at the top: its sources and those below it as hard links, with what was built of these. What is built there is
+then moved into the crate's own folder out/.
 """
+import fcntl
 import os
+import shutil
 import subprocess
 import sys
 import threading
@@ -13,13 +19,15 @@ import time
 
 TOP = os.path.normpath(os.path.join(os.path.dirname(os.path.abspath(__file__)), os.pardir))
 CRATES = os.path.join(TOP, "crates")
+LIST = os.path.join(TOP, "crates.txt")
+TREES = os.path.join(TOP, "out", "build")
 BYTES_A_JOB = 2 << 30
 
 
 def stands_on():
     """The crates of crates.txt, each with those of them that it stands on."""
     found = {}
-    with open(os.path.join(TOP, "crates.txt"), encoding="utf-8") as lines:
+    with open(LIST, encoding="utf-8") as lines:
         for line in lines:
             name, colon, rest = line.partition("#")[0].partition(":")
             if colon:
@@ -62,39 +70,87 @@ def ways(crates):
     return found
 
 
-def jobs():
-    processors = len(os.sched_getaffinity(0))
+def processors():
+    return len(os.sched_getaffinity(0))
+
+
+def at_once():
+    """As many crates as there are processors, and memory for."""
     memory = os.sysconf("SC_PHYS_PAGES") * os.sysconf("SC_PAGE_SIZE")
-    return max(1, min(processors, memory // BYTES_A_JOB))
+    return max(1, min(processors(), memory // BYTES_A_JOB))
+
+
+class Tree:
+    """A copy of a crate and of those below it, in which no other rt works."""
+
+    def __init__(self, name, others):
+        self.top = os.path.join(TREES, name)
+        self.folder = os.path.join(self.top, "crates", name)
+        self.made = os.path.join(self.folder, "out")
+        self.kept = os.path.join(CRATES, name, "out")
+        # A build that was killed may have left its work.
+        if os.path.isdir(self.made) and not os.path.isdir(self.kept):
+            os.rename(self.made, self.kept)
+        shutil.rmtree(self.top, ignore_errors=True)
+        for it in [name, *others]:
+            self.link(it, "", shutil.ignore_patterns("out"))
+        for it in others:
+            self.link(it, os.path.join("out", "rlib"), None)
+        shutil.copy2(LIST, self.top)
+        if os.path.isdir(self.kept):
+            os.rename(self.kept, self.made)
+
+    def link(self, name, part, ignored):
+        """Links a crate's files at or below the part."""
+        source, target = (os.path.join(it, name, part) for it in (CRATES, os.path.join(self.top, "crates")))
+        shutil.copytree(source, target, ignore=ignored, copy_function=os.link, dirs_exist_ok=True)
+
+    def close(self):
+        """What was built is the crate's own now."""
+        if os.path.isdir(self.made):
+            shutil.rmtree(self.kept, ignore_errors=True)
+            os.rename(self.made, self.kept)
+        shutil.rmtree(self.top, ignore_errors=True)
 
 
 class Build:
     """What is built, and how far it is."""
 
     def __init__(self, top):
-        self.top = top
-        self.crates = below(stands_on(), top)
+        all_crates = stands_on()
+        self.crates = below(all_crates, top)
+        self.below = {name: [it for it in below(all_crates, name) if it != name] for name in self.crates}
         self.ways = ways(self.crates)
         self.sizes = {name: size(name) for name in self.crates}
         self.ready, self.running, self.failed = set(), {}, {}
         self.changed = threading.Condition()
         self.started = time.monotonic()
 
-    def command(self, name):
-        return ["rt", "run"] if name == self.top else ["rt", "lib"]
-
-    def build_one(self, name, yields):
-        where = os.path.join(CRATES, name)
+    def build_one(self, name, words):
         how = {"stdin": subprocess.DEVNULL, "stdout": subprocess.PIPE, "stderr": subprocess.STDOUT}
-        done = subprocess.run([*["nice"] * yields, *self.command(name)], cwd=where, check=False, **how)
+        try:
+            tree = Tree(name, self.below[name])
+            done = subprocess.run(words, cwd=tree.folder, check=False, **how)
+            tree.close()
+            fault = done.stdout.decode(errors="replace") if done.returncode else None
+        except OSError as error:
+            fault = str(error)
         with self.changed:
             seconds = time.monotonic() - self.running.pop(name)
-            if done.returncode == 0:
+            if fault is None:
                 self.ready.add(name)
                 self.tell(f"{name} ({seconds:.0f} s){self.left()}")
             else:
-                self.failed[name] = done.stdout.decode(errors="replace")
+                self.failed[name] = fault
             self.changed.notify()
+
+    def words(self, name):
+        """The command that builds the crate. What the most others wait for has the processors first, and rt chooses its jobs."""
+        is_program = os.path.isfile(os.path.join(CRATES, name, "src", "main.rt"))
+        words = ["rt", "run" if is_program else "lib"]
+        if any(self.ways[it] > self.ways[name] for it in self.running):
+            return ["nice", *words, "--jobs", "1"]
+        return words
 
     def tell(self, text):
         print(f"build: {len(self.ready)} of {len(self.crates)}: {text}", file=sys.stderr, flush=True)
@@ -107,7 +163,7 @@ class Build:
         if not to_do or passed < 20:
             return ""
         longest = max(self.ways[name] for name in to_do)
-        gone = max(max(self.ways.values()) - longest, done // len(os.sched_getaffinity(0)), 1)
+        gone = max(max(self.ways.values()) - longest, done // processors(), 1)
         return f", about {max(1, round(passed * longest / gone / 60))} minutes left"
 
     def next_ones(self):
@@ -118,15 +174,14 @@ class Build:
         ]
         return sorted(free, key=self.ways.get, reverse=True)
 
-    def run(self, at_once):
+    def run(self):
         with self.changed:
             while len(self.ready) < len(self.crates):
                 for name in self.next_ones() if not self.failed else []:
-                    if len(self.running) < at_once:
-                        # What the most others wait for has the processors first.
-                        yields = any(self.ways[it] > self.ways[name] for it in self.running)
+                    if len(self.running) < at_once():
+                        words = self.words(name)
                         self.running[name] = time.monotonic()
-                        threading.Thread(target=self.build_one, args=(name, yields)).start()
+                        threading.Thread(target=self.build_one, args=(name, words)).start()
                 if not self.running:
                     break
                 self.changed.wait()
@@ -139,7 +194,9 @@ def main():
     top = sys.argv[1] if len(sys.argv) > 1 else "rviommu"
     if len(sys.argv) > 2 or top not in stands_on():
         sys.exit(__doc__)
-    sys.exit(Build(top).run(jobs()))
+    with open(LIST, encoding="utf-8") as alone:
+        fcntl.flock(alone, fcntl.LOCK_EX)
+        sys.exit(Build(top).run())
 
 
 if __name__ == "__main__":

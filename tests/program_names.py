@@ -293,3 +293,36 @@ def _():
         named = [(crates, name) for crates, names, *_ in table for name in names if re.fullmatch(r"\w+(::\w+)*", name) and re.search("[_A-Z]", name)]
         lacking = [name for crates, name in named if crates and not any(has(below_it, name) for crate in crates for below_it in below(crate))]
         want("what is not there", lacking, [])
+
+
+# The code.
+
+PUBLIC = re.compile(r"\s*pub (?:(?:const|unsafe|extern \"C\") )*(?:fn|struct|enum|trait|const|type) \w")
+FIELD = re.compile(r"\s+pub \w+: ")
+PRIVATE = re.compile(r"( *)fn \w")
+LONG = 5
+
+
+def undocumented(path):
+    """The lines of a file that lack a docstring or, where a private function is long, a comment. What a trait asks for is told there."""
+    lines = text_of(path).splitlines()
+    of_trait, found = False, []
+    for at, line in enumerate(lines):
+        if line.startswith(("impl", "}")):
+            of_trait = line.startswith("impl") and " for " in line
+        above = next((it.strip() for it in reversed(lines[:at]) if not it.strip().startswith("#[")), "")
+        private = PRIVATE.match(line)
+        if PUBLIC.match(line) or FIELD.match(line):
+            found += [line] * (not above.startswith("///"))
+        elif private and not of_trait:
+            indent = private[1]
+            end = lines.index(indent + "}", at) if indent + "}" in lines[at:] else at
+            start = next((it for it in range(at, end) if lines[it] == indent + "{" or lines[it].startswith(f"{indent}fn") and lines[it].endswith("{")), end)
+            found += [line] * (end - start - 1 > LONG and not above.startswith("//"))
+    return [f"{path}: {line.strip()}" for line in found]
+
+
+@check("code: each public item and field has a docstring, and each longer private function a comment")
+def _():
+    for crate in CRATES:
+        want(f"what lacks one in {crate}", [line for path in files_of(crate) if "/src/" in path for line in undocumented(path)], [])

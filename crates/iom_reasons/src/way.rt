@@ -18,7 +18,7 @@ pub enum Way {
     Denied(Denial),
 }
 
-// Whether two ways are one.
+/// Whether two ways are one: both by the register, or by equal contexts and frames, or denied alike.
 pub fn is_same(way: &Way, other: &Way) -> bool
     ensures one { IsTrue result ↔ (way.now ≡ other.now) }
     ensures test { result ≡ is_same_way way.now other.now }

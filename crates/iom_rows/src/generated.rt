@@ -151,6 +151,7 @@ fn iova(random: &mut Pcg32) -> u64 {
     page * 4096 + 0xabc
 }
 
+// A write of a few bytes to a page of a device.
 fn dma_write(random: &mut Pcg32) -> Step {
     let mut bytes = ArrayVec::new();
     let _fits = bytes.try_push(0x5a);

@@ -196,6 +196,7 @@ fn denied_write_leaves_its_first_pieces(rt: HostRuntime) -> Result<(), Fail> {
     Ok(())
 }
 
+// The same request of a read-only disk: its bytes stay, and the driver reads that the request failed.
 #[test]
 fn read_only_disk_stays_behind_page_tables(rt: HostRuntime) -> Result<(), Fail> {
     let ram = memory(rt.alloc(), &WALKED_WRITE)?;

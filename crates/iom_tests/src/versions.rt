@@ -151,7 +151,7 @@ fn notify(platform: &mut Platform) {
     notified(platform, 0x8004_0000, 0x8004_1000, 0x8004_2000);
 }
 
-// The platform of an image, notified of its request.
+/// The platform of an image, notified of its request.
 pub fn notified_on(alloc: Global, image: &[u8]) -> Result<Platform, Fail> {
     let mut platform = load(alloc, image)?;
     notify(&mut platform);
