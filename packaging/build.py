@@ -96,7 +96,7 @@ class Tree:
             self.link(it, "", shutil.ignore_patterns("out"))
         for it in others:
             self.link(it, os.path.join("out", "rlib"), None)
-        shutil.copy2(LIST, self.top)
+        self.list_crates([name, *others])
         if os.path.isdir(self.kept):
             os.rename(self.kept, self.made)
 
@@ -104,6 +104,10 @@ class Tree:
         """Links a crate's files at or below the part."""
         source, target = (os.path.join(it, name, part) for it in (CRATES, os.path.join(self.top, "crates")))
         shutil.copytree(source, target, ignore=ignored, copy_function=os.link, dirs_exist_ok=True)
+
+    def list_crates(self, names):
+        with open(LIST, encoding="utf-8") as whole, open(os.path.join(self.top, "crates.txt"), "w", encoding="utf-8") as own:
+            own.writelines(line for line in whole if line.replace(":", " ").split(None, 1)[:1] in [[it] for it in names])
 
     def close(self):
         """What was built is the crate's own now."""
