@@ -34,20 +34,22 @@ def debugged(text, lines):
 @check("the header and the Python module name the version of CHANGELOG.md")
 def _():
     newest = re.search(r"(?m)^## (\S+) \(", text_of("CHANGELOG.md"))[1]
-    for name, pattern in (("include/rviommu.h", r'(?m)^#define RVIOMMU_VERSION "(.*)"$'), ("python/rviommu/__init__.py", r'(?m)^__version__ = "(.*)"$')):
-        want(f"the versions in {name}", re.findall(pattern, text_of(name)), [newest])
+    for name, before in (("include/rviommu.h", "#define RVIOMMU_VERSION "), ("python/rviommu/__init__.py", "__version__ = ")):
+        want(f"the versions in {name}", re.findall(rf'(?m)^{before}"(.*)"$', text_of(name)), [newest])
 
 
 # README.
 
 
 def operands(word):
-    """What a word of the program is followed by, as its help has it."""
-    usage = re.search(rf"(?m)^Usage: \S+ {word}(.*)$", run([word, "--help"])[1].decode())
+    """What a word of the program is followed by, as its help has it: its options, and its operands."""
+    told = run([word, "--help"])[1].decode()
+    usage = re.search(rf"(?m)^Usage: \S+ {word}(.*)$", told)
     if not usage:
         raise Failure(f"the help of {word} has no usage")
-    named = [f"[{may}]" if may else must for must, may in re.findall(r"<(\w+)>|\[([A-Z]+)\]", usage[1]) if may != "OPTIONS"]
-    return (["[--stale]"] if word == "check" else []) + named
+    options = re.findall(r"(?m)^ +(?:-\w, )?(--\w+)", told[told.index("Options:") :].partition("\n\n")[0])
+    named = [must or f"[{may}]" for must, may in re.findall(r"<(\w+)>|\[([A-Z]+)\]", usage[1]) if may != "OPTIONS"]
+    return [f"[{it}]" for it in options if it != "--help"] + named
 
 
 @check("README and the man page: each word of the program with its operands, and no other")
@@ -74,8 +76,9 @@ def _():
     want("version 1.0, interrupts by wire, 56 bits of address", (value & 0xFF, value >> 28 & 3, value >> 32 & 0x3F), (0x10, 1, 56))
     want("all else", value & ~(sum(1 << bit for bit in offered.values()) | 0x10 | 1 << 28 | 56 << 32), 0)
     # VIRTIO 1.2: FLUSH, and of the features of every device VERSION_1 and ACCESS_PLATFORM; none that README leaves out
-    features = answers(IMAGE + "disk 5 1\n", ["dev read 0 0x10 4", "dev write 0 0x14 4 1", "dev read 0 0x10 4", "dev write 0 0x14 4 2", "dev read 0 0x10 4"])
-    want("what a block device offers", features[::2], [hex(1 << 9), hex(1 << 32 - 32 | 1 << 33 - 32), "0x0"])
+    lines = [line for half in range(3) for line in (f"dev write 0 0x14 4 {half}", "dev read 0 0x10 4")]
+    wanted = [hex(1 << 9), hex(1 << 32 - 32 | 1 << 33 - 32), "0x0"]
+    want("what a block device offers", answers(IMAGE + "disk 5 1\n", lines)[1::2], wanted)
     want("icvec, which Linux writes", answers(IMAGE, ["reg write 0x2f8 8 0x1111", "reg read 0x2f8 8"]), ["done", "0x0"])
 
 
