@@ -2,6 +2,7 @@
 import base64
 import hashlib
 import os
+import re
 import sys
 import tomllib
 import zipfile
@@ -11,14 +12,16 @@ LIBRARY = os.path.join(HERE, os.pardir, "c", "out", "lib", "librviommu.so")
 TAG = "py3-none-linux_x86_64"
 
 
-def project():
-    with open(os.path.join(HERE, "pyproject.toml"), "rb") as file:
-        return tomllib.load(file)["project"]
-
-
 def read(path):
     with open(path, "rb") as file:
         return file.read()
+
+
+def project():
+    """What pyproject.toml says, and the module's own version."""
+    told = tomllib.loads(read(os.path.join(HERE, "pyproject.toml")).decode())["project"]
+    module = read(os.path.join(HERE, "rviommu", "__init__.py")).decode()
+    return told | {"version": re.search(r'(?m)^__version__ = "(.*)"$', module)[1]}
 
 
 def contents():

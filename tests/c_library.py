@@ -7,6 +7,7 @@ PROGRAM, and so are 100,000 lines of generated scripts, under the address saniti
 import functools
 import glob
 import os
+import re
 import shutil
 import subprocess
 import sys
@@ -205,6 +206,19 @@ def readme(place):
         raise Failure("the program in c/README.md prints something else")
 
 
+def top_readme(place):
+    """The lines of C in README.md, in a main; where a comment names the answer to a call, that is its answer."""
+    with open(os.path.join(TOP, "README.md"), encoding="utf-8") as page:
+        (block,) = [it for it in page.read().split("\n\n") if it.lstrip("\n").startswith("    rviommu_t ")]
+    code = re.sub(r"(?m)^ *(rviommu_\w+\(.*\)); +/\* (RVIOMMU_\w+) \*/$", r"if (\1 != \2) return 2;", block)
+    if code == block:
+        raise Failure("no call in README.md has its answer beside it")
+    source = os.path.join(place.here, "top_readme.c")
+    with open(source, "w", encoding="utf-8") as file:
+        file.write('#include "rviommu.h"\nint main(void) {\n' + code + "\nreturn 0;\n}\n")
+    run([compiled(place, "gcc", "top_readme", [source])])
+
+
 def python_readme(place):
     """The test in python/README.md passes."""
     with open(os.path.join(TOP, "python", "README.md"), encoding="utf-8") as page:
@@ -221,6 +235,7 @@ CHECKS = [
     ("the header is used from C++, with g++", lambda place: from_cpp(place, "g++")),
     ("the header is used from C++, with clang++", lambda place: from_cpp(place, "clang++")),
     ("the program in c/README.md", readme),
+    ("the lines of C in README.md", top_readme),
     ("refusals, refused memory and copies", calls),
     ("valgrind finds nothing in them", lambda place: calls(place, VALGRIND)),
     ("pkg-config finds the library, and the shared object is used", by_pkg_config),

@@ -3,7 +3,9 @@
 
 Prints one line a check, and 'package: N passed, M failed' at the end. The status is 1 where a check failed.
 """
+import filecmp
 import os
+import re
 import shutil
 import subprocess
 import sys
@@ -112,6 +114,26 @@ def is_installed(program):
         answers_an_example(os.path.join(top, "bin/rviommu"), os.path.join(TOP, "examples"))
         shows_its_page(os.path.join(top, "share/man/man1/rviommu.1"))
         serves_c(top)
+        has_completions(top, "site-functions")
+
+
+def has_completions(root, for_zsh):
+    """The completions stand where bash and zsh look for them."""
+    for source, place in (("rviommu.bash", "share/bash-completion/completions/rviommu"), ("_rviommu", f"share/zsh/{for_zsh}/_rviommu")):
+        path = os.path.join(root, place)
+        if not os.path.isfile(path) or not filecmp.cmp(os.path.join(TOP, "completions", source), path, shallow=False):
+            raise Failure(f"{place} is not completions/{source}")
+
+
+def runs_on_the_oldest_libc(program):
+    """No symbol of the program or of the shared object asks for a glibc newer than that which README names."""
+    needs("readelf")
+    with open(os.path.join(TOP, "README.md"), encoding="utf-8") as readme:
+        oldest = re.search(r"glibc (\d+)\.(\d+) or later", readme.read())
+    for path in (program, os.path.join(TOP, "c/out/lib/librviommu.so")):
+        asked = [tuple(map(int, it)) for it in re.findall(r"GLIBC_(\d+)\.(\d+)", run(["readelf", "--version-info", "--wide", path]).decode())]
+        if not asked or max(asked) > tuple(map(int, oldest.groups())):
+            raise Failure(f"{path} asks for glibc {max(asked, default=None)}, and README names {oldest[0]}")
 
 
 def files_of(root):
@@ -136,6 +158,7 @@ def package_is_installed_and_removed(program):
         answers_an_example(os.path.join(root, "usr/bin/rviommu"), docs)
         shows_its_page(os.path.join(root, "usr/share/man/man1/rviommu.1.gz"))
         serves_c(root)
+        has_completions(os.path.join(root, "usr"), "vendor-completions")
         run([*dpkg, "--purge", "rviommu"])
         left = [name for name in files_of(root) if name not in before and not name.startswith(("var/", "dpkg.log"))]
         if left:
@@ -148,11 +171,12 @@ def lintian_has_no_errors(program):
 
 
 CHECKS = [
-    ("make install's program, man page and C library are used", is_installed),
+    ("make install's program, man page, completions and C library are used", is_installed),
+    ("the program and the shared object run with the glibc that README names", runs_on_the_oldest_libc),
     ("the archive is packed alike twice", lambda program: is_packed_alike("dist", program)),
     ("the archive's program, examples, man page and C library are used", archive_is_used),
     ("the Debian package is packed alike twice", lambda program: (needs("dpkg-deb"), is_packed_alike("deb", program))),
-    ("the Debian package is installed into an empty root, used and removed", package_is_installed_and_removed),
+    ("the Debian package is installed into an empty root, with completions, used and removed", package_is_installed_and_removed),
     ("lintian finds no error in the Debian package", lintian_has_no_errors),
 ]
 

@@ -16,6 +16,7 @@ import tty
 
 from checks import *  # noqa: F403
 import program_checking  # noqa: F401
+import program_claims  # noqa: F401
 import program_completions  # noqa: F401
 import program_debugging  # noqa: F401
 import program_documents  # noqa: F401

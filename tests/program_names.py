@@ -9,7 +9,7 @@ TOP = os.path.normpath(os.path.join(EXAMPLES, os.pardir))
 DOCUMENTS = ["README.md", "CHANGELOG.md", *(f"docs/{name}" for name in sorted(os.listdir(os.path.join(TOP, "docs"))))]
 SUFFIXES = (".rt", ".antt", ".py", ".sh", ".md", ".edit", ".script", ".answers", ".asm", ".txt", ".h", ".1")
 # Folders that each crate may have, and what a build makes.
-OF_EACH = {"src/", "specs/", "proofs/", "must-fail/", "data/", "out/", "proofs/Lib.antt", "dist/", "c/out", "crates/rviommu/out/rviommu"}
+OF_EACH = {"src/", "specs/", "proofs/", "must-fail/", "data/", "out/", "proofs/Lib.antt", "dist/", "c/out", "out/build", "crates/rviommu/out/rviommu"}
 WORDS = {"asm", "run", "check", "debug", "list", "upgrade", "bad"}
 
 
@@ -238,6 +238,11 @@ NUMBERS = [
     ("docs/CONTRIBUTING.md", "the 320 bytes of a `Reply`", "crates/iom_tool/src/draft.rt", "bytes: [u8; 320],"),
     ("README.md", "each with about 2 GB of memory", "packaging/build.py", "BYTES_A_JOB = 2 << 30"),
     ("README.md", "glibc 2.36 or later", "packaging/package.py", "Depends: libc6 (>= 2.36)"),
+    ("README.md", "A file that the program reads has at most 2^30 bytes", "crates/rviommu/src/files.rt", "MOST_BYTES: u64 = 1 << 30;"),
+    ("docs/PROMISES.md", "and of 200 lists of steps made at random", "crates/iom_rows/src/generated.rt", "SCRIPTS: u64 = 200;"),
+    ("docs/GATE.md", "and of 200 lists of steps made at random", "crates/iom_rows/src/generated.rt", "SCRIPTS: u64 = 200;"),
+    ("docs/PROMISES.md", "100,000 lines of generated scripts", "tests/c_library.py", "PLAIN_LINES, HARMFUL_LINES = 20_000, 40_000"),
+    ("docs/GATE.md", "It plays 100,000 generated lines", "tests/c_library.py", "PLAIN_LINES, HARMFUL_LINES = 20_000, 40_000"),
 ]
 
 

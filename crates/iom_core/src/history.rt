@@ -28,8 +28,9 @@ pub enum Entry {
     Page(Key),
 }
 
-/// Where the translation comes from that step `n` used, if steps are carried out from `start` on, whose caches hold nothing;
-/// None where the step makes no access or is denied. The fault is want of memory: it plays the steps on copies of `start`.
+/// Where the translation comes from that step `n` used, below the number of steps, if they are carried out from `start` on, whose
+/// caches hold nothing; None where the step makes no access or is denied. The fault is want of memory: it plays the steps on copies
+/// of `start`.
 pub fn explain(
     alloc: Global,
     start: &Platform,

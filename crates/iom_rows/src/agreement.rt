@@ -22,20 +22,20 @@ pub struct Difference {
 /// How many accesses that were let through had which origin.
 #[derive(Drop)]
 pub struct Met {
-    /// By ddtp alone.
+    /// How many were led by ddtp alone.
     pub register: u64,
-    /// By a context alone.
+    /// How many by a context alone.
     pub context: u64,
-    /// By page tables that were walked at the access.
+    /// How many by page tables that were walked at the access.
     pub walked: u64,
-    /// By a translation of the cache, under the context under which it was walked.
+    /// How many by a translation of the cache, under the context under which it was walked.
     pub cached: u64,
-    /// By a translation of the cache, under a newer context.
+    /// How many by a translation of the cache, under a newer context.
     pub older: u64,
 }
 
 impl Met {
-    /// Of no access.
+    /// The count of no access.
     pub fn none() -> Met {
         Met {
             register: 0,
@@ -62,7 +62,7 @@ impl Met {
         *met = met.saturating_add(1);
     }
 
-    /// Whether each was met.
+    /// Whether each origin was met.
     pub fn is_full(&self) -> bool {
         [
             self.register,

@@ -49,7 +49,7 @@ fn phase_text(phase: Phase) -> &'static str {
     }
 }
 
-/// What a step asks, if it is one of a block device.
+/// What a step of a block device asks of the IOMMU as the next one; None of any other step, and where it makes no access.
 pub fn asked_by(platform: &Platform, step: &Step) -> Option<Asked> {
     let Step::Device { dev } = step else {
         return None;
@@ -80,7 +80,7 @@ pub struct Found {
     pub is_cached: bool,
 }
 
-/// What a request finds in the caches now.
+/// What a request finds in the caches now. Its device id is below 2^24.
 pub fn found_by(platform: &Platform, request: &Request) -> Found
     requires { request.now.did < 2 ^ 24 }
 {
@@ -101,7 +101,7 @@ pub fn found_by(platform: &Platform, request: &Request) -> Found
     }
 }
 
-/// Appends the parts of the walk of a request, a line each.
+/// Appends the parts of the walk of a request, a line each. Its device id is below 2^24. The fault is want of memory.
 pub fn push_walk(
     out: &mut Vec<u8>,
     platform: &Platform,
@@ -127,7 +127,7 @@ pub struct Caches {
 }
 
 impl Caches {
-    /// Of an access that found this, whose translation came from there, or which was denied for this cause.
+    /// What is told of an access that found this, whose translation came from `origin`, or which was denied for this cause.
     pub fn new(found: Found, origin: Option<Origin>, denied: Option<u16>) -> Option<Caches> {
         match (origin, denied) {
             (Some(Origin::Register), _) => None,

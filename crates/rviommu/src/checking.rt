@@ -9,11 +9,11 @@ use std::io::Write;
 /// A line of a script, and its answer.
 #[derive(Clone, Copy)]
 pub struct Answered<'a> {
-    /// From 1.
+    /// The number of the line, from 1.
     pub number: u64,
-    /// Without its line end.
+    /// The line, without its line end.
     pub line: &'a [u8],
-    /// Not empty.
+    /// Its answer, which isn't empty.
     pub answer: &'a [u8],
     /// What the tables said of its last access that was stale, before its step, where that is to be told; else empty.
     pub tables: &'a [u8],
@@ -79,7 +79,7 @@ pub struct Tally {
 }
 
 impl Tally {
-    /// That of no line.
+    /// The tally of no line.
     pub fn new(is_stale_told: bool) -> Self {
         Tally {
             is_stale_told,

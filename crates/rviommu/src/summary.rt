@@ -11,9 +11,9 @@ const CAUSES: [u16; 11] = [5, 7, 13, 15, 21, 23, 256, 257, 258, 259, 260];
 /// How an access went.
 #[derive(Clone, Copy)]
 pub struct Outcome {
-    /// The line that made it.
+    /// The number of the line that made it, from 1.
     pub number: u64,
-    /// For which cause it was denied, if it was.
+    /// The number of the cause for which it was denied; None where it was granted.
     pub denied: Option<u16>,
     /// Whether nothing in memory was read to lead it.
     pub is_cached: bool,
@@ -34,7 +34,7 @@ pub struct Summary {
 }
 
 impl Summary {
-    /// Of no access.
+    /// The summary of no access.
     pub fn new(alloc: Global) -> Summary {
         Summary {
             granted: 0,
