@@ -22,6 +22,8 @@ CRATES = os.path.join(TOP, "crates")
 LIST = os.path.join(TOP, "crates.txt")
 TREES = os.path.join(TOP, "out", "build")
 BYTES_A_JOB = 2 << 30
+# A way to the top is long where it has this part of the longest one's bytes.
+LONG = 0.75
 
 
 def stands_on():
@@ -149,12 +151,15 @@ class Build:
             self.changed.notify()
 
     def words(self, name):
-        """The command that builds the crate. What the most others wait for has the processors first, and rt chooses its jobs."""
+        """The command that builds the crate. Those with a long way to the top have the processors first, and share them; where it
+        is one alone, rt chooses its jobs."""
         is_program = os.path.isfile(os.path.join(CRATES, name, "src", "main.rt"))
         words = ["rt", "run" if is_program else "lib"]
-        if any(self.ways[it] > self.ways[name] for it in self.running):
+        others = [self.ways[it] for it in [*self.running, *self.next_ones()]]
+        first = [way for way in others if way >= LONG * max(others)]
+        if self.ways[name] not in first:
             return ["nice", *words, "--jobs", "1"]
-        return words
+        return words if len(first) == 1 else [*words, "--jobs", str(max(1, processors() // len(first)))]
 
     def tell(self, text):
         print(f"build: {len(self.ready)} of {len(self.crates)}: {text}", file=sys.stderr, flush=True)
