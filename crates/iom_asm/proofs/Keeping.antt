@@ -8,10 +8,10 @@ use Rattle.iom_text.specs.Words.{number, words_of}
 use Rattle.iom_mem.specs.Sizes.{is_paged, is_good_size}
 use Rattle.iom_asm.specs.declared.asm_fault.AsmFault.{AsmFault}
 use Rattle.iom_asm.specs.declared.asm_fault.AsmFault.TheVariants.{Outside, Overlap}
-use Rattle.iom_image.specs.Image.{Chunk, Disk, IsChunk, AreChunks, IsDisk, AreDisks, IsImage, end_of, is_new_id, is_disk_size}
+use Rattle.iom_image.specs.Image.{Chunk, Disk, IsChunk, AreChunks, IsDisk, AreDisks, IsImage, end_of, is_new_id, is_disk_size, is_next_disk}
 use Rattle.iom_items.specs.Forms.{where_so}
 use Rattle.iom_items.specs.Operands.{◌>>=◌}
-use Rattle.iom_asm.specs.Assembly.{Draft, meets, insert, is_inside, with_bytes, placed, is_next_disk, with_disk, disk_for, joined, moved_to, moved, empty_draft, ram_draft, opened, bytes_for, or_bad, then_so, stated, started, after_words, after_lines}
+use Rattle.iom_asm.specs.Assembly.{Draft, meets, insert, is_inside, with_bytes, placed, with_disk, disk_for, joined, moved_to, moved, empty_draft, ram_draft, opened, bytes_for, or_bad, then_so, stated, started, after_words, after_lines}
 use Rattle.iom_image.proofs.Flags.{with_flags}
 use Rattle.iom_asm.proofs.Full.{some_byte}
 

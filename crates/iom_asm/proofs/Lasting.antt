@@ -7,10 +7,10 @@ use Rattle.std.proofs.lemmas.Bool.{cond_both}
 use Rattle.iom_text.specs.Words.{words_of, number}
 use Rattle.iom_asm.specs.declared.asm_fault.AsmFault.{AsmFault}
 use Rattle.iom_asm.specs.declared.asm_fault.AsmFault.TheVariants.{Outside, Overlap}
-use Rattle.iom_image.specs.Image.{Chunk, Disk}
+use Rattle.iom_image.specs.Image.{Chunk, Disk, is_next_disk}
 use Rattle.iom_items.specs.Forms.{where_so}
 use Rattle.iom_items.specs.Operands as maybe
-use Rattle.iom_asm.specs.Assembly.{Draft, meets, insert, is_inside, with_bytes, placed, is_next_disk, with_disk, disk_for, joined, moved_to, moved, bytes_for, or_bad, then_so, stated, after_words, after_lines}
+use Rattle.iom_asm.specs.Assembly.{Draft, meets, insert, is_inside, with_bytes, placed, with_disk, disk_for, joined, moved_to, moved, bytes_for, or_bad, then_so, stated, after_words, after_lines}
 use Rattle.iom_asm.proofs.Standing.{IsIn}
 
 -- a chunk that was placed stays

@@ -15,7 +15,8 @@ use Rattle.iom_items.specs.Items.{name_of, words_in}
 use Rattle.iom_items.specs.Forms.{words_for}
 use Rattle.iom_items.specs.Lines.{line_of, item_line}
 use Rattle.iom_asm.specs.Listing.{listed}
-use Rattle.iom_image.specs.Reading.{image_of, opening_of}
+use Rattle.iom_image.specs.Loading.{opening_of}
+use Rattle.iom_image.specs.Reading.{image_of}
 use Rattle.iom_asm.specs.Assembly.{Draft, meets, is_inside, with_bytes, placed, bytes_for, or_bad, then_so, stated, after_words, after_lines, lines_of, ended, described}
 use Rattle.iom_asm.specs.Retelling.{StandsIn, IsStated, AreStated, lines_told}
 use Rattle.iom_asm.proofs.Keeping.{Good, lines_good}

@@ -4,7 +4,8 @@ use Rattle.std.proofs.lemmas.List.{take_at, drop_at, length-take}
 use Rattle.iom_mem.specs.Memory.{Memory, byte, before, size_of, bytes_at, put}
 use Rattle.iom_mem.specs.Sizes.{zeroed}
 use Rattle.iom_mem.proofs.Bytes.{bytes_at_inside}
-use Rattle.iom_image.specs.Image.{Chunk, AreChunks, end_of, with_chunks}
+use Rattle.iom_image.specs.Image.{Chunk, AreChunks, end_of}
+use Rattle.iom_image.specs.Loading.{with_chunks}
 use Rattle.iom_image.proofs.Filling.{size_put}
 
 -- a chunk is among others

@@ -1,14 +1,14 @@
 -- Texts: what the statements on the lines of a text make, one after the other, and the image of it.
-use Rattle.std.specs.Prelude.{ℕ, ◌≡◌, ◌≢◌, ◌+◌, ◌*◌, ◌==◌, ◌&&◌, ◌||◌, ◌++◌, Bool, true, false, List, [], ◌∷◌, length, codes, bytes_eq, map, nat_lt, nat_le, Option, Some, None, Result, Ok, Err, if◌then◌else◌}
+use Rattle.std.specs.Prelude.{ℕ, ◌≡◌, ◌≢◌, ◌+◌, ◌==◌, ◌&&◌, ◌||◌, ◌++◌, Bool, true, false, List, [], ◌∷◌, length, codes, bytes_eq, nat_lt, nat_le, Option, Some, None, Result, Ok, Err, if◌then◌else◌}
 use Rattle.std.specs.List.{list_any}
 use Rattle.std.specs.Option.{option_map}
 use Rattle.std.specs.Result.{result_ok}
 use Rattle.hex.specs.Hex.{decode_of}
 use Rattle.iom_text.specs.Words.{words_of, number}
-use Rattle.iom_mem.specs.Sizes.{is_paged, is_good_size}
+use Rattle.iom_mem.specs.Sizes.{is_paged, is_good_size, covers}
 use Rattle.iom_asm.specs.declared.asm_fault.AsmFault.{AsmFault}
 use Rattle.iom_asm.specs.declared.asm_fault.AsmFault.TheVariants.{BadLine, Outside, Overlap, OutOfMemory}
-use Rattle.iom_image.specs.Image.{Chunk, Disk, Image, end_of, is_new_id, is_disk_size, image_bytes}
+use Rattle.iom_image.specs.Image.{Chunk, Disk, Image, end_of, is_next_disk, image_bytes}
 use Rattle.iom_mem.specs.Words.{bytes_of_words}
 use Rattle.iom_items.specs.Forms.{where_so, words_for}
 use Rattle.iom_items.specs.Operands.{◌>>=◌}
@@ -93,11 +93,6 @@ disk_for read_only [] = None
 disk_for read_only (id ∷ []) = None
 disk_for read_only (id ∷ sectors ∷ words) = disk_of read_only id sectors words
 
--- whether a disk may follow these
-abbrev pub is_next_disk : List Disk → Disk → Bool
-is_next_disk disks disk =
-    nat_lt (length disks) 8 && (is_new_id (map (λ other. other.id) disks) disk.id && (is_disk_size disk.sectors && nat_le (length disk.bytes) (disk.sectors * 512)))
-
 -- an image with a read-only disk is of version 2, any other of version 1
 abbrev pub with_disk : Draft → Disk → Draft
 with_disk draft disk = record draft {
@@ -114,7 +109,7 @@ joined draft read_only words = do
 
 -- Bytes at the place. They are a chunk of their own, and the place moves past them.
 abbrev pub is_inside : Image → ℕ → ℕ → Bool
-is_inside image addr len = nat_le image.base addr && nat_le (addr + len) (image.base + image.size)
+is_inside image addr len = covers image.base (image.base + image.size) addr len
 
 -- whether a chunk has one of so many bytes from an address on
 abbrev pub meets : ℕ → ℕ → Chunk → Bool

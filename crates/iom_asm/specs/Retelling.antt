@@ -1,5 +1,5 @@
 -- What a text says is told again by what it describes.
-use Rattle.std.specs.Prelude.{ℕ, ◌≡◌, ◌+◌, ◌*◌, ◌^◌, ◌<◌, ◌++◌, List, [], ◌∷◌, length, map, bytes_eq, Option, Some, None, Ok}
+use Rattle.std.specs.Prelude.{ℕ, ◌≡◌, ◌+◌, ◌*◌, ◌++◌, List, [], ◌∷◌, length, map, bytes_eq, Option, Some, None, Ok}
 use Rattle.std.specs.Option.{option_map}
 use Rattle.iom_text.specs.Words.{words_of}
 use Rattle.iom_items.specs.declared.item.Item.{Item}
@@ -10,7 +10,8 @@ use Rattle.iom_items.specs.Forms.{where_so, words_for}
 use Rattle.iom_items.specs.Lines.{line_of, item_line}
 use Rattle.iom_asm.specs.Listing.{listed}
 use Rattle.iom_items.specs.Operands.{◌>>=◌}
-use Rattle.iom_image.specs.Reading.{image_of, opening_of}
+use Rattle.iom_image.specs.Loading.{opening_of}
+use Rattle.iom_image.specs.Reading.{image_of}
 use Rattle.iom_asm.specs.Assembly.{Draft, lines_of, after_lines, described}
 
 -- these lines of a text stand between others, and this is what the statements before them make

@@ -1,6 +1,6 @@
 //! Listings of memory.
 
-ghost use Rattle.std.specs.Prelude.{◌≡◌, ◌++◌, ◌∷◌, ◌+◌, ◌^◌, ◌≤◌, ◌==◌, ◌&&◌, [], nat_le, OnOk, IfSome, IfNone, Err};
+ghost use Rattle.std.specs.Prelude.{◌≡◌, ◌++◌, ◌∷◌, ◌+◌, ◌^◌, ◌≤◌, [], OnOk, IfSome, IfNone, Err};
 ghost use Rattle.std.specs.Option.{is_some};
 ghost use Rattle.std.specs.String.{string_bytes};
 ghost use Rattle.std.specs.Str.{IsAscii};
@@ -10,15 +10,8 @@ ghost use Rattle.iom_asm.specs.Listing.{listed, Lists};
 
 use crate::list_fault::ListFault;
 use iom_items::{Item, item_line};
-use iom_mem::Ram;
+use iom_mem::{Ram, covers};
 use std::alloc::{AllocError, Global};
-
-/// Whether the `len` bytes from physical address `addr` on are among those from `base` to `end`, which isn't one of them.
-pub(crate) fn covers(base: u64, end: u64, addr: u64, len: u64) -> bool
-    ensures { result ≡ (nat_le base addr && nat_le (addr + len) end) }
-{
-    base <= addr && addr <= end && len <= end - addr
-}
 
 // Whether all bytes of so many items are memory; of none they are at every address.
 fn are_inside(ram: &Ram, item: Item, addr: u64, count: u64) -> bool

@@ -1,17 +1,17 @@
 //! What a statement does to what the statements before make.
 
-ghost use Rattle.std.specs.Prelude.{◌≡◌, ◌+◌, ◌<◌, ◌≤◌, ◌==◌, ◌&&◌, ◌^◌, map, length, false, Some, None, IfOk, if◌then◌else◌};
+ghost use Rattle.std.specs.Prelude.{◌≡◌, ◌+◌, ◌<◌, ◌≤◌, ◌^◌, length, false, Some, None, IfOk, if◌then◌else◌};
 ghost use Rattle.std.specs.List.{list_any};
-ghost use Rattle.iom_image.specs.Image.{IsImage};
+ghost use Rattle.iom_image.specs.Image.{IsImage, is_next_disk};
 ghost use Rattle.iom_image.specs.Own.{disk_seen};
-ghost use Rattle.iom_asm.specs.Assembly.{empty_draft, is_next_disk, with_disk, is_inside, meets, placed, Makes};
+ghost use Rattle.iom_asm.specs.Assembly.{empty_draft, with_disk, is_inside, meets, placed, Makes};
 ghost use Rattle.iom_items.specs.Forms.{where_so};
 ghost use Rattle.iom_asm.specs.Drafts.{draft_seen};
 
 use crate::asm_fault::AsmFault;
 use crate::draft::Draft;
-use crate::listing::covers;
 use iom_image::{OwnDisk, OwnImage};
+use iom_mem::covers;
 use std::alloc::{AllocError, Global};
 use std::collections::BTreeMap;
 
@@ -73,25 +73,13 @@ impl Draft {
         Ok(())
     }
 
-    // Whether a disk may follow the others.
-    fn takes(&self, disk: &OwnDisk) -> bool
-        ensures { result ≡ is_next_disk (draft_seen self.now).image.disks (disk_seen disk.now) }
-    {
-        self.image.disks.len() < 8
-            && disk.id < 1 << 24
-            && !has_id(&self.image.disks, disk.id)
-            && disk.sectors >= 1
-            && disk.sectors <= 65_536
-            && disk.bytes.len() as u64 <= disk.sectors * 512
-    }
-
     /// Puts a disk behind the others, and answers true; false where it may not stand there: there are eight, its id is another's or
     /// 2^24 or above, its sectors aren't 1 to 65,536, or its bytes don't fit in them. The fault is a refused allocation.
     pub fn join(&mut self, disk: OwnDisk) -> Result<bool, AllocError>
         ensures { IfOk result (λ takes. (if takes then Some (draft_seen self.new) else None)
             ≡ where_so (is_next_disk (draft_seen self.old).image.disks (disk_seen disk)) (Some (with_disk (draft_seen self.old) (disk_seen disk)))) }
     {
-        if !self.takes(&disk) {
+        if !self.image.takes(&disk) {
             return Ok(false);
         }
         let read_only = disk.read_only;
@@ -102,15 +90,5 @@ impl Draft {
             }
             Err(_) => Err(AllocError),
         }
-    }
-}
-
-// Whether one of the disks has this id.
-fn has_id(disks: &[OwnDisk], id: u64) -> bool
-    ensures { result ≡ list_any (λ other. other == id) (map (λ disk. disk.id) (map disk_seen disks.now)) }
-{
-    match disks {
-        [] => false,
-        [first, rest @ ..] => first.id == id || has_id(rest, id),
     }
 }

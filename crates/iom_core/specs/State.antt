@@ -1,5 +1,6 @@
 -- The platform's state.
-use Rattle.std.specs.Prelude.{ℕ, ◌^◌, ◌<◌, ◌≤◌, ◌≢◌, List, [], ◌∷◌, length, slice_set, Option}
+use Rattle.std.specs.Prelude.{ℕ, ◌≡◌, ◌^◌, ◌<◌, ◌≤◌, ◌==◌, Bool, false, List, [], ◌∷◌, length, map, slice_set, Option}
+use Rattle.std.specs.List.{list_any}
 use Rattle.iom_mem.specs.Memory.{Memory}
 use Rattle.iom_regs.specs.Table.{Registers, reset}
 use Rattle.iom_ddt.specs.declared.context.Context.{Context}
@@ -36,21 +37,23 @@ abbrev pub EachFits : List (ℕ × Device) → Type 0
 EachFits [] = Unit {0}
 EachFits (own ∷ more) = (own.0 < 2 ^ 24) × EachFits more
 
--- no device has this id
-abbrev pub NoneHasId : ℕ → List (ℕ × Device) → Type 0
-NoneHasId did [] = Unit {0}
-NoneHasId did (own ∷ more) = (own.0 ≢ did) × NoneHasId did more
+-- whether an id is one of these
+abbrev pub is_id_among : List ℕ → ℕ → Bool
+is_id_among ids id = list_any (λ other. other == id) ids
 
--- no two devices have one id
-abbrev pub AreDistinct : List (ℕ × Device) → Type 0
+-- no two of these ids are the same
+abbrev pub AreDistinct : List ℕ → Type 0
 AreDistinct [] = Unit {0}
-AreDistinct (own ∷ more) = NoneHasId own.0 more × AreDistinct more
+AreDistinct (id ∷ ids) = (is_id_among ids id ≡ false) × AreDistinct ids
+
+abbrev pub ids_of : List (ℕ × Device) → List ℕ
+ids_of devices = map (λ own. own.0) devices
 
 -- the block devices that a platform may have
 pub record AreDevices (devices : List (ℕ × Device)) : Type 0 where
   pub few : length devices ≤ 8
   pub fit : EachFits devices
-  pub distinct : AreDistinct devices
+  pub distinct : AreDistinct (ids_of devices)
 
 -- how many places the caches have
 abbrev pub context_room : ℕ

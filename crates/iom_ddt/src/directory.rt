@@ -92,20 +92,8 @@ fn context_at(ram: &Ram, place: u64) -> Result<Context, Cause>
     ensures meaning { IsContextOf (words_at ram.now place 4) result }
     ensures sound { IfOk result (λ context. IsWellFormed context) }
 {
-    match context_words(ram, place) {
+    match ram.words_at(place) {
         Some(words) => context_of(words),
         None => Err(Cause::DirAccess),
-    }
-}
-
-/// The four words of 8 bytes at physical address `place`; None where a byte of them is outside memory.
-pub(crate) fn context_words(ram: &Ram, place: u64) -> Option<[u64; 4]>
-    ensures { result ≡ words_at ram.now place 4 }
-{
-    let mut words = [0; 4];
-    if ram.words(place, &mut words) {
-        Some(words)
-    } else {
-        None
     }
 }

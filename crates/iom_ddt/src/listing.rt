@@ -5,7 +5,7 @@ ghost use Rattle.arrayvec.specs.ArrayVec.{array_vec_len};
 ghost use Rattle.iom_regs.specs.Views.{mode_of};
 ghost use Rattle.iom_ddt.specs.Directory.{levels_of, path_of};
 
-use crate::directory::{context_words, ddi, is_too_wide, levels_of, pointed_by};
+use crate::directory::{ddi, is_too_wide, levels_of, pointed_by};
 use arrayvec::ArrayVec;
 use iom_mem::Ram;
 use iom_regs::Regs;
@@ -62,7 +62,7 @@ pub fn path(ram: &Ram, registers: &Regs, did: u32) -> DirectoryPath
     let place = table * 4096 + ddi(did, 0) * 32;
     met.push(Met::Leaf {
         place,
-        words: context_words(ram, place),
+        words: ram.words_at(place),
     });
     met
 }

@@ -8,11 +8,11 @@ use Rattle.iom_mem.specs.Sizes.{zeroed}
 use Rattle.iom_mem.proofs.Bytes.{bytes_at_inside}
 use Rattle.iom_image.specs.declared.fault.LoadFault.{LoadFault}
 use Rattle.iom_image.specs.declared.fault.LoadFault.TheVariants.{Trailing}
-use Rattle.iom_image.specs.Image.{Chunk, Disk, Image, end_of, with_chunks}
+use Rattle.iom_image.specs.Image.{Chunk, Disk, Image, end_of}
 use Rattle.iom_blk.specs.Device.{Device}
 use Rattle.iom_core.specs.State.{opening}
-use Rattle.iom_image.specs.Loading.{device_of, devices_of, joined, state_from}
-use Rattle.iom_image.specs.Reading.{◌>>=◌, Read, Head, checked, mapped, filled, started, opening_of, head_at, chunk_at, chunks_at, disk_at, disks_at, image_of}
+use Rattle.iom_image.specs.Loading.{with_chunks, started, opening_of, device_of, devices_of, filled, joined, state_from}
+use Rattle.iom_image.specs.Reading.{◌>>=◌, Read, Head, checked, mapped, head_at, chunk_at, chunks_at, disk_at, disks_at, image_of}
 use Rattle.iom_image.proofs.Oks.{ok_is}
 
 pub inside : (memory : Memory) (addr count : ℕ) → memory.base ≤ addr → addr + count ≤ memory.base + size_of memory →

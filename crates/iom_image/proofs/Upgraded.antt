@@ -3,8 +3,8 @@ use Rattle.std.proofs.Common.{◌≡◌, ℕ, zero, suc, ◌-◌, ◌+◌, ◌�
 use Rattle.std.specs.Prelude.{IsOk}
 use Rattle.iom_image.specs.declared.fault.LoadFault.{LoadFault}
 use Rattle.iom_image.specs.Image.{Chunk, Disk, Image, IsImage, AreBytes, end_of, chunk_bytes, chunks_bytes, disk_bytes, disks_bytes, head_bytes, image_bytes}
-use Rattle.iom_image.specs.Loading.{state_from}
-use Rattle.iom_image.specs.Reading.{◌>>=◌, Read, Head, mapped, opening_of, head_at, chunk_at, chunks_at, disk_at, disks_at, image_of}
+use Rattle.iom_image.specs.Loading.{opening_of, state_from}
+use Rattle.iom_image.specs.Reading.{◌>>=◌, Read, Head, mapped, head_at, chunk_at, chunks_at, disk_at, disks_at, image_of}
 use Rattle.iom_image.specs.Upgrading.{upgraded, upgraded_bytes, IsUpgraded, chunks_behind, disks_behind}
 use Rattle.iom_image.proofs.Filling.{ends, ended}
 use Rattle.iom_image.proofs.Found.{bind_ok, read_as, read_is}

@@ -1,10 +1,9 @@
 -- Images: which bytes are an image, and of what.
-use Rattle.std.specs.Prelude.{ℕ, ◌≡◌, ◌+◌, ◌*◌, ◌^◌, ◌<◌, ◌≤◌, ◌==◌, ◌&&◌, ◌++◌, Bool, true, false, not, List, [], ◌∷◌, length, codes, nat_lt, nat_le}
-use Rattle.std.specs.List.{list_any}
+use Rattle.std.specs.Prelude.{ℕ, ◌≡◌, ◌+◌, ◌*◌, ◌^◌, ◌<◌, ◌≤◌, ◌&&◌, ◌++◌, Bool, true, false, not, List, [], ◌∷◌, length, map, codes, nat_lt, nat_le}
 use Rattle.iom_bits.specs.Bits.{flag}
 use Rattle.iom_bits.specs.Bytes.{bytes_of_number}
-use Rattle.iom_mem.specs.Memory.{Memory, put}
 use Rattle.iom_mem.specs.Sizes.{is_paged, is_good_size}
+use Rattle.iom_core.specs.State.{is_id_among}
 
 -- bytes that stand in memory at the start, from a physical address on
 pub record Chunk : Type 0 where
@@ -32,15 +31,15 @@ end_of chunk = chunk.addr + length chunk.bytes
 
 -- whether an id of 24 bits is not among others; whether a disk may have so many sectors
 abbrev pub is_new_id : List ℕ → ℕ → Bool
-is_new_id ids id = nat_lt id (2 ^ 24) && not (list_any (λ other. other == id) ids)
+is_new_id ids id = nat_lt id (2 ^ 24) && not (is_id_among ids id)
 
 abbrev pub is_disk_size : ℕ → Bool
 is_disk_size sectors = nat_le 1 sectors && nat_le sectors 65536
 
--- what it starts: zeros but for the chunks, and each disk's first bytes before zeros
-abbrev pub with_chunks : Memory → List Chunk → Memory
-with_chunks memory [] = memory
-with_chunks memory (chunk ∷ chunks) = with_chunks (put memory chunk.addr chunk.bytes) chunks
+-- whether a disk may follow these
+abbrev pub is_next_disk : List Disk → Disk → Bool
+is_next_disk disks disk =
+    nat_lt (length disks) 8 && (is_new_id (map (λ other. other.id) disks) disk.id && (is_disk_size disk.sectors && nat_le (length disk.bytes) (disk.sectors * 512)))
 
 -- a chunk of a memory that is not below `end`: at least one byte, all of them in memory
 pub record IsChunk (base size end : ℕ) (chunk : Chunk) : Type 0 where

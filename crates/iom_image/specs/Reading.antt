@@ -1,12 +1,11 @@
 -- Reading an image from its first byte on: each field is judged once it is whole, and the first check that fails names the
 -- refusal.
-use Rattle.std.specs.Prelude.{ℕ, zero, suc, ◌≡◌, ◌≢◌, ◌↔◌, ◌+◌, ◌*◌, ◌==◌, ◌&&◌, ◌||◌, ◌++◌, Bool, true, false, List, [], ◌∷◌, length, take, drop, bytes_eq, map, replicate, ◌-◌, nat_lt, nat_le, Result, Ok, Err, IsOk, if◌then◌else◌}
+use Rattle.std.specs.Prelude.{ℕ, zero, suc, ◌≡◌, ◌≢◌, ◌↔◌, ◌+◌, ◌*◌, ◌==◌, ◌&&◌, ◌||◌, ◌++◌, Bool, true, false, List, [], ◌∷◌, length, take, drop, bytes_eq, nat_lt, nat_le, Result, Ok, Err, IsOk, if◌then◌else◌}
 use Rattle.iom_bits.specs.Bytes.{number_of_bytes}
-use Rattle.iom_mem.specs.Memory.{Memory}
-use Rattle.iom_mem.specs.Sizes.{is_paged, is_good_size, zeroed}
+use Rattle.iom_mem.specs.Sizes.{is_paged, is_good_size, covers}
 use Rattle.iom_image.specs.declared.fault.LoadFault.{LoadFault}
 use Rattle.iom_image.specs.declared.fault.LoadFault.TheVariants.{BadMagic, Truncated, Trailing, BadRam, BadChunk, BadDevice, OutOfMemory}
-use Rattle.iom_image.specs.Image.{Chunk, Disk, Image, end_of, is_new_id, is_disk_size, magic_of, with_chunks, IsImageOf, AreBytes}
+use Rattle.iom_image.specs.Image.{Chunk, Disk, Image, end_of, is_new_id, is_disk_size, magic_of, IsImageOf, AreBytes}
 
 -- a value, and the bytes after it
 abbrev pub Read : Type 0 → Type 0
@@ -63,7 +62,7 @@ chunk_at base size end bytes = do
   addr ← number_at 8 bytes
   checked (nat_le end addr.0) BadChunk (do
     len ← number_at 4 addr.1
-    checked (nat_lt 0 len.0 && (nat_le base addr.0 && nat_le (addr.0 + len.0) (base + size))) BadChunk (do
+    checked (nat_lt 0 len.0 && covers base (base + size) addr.0 len.0) BadChunk (do
       text ← part_at len.0 len.1
       Ok (record { addr = addr.0; bytes = text.0 }, text.1)))
 
@@ -134,24 +133,9 @@ abbrev pub Judges : {X Y : Type 0} → Result X LoadFault → Result Y LoadFault
 Judges (Ok x) read = IsOk read
 Judges (Err fault) read = (read ≡ Err fault) × (fault ≢ OutOfMemory)
 
--- What an image starts: memory with the chunks, and of each block device its id, its disk, and whether this may only be read.
-pub record Start : Type 0 where
-  pub memory : Memory
-  pub disks : List (ℕ × List ℕ × Bool)
-
-abbrev pub started : Disk → ℕ × List ℕ × Bool
-started disk = (disk.id, disk.bytes ++ replicate (disk.sectors * 512 - length disk.bytes) 0, disk.read_only)
-
-unfoldable pub opening_of : Image → Start
-opening_of image = record { memory = with_chunks (zeroed image.base image.size) image.chunks; disks = map started image.disks }
-
 -- what is made of what was read
 abbrev pub mapped : {A B : Type 0} → (A → B) → Result A LoadFault → Result B LoadFault
 mapped f read = read >>= λ x. Ok (f x)
-
--- a memory with the chunks that were read
-abbrev pub filled : Memory → Read (List Chunk) → Result (Memory × List ℕ) LoadFault
-filled memory read = read >>= λ x. Ok (with_chunks memory x.0, x.1)
 
 -- Reading bytes gives an image exactly where they are the bytes of that image.
 abbrev pub ReadsImages : Type 0

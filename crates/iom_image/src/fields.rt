@@ -1,12 +1,12 @@
 //! The fields of an image, read from the front.
 
-ghost use Rattle.std.specs.Prelude.{◌≡◌, ◌+◌, ◌*◌, ◌≤◌, ◌<◌, ◌^◌, ◌&&◌, IfOk, length, nat_le};
-ghost use Rattle.iom_image.specs.Image.{is_new_id};
+ghost use Rattle.std.specs.Prelude.{◌≡◌, ◌+◌, ◌*◌, ◌≤◌, ◌<◌, ◌^◌, IfOk, length};
+ghost use Rattle.iom_image.specs.Image.{is_new_id, is_disk_size};
 ghost use Rattle.iom_image.specs.Reading.{Reads, part_at, number_at, head_at, chunk_at, flags_at, disk_at};
 
 use crate::fault::LoadFault;
 use iom_bits::{le_u32, le_u64};
-use iom_mem::is_ram;
+use iom_mem::{covers, is_ram};
 
 /// The first 32 bytes of an image: what stands before the chunks.
 #[derive(Clone, Copy)]
@@ -113,17 +113,6 @@ pub fn header_of(bytes: &[u8]) -> Result<(Header, &[u8]), LoadFault>
     Ok((header, rest))
 }
 
-impl Header {
-    // Whether `len` bytes from physical address `addr` on are memory.
-    fn covers(&self, addr: u64, len: u64) -> bool
-        requires { self.now.base + self.now.size ≤ 2 ^ 56 }
-        ensures { result ≡ (nat_le self.now.base addr && nat_le (addr + len) (self.now.base + self.now.size)) }
-    {
-        let end = self.base + self.size;
-        self.base <= addr && addr <= end && len <= end - addr
-    }
-}
-
 /// A chunk of the memory that `header` tells, and the bytes after it. It isn't below physical address `end`. The refusals are
 /// `Truncated` and `BadChunk`.
 #[tactic(auto, unfolding(crate::specs::Reading::chunk_at))]
@@ -145,17 +134,25 @@ pub fn chunk<'a>(
         return Err(LoadFault::BadChunk);
     }
     let (len, rest) = u32_of(rest)?;
-    if len == 0 || !header.covers(addr, len as u64) {
+    if len == 0 || !covers(header.base, header.base + header.size, addr, len as u64) {
         return Err(LoadFault::BadChunk);
     }
     let (bytes, rest) = front(len as usize, rest)?;
     Ok((ChunkPart { addr, bytes }, rest))
 }
 
-fn is_new_id(ids: &[u32], id: u32) -> bool
+/// Whether an id is below 2^24 and none of `ids`.
+pub fn is_new_id(ids: &[u64], id: u64) -> bool
     ensures { result ≡ is_new_id ids.now id }
 {
     id < 1 << 24 && !ids.contains(&id)
+}
+
+/// Whether a disk may have so many sectors: 1 to 65,536.
+pub fn is_disk_size(sectors: u64) -> bool
+    ensures { result ≡ is_disk_size sectors }
+{
+    sectors >= 1 && sectors <= 65_536
 }
 
 // Whether a disk may only be read: what its flags say, where it has any.
@@ -177,7 +174,7 @@ fn read_only(has_flags: bool, bytes: &[u8]) -> Result<(bool, &[u8]), LoadFault>
 #[tactic(auto, unfolding(crate::specs::Reading::disk_at))]
 pub fn disk<'a>(
     has_flags: bool,
-    ids: &[u32],
+    ids: &[u64],
     bytes: &'a [u8],
 ) -> Result<(DiskPart<'a>, &'a [u8]), LoadFault>
     ensures read { Reads
@@ -188,11 +185,11 @@ pub fn disk<'a>(
     ensures most { IfOk result (λ x. x.0.sectors ≤ 65536) }
 {
     let (id, rest) = u32_of(bytes)?;
-    if !is_new_id(ids, id) {
+    if !is_new_id(ids, id as u64) {
         return Err(LoadFault::BadDevice);
     }
     let (sectors, rest) = u32_of(rest)?;
-    if sectors == 0 || sectors > 65_536 {
+    if !is_disk_size(sectors as u64) {
         return Err(LoadFault::BadDevice);
     }
     let (read_only, rest) = read_only(has_flags, rest)?;

@@ -29,10 +29,10 @@ fn disks(has_flags: bool, count: u32, bytes: &[u8]) -> Result<&[u8], LoadFault>
     ensures { Reads (λ rest. rest.now) result (rest_of (disks_at has_flags [] count bytes.now)) }
 {
     let mut rest = bytes;
-    let mut ids: ArrayVec<u32, 8> = ArrayVec::new();
+    let mut ids: ArrayVec<u64, 8> = ArrayVec::new();
     for _ in 0..count {
         let (part, after) = disk(has_flags, ids.as_slice(), rest)?;
-        ids.push(part.id);
+        ids.push(part.id as u64);
         rest = after;
     }
     Ok(rest)

@@ -4,8 +4,8 @@ ghost use Rattle.std.specs.Prelude.{◌≡◌, ◌+◌, ◌*◌, ◌++◌, ◌-�
 ghost use Rattle.iom_blk.specs.Device.{at_reset};
 ghost use Rattle.iom_mem.specs.Memory.{size_of, put};
 ghost use Rattle.iom_mem.specs.Sizes.{zeroed};
-ghost use Rattle.iom_image.specs.Loading.{joined};
-ghost use Rattle.iom_image.specs.Reading.{Reads, Gives, filled, chunks_at, disks_at};
+ghost use Rattle.iom_image.specs.Loading.{filled, joined};
+ghost use Rattle.iom_image.specs.Reading.{Reads, Gives, chunks_at, disks_at};
 ghost use Rattle.iom_image.specs.declared.fault.LoadFault.TheVariants as fault;
 
 use crate::fault::LoadFault;
@@ -84,12 +84,12 @@ pub fn make_devices(
     ensures { Gives (λ devices. devices.items) result (joined [] (disks_at has_flags [] count bytes.now)) }
 {
     let mut rest = bytes;
-    let mut ids: ArrayVec<u32, 8> = ArrayVec::new();
+    let mut ids: ArrayVec<u64, 8> = ArrayVec::new();
     let mut devices = Vec::with_capacity(alloc, count as usize)?;
     for _ in 0..count {
         let (part, after) = disk(has_flags, ids.as_slice(), rest)?;
         let device = make_device(alloc, &part)?;
-        ids.push(part.id);
+        ids.push(part.id as u64);
         devices.push((part.id, device))?;
         rest = after;
     }

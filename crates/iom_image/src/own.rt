@@ -1,5 +1,11 @@
 //! Images that are made part by part.
 
+ghost use Rattle.std.specs.Prelude.{◌≡◌, ◌≤◌, length, map};
+ghost use Rattle.iom_image.specs.Image.{is_next_disk};
+ghost use Rattle.iom_image.specs.Own.{disk_seen, image_seen};
+
+use crate::fields::{is_disk_size, is_new_id};
+use arrayvec::ArrayVec;
 use std::collections::BTreeMap;
 
 /// A block device's disk and its first bytes.
@@ -28,4 +34,29 @@ pub struct OwnImage {
     pub chunks: BTreeMap<u64, Vec<u8>>,
     /// The disks of its block devices in their order, at most 8.
     pub disks: Vec<OwnDisk>,
+}
+
+impl OwnImage {
+    /// Whether a disk may stand behind the others: there are fewer than eight, its id is below 2^24 and none of theirs, its sectors are
+    /// 1 to 65,536, and its bytes fit in them.
+    pub fn takes(&self, disk: &OwnDisk) -> bool
+        ensures { result ≡ is_next_disk (image_seen self.now).disks (disk_seen disk.now) }
+    {
+        self.disks.len() < 8
+            && is_new_id(ids_of(&self.disks).as_slice(), disk.id)
+            && is_disk_size(disk.sectors)
+            && disk.bytes.len() as u64 <= disk.sectors * 512
+    }
+}
+
+// The ids of at most eight disks.
+fn ids_of(disks: &[OwnDisk]) -> ArrayVec<u64, 8>
+    requires { length disks.now ≤ 8 }
+    ensures { result.items ≡ map (λ disk. disk.id) (map disk_seen disks.now) }
+{
+    let mut ids = ArrayVec::new();
+    for disk in disks {
+        ids.push(disk.id);
+    }
+    ids
 }

@@ -40,7 +40,7 @@ fn copy_disks(out: &mut Vec<u8>, has_flags: bool, count: u32, bytes: &[u8]) -> R
     ensures { Gives (λ _. out.new.items) result (disks_behind out.old.items (disks_at has_flags [] count bytes.now)) }
 {
     let mut rest = bytes;
-    let mut ids: ArrayVec<u32, 8> = ArrayVec::new();
+    let mut ids: ArrayVec<u64, 8> = ArrayVec::new();
     for _ in 0..count {
         let (part, after) = disk(has_flags, ids.as_slice(), rest)?;
         push_disk(
@@ -51,7 +51,7 @@ fn copy_disks(out: &mut Vec<u8>, has_flags: bool, count: u32, bytes: &[u8]) -> R
             part.read_only,
             part.bytes,
         )?;
-        ids.push(part.id);
+        ids.push(part.id as u64);
         rest = after;
     }
     Ok(())

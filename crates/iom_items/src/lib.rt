@@ -13,5 +13,4 @@ mod given;
 mod item;
 mod lines;
 mod operands;
-mod reading;
 mod telling;

@@ -1,13 +1,13 @@
 ghost use Rattle.std.specs.Prelude.{◌≡◌, ◌+◌, ◌*◌, ◌++◌, ◌<◌, ◌≤◌, [], ◌∷◌, length};
 ghost use Rattle.std.specs.Option.{option_map};
 ghost use Rattle.iom_text.specs.Texts.{hexed};
+ghost use Rattle.iom_mem.specs.Memory.{words_at};
 ghost use Rattle.iom_ddt.specs.Contexts.{IsWellFormed};
 ghost use Rattle.iom_ddt.specs.Words.{words_of};
 ghost use Rattle.iom_items.specs.declared.item.Item.TheVariants as item;
 ghost use Rattle.iom_items.specs.Lines.{operand, command_text, record_text, context_text, numbers_text, words_text, line_of, item_line};
 
 use crate::item::Item;
-use crate::reading::{four_at, pair_at, word_at};
 use arrayvec::ArrayVec;
 use iom_bits::{field, flag};
 use iom_ddt::{Context, context_of};
@@ -226,6 +226,14 @@ fn four_as_context(words: [u64; 4]) -> Line
     }
 }
 
+// The word of 8 bytes from physical address `addr` on, of any alignment; None where a byte of it is outside memory.
+#[tactic(auto, using(crate::proofs::Alone::one_word))]
+fn word_at(ram: &Ram, addr: u64) -> Option<u64>
+    ensures { option_map (λ word. word ∷ []) result ≡ words_at ram.now addr 1 }
+{
+    ram.word(addr)
+}
+
 /// The line of the item at physical address `addr`, of any alignment: its statement with all operands in order, or
 /// `u64` and its words where they are no such item; None where a byte of it is outside.
 #[tactic(auto, unfolding(crate::specs::Lines::item_line))]
@@ -233,9 +241,9 @@ pub fn item_line(ram: &Ram, item: Item, addr: u64) -> Option<Line>
     ensures { option_map (λ line. line.items) result ≡ item_line ram.now item addr }
 {
     Some(match item {
-        Item::Cmd => pair_line(pair_at(ram, addr)?),
-        Item::Fault => four_as_record(four_at(ram, addr)?),
-        Item::Context => four_as_context(four_at(ram, addr)?),
+        Item::Cmd => pair_line(ram.words_at(addr)?),
+        Item::Fault => four_as_record(ram.words_at(addr)?),
+        Item::Context => four_as_context(ram.words_at(addr)?),
         Item::Dir => dir_line(word_at(ram, addr)?),
         Item::Pte => pte_line(word_at(ram, addr)?),
         Item::Word => words_line(&[word_at(ram, addr)?]),

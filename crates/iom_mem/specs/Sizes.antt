@@ -1,4 +1,4 @@
--- Which memories there may be, and why another is refused.
+-- Which memories there may be, why another is refused, and which bytes are among others.
 use Rattle.std.specs.Prelude.{ℕ, ◌≡◌, ◌+◌, ◌%◌, ◌^◌, ◌<◌, ◌≤◌, ◌==◌, ◌&&◌, Bool, Option, Some, None, nat_le, nat_lt, replicate, if◌then◌else◌}
 use Rattle.iom_mem.specs.Memory.{Memory, size_of}
 use Rattle.iom_mem.specs.declared.MemFault.{MemFault}
@@ -12,6 +12,10 @@ is_paged n = n % 4096 == 0
 abbrev pub is_good_size : ℕ → ℕ → Bool
 is_good_size base size =
     nat_lt 0 size && is_paged size && nat_le size (2 ^ 26) && nat_le (base + size) (2 ^ 56)
+
+-- whether `count` bytes from an address on are among those from `base` to `end`, which isn't one of them
+abbrev pub covers : ℕ → ℕ → ℕ → ℕ → Bool
+covers base end addr count = nat_le base addr && nat_le (addr + count) end
 
 -- the refusal, by the first test that fails: the base, then the size
 abbrev pub refusal_of : ℕ → ℕ → Option MemFault

@@ -4,7 +4,7 @@
 ghost use Rattle.std.specs.Prelude.{◌≡◌, ◌+◌, ◌/◌, ◌&&◌, ◌≤◌, ◌<◌, ◌⊎◌, length, take, drop, Some, None, IfOk, IfErr, IfSome, IfNone};
 ghost use Rattle.std.specs.Bool.{OnTrue, OnFalse};
 ghost use Rattle.std.specs.Option.{is_some};
-ghost use Rattle.iom_mem.specs.Sizes.{is_good_size, is_paged};
+ghost use Rattle.iom_mem.specs.Sizes.{covers, is_good_size, is_paged};
 
 use std::alloc::{AllocError, Global};
 use std::marker::Model;
@@ -53,6 +53,14 @@ pub fn is_ram(base: u64, size: u64) -> bool
     ensures { result ≡ (is_paged base && is_good_size base size) }
 {
     is_paged(base) && is_good_size(base, size)
+}
+
+/// Whether the `len` bytes from address `addr` on are among those from `base` to `end`, which isn't one of them. No bytes are among
+/// them from `base` to `end` itself.
+pub fn covers(base: u64, end: u64, addr: u64, len: u64) -> bool
+    ensures { result ≡ covers base end addr len }
+{
+    base <= addr && addr <= end && len <= end - addr
 }
 
 /// One region of memory, of 4096 bytes to 64 MiB, below 2^56. Its addresses are physical, in bytes; what isn't in it is called
@@ -194,6 +202,19 @@ impl Ram {
         };
         read_words(&self.words, at, out);
         true
+    }
+
+    /// The `N` words from physical address `addr` on, of any alignment, word i from `addr + 8 * i`; None where a byte of one is
+    /// outside.
+    pub fn words_at<const N: usize>(&self, addr: u64) -> Option<[u64; N]>
+        ensures { result ≡ words_at self.now addr N }
+    {
+        let mut words = [0; N];
+        if self.words(addr, &mut words) {
+            Some(words)
+        } else {
+            None
+        }
     }
 
     /// All of memory as words: word i is the one at physical address `base + 8 * i`.

@@ -33,10 +33,9 @@ pub fn next_command(registers: &Regs, ram: &Ram) -> Fetch
     if is_idle(registers) {
         return Fetch::Idle;
     }
-    let mut words = [0; 2];
-    if !ram.words(command_addr(registers), &mut words) {
+    let Some(words) = ram.words_at(command_addr(registers)) else {
         return Fetch::Fault;
-    }
+    };
     match decode_command(words) {
         Some(command) => Fetch::Ready(command),
         None => Fetch::Illegal,

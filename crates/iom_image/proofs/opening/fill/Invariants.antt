@@ -1,5 +1,6 @@
 use Rattle.std.proofs.Common.{◌≡◌, ◌-◌, length}
-use Rattle.iom_image.specs.Reading.{filled, chunks_at}
+use Rattle.iom_image.specs.Loading.{filled}
+use Rattle.iom_image.specs.Reading.{chunks_at}
 use Rattle.iom_image.proofs.opening.fill.Given as goal
 
 abbrev pub invariant-loop : goal.invariant-loop
