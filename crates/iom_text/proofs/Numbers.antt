@@ -1,12 +1,29 @@
 -- What digits write.
-use Rattle.std.proofs.Common.{◌≡◌, ◌+◌, ◌*◌, ◌^◌, ◌<◌, ◌≤◌, ◌&&◌, ℕ, List, [], ◌∷◌, length, drop, get_or, Bool, true, false, Some, None, nat_lt, nat_eq, sym, ◌∙◌, ap, refl, arith}
+use Rattle.std.proofs.Common.{◌≡◌, ◌+◌, ◌*◌, ◌%◌, ◌^◌, ◌<◌, ◌≤◌, ◌&&◌, ℕ, List, [], ◌∷◌, length, drop, get_or, Bool, true, false, Some, None, nat_lt, nat_eq, sym, ◌∙◌, ap, refl, arith, lit≤}
 use Rattle.std.specs.Char.{is_digit, digit_value}
 use Rattle.std.specs.List.{list_all}
 use Rattle.std.specs.Str.Parse.{digits_value, digits_value_after}
 use Rattle.std.proofs.lemmas.List.{drop_more, drop_all}
-use Rattle.std.proofs.Math.Nat.{mul-le-mul_left}
-use Rattle.std.proofs.lemmas.Grind.{common_steps}
+use Rattle.std.proofs.Math.Nat.{mul-le-mul_left, pow-le-pow_right}
+use Rattle.std.proofs.lemmas.Grind.{common_steps, pow_more}
 use Rattle.iom_text.specs.Words.{number_in}
+
+-- one digit more behind fewer than 16
+pub one_more_fits : (radix value at digit : ℕ) → radix ≤ 16 → digit < radix → at < 16 → value < 16 ^ at →
+    (value * radix + digit < 16 ^ (at + 1)) × (16 ^ (at + 1) ≤ 2 ^ 64)
+one_more_fits radix value at digit most below few small =
+    let wide : value * radix ≤ value * 16 = mul-le-mul_left value most in
+    let next : 16 ^ (at + 1) ≡ 16 ^ at * 16 = pow_more 16 at in
+    let all : 16 ^ (at + 1) ≤ 16 ^ 16 = pow-le-pow_right (lit≤ tt) {j = 16} (omega arith) in
+    (omega (arith, wide, next), omega (arith, all))
+
+pub no_wrap : (n digit : ℕ) → n + digit < 2 ^ 64 → (n % 2 ^ 64 + digit) % 2 ^ 64 ≡ n + digit
+no_wrap n digit fits = omega arith
+
+pub few_fit : (value at : ℕ) → at ≤ 16 → value < 16 ^ at → value < 2 ^ 64
+few_fit value at few small =
+    let all : 16 ^ at ≤ 16 ^ 16 = pow-le-pow_right (lit≤ tt) {j = 16} few in
+    omega (arith, all)
 
 at_least : (radix value digit total : ℕ) → 1 ≤ radix → value * radix + digit ≤ total → value ≤ total
 at_least radix value digit total some rest =

@@ -1,4 +1,4 @@
-ghost use Rattle.std.specs.Prelude.{◌≡◌, ◌==◌, ◌<◌, ◌≤◌, [], ◌∷◌, length, not, take, drop, map, SomeIff, IfSome, MatchOption, bytes_eq, codes};
+ghost use Rattle.std.specs.Prelude.{◌≡◌, ◌==◌, ◌<◌, ◌≤◌, [], ◌∷◌, length, not, take, drop, map, Some, SomeIff, IfSome, MatchOption, bytes_eq, codes};
 ghost use Rattle.std.specs.Char.{digit_value};
 ghost use Rattle.std.specs.List.{position, position_or_len};
 ghost use Rattle.std.specs.Option.{option_map};
@@ -127,9 +127,67 @@ fn digit_in(radix: u64, c: u8) -> Option<u64>
     if value < radix { Some(value) } else { None }
 }
 
-// The number that digits of a radix write up to the end of their word, and what follows that.
+// The number that digits of a radix write up to the end of their word, and what follows that. So many as 16 write one below 2^64,
+// and need no test of it.
 #[inline(always)]
 fn take_digits(radix: u64, text: &[u8]) -> Option<(u64, &[u8])>
+    requires least { 2 ≤ radix }
+    requires most { radix ≤ 16 }
+    ensures number { option_map (λ cut. cut.0) result
+        ≡ number_in radix (take (position_or_len is_end text.now) text.now) }
+    ensures rest { IfSome result (λ cut. cut.1.now ≡ drop (position_or_len is_end text.now) text.now) }
+{
+    let mut value: u64 = 0;
+    for at in 0..text.len() {
+        let Some(digit) = digit_in(radix, text[at]) else {
+            if !is_end(text[at]) {
+                return None;
+            }
+            if at == 0 {
+                return None;
+            }
+            return cut_at(radix, text, value, at);
+        };
+        value = value.wrapping_mul(radix).wrapping_add(digit);
+    }
+    if text.is_empty() {
+        return None;
+    }
+    cut_at(radix, text, value, text.len())
+}
+
+// A number whose word ends at a place, and what follows that; `value` is the number where it has at most 16 digits.
+#[inline(always)]
+fn cut_at(radix: u64, text: &[u8], value: u64, at: usize) -> Option<(u64, &[u8])>
+    requires least { 2 ≤ radix }
+    requires most { radix ≤ 16 }
+    requires here { at ≡ position_or_len is_end text.now }
+    requires few { at ≤ 16 → Some value ≡ number_in radix (take (position_or_len is_end text.now) text.now) }
+    ensures number { option_map (λ cut. cut.0) result
+        ≡ number_in radix (take (position_or_len is_end text.now) text.now) }
+    ensures rest { IfSome result (λ cut. cut.1.now ≡ drop (position_or_len is_end text.now) text.now) }
+{
+    if at <= 16 {
+        return Some((value, &text[at..]));
+    }
+    let value = long_number(radix, text)?;
+    Some((value, &text[at..]))
+}
+
+// The number that any number of digits write up to the end of their word.
+#[cold]
+#[inline(never)]
+fn long_number(radix: u64, text: &[u8]) -> Option<u64>
+    requires least { 2 ≤ radix }
+    requires most { radix ≤ 16 }
+    ensures { result ≡ number_in radix (take (position_or_len is_end text.now) text.now) }
+{
+    let (value, _) = take_many_digits(radix, text)?;
+    Some(value)
+}
+
+// The same, and what follows that.
+fn take_many_digits(radix: u64, text: &[u8]) -> Option<(u64, &[u8])>
     requires least { 2 ≤ radix }
     requires most { radix ≤ 16 }
     ensures number { option_map (λ cut. cut.0) result

@@ -5,13 +5,13 @@ use Rattle.std.specs.Str.Parse.{digits_value, digits_value_after}
 use Rattle.iom_text.specs.Words.{is_end}
 use Rattle.iom_text.proofs.reading.take_digits.Given as goal
 
--- the word goes on; what is left of it gives the number, and decides whether all are digits
+-- the word goes on; what is left of it decides whether all are digits, and gives the number where there were few
 abbrev pub invariant-loop-at : goal.invariant-loop-at
 invariant-loop-at l =
     let word = take (position_or_len is_end l.text) l.text in
     record {
       within : l.at ≤ position_or_len is_end l.text;
-      value : digits_value l.radix word ≡ digits_value_after l.radix l.value (drop l.at word);
       digits : list_all (λ c. is_digit c l.radix) word ≡ list_all (λ c. is_digit c l.radix) (drop l.at word);
-      fits : l.value < 2 ^ 64;
+      small : l.at ≤ 16 → l.value < 16 ^ l.at;
+      value : l.at ≤ 16 → digits_value l.radix word ≡ digits_value_after l.radix l.value (drop l.at word);
     }
