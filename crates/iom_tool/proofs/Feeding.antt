@@ -32,6 +32,17 @@ wrote_more a b c text rest count h more = record {
   written = Appends-trans a b c h.front (take count rest) h.written more;
 }
 
+pub front_more : (a b c : Option (List ℕ)) (text : List ℕ) (count : ℕ) → Appends a b (take count text) →
+    WritesFront b c (take (length text - count) (drop count text)) → WritesFront a c text
+front_more a b c text count first more = record {
+  front = take count text ++ more.front;
+  rest = more.rest;
+  whole =
+      append_assoc (take count text) more.front more.rest
+      ∙ ap (λ l. take count text ++ l) (more.whole ∙ take_rest text count) ∙ take-append-drop count text;
+  written = Appends-trans a b c (take count text) more.front first more.written;
+}
+
 pub begins : (p : Progress) → Fed p p [] 0 0 []
 begins p = record {
   answered = record { console = refl; written = Appends-nil p.written };

@@ -1,5 +1,6 @@
 pub mod Forms
 pub mod Pairs
+pub mod Rings
 pub mod Splits
 pub mod Values
 pub mod Outputs

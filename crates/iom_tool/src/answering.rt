@@ -8,10 +8,10 @@ ghost use Rattle.iom_tool.specs.Output.{reply, steps_in, steps_of};
 
 use crate::debugger::push_answer_in;
 use crate::draft::Draft;
-use crate::script::{MOST_BYTES_OF_A_LINE, put_step_of, question_of};
-use crate::text::{push_answer, push_text};
+use crate::script::{MOST_BYTES_OF_A_LINE, question_of};
+use crate::text::push_text;
 use crate::trace::Trace;
-use iom_core::{Platform, Step};
+use iom_core::Platform;
 use iom_text::take_word;
 
 /// A text without a line end that is the same line: this text where it has none, and else one that is bad as it is.
@@ -42,11 +42,7 @@ pub fn answer_to(platform: &mut Platform, trace: &mut Trace, text: &[u8], out: &
     let Some((verb, rest)) = take_word(text) else {
         return false;
     };
-    let mut step = Step::Command;
-    if put_step_of(verb, rest, &mut step) {
-        let answer = platform.step(&step);
-        push_answer(out, &answer);
-        trace.keep(step, answer);
+    if trace.carry_out(platform, verb, rest, out) {
         return true;
     }
     match question_of(verb, rest) {

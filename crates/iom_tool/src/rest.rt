@@ -21,8 +21,26 @@ const MOST_LINES: u64 = 1 << 20;
 /// The most bytes of a script.
 pub const MOST_BYTES: u64 = 1 << 26;
 
-// Writes a text with as few calls of the writer as it needs.
+// Writes a text with as few calls of the writer as it needs: one where the writer takes it whole.
+#[inline(always)]
 fn write_out<W: Write>(writer: &mut WatchedWriter<'_, W>, text: &[u8]) -> Result<(), RunFault>
+    requires { writer.old.failed ≡ false }
+    ensures ok { OnOk result (Appends (W.contents writer.old.inner.now) (W.contents writer.new.inner.now) text.now) }
+    ensures front { WritesFront (W.contents writer.old.inner.now) (W.contents writer.new.inner.now) text.now }
+    ensures fault { IfErr result (λ fault. fault ≡ RunFault.Write) }
+    ensures told { writer.new.failed ≡ is_err result }
+    ensures same_writer { writer.new.inner.ghost_name ≡ writer.old.inner.ghost_name }
+{
+    match writer.write(text) {
+        Some(count) if count == text.len() => Ok(()),
+        Some(count) => write_rest(writer, &text[count..]),
+        None => Err(RunFault::Write),
+    }
+}
+
+// The same of what a writer left.
+#[inline(never)]
+fn write_rest<W: Write>(writer: &mut WatchedWriter<'_, W>, text: &[u8]) -> Result<(), RunFault>
     requires { writer.old.failed ≡ false }
     ensures ok { OnOk result (Appends (W.contents writer.old.inner.now) (W.contents writer.new.inner.now) text.now) }
     ensures front { WritesFront (W.contents writer.old.inner.now) (W.contents writer.new.inner.now) text.now }

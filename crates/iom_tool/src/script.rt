@@ -86,17 +86,18 @@ fn put_reg(text: &[u8], place: &mut Step) -> bool
     put(reg(text), place)
 }
 
-// What follows `cmd`: nothing.
+// Puts the step of a line `cmd`, behind which nothing follows.
 #[inline(always)]
 #[tactic(auto, unfolding(crate::specs::Script::cmd))]
-fn cmd(text: &[u8]) -> Option<Step>
-    ensures { result ≡ cmd (words_of text.now) }
+fn put_cmd(text: &[u8], place: &mut Step) -> bool
+    ensures some { result ≡ true → cmd (words_of text.now) ≡ Some place.new }
+    ensures none { result ≡ false → cmd (words_of text.now) ≡ None }
 {
-    if is_over(text) {
-        Some(Step::Command)
-    } else {
-        None
+    if !is_over(text) {
+        return false;
     }
+    *place = Step::Command;
+    true
 }
 
 // What follows `dma read`: device id, IOVA and length.
@@ -286,7 +287,7 @@ pub fn put_step_of(verb: &[u8], text: &[u8], place: &mut Step) -> bool
         b"load" => put(load(text), place),
         b"store" => put(store(text), place),
         b"reg" => put_reg(text, place),
-        b"cmd" => put(cmd(text), place),
+        b"cmd" => put_cmd(text, place),
         b"dma" => put_dma(text, place),
         b"dev" => put_dev(text, place),
         _ => false,

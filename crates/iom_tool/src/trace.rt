@@ -1,10 +1,21 @@
-use circular_buffer::HeapCircularBuffer;
-use iom_core::{Answer, Step};
+ghost use Rattle.std.specs.Prelude.{◌≡◌, ◌==◌, ◌+◌, ◌++◌, ◌||◌, ◌<◌, ◌≤◌, Some, None, true, false, length, IfOk, if◌then◌else◌};
+ghost use Rattle.iom_core.specs.Table.{next};
+ghost use Rattle.iom_text.specs.Words.{words_of};
+ghost use Rattle.iom_tool.specs.Script.{step_of};
+ghost use Rattle.iom_tool.specs.Texts.{text_of};
+
+use crate::draft::Draft;
+use crate::script::put_step_of;
+use crate::text::push_answer;
+use iom_core::{Answer, Platform, Step};
 use std::alloc::{AllocError, Global};
 use std::marker::Model;
 
 /// How many steps are kept.
 const MOST_ENTRIES: usize = 32;
+
+/// How many places there are: one of them is spare.
+const PLACES: usize = 33;
 
 /// A step that was carried out, and its answer.
 #[derive(Drop)]
@@ -18,23 +29,33 @@ pub struct Entry {
 /// The last 32 steps that a script's lines were, with their answers; the oldest first.
 #[derive(Drop)]
 pub struct Trace {
-    entries: HeapCircularBuffer<Entry>,
+    // A ring. The place at `spare` holds no step of the trace: there the next one is put, and answered from there.
+    places: Vec<Entry>,
+    spare: usize,
+    // Whether the steps go on behind the spare place, the oldest first.
+    is_full: bool,
 }
 
 impl Model for Trace {
-    ghost use Rattle.std.specs.Prelude.{◌≡◌, List};
+    ghost use Rattle.std.specs.Prelude.{◌≡◌, ◌<◌, List, length};
     ghost use Rattle.iom_tool.specs.declared.trace.Entry.{Entry};
+    ghost use Rattle.iom_tool.specs.Ring.{kept_around};
 
     ghost Value = { List Entry };
 
-    ghost view = { λ trace. trace.entries.items };
+    ghost view = { λ trace. kept_around trace.is_full trace.spare trace.places.items };
 
-    ghost invariant = { λ trace. trace.entries.capacity ≡ 32 };
+    ghost invariant = { λ trace. (length trace.places.items ≡ 33) × (trace.spare < 33) };
 }
 
 impl Trace {
-    ghost use Rattle.std.specs.Prelude.{◌≡◌, [], slice_get, IfOk};
+    ghost use Rattle.std.specs.Prelude.{◌≡◌, ◌++◌, ◌+◌, ◌<◌, ◌≤◌, [], Some, None, true, false, slice_get, IfOk, length};
     ghost use Rattle.std.specs.Option.{option_copied};
+    ghost use Rattle.iom_core.specs.Table.{next};
+    ghost use Rattle.iom_core.specs.declared.step.Step.{Step};
+    ghost use Rattle.iom_text.specs.Words.{words_of};
+    ghost use Rattle.iom_tool.specs.Script.{step_of};
+    ghost use Rattle.iom_tool.specs.Texts.{text_of};
     ghost use Rattle.iom_tool.specs.Console.{traced};
 
     /// A trace with no step yet. It takes the memory of all steps, and no other call takes any. The fault is a refused allocation.
@@ -42,7 +63,9 @@ impl Trace {
         ensures { IfOk result (λ trace. trace ≡ []) }
     {
         Ok(Trace {
-            entries: HeapCircularBuffer::with_capacity(alloc, MOST_ENTRIES)?,
+            places: blank_places(alloc)?,
+            spare: 0,
+            is_full: false,
         })
     }
 
@@ -50,13 +73,112 @@ impl Trace {
     pub fn keep(&mut self, step: Step, answer: Answer)
         ensures { self.new ≡ traced self.old step answer }
     {
-        let _oldest = self.entries.push_back(Entry { step, answer });
+        self.places[self.spare] = Entry { step, answer };
+        advance(&mut self.spare, &mut self.is_full);
+    }
+
+    /// Carries out the step that a line is, by its first word and what follows it, puts its answer's text, keeps both, and answers whether
+    /// the line is a step; else nothing changes.
+    #[inline(always)]
+    pub(crate) fn carry_out(
+        &mut self,
+        platform: &mut Platform,
+        verb: &[u8],
+        text: &[u8],
+        out: &mut Draft,
+    ) -> bool
+        requires { length out.old ≡ 0 }
+        ensures step { result ≡ true → (step : Step) × (step_of verb.now (words_of text.now) ≡ Some step)
+            × (platform.new ≡ (next platform.old step).state)
+            × (out.new ≡ out.old ++ text_of (next platform.old step).answer)
+            × (self.new ≡ traced self.old step (next platform.old step).answer) }
+        ensures none { result ≡ false → (step_of verb.now (words_of text.now) ≡ None)
+            × (platform.new ≡ platform.old) × (out.new ≡ out.old) × (self.new ≡ self.old) }
+        ensures room { length out.new ≤ length out.old + 128 }
+    {
+        let entry = &mut self.places[self.spare];
+        if !carried_out(entry, platform, verb, text, out) {
+            return false;
+        }
+        advance(&mut self.spare, &mut self.is_full);
+        true
     }
 
     /// The step at place `i`, any number; the oldest is at place 0. None where the trace has `i` steps or fewer.
     pub fn entry(&self, i: u64) -> Option<&Entry>
         ensures { option_copied result ≡ slice_get self.now i }
     {
-        self.entries.get(i as usize)
+        if self.is_full {
+            if i >= MOST_ENTRIES as u64 {
+                return None;
+            }
+            return Some(&self.places[wrapped(self.spare + 1 + i as usize)]);
+        }
+        if i >= self.spare as u64 {
+            return None;
+        }
+        Some(&self.places[i as usize])
     }
+}
+
+// All places, each with a step that stands for none.
+fn blank_places(alloc: Global) -> Result<Vec<Entry>, AllocError>
+    ensures { IfOk result (λ places. length places.items ≡ 33) }
+{
+    let mut places = Vec::with_capacity(alloc, PLACES)?;
+    for _place in 0..PLACES {
+        places.push(Entry {
+            step: Step::Command,
+            answer: Answer::Idle,
+        })?;
+    }
+    Ok(places)
+}
+
+// A place by a number that may go round once.
+#[inline(always)]
+fn wrapped(at: usize) -> usize
+    requires { at < 66 }
+    ensures below { at < 33 → result ≡ at }
+    ensures above { 33 ≤ at → result + 33 ≡ at }
+{
+    if at < PLACES { at } else { at - PLACES }
+}
+
+// The spare place becomes the newest, and the one after it spare.
+#[inline(always)]
+fn advance(spare: &mut usize, is_full: &mut bool)
+    requires { spare.old < 33 }
+    ensures next { spare.new ≡ (if spare.old == 32 then 0 else spare.old + 1) }
+    ensures full { is_full.new ≡ (is_full.old || spare.old == 32) }
+{
+    let is_last = *spare == MOST_ENTRIES;
+    *is_full = *is_full || is_last;
+    *spare = if is_last { 0 } else { *spare + 1 };
+}
+
+// The step that a line is, put and answered in place. Where it is none, its place may hold anything.
+#[inline(always)]
+fn carried_out(
+    entry: &mut Entry,
+    platform: &mut Platform,
+    verb: &[u8],
+    text: &[u8],
+    out: &mut Draft,
+) -> bool
+    requires { length out.old ≡ 0 }
+    ensures step { result ≡ true → step_of verb.now (words_of text.now) ≡ Some entry.new.step }
+    ensures none { result ≡ false → step_of verb.now (words_of text.now) ≡ None }
+    ensures answer { result ≡ true → entry.new.answer ≡ (next platform.old entry.new.step).answer }
+    ensures state { result ≡ true → platform.new ≡ (next platform.old entry.new.step).state }
+    ensures told { result ≡ true → out.new ≡ out.old ++ text_of entry.new.answer }
+    ensures same { result ≡ false → (platform.new ≡ platform.old) × (out.new ≡ out.old) }
+    ensures room { length out.new ≤ length out.old + 128 }
+{
+    if !put_step_of(verb, text, &mut entry.step) {
+        return false;
+    }
+    entry.answer = platform.step(&entry.step);
+    push_answer(out, &entry.answer);
+    true
 }

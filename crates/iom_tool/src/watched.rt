@@ -76,6 +76,7 @@ impl<'a, W: Write> WatchedWriter<'a, W> {
     }
 
     /// Writes a front of `text`, and answers how many bytes it has; None where the write failed or took no byte.
+    #[inline(always)]
     pub fn write(&mut self, text: &[u8]) -> Option<usize>
         requires { self.old.failed ≡ false }
         ensures bytes { Appends (W.contents self.old.inner.now) (W.contents self.new.inner.now)

@@ -1,4 +1,4 @@
-use Rattle.std.proofs.Common.{◌≡◌, ◌==◌, ◌≤◌, ℕ, List, [], ◌∷◌, false, Option, Some, None, length, nat_lt, sym, ap, refl, arith}
+use Rattle.std.proofs.Common.{◌≡◌, ◌==◌, ◌≤◌, ℕ, List, [], ◌∷◌, false, Option, Some, None, length, nat_lt, sym, ◌∙◌, ap, refl, arith}
 use Rattle.std.specs.List.{list_any}
 use Rattle.iom_text.specs.Words.{words_of}
 use Rattle.iom_core.specs.Run.{end_of}
@@ -22,20 +22,24 @@ no_step text verb operands cut short words none =
 
 pub returns-in-Some-question_of-clause-state : goal.returns-in-Some-question_of-clause-state
 returns-in-Some-question_of-clause-state c =
-    ap (end_of c.args.platform.now) (sym (no_step c.args.text.now c.in-Some.verb.now (words_of c.in-Some.rest.now) c.requires
-    c.if-text-gt-MOST_BYTES_OF_A_LINE.false c.in-Some.ensures (c.put_step_of.ensures.none c.if-put_step_of.false)))
+    (c.carry_out.ensures.none c.if-carry_out.false).1
+    ∙ ap (end_of c.args.platform.now) (sym (no_step c.args.text.now c.in-Some.verb.now (words_of c.in-Some.rest.now) c.requires
+    c.if-text-gt-MOST_BYTES_OF_A_LINE.false c.in-Some.ensures (c.carry_out.ensures.none c.if-carry_out.false).0))
 
 pub returns-in-Some-question_of-clause-trace : goal.returns-in-Some-question_of-clause-trace
 returns-in-Some-question_of-clause-trace c =
-    ap (trace_after c.args.trace.now c.args.platform.now) (sym (no_step c.args.text.now c.in-Some.verb.now (words_of c.in-Some.rest.now) c.requires
-    c.if-text-gt-MOST_BYTES_OF_A_LINE.false c.in-Some.ensures (c.put_step_of.ensures.none c.if-put_step_of.false)))
+    (c.carry_out.ensures.none c.if-carry_out.false).3
+    ∙ ap (trace_after c.args.trace.now c.args.platform.now) (sym (no_step c.args.text.now c.in-Some.verb.now (words_of c.in-Some.rest.now) c.requires
+    c.if-text-gt-MOST_BYTES_OF_A_LINE.false c.in-Some.ensures (c.carry_out.ensures.none c.if-carry_out.false).0))
 
 pub returns-in-None-clause-state : goal.returns-in-None-clause-state
 returns-in-None-clause-state c =
-    ap (end_of c.args.platform.now) (sym (no_step c.args.text.now c.in-Some.verb.now (words_of c.in-Some.rest.now) c.requires
-    c.if-text-gt-MOST_BYTES_OF_A_LINE.false c.in-Some.ensures (c.put_step_of.ensures.none c.if-put_step_of.false)))
+    (c.carry_out.ensures.none c.if-carry_out.false).1
+    ∙ ap (end_of c.args.platform.now) (sym (no_step c.args.text.now c.in-Some.verb.now (words_of c.in-Some.rest.now) c.requires
+    c.if-text-gt-MOST_BYTES_OF_A_LINE.false c.in-Some.ensures (c.carry_out.ensures.none c.if-carry_out.false).0))
 
 pub returns-in-None-clause-trace : goal.returns-in-None-clause-trace
 returns-in-None-clause-trace c =
-    ap (trace_after c.args.trace.now c.args.platform.now) (sym (no_step c.args.text.now c.in-Some.verb.now (words_of c.in-Some.rest.now) c.requires
-    c.if-text-gt-MOST_BYTES_OF_A_LINE.false c.in-Some.ensures (c.put_step_of.ensures.none c.if-put_step_of.false)))
+    (c.carry_out.ensures.none c.if-carry_out.false).3
+    ∙ ap (trace_after c.args.trace.now c.args.platform.now) (sym (no_step c.args.text.now c.in-Some.verb.now (words_of c.in-Some.rest.now) c.requires
+    c.if-text-gt-MOST_BYTES_OF_A_LINE.false c.in-Some.ensures (c.carry_out.ensures.none c.if-carry_out.false).0))

@@ -1,6 +1,6 @@
 use Rattle.std.proofs.Common.{◌≡◌, length, false}
 use Rattle.iom_tool.proofs.Feeding.{Wrote}
-use Rattle.iom_tool.proofs.rest.write_out.Given as goal
+use Rattle.iom_tool.proofs.rest.write_rest.Given as goal
 
 abbrev pub invariant-loop-rest : goal.invariant-loop-rest
 invariant-loop-rest g l = record {

@@ -1,0 +1,10 @@
+use Rattle.std.proofs.Common.{is_none, ◌∙◌, ap}
+use Rattle.iom_tool.proofs.Feeding.{wrote_more}
+use Rattle.iom_tool.proofs.rest.write_rest.Goals as goal
+
+pub loop-rest-preserved : goal.loop-rest-preserved
+loop-rest-preserved g c = record {
+  wrote = wrote_more _ _ _ _ _ c.in-Some.count c.loop-rest.invariant.wrote (rw c.in-Some.is at c.write.ensures.bytes);
+  can = c.write.ensures.failed ∙ ap is_none c.in-Some.is;
+  same_writer = c.write.ensures.same_writer ∙ c.loop-rest.invariant.same_writer;
+}
