@@ -132,3 +132,12 @@ pub fn zeros<const N: usize>(count: usize) -> ArrayVec<u64, N>
     notes.truncate(count);
     notes
 }
+
+/// The same numbers.
+pub fn equal<const N: usize>(notes: &ArrayVec<u64, N>) -> ArrayVec<u64, N>
+    ensures { result.items ≡ notes.now.items }
+{
+    let mut same = ArrayVec::new();
+    let _fits = same.try_extend_from_slice(notes.as_slice());
+    same
+}

@@ -1,7 +1,7 @@
 -- The tests for equality tell it.
-use Rattle.std.proofs.Common.{◌≡◌, ◌==◌, ◌&&◌, ℕ, Bool, true, false, ◌∙◌, if◌then◌else◌, refl, sym, ap, arith}
-use Rattle.std.specs.Prelude.{IsTrue, ◌↔◌}
-use Rattle.std.proofs.lemmas.Bool.{eqb-true, false_from_ne_true, true_from_ne_false}
+use Rattle.std.proofs.Common.{◌≡◌, ◌==◌, ◌&&◌, ℕ, Bool, true, false, ◌∙◌, if◌then◌else◌, refl, sym, ap, subst, arith}
+use Rattle.std.specs.Prelude.{IsTrue, IfSome, Option, None, Some, is_some, ◌↔◌, ◌≢◌}
+use Rattle.std.proofs.lemmas.Bool.{eqb-true, false_from_ne_true}
 use Rattle.std.proofs.lemmas.Grind.{common_steps}
 use Rattle.iom_bits.specs.Bits.{flag}
 use Rattle.iom_bits.specs.Causes.{cause_number}
@@ -11,15 +11,15 @@ use Rattle.iom_bits.specs.declared.causes.Cause.TheVariants.{Access, Page, Guest
 use Rattle.iom_ddt.specs.declared.context.Context.{Context}
 use Rattle.iom_nested.specs.declared.translation.Hit.{Hit}
 use Rattle.iom_core.specs.declared.access.Denial.{Denial}
-use Rattle.iom_cache.specs.Keys.{same_key}
 use Rattle.iom_cache.specs.declared.key.Key.{Key}
 use Rattle.iom_cache.specs.declared.place.Place.{Place}
 use Rattle.iom_cache.specs.declared.place.Place.TheVariants as place
 use Rattle.iom_cache.proofs.Same.{same_key_exact, same_key_itself}
 use Rattle.iom_core.specs.State.{Machine}
-use Rattle.iom_core.specs.Access.{request_key}
+use Rattle.iom_core.specs.Access as access
+use Rattle.iom_core.specs.Access.{led, request_key}
 use Rattle.iom_core.specs.declared.access.Request.{Request}
-use Rattle.iom_reasons.specs.Stale.{by_tables, is_same_context, is_same_denial, is_same_hit, is_same_way}
+use Rattle.iom_reasons.specs.Stale.{IsStale, by_tables, differing, is_same_context, is_same_denial, is_same_hit, is_same_way, stale_way, told, uncached}
 use Rattle.iom_reasons.specs.Standing.{IsContextNow, IsHitNow, IsStanding, found_now, is_context_now, is_found, is_hit_by, is_hit_now, request_of, standing_of}
 use Rattle.iom_reasons.specs.declared.standing.Located.{Located}
 use Rattle.iom_reasons.specs.declared.standing.Located.TheVariants as found
@@ -27,6 +27,7 @@ use Rattle.iom_reasons.specs.declared.standing.Standing.{Standing}
 use Rattle.iom_reasons.specs.declared.standing.Standing.TheVariants as standing
 use Rattle.iom_reasons.specs.declared.way.Way.{Way}
 use Rattle.iom_reasons.specs.declared.way.Way.TheVariants as way
+use Rattle.iom_reasons.proofs.Ways.{told_apart}
 
 split : (a b : Bool) → (a && b) ≡ true → (a ≡ true) × (b ≡ true)
 split true b is = (refl, is)
@@ -214,3 +215,36 @@ hit_test (way.Denied denial) request key hit = (λ is. absurd (cc is), λ is. ab
 
 pub page_test : (m : Machine) (key : Key) (hit : Hit) → IsTrue (is_hit_now m key hit) ↔ IsHitNow m key hit
 page_test m key hit = hit_test (by_tables m (request_of key)) (request_of key) key hit
+
+-- something is told where two ways differ
+differs : (now tables : access.Way) → IsTrue (is_some (differing (told now) (told tables))) ↔ (now ≢ tables)
+differs now tables = (
+  λ is same.
+      let alike : is_same_way (told now) (told tables) ≡ true =
+      ap (λ (w : access.Way). is_same_way (told now) (told w)) (sym same) ∙ way_itself (told now) in
+      absurd (cc (rw alike at is)),
+  λ other.
+      let apart : is_same_way (told now) (told tables) ≡ false =
+      false_from_ne_true _ (λ is. other (told_apart now tables (same_way _ _ is))) in
+      rw apart refl,
+)
+
+pub stale_told : (m : Machine) (request : Request) (found : Option Way) → found ≡ stale_way m request →
+    IsTrue (is_some found) ↔ IsStale m request
+unfolding stale_way
+stale_told m request found is =
+    let at = differs (led m request).way (led (uncached m) request).way in
+    (λ so. at.0 (ap is_some (sym is) ∙ so), λ other. ap is_some is ∙ at.1 other)
+
+-- and what is told then are the tables
+told_tables : (now tables : Way) → IfSome (differing now tables) (λ way. way ≡ tables)
+told_tables now tables = elim (is_same_way now tables) as (λ same. IfSome (if same then None else Some tables) (λ way. way ≡ tables)) [
+  | true ↦ tt
+  | false ↦ refl
+]
+
+pub stale_tables : (m : Machine) (request : Request) (found : Option Way) → found ≡ stale_way m request →
+    IfSome found (λ way. way ≡ by_tables m request)
+unfolding stale_way
+stale_tables m request found is =
+    subst (λ (f : Option Way). IfSome f (λ way. way ≡ by_tables m request)) (sym is) (told_tables (told (led m request).way) (by_tables m request))

@@ -4,13 +4,14 @@ use Rattle.iom_bits.specs.declared.causes.Cause.{Cause}
 use Rattle.iom_regs.specs.Views.{mode_of}
 use Rattle.iom_ddt.specs.Directory.{is_too_wide, levels_of, located}
 use Rattle.iom_ddt.specs.declared.context.Context.{Context}
-use Rattle.iom_cache.specs.Places.{Look, look}
+use Rattle.iom_cache.specs.Keys.{same_did}
+use Rattle.iom_cache.specs.Places.{Look, find, look}
 use Rattle.iom_core.specs.State.{Machine}
 use Rattle.iom_core.specs.Access.{context_look, led_by_context}
 use Rattle.iom_core.specs.declared.access.Request.{Request}
 use Rattle.iom_core.proofs.NewContext.{apart}
 use Rattle.iom_core.specs.Access as access
-use Rattle.iom_reasons.specs.Stale.{told, uncached}
+use Rattle.iom_reasons.specs.Stale.{differing, told, uncached}
 use Rattle.iom_reasons.specs.declared.way.Way.{Way}
 use Rattle.iom_reasons.specs.declared.way.Way.TheVariants as way
 
@@ -54,3 +55,43 @@ pub by_refusal : (m : Machine) (request : Request) (why : Cause) → located m.m
     ≡ (led_by_context (uncached m) request (context_look (uncached m) request.did).filled (context_look (uncached m) request.did).used).way
 by_refusal m request why is =
     sym (ap (by_look (uncached m) request) (looked_uncached m request.did ∙ ap (look request.did None) is))
+
+-- a context that the directory has leads the device where the cache has none of it, and where it has this one
+pub looked_new : (m : Machine) (did : ℕ) (context : Context) → located m.memory m.registers did ≡ Ok context →
+    find (same_did did) m.contexts ≡ None → (context_look m did).used ≡ Ok context
+unfolding context_look
+looked_new m did context is none = elim (is_too_wide (levels_of (mode_of m.registers)) did) as (λ wide.
+    (look did (if wide then None else find (same_did did) m.contexts) (located m.memory m.registers did)).used ≡ Ok context) [
+      | true ↦ rw is refl
+      | false ↦ rw (none, is) refl
+    ]
+
+pub looked_live : (m : Machine) (did : ℕ) (context live : Context) → located m.memory m.registers did ≡ Ok context →
+    find (same_did did) m.contexts ≡ Some live → live ≡ context → (context_look m did).used ≡ Ok context
+unfolding context_look
+looked_live m did context live is found same = elim (is_too_wide (levels_of (mode_of m.registers)) did) as (λ wide.
+    (look did (if wide then None else find (same_did did) m.contexts) (located m.memory m.registers did)).used ≡ Ok context) [
+      | true ↦ rw is refl
+      | false ↦ rw (found, same) refl
+    ]
+
+-- the way with what is cached, by a context that leads the device
+by_used : (m : Machine) (request : Request) (context : Context) → (context_look m request.did).used ≡ Ok context →
+    (led_by_context m request None (Ok context)).way
+    ≡ (led_by_context m request (context_look m request.did).filled (context_look m request.did).used).way
+by_used m request context is =
+    sym (ap (λ used. (led_by_context m request (context_look m request.did).filled used).way) is
+    ∙ (apart m request (context_look m request.did).filled context).way)
+
+-- both ways by one context
+pub both_by_context : (m : Machine) (request : Request) (context : Context) → located m.memory m.registers request.did ≡ Ok context →
+    (context_look m request.did).used ≡ Ok context →
+    differing (told (led_by_context m request None (Ok context)).way) (told (led_by_context (uncached m) request None (Ok context)).way)
+    ≡ differing
+    (told (led_by_context m request (context_look m request.did).filled (context_look m request.did).used).way)
+    (told (led_by_context (uncached m) request (context_look (uncached m) request.did).filled (context_look (uncached m) request.did).used).way)
+both_by_context m request context has is =
+    ap (λ way. differing (told way) (told (led_by_context (uncached m) request None (Ok context)).way)) (by_used m request context is)
+    ∙ ap
+    (λ way. differing (told (led_by_context m request (context_look m request.did).filled (context_look m request.did).used).way) (told way))
+    (by_located m request context has)

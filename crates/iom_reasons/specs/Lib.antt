@@ -3,3 +3,4 @@ pub mod Parts
 pub mod Fetches
 pub mod Passing
 pub mod Standing
+pub mod Found

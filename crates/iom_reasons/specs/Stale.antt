@@ -1,5 +1,5 @@
 -- When a device's access is stale: RISC-V IOMMU Architecture 1.0, "Caching in-memory data structures".
-use Rattle.std.specs.Prelude.{◌≢◌, ◌==◌, ◌&&◌, Bool, true, false, not, [], Option, Some, None, if◌then◌else◌}
+use Rattle.std.specs.Prelude.{◌≢◌, ◌==◌, ◌&&◌, Bool, true, false, [], Option, Some, None, if◌then◌else◌}
 use Rattle.iom_bits.specs.Bits.{flag}
 use Rattle.iom_bits.specs.Causes.{cause_number}
 use Rattle.iom_ddt.specs.declared.context.Context.{Context}

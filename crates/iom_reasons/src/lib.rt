@@ -2,13 +2,15 @@
 //! whether the tables still say what a cache holds (RISC-V IOMMU Architecture 1.0, "Caching in-memory data structures").
 #![tactic(auto)]
 
-pub use listing::{Parts, parts};
+pub use finding::{Found, found_by};
+pub use listing::{Parts, parts, put_parts};
 pub use part::Part;
 pub use places::{stale_context, stale_page};
 pub use staleness::{stale, way_by_tables, way_now};
 pub use standing::{Located, Standing};
 pub use way::Way;
 
+mod finding;
 mod listing;
 mod part;
 mod places;

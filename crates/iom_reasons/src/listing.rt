@@ -34,7 +34,6 @@ pub type Parts = ArrayVec<Part, 29>;
 /// second stage that translate the entry's place, for a read. The second stage for the access itself is next, for the access's kind,
 /// and the end is the way that the request is led. A device id that is too wide has no directory, and an address that breaks the width
 /// rule no entries. Where the request is granted no part refuses it. The device id is below 2^24, the IOVA any. No memory is taken.
-#[tactic(auto, unfolding(crate::specs::Parts::parts_of))]
 pub fn parts(platform: &Platform, request: &Request) -> Parts
     requires { request.now.did < 2 ^ 24 }
     ensures parts { result.items ≡ parts_of platform.now.machine request.now }
@@ -44,14 +43,29 @@ pub fn parts(platform: &Platform, request: &Request) -> Parts
     ensures some { 2 ≤ array_vec_len result }
     ensures most { array_vec_len result ≤ 29 }
 {
+    let mut out = Parts::new();
+    put_parts(&mut out, platform, request);
+    out
+}
+
+/// Puts the same in place of what a list holds.
+#[tactic(auto, unfolding(crate::specs::Parts::parts_of))]
+pub fn put_parts(out: &mut Parts, platform: &Platform, request: &Request)
+    requires { request.now.did < 2 ^ 24 }
+    ensures parts { out.new.items ≡ parts_of platform.now.machine request.now }
+    ensures read { All (IsRead platform.now.machine.memory) out.new.items }
+    ensures passed { IsGranted (by_tables platform.now.machine request.now) → All Passes out.new.items }
+    ensures end { slice_get out.new.items (array_vec_len out.new - 1) ≡ Some (End (by_tables platform.now.machine request.now)) }
+    ensures some { 2 ≤ array_vec_len out.new }
+    ensures most { array_vec_len out.new ≤ 29 }
+{
     let registers = platform.registers();
     let mode = registers.mode();
     let root = registers.root();
-    let mut out = Parts::new();
+    out.clear();
     out.push(Part::Ddtp { mode, root });
-    push_walk(&mut out, platform, request);
-    push_end(&mut out, platform, request);
-    out
+    push_walk(out, platform, request);
+    push_end(out, platform, request);
 }
 
 // What is behind ddtp, where its mode has a directory.

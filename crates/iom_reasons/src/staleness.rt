@@ -5,7 +5,7 @@ ghost use Rattle.iom_ddt.specs.Contexts.{IsWellFormed, is_bare};
 ghost use Rattle.iom_nested.specs.Nested.{translation};
 ghost use Rattle.iom_cache.specs.Places.{look};
 ghost use Rattle.iom_core.specs.Access.{context_look, led, led_by_context, led_by_page};
-ghost use Rattle.iom_reasons.specs.Stale.{Fits, IsStale, by_tables, stale_way, told, uncached};
+ghost use Rattle.iom_reasons.specs.Stale.{Fits, IsStale, by_tables, differing, stale_way, told, uncached};
 
 use crate::Way;
 use crate::way::is_same;
@@ -19,7 +19,7 @@ use iom_regs::Mode;
 
 /// What the tables say now of a request whose way is another, since a cache has it otherwise; None where the request isn't
 /// stale. Nothing is cached, reported or changed. The device id is below 2^24, the IOVA any.
-#[tactic(auto, unfolding(crate::specs::Stale::stale_way), using(crate::proofs::Ways::told_apart))]
+#[tactic(auto, using(crate::proofs::Sameness::stale_told, crate::proofs::Sameness::stale_tables))]
 pub fn stale(platform: &Platform, request: &Request) -> Option<Way>
     requires { request.now.did < 2 ^ 24 }
     ensures stale { IsTrue (is_some result) ↔ IsStale platform.now.machine request.now }
@@ -27,8 +27,89 @@ pub fn stale(platform: &Platform, request: &Request) -> Option<Way>
     ensures told { result ≡ stale_way platform.now.machine request.now }
     ensures fits { IfSome result Fits }
 {
-    let tables = way_by_tables(platform, request);
-    if is_same(&way_now(platform, request), &tables) {
+    stale_by_mode(platform, request)
+}
+
+// The same by ddtp's mode. Without a directory nothing that is cached is looked at.
+#[tactic(auto, unfolding(crate::specs::Stale::stale_way, iom_core::specs::Access::led, crate::specs::Stale::is_same_way))]
+fn stale_by_mode(platform: &Platform, request: &Request) -> Option<Way>
+    requires { request.now.did < 2 ^ 24 }
+    ensures told { result ≡ stale_way platform.now.machine request.now }
+    ensures fits { IfSome result Fits }
+{
+    match platform.registers().mode() {
+        Mode::Off | Mode::Bare => None,
+        Mode::Levels(_) => stale_by_directory(platform, request),
+    }
+}
+
+// The same by the directory. Where the cache has no other context than it, only what the translation cache has may differ.
+#[tactic(auto, using(crate::proofs::Ways::both_by_context))]
+fn stale_by_directory(platform: &Platform, request: &Request) -> Option<Way>
+    requires directory { 1 ≤ levels_of (mode_of platform.now.machine.registers) }
+    requires width { request.now.did < 2 ^ 24 }
+    ensures told { result ≡ differing (told (led_by_context platform.now.machine request.now
+        (context_look platform.now.machine request.now.did).filled
+        (context_look platform.now.machine request.now.did).used).way)
+        (told (led_by_context (uncached platform.now.machine) request.now
+        (context_look (uncached platform.now.machine) request.now.did).filled
+        (context_look (uncached platform.now.machine) request.now.did).used).way) }
+    ensures fits { IfSome result Fits }
+{
+    match current_context(platform, request.did) {
+        Some(context) => stale_by_context(platform, request, &context),
+        None => {
+            let tables = way_by_new_directory(platform, request);
+            differing(&way_by_directory(platform, request), tables)
+        }
+    }
+}
+
+// The context of a device in the directory, where the context cache has none of it or this one.
+#[tactic(auto, using(crate::proofs::Ways::looked_new, crate::proofs::Ways::looked_live))]
+fn current_context(platform: &Platform, did: u32) -> Option<Context>
+    requires directory { 1 ≤ levels_of (mode_of platform.now.machine.registers) }
+    requires width { did < 2 ^ 24 }
+    ensures located { IfSome result (λ context. located platform.now.machine.memory platform.now.machine.registers did ≡ Ok context) }
+    ensures looked { IfSome result (λ context. (context_look platform.now.machine did).used ≡ Ok context) }
+    ensures well_formed { IfSome result IsWellFormed }
+{
+    let Ok(context) = locate(platform.ram(), platform.registers(), did) else {
+        return None;
+    };
+    match platform.contexts().find(did) {
+        None => Some(context),
+        Some(live) if live == context => Some(context),
+        Some(_) => None,
+    }
+}
+
+// The same as `stale` under a context that leads the device either way: a page that isn't cached is led by the tables.
+#[tactic(auto, unfolding(iom_core::specs::Access::page_look, crate::specs::Stale::is_same_way))]
+fn stale_by_context(platform: &Platform, request: &Request, context: &Context) -> Option<Way>
+    requires { IsWellFormed context.now }
+    ensures told { result ≡ differing (told (led_by_context platform.now.machine request.now None (Ok context.now)).way)
+        (told (led_by_context (uncached platform.now.machine) request.now None (Ok context.now)).way) }
+    ensures fits { IfSome result Fits }
+{
+    if context.is_bare() {
+        return None;
+    }
+    let key = key_of(context, request.did, request.iova, request.kind);
+    let hit = platform.trans().find(&key)?;
+    differing(
+        &Way::Walked(*context, hit),
+        way_by_walk(platform.ram(), request, context),
+    )
+}
+
+// What the tables say, where it is another way than this one.
+fn differing(now: &Way, tables: Way) -> Option<Way>
+    requires { Fits tables }
+    ensures told { result ≡ differing now.now tables }
+    ensures fits { IfSome result Fits }
+{
+    if is_same(now, &tables) {
         None
     } else {
         Some(tables)

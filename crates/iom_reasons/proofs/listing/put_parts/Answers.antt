@@ -2,7 +2,7 @@ use Rattle.std.proofs.Common.{rules}
 use Rattle.iom_reasons.specs.Parts.{parts_of}
 use Rattle.iom_reasons.proofs.Fetches.{each_read_of}
 use Rattle.iom_reasons.proofs.Passing.{each_passes_of}
-use Rattle.iom_reasons.proofs.listing.parts.Goals as goal
+use Rattle.iom_reasons.proofs.listing.put_parts.Goals as goal
 
 pub returns-clause-parts : goal.returns-clause-parts
 unfolding parts_of
