@@ -4,3 +4,5 @@ pub mod Blanks
 pub mod Bounds
 pub mod Telling
 pub mod Remaining
+pub mod Ring
+pub mod Summing

@@ -1,5 +1,5 @@
 -- What is told of steps, with one step more.
-use Rattle.std.proofs.Common.{◌≡◌, ◌∙◌, ◌++◌, ◌+◌, ◌-◌, ◌<◌, ◌≤◌, ℕ, zero, suc, List, [], ◌∷◌, length, take, drop, replicate, Option, Some, None, Result, append_assoc, append-nil, length-drop, drop-drop, refl, sym, ap, subst, arith}
+use Rattle.std.proofs.Common.{◌≡◌, ◌∙◌, ◌++◌, ◌+◌, ◌-◌, ◌<◌, ℕ, zero, suc, List, [], ◌∷◌, length, take, drop, replicate, Option, Some, None, Result, append_assoc, append-nil, length-drop, drop-drop, refl, sym, ap, subst, arith}
 use Rattle.std.specs.Prelude.{slice_get}
 use Rattle.std.proofs.lemmas.List.{drop-append-le, take-append-le}
 use Rattle.std.proofs.Math.Seq.{get_or-append_seam, take-length}
@@ -48,16 +48,16 @@ kept_in_full n xs x some full =
     sym (drop-append-le 1 xs (x ∷ []) (omega arith)) ∙ sym (ap (λ (k : ℕ). drop k (xs ++ x ∷ [])) one)
 
 module _ (start : State) (steps : List Step) (numbers : List ℕ) (step : Step) (number : ℕ) (numbered : length numbers ≡ length steps) where
-  abbrev more : List Step
-  more = steps ++ step ∷ []
+  abbrev with_step : List Step
+  with_step = steps ++ step ∷ []
 
   abbrev told_by : List ℕ
   told_by = numbers ++ number ∷ []
 
   below : (n : ℕ) (reason : Reason) → n < length steps → IsReason start (take (suc n) steps) (take (suc n) numbers) n reason →
-      IsReason start (take (suc n) more) (take (suc n) told_by) n reason
+      IsReason start (take (suc n) with_step) (take (suc n) told_by) n reason
   below n reason low is =
-      let same_steps : take (suc n) more ≡ take (suc n) steps = take-append-le (suc n) steps (step ∷ []) (omega arith) in
+      let same_steps : take (suc n) with_step ≡ take (suc n) steps = take-append-le (suc n) steps (step ∷ []) (omega arith) in
       let same_numbers : take (suc n) told_by ≡ take (suc n) numbers = take-append-le (suc n) numbers (number ∷ []) (omega (arith, numbered)) in
       subst (λ (l : List Step). IsReason start l (take (suc n) told_by) n reason) (sym same_steps)
       (subst (λ (l : List ℕ). IsReason start (take (suc n) steps) l n reason) (sym same_numbers) is)
@@ -67,21 +67,21 @@ module _ (start : State) (steps : List Step) (numbers : List ℕ) (step : Step) 
       let long : suc n ≡ length (xs ++ x ∷ []) = ap suc end ∙ sym (length_more xs x) in
       ap (λ (m : ℕ). take m (xs ++ x ∷ [])) long ∙ take-length (xs ++ x ∷ [])
 
-  last : (n : ℕ) (reason : Reason) → n ≡ length steps → IsReason start more told_by (length steps) reason →
-      IsReason start (take (suc n) more) (take (suc n) told_by) n reason
+  last : (n : ℕ) (reason : Reason) → n ≡ length steps → IsReason start with_step told_by (length steps) reason →
+      IsReason start (take (suc n) with_step) (take (suc n) told_by) n reason
   last n reason end is =
       subst (λ (l : List Step). IsReason start l (take (suc n) told_by) n reason) (sym (all_of steps step n end))
-      (subst (λ (l : List ℕ). IsReason start more l n reason) (sym (all_of numbers number n (end ∙ sym numbered)))
-      (subst (λ (m : ℕ). IsReason start more told_by m reason) (sym end) is))
+      (subst (λ (l : List ℕ). IsReason start with_step l n reason) (sym (all_of numbers number n (end ∙ sym numbered)))
+      (subst (λ (m : ℕ). IsReason start with_step told_by m reason) (sym end) is))
 
-  told_more : (told : List Reason) (reason : Reason) → Tells start steps numbers told → IsReason start more told_by (length steps) reason →
-      Tells start more told_by (keep_last 32 (told ++ reason ∷ []))
+  told_more : (told : List Reason) (reason : Reason) → Tells start steps numbers told → IsReason start with_step told_by (length steps) reason →
+      Tells start with_step told_by (keep_last 32 (told ++ reason ∷ []))
   told_more told reason t is = record {
     all = t.all ++ reason ∷ [];
     many = length_more t.all reason ∙ ap suc t.many ∙ sym (length_more steps step);
-    each = λ n own at. placed (IsReason start (take (suc n) more) (take (suc n) told_by) n own) t.all reason own n at
+    each = λ n own at. placed (IsReason start (take (suc n) with_step) (take (suc n) told_by) n own) t.all reason own n at
         (λ low there. below n own (omega (arith, t.many, low)) (t.each n own there))
-        (λ end same. last n own (end ∙ t.many) (subst (λ (r : Reason). IsReason start more told_by (length steps) r) same is));
+        (λ end same. last n own (end ∙ t.many) (subst (λ (r : Reason). IsReason start with_step told_by (length steps) r) same is));
     kept = ap (λ (l : List Reason). keep_last 32 (l ++ reason ∷ [])) t.kept ∙ kept_more 32 t.all reason;
   }
 

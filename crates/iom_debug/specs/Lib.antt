@@ -9,3 +9,4 @@ pub mod Texts
 pub mod Answers
 pub mod Output
 pub mod Wanted
+pub mod Summary

@@ -1,13 +1,12 @@
 //! What is told of the last steps.
 
-ghost use Rattle.std.specs.Prelude.{◌≡◌, ◌++◌, [], ◌∷◌};
-ghost use Rattle.circular_buffer.specs.Buffer.{keep_last};
+ghost use Rattle.std.specs.Prelude.{◌≡◌};
 ghost use Rattle.iom_core.specs.Table.{request_of_step};
 ghost use Rattle.iom_debug.specs.Reasons.{stale_in};
 
+use crate::kept::Kept;
 use crate::reason::Reason;
 use crate::ways::stale_address;
-use arrayvec::ArrayVec;
 use iom_core::{Answer, Denial, Platform, Step};
 use iom_history::{History, Taken};
 use std::marker::Model;
@@ -17,7 +16,7 @@ use std::marker::Model;
 #[derive(Drop)]
 pub struct Reasons {
     history: History,
-    told: ArrayVec<Reason, 32>,
+    told: Kept,
     stale: Option<Result<u64, Denial>>,
 }
 
@@ -26,7 +25,7 @@ impl Model for Reasons {
 
     ghost Value = { Account };
 
-    ghost view = { λ r. record { history = r.history; told = r.told.items; stale = r.stale } };
+    ghost view = { λ r. record { history = r.history; told = r.told; stale = r.stale } };
 }
 
 impl Reasons {
@@ -45,7 +44,7 @@ impl Reasons {
     {
         Reasons {
             history: History::new(platform),
-            told: ArrayVec::new(),
+            told: Kept::new(),
             stale: None,
         }
     }
@@ -55,14 +54,14 @@ impl Reasons {
     pub fn reason(&self, i: u64) -> Option<&Reason>
         ensures { option_copied result ≡ slice_get self.now.told i }
     {
-        self.told.as_slice().get(i as usize)
+        self.told.get(i as usize)
     }
 
     /// What is told of the last step; None where there was none.
     pub fn newest(&self) -> Option<&Reason>
         ensures { option_copied result ≡ last_item self.now.told }
     {
-        self.told.as_slice().last()
+        self.told.newest()
     }
 
     /// Where the tables led the last access of the last line that was stale; None where none was.
@@ -113,19 +112,8 @@ impl Reasons {
         if reason.stale.is_some() {
             self.stale = reason.stale;
         }
-        keep_last(&mut self.told, reason);
+        self.told.keep(reason);
     }
-}
-
-// Appends a reason. Of 32 the oldest leaves.
-#[tactic(auto, using(crate::proofs::Telling::kept_in_room, crate::proofs::Telling::kept_in_full))]
-fn keep_last(told: &mut ArrayVec<Reason, 32>, reason: Reason)
-    ensures { told.new.items ≡ keep_last 32 (told.old.items ++ reason ∷ []) }
-{
-    if told.is_full() {
-        told.remove(0);
-    }
-    told.push(reason);
 }
 
 // Where the tables lead the access that a step makes, where it is stale.

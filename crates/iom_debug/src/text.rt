@@ -10,7 +10,7 @@ ghost use Rattle.iom_tool.specs.Texts.{text_of};
 use hex::encode_to_slice;
 use iom_bits::Cause;
 use iom_core::Answer;
-use iom_text::{decimal, hexed};
+use iom_text::{decimal, put_hex};
 use iom_tool::Reply;
 
 /// A reply that is this text, of at most 320 bytes.
@@ -24,6 +24,7 @@ pub fn said(text: &[u8]) -> Reply
 }
 
 /// Appends bytes, for which there is room.
+#[inline(always)]
 pub fn push_text(out: &mut Reply, text: &[u8])
     requires { length out.old.items + length text.now ≤ 320 }
     ensures text { out.new.items ≡ out.old.items ++ text.now }
@@ -38,10 +39,14 @@ pub fn push_hexed(out: &mut Reply, value: u64)
     ensures text { out.new.items ≡ out.old.items ++ hexed value }
     ensures room { length out.new.items ≤ length out.old.items + 18 }
 {
-    push_text(out, hexed(value).as_slice());
+    let mut digits = [0; 16];
+    let count = put_hex(&mut digits, value);
+    push_text(out, b"0x");
+    push_text(out, &digits[..count]);
 }
 
 /// Appends a blank, a key, `=` and a number in hex.
+#[inline(always)]
 pub fn push_operand(out: &mut Reply, key: &[u8], value: u64)
     requires { length out.old.items + length key.now + 20 ≤ 320 }
     ensures text { out.new.items ≡ out.old.items ++ operand key.now value }

@@ -16,7 +16,7 @@ returns-clause-along c =
     } in
     let before : c.args.self.now.history ≡ c.self.inside.history = cc in
     let history : c.keep.new.self.history ≡ c.step-answer.new.self = cc in
-    let inside : c.args.self.now.told ≡ c.self.inside.told.items = cc in
+    let inside : c.args.self.now.told ≡ c.self.inside.told = cc in
     let told : c.keep.new.self.told ≡ keep_last 32 (c.args.self.now.told ++ reason ∷ []) =
     ap (λ (a : Account). a.told) c.keep.ensures ∙ ap (λ (l : List Reason). keep_last 32 (l ++ reason ∷ [])) (sym inside) in
     along_step c.args.self.now c.args.platform.now c.args.step.now c.args.number c.keep.new.self c.step-answer.new.platform reason

@@ -1,0 +1,189 @@
+//! How the accesses of a script went.
+
+ghost use Rattle.std.specs.Prelude.{◌≡◌, map, OnOk, OnErr};
+ghost use Rattle.iom_debug.specs.Summary.{and_one, denied_with, with_line};
+
+use std::alloc::{AllocError, Global};
+use std::marker::Model;
+
+/// How an access went.
+#[derive(Clone, Copy)]
+pub struct Outcome {
+    /// The number of the line that made it.
+    pub number: u64,
+    /// For which cause it was denied ("Fault/Event-Queue (FQ)"); None where it was granted.
+    pub denied: Option<u16>,
+    /// Whether the caches alone led it.
+    pub is_cached: bool,
+    /// Whether the tables would have led it elsewhere.
+    pub is_stale: bool,
+}
+
+/// How many accesses went how.
+#[derive(Drop)]
+pub struct Summary {
+    accesses: u64,
+    granted: u64,
+    // each cause, and for how many it was denied
+    denied: [(u16, u64); 11],
+    cached: u64,
+    stale: u64,
+    // the lines of those that are stale
+    lines: Vec<u64>,
+}
+
+impl Model for Summary {
+    ghost use Rattle.iom_debug.specs.Summary.{Counts};
+
+    ghost Value = { Counts };
+
+    ghost view = { λ s. record {
+      accesses = s.accesses;
+      granted = s.granted;
+      denied = s.denied;
+      cached = s.cached;
+      stale = s.stale;
+      lines = s.lines.items;
+    } };
+}
+
+impl Summary {
+    ghost use Rattle.std.specs.Prelude.{◌≡◌, ◌++◌, [], ◌∷◌, List, OnOk, OnErr};
+    ghost use Rattle.iom_debug.specs.Summary.{counts_of, with_outcome, with_own_line};
+    ghost use Rattle.iom_debug.specs.declared.summary.Outcome.{Outcome};
+
+    /// Of no access.
+    pub fn new(alloc: Global) -> Summary
+        ensures { result ≡ counts_of [] }
+    {
+        Summary {
+            accesses: 0,
+            granted: 0,
+            denied: [
+                (5, 0),
+                (7, 0),
+                (13, 0),
+                (15, 0),
+                (21, 0),
+                (23, 0),
+                (256, 0),
+                (257, 0),
+                (258, 0),
+                (259, 0),
+                (260, 0),
+            ],
+            cached: 0,
+            stale: 0,
+            lines: Vec::new(alloc),
+        }
+    }
+
+    /// Counts one access more. The fault is want of memory for its line, and then nothing is counted.
+    pub fn count(&mut self, outcome: &Outcome) -> Result<(), AllocError>
+        ensures counts { OnOk result ((told : List Outcome) → self.old ≡ counts_of told → self.new ≡ counts_of (told ++ outcome.now ∷ [])) }
+        ensures err { OnErr result (self.new ≡ self.old) }
+    {
+        self.note_line(outcome)?;
+        self.add(outcome);
+        Ok(())
+    }
+
+    // Notes the line of an access that was stale.
+    fn note_line(&mut self, outcome: &Outcome) -> Result<(), AllocError>
+        ensures ok { OnOk result (self.new ≡ with_own_line self.old outcome.now) }
+        ensures err { OnErr result (self.new ≡ self.old) }
+    {
+        if outcome.is_stale {
+            push_line(&mut self.lines, outcome.number)?;
+        }
+        Ok(())
+    }
+
+    // Counts an access, whose line is noted.
+    fn add(&mut self, outcome: &Outcome)
+        ensures { self.new ≡ record (with_outcome self.old outcome.now) { lines = self.old.lines } }
+    {
+        self.accesses = and_one(true, self.accesses);
+        self.granted = and_one(outcome.denied.is_none(), self.granted);
+        count_denied(&mut self.denied, outcome);
+        self.cached = and_one(outcome.is_cached, self.cached);
+        self.stale = and_one(outcome.is_stale, self.stale);
+    }
+
+    /// How many accesses there were, at most 2^64 - 1; so are all the counts.
+    pub fn accesses(&self) -> u64
+        ensures { result ≡ self.now.accesses }
+    {
+        self.accesses
+    }
+
+    /// How many weren't denied.
+    pub fn granted(&self) -> u64
+        ensures { result ≡ self.now.granted }
+    {
+        self.granted
+    }
+
+    /// Each cause, with how many were denied for it.
+    pub fn denied(&self) -> &[(u16, u64)]
+        ensures { result.now ≡ self.now.denied }
+    {
+        &self.denied
+    }
+
+    /// How many the caches alone led.
+    pub fn cached(&self) -> u64
+        ensures { result ≡ self.now.cached }
+    {
+        self.cached
+    }
+
+    /// How many were stale.
+    pub fn stale(&self) -> u64
+        ensures { result ≡ self.now.stale }
+    {
+        self.stale
+    }
+
+    /// The numbers of the lines of those that were stale.
+    pub fn lines(&self) -> &[u64]
+        ensures { result.now ≡ self.now.lines }
+    {
+        self.lines.as_slice()
+    }
+}
+
+// One more, where it counts.
+fn and_one(is: bool, count: u64) -> u64
+    ensures { result ≡ and_one is count }
+{
+    if is { count.saturating_add(1) } else { count }
+}
+
+// Counts one more beside its cause, where it was denied.
+fn count_denied(counts: &mut [(u16, u64)], outcome: &Outcome)
+    ensures { counts.new ≡ map (denied_with outcome.now) counts.old }
+{
+    for entry in counts.iter_mut() {
+        *entry = denied_with(outcome, *entry);
+    }
+}
+
+// A cause and its count, with one more where an access was denied for that cause.
+fn denied_with(outcome: &Outcome, entry: (u16, u64)) -> (u16, u64)
+    ensures { result ≡ denied_with outcome.now entry }
+{
+    let (cause, count) = entry;
+    (cause, and_one(outcome.denied == Some(cause), count))
+}
+
+// Appends the number of a line, where it isn't the last one.
+fn push_line(lines: &mut Vec<u64>, number: u64) -> Result<(), AllocError>
+    ensures ok { OnOk result (lines.new.items ≡ with_line lines.old.items number) }
+    ensures err { OnErr result (lines.new.items ≡ lines.old.items) }
+{
+    if lines.last() != Some(&number) {
+        lines.push(number)?;
+    }
+    Ok(())
+}
