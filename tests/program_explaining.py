@@ -1,6 +1,7 @@
 """Checks of the word explain: each line with its answer, the reasons of its accesses, and the summary."""
 import glob
 import os
+import pty
 import re
 
 from checks import (
@@ -150,6 +151,49 @@ def _():
     with full:
         status, _, errors = run(["explain"], b"cmd\n", stdout=full)
         want("status and standard error", (status, errors), WRITE_FAILED)
+
+
+# Lines that take long enough for the progress to be told.
+LONG = b"reg write ddtp 0x20000402\n" + b"walk read 5 0x40201abc 3\n" * (MOST_LINES - 1)
+
+
+def told_on_terminal(word, given, **how):
+    """What is told on standard error where that is a terminal, and what is written, while a word plays a script on the image of MAPPED."""
+    ours, theirs = pty.openpty()
+    try:
+        with folder() as here:
+            image = os.path.join(here, "image")
+            want_words(["asm", put(here, "source", MAPPED), image], b"")
+            status, out, _ = run([word, image], given, stderr=theirs, **how)
+        want("status", status, 0)
+        os.write(theirs, b"|")
+        told = b""
+        while not told.endswith(b"|"):
+            told += os.read(ours, 1 << 16)
+        return told[:-1], out
+    finally:
+        os.close(ours)
+        os.close(theirs)
+
+
+@check("debug, check and explain: how far a long script from a file is stands on a terminal, and is cleared at the end")
+def _():
+    written = {}
+    for word in ("debug", "check", "explain"):
+        told, written[word] = told_on_terminal(word, LONG)
+        want(f"whether {word} tells it: {told[-60:]!r}", bool(re.fullmatch(rb"(\r%b: \d+ %%)+\r +\r" % word.encode(), told)), True)
+        shares = [int(it) for it in re.findall(rb": (\d+) %", told)]
+        want(f"what {word} tells", shares, sorted({it for it in shares if it <= 100}))
+    line = GRANTED.splitlines()[3].strip().removeprefix("walk: ").encode() + b"\n"
+    want("what debug writes", written["debug"], b"done\n" + line * (MOST_LINES - 1))
+    want("what check writes", written["check"], b"0 passed, 0 failed\n")
+
+
+@check("debug: nothing of it is told of a short script, or at a pipe")
+def _():
+    want("what is told of a short script", told_on_terminal("debug", ASK + b"\n"), (b"", ANSWER))
+    want("what is told of an empty script", told_on_terminal("debug", b""), (b"", b""))
+    want("what is told at a pipe", told_on_terminal("debug", LONG, at_pipe=True)[0], b"")
 
 
 def answers_told(out):

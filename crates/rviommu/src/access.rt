@@ -2,14 +2,13 @@
 
 ghost use Rattle.std.specs.Prelude.{◌<◌, ◌^◌};
 
+use crate::text::Text;
 use iom_blk::{Phase, Want};
-use iom_cache::key_of;
-use iom_core::{Platform, Request, Step};
+use iom_core::{Denial, Platform, Request, Step};
 use iom_debug::part_line;
 use iom_history::Origin;
-use iom_reasons::{Way, parts, way_now};
+use iom_reasons::{Found, Parts, put_parts};
 use std::alloc::AllocError;
-use std::fmt::{self, Display, Formatter, Write};
 
 /// What a block device asks of the IOMMU.
 #[derive(Clone, Copy)]
@@ -22,30 +21,35 @@ pub struct Asked {
     is_write: bool,
 }
 
-impl Display for Asked {
-    fn fmt<W: Write>(&self, f: &mut Formatter<W>) -> fmt::Result {
-        f.write_str(phase_text(self.phase))?;
+impl Asked {
+    /// Appends it as a line.
+    pub fn push(&self, out: &mut Text) -> Result<(), AllocError> {
+        out.push(b"    asks: ")?;
+        out.push(phase_text(self.phase))?;
         if let Phase::Descriptor(index) = self.phase {
-            write!(f, " {index}")?;
+            out.push_decimal(b" ", u64::from(index))?;
         }
-        let kind = if self.is_write { "write" } else { "read" };
-        let (did, iova, len) = (self.did, self.iova, self.len);
-        write!(f, ", {kind} did={did:#x} iova={iova:#x} len={len:#x}")
+        let kind: &[u8] = if self.is_write { b", write" } else { b", read" };
+        out.push(kind)?;
+        out.push_hexed(b" did=", u64::from(self.did))?;
+        out.push_hexed(b" iova=", self.iova)?;
+        out.push_hexed(b" len=", self.len)?;
+        out.push(b"\n")
     }
 }
 
 // What an access of a block device is for.
-fn phase_text(phase: Phase) -> &'static str {
+fn phase_text(phase: Phase) -> &'static [u8] {
     match phase {
-        Phase::Index => "available index",
-        Phase::Ring => "available ring",
-        Phase::Descriptor(_) => "descriptor",
-        Phase::Header => "header",
-        Phase::Data(_) => "data",
-        Phase::Status => "status",
-        Phase::UsedId => "used id",
-        Phase::UsedLen => "used length",
-        Phase::UsedIdx => "used index",
+        Phase::Index => b"available index",
+        Phase::Ring => b"available ring",
+        Phase::Descriptor(_) => b"descriptor",
+        Phase::Header => b"header",
+        Phase::Data(_) => b"data",
+        Phase::Status => b"status",
+        Phase::UsedId => b"used id",
+        Phase::UsedLen => b"used length",
+        Phase::UsedIdx => b"used index",
     }
 }
 
@@ -69,51 +73,21 @@ pub fn asked_by(platform: &Platform, step: &Step) -> Option<Asked> {
     })
 }
 
-/// What a request finds in the caches.
-#[derive(Clone, Copy)]
-pub struct Found {
-    /// Whether the context cache has a place of its device.
-    pub context: bool,
-    /// Whether the translation cache has a place of its key.
-    pub page: bool,
-    /// Whether the caches alone lead it.
-    pub is_cached: bool,
-}
-
-/// What a request finds in the caches now. Its device id is below 2^24.
-pub fn found_by(platform: &Platform, request: &Request) -> Found
-    requires { request.now.did < 2 ^ 24 }
-{
-    let context = platform.contexts().find(request.did).is_some();
-    let (page, is_cached) = match way_now(platform, request) {
-        Way::Register | Way::Denied(_) => (false, false),
-        Way::Context(_) => (false, context),
-        Way::Walked(by, _) => {
-            let key = key_of(&by, request.did, request.iova, request.kind);
-            let page = platform.trans().find(&key).is_some();
-            (page, context && page)
-        }
-    };
-    Found {
-        context,
-        page,
-        is_cached,
-    }
-}
-
-/// Appends the parts of the walk of a request, a line each. Its device id is below 2^24. The fault is want of memory.
+/// Appends the parts of the walk of a request, a line each. They are put into a list first, in place of what it holds. Its device id is
+/// below 2^24. The fault is want of memory.
 pub fn push_walk(
-    out: &mut Vec<u8>,
+    out: &mut Text,
+    parts: &mut Parts,
     platform: &Platform,
     request: &Request,
 ) -> Result<(), AllocError>
     requires { request.now.did < 2 ^ 24 }
 {
-    let parts = parts(platform, request);
+    put_parts(parts, platform, request);
     for part in parts.as_slice() {
-        out.extend_from_slice(b"    walk: ")?;
-        out.extend_from_slice(part_line(platform, request, part).as_slice())?;
-        out.push(b'\n')?;
+        out.push(b"    walk: ")?;
+        out.push(part_line(platform, request, part).as_slice())?;
+        out.push(b"\n")?;
     }
     Ok(())
 }
@@ -135,48 +109,66 @@ impl Caches {
             _ => Some(Caches { found, origin }),
         }
     }
-}
 
-impl Display for Caches {
-    fn fmt<W: Write>(&self, f: &mut Formatter<W>) -> fmt::Result {
-        let line = match self.origin {
-            Some(Origin::Context { context }) => Some(context),
-            Some(Origin::Walked { current, .. }) => Some(current),
-            _ => None,
-        };
-        match line {
-            _ if !self.found.context => f.write_str("no context")?,
-            Some(line) => write!(f, "context of line {line}")?,
-            None => f.write_str("a context")?,
+    /// Appends it as a line.
+    pub fn push(&self, out: &mut Text) -> Result<(), AllocError> {
+        out.push(b"    caches: ")?;
+        self.push_context(out)?;
+        match self.origin {
+            Some(Origin::Walked { walk, .. }) if self.found.page => {
+                out.push_decimal(b", page of line ", walk)?;
+            }
+            Some(Origin::Context { .. }) => {}
+            _ => out.push(b", no page")?,
+        }
+        out.push(b"\n")
+    }
+
+    // Appends what was found of its context.
+    fn push_context(&self, out: &mut Text) -> Result<(), AllocError> {
+        if !self.found.context {
+            return out.push(b"no context");
         }
         match self.origin {
-            Some(Origin::Walked { walk, .. }) if self.found.page => write!(
-                f,
-                ", page of line {walk}"
-            ),
-            Some(Origin::Context { .. }) => Ok(()),
-            _ => f.write_str(", no page"),
+            Some(Origin::Context { context: line } | Origin::Walked { current: line, .. }) => {
+                out.push_decimal(b"context of line ", line)
+            }
+            _ => out.push(b"a context"),
         }
     }
 }
 
-/// Why an access was let through.
-#[derive(Clone, Copy)]
-pub struct Warrant(pub Option<Origin>);
-
-impl Display for Warrant {
-    fn fmt<W: Write>(&self, f: &mut Formatter<W>) -> fmt::Result {
-        match self.0 {
-            None => f.write_str("none, it is denied"),
-            Some(Origin::Register) => f.write_str("register"),
-            Some(Origin::Context { context }) => write!(f, "context {context}"),
-            Some(
-                Origin::Walked {
-                    context,
-                    walk,
-                    current,
-                },
-            ) => write!(f, "walked context={context} walk={walk} current={current}"),
+/// Appends why an access was let through, as a line.
+pub fn push_warrant(out: &mut Text, origin: Option<Origin>) -> Result<(), AllocError> {
+    out.push(b"    warrant: ")?;
+    match origin {
+        None => out.push(b"none, it is denied")?,
+        Some(Origin::Register) => out.push(b"register")?,
+        Some(Origin::Context { context }) => out.push_decimal(b"context ", context)?,
+        Some(
+            Origin::Walked {
+                context,
+                walk,
+                current,
+            },
+        ) => {
+            out.push_decimal(b"walked context=", context)?;
+            out.push_decimal(b" walk=", walk)?;
+            out.push_decimal(b" current=", current)?;
         }
     }
+    out.push(b"\n")
+}
+
+/// Appends what the tables said of an access that was stale, as a line; nothing of another.
+pub fn push_stale(out: &mut Text, stale: Option<Result<u64, Denial>>) -> Result<(), AllocError> {
+    match stale {
+        None => return Ok(()),
+        Some(Ok(addr)) => out.push_hexed(b"    stale: the tables now say addr=", addr)?,
+        Some(Err(denial)) => {
+            let cause = u64::from(denial.cause.number());
+            out.push_decimal(b"    stale: the tables now say denied ", cause)?;
+        }
+    }
+    out.push(b"\n")
 }

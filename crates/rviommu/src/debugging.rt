@@ -3,10 +3,13 @@
 use crate::checking::{Answered, Tally};
 use crate::fault::Fault;
 use crate::lines::{Lines, MOST_LINES};
+use crate::progress::Progress;
 use iom_debug::{Debugger, Reasons, Reply};
 use iom_tool::{RunFault, Trace};
 use std::alloc::Global;
+use std::fs::Files;
 use std::io::{BufRead, Write};
+use std::time::Clock;
 
 /// What is told of a script's lines.
 #[derive(Drop)]
@@ -53,6 +56,7 @@ fn carried_out<R: BufRead, W: Write>(
     lines: &mut Lines<R>,
     telling: &mut Telling,
     writer: &mut W,
+    progress: &mut Progress<'_, impl Clock + Eprint + Files>,
 ) -> Result<(), Fault<'static>> {
     for number in 1..=MOST_LINES {
         let Some(line) = lines.next_line()? else {
@@ -72,6 +76,7 @@ fn carried_out<R: BufRead, W: Write>(
                 writer,
             )?;
         }
+        progress.reach(lines.taken());
     }
     match lines.next_line()? {
         Some(_) => Err(Fault::Run(RunFault::TooLong)),
@@ -87,12 +92,13 @@ pub fn carry_out<R: BufRead, W: Write>(
     mut telling: Telling,
     reader: &mut R,
     writer: &mut W,
+    progress: &mut Progress<'_, impl Clock + Eprint + Files>,
 ) -> Result<(), Fault<'static>> {
     let mut platform = iom_asm::load(alloc, image)?;
     let mut trace = Trace::new(alloc)?;
     let mut reasons = Reasons::new(&platform);
     let mut debugger = Debugger::new(&mut platform, &mut trace, &mut reasons);
     let mut lines = Lines::new(alloc, reader);
-    carried_out(&mut debugger, &mut lines, &mut telling, writer)?;
+    carried_out(&mut debugger, &mut lines, &mut telling, writer, progress)?;
     telling.sum_up(writer)
 }

@@ -1,15 +1,22 @@
 //! Scripts whose lines are told with the reasons of their accesses.
 
-use crate::access::{Asked, Caches, Found, Warrant, asked_by, found_by, push_walk};
+use crate::access::{Asked, Caches, asked_by, push_stale, push_walk, push_warrant};
 use crate::checking::before_comment;
 use crate::fault::Fault;
 use crate::lines::{Lines, MOST_LINES};
-use crate::summary::{Outcome, Summary};
-use iom_core::{Answer, Denial, Step};
-use iom_debug::{Debugger, Reason, Reasons, Reply, StepAnswer, counted, repeated};
-use iom_tool::{RunFault, Trace, step_of};
-use std::alloc::Global;
+use crate::progress::Progress;
+use crate::summary::tell;
+use crate::text::Text;
+use iom_core::{Answer, Step};
+use iom_debug::{
+    Debugger, Outcome, Reason, Reasons, Reply, StepAnswer, Summary, counted, repeated,
+};
+use iom_reasons::{Found, Parts, found_by};
+use iom_tool::{RunFault, Session, Trace, step_of};
+use std::alloc::{AllocError, Global};
+use std::fs::Files;
 use std::io::{BufRead, Write};
+use std::time::Clock;
 
 /// The most bytes of an answer to a step.
 const MOST_IN_ANSWER: usize = 128;
@@ -20,12 +27,18 @@ const LAST: u8 = 31;
 /// How many bytes the lines of a walk take: 29 parts at most, each a text of at most 320 bytes behind a word, and a line end.
 const WALK_ROOM: usize = 29 * 331;
 
+/// How many bytes are told of a step at once: its walk, and few lines more.
+const TEXT_ROOM: usize = WALK_ROOM + 1024;
+
 /// What is told of a script's accesses, and where.
 #[derive(Drop)]
 struct Account<'w, W> {
     writer: &'w mut W,
-    // The lines of the walk of the access that is made.
-    walk: Vec<u8>,
+    // What is told of a step, or of a line that is none.
+    text: Text,
+    // The lines of the walk of the access that is made, and its parts.
+    walk: Text,
+    parts: Parts,
     summary: Summary,
 }
 
@@ -47,7 +60,7 @@ fn newest(trace: &Trace) -> u8 {
 }
 
 // The text of the last step and of its answer.
-fn newest_text(debugger: &mut Debugger<'_>, number: u64) -> Reply {
+fn newest_text(debugger: &mut Debugger<'_>) -> Reply {
     let at = newest(debugger.trace);
     let question = [
         b't',
@@ -59,7 +72,7 @@ fn newest_text(debugger: &mut Debugger<'_>, number: u64) -> Reply {
         b'0' + at / 10,
         b'0' + at % 10,
     ];
-    debugger.line(number, &question)
+    Session::new(debugger.platform, debugger.trace).line(&question)
 }
 
 // The cause that the last step was denied for, if it was.
@@ -83,8 +96,8 @@ impl<W: Write> Account<'_, W> {
             return Ok(None);
         };
         let found = found_by(debugger.platform, &request);
-        if !found.is_cached {
-            push_walk(&mut self.walk, debugger.platform, &request)?;
+        if !found.is_whole {
+            push_walk(&mut self.walk, &mut self.parts, debugger.platform, &request)?;
         }
         let asked = asked_by(debugger.platform, step);
         Ok(Some(Before { found, asked }))
@@ -99,14 +112,16 @@ impl<W: Write> Account<'_, W> {
     ) -> Result<StepAnswer, Fault<'static>> {
         let before = self.look(debugger, &step)?;
         let answer = debugger.take(number, step);
-        let text = newest_text(debugger, number);
-        let text = text.as_slice().escape_ascii();
-        writeln!(self.writer, "{number}: {text}").map_err(|_| RunFault::Write)?;
+        self.text.push_decimal(b"", number)?;
+        self.text.push(b": ")?;
+        self.text.push(newest_text(debugger).as_slice())?;
+        self.text.push(b"\n")?;
         let denied = newest_denial(debugger);
         let reason = debugger.reasons.newest().copied();
         if let (Some(before), Some(reason)) = (before, reason) {
             self.tell(before, reason, denied)?;
         }
+        self.write()?;
         Ok(answer)
     }
 
@@ -116,44 +131,35 @@ impl<W: Write> Account<'_, W> {
         before: Before,
         reason: Reason,
         denied: Option<u16>,
-    ) -> Result<(), Fault<'static>> {
+    ) -> Result<(), AllocError> {
         if let Some(asked) = before.asked {
-            writeln!(self.writer, "    asks: {asked}").map_err(|_| RunFault::Write)?;
+            asked.push(&mut self.text)?;
         }
         if let Some(caches) = Caches::new(before.found, reason.origin, denied) {
-            writeln!(self.writer, "    caches: {caches}").map_err(|_| RunFault::Write)?;
+            caches.push(&mut self.text)?;
         }
-        let walk = self.walk.as_slice();
-        self.writer.write_all(walk).map_err(|_| RunFault::Write)?;
-        let warrant = Warrant(reason.origin);
-        writeln!(self.writer, "    warrant: {warrant}").map_err(|_| RunFault::Write)?;
-        self.tell_stale(reason.stale)?;
+        self.text.push(self.walk.as_slice())?;
+        push_warrant(&mut self.text, reason.origin)?;
+        push_stale(&mut self.text, reason.stale)?;
         self.summary.count(&Outcome {
             number: reason.number,
             denied,
-            is_cached: before.found.is_cached,
+            is_cached: before.found.is_whole,
             is_stale: reason.stale.is_some(),
-        })?;
-        Ok(())
+        })
     }
 
-    // Tells what the tables said of an access that was stale.
-    fn tell_stale(&mut self, stale: Option<Result<u64, Denial>>) -> Result<(), RunFault> {
-        let told = match stale {
-            None => return Ok(()),
-            Some(Ok(addr)) => writeln!(self.writer, "    stale: the tables now say addr={addr:#x}"),
-            Some(Err(denial)) => {
-                let cause = denial.cause.number();
-                writeln!(self.writer, "    stale: the tables now say denied {cause}")
-            }
-        };
-        told.map_err(|_| RunFault::Write)
+    // Writes what is told, at once.
+    fn write(&mut self) -> Result<(), RunFault> {
+        let text = self.text.as_slice();
+        self.writer.write_all(text).map_err(|_| RunFault::Write)?;
+        self.text.clear();
+        Ok(())
     }
 
     // Tells how the accesses went.
     fn sum_up(&mut self) -> Result<(), Fault<'static>> {
-        let summary = &self.summary;
-        summary.tell(self.writer)
+        tell(&self.summary, self.writer)
     }
 
     // Takes the steps of a line of many, while they are done. The line's own answer comes back.
@@ -195,10 +201,13 @@ impl<W: Write> Account<'_, W> {
         if reply.is_empty() {
             return Ok(());
         }
-        let text = before_comment(line).escape_ascii();
-        let reply = reply.as_slice().escape_ascii();
-        let told = writeln!(self.writer, "{number}: {text} -> {reply}");
-        told.map_err(|_| RunFault::Write)?;
+        self.text.push_decimal(b"", number)?;
+        self.text.push(b": ")?;
+        self.text.push_escaped(before_comment(line))?;
+        self.text.push(b" -> ")?;
+        self.text.push_escaped(reply.as_slice())?;
+        self.text.push(b"\n")?;
+        self.write()?;
         Ok(())
     }
 }
@@ -208,12 +217,14 @@ fn carried_out<R: BufRead, W: Write>(
     debugger: &mut Debugger<'_>,
     lines: &mut Lines<R>,
     account: &mut Account<'_, W>,
+    progress: &mut Progress<'_, impl Clock + Eprint + Files>,
 ) -> Result<(), Fault<'static>> {
     for number in 1..=MOST_LINES {
         let Some(line) = lines.next_line()? else {
             return Ok(());
         };
         account.line(debugger, number, line)?;
+        progress.reach(lines.taken());
     }
     match lines.next_line()? {
         Some(_) => Err(Fault::Run(RunFault::TooLong)),
@@ -228,19 +239,23 @@ pub fn explain<R: BufRead, W: Write>(
     image: &[u8],
     reader: &mut R,
     writer: &mut W,
+    progress: &mut Progress<'_, impl Clock + Eprint + Files>,
 ) -> Result<(), Fault<'static>> {
     let mut platform = iom_asm::load(alloc, image)?;
     let mut trace = Trace::new(alloc)?;
-    let walk = Vec::with_capacity(alloc, WALK_ROOM)?;
+    let text = Text::with_room(alloc, TEXT_ROOM)?;
+    let walk = Text::with_room(alloc, WALK_ROOM)?;
     let summary = Summary::new(alloc);
     let mut reasons = Reasons::new(&platform);
     let mut debugger = Debugger::new(&mut platform, &mut trace, &mut reasons);
     let mut lines = Lines::new(alloc, reader);
     let mut account = Account {
         writer,
+        text,
         walk,
+        parts: Parts::new(),
         summary,
     };
-    carried_out(&mut debugger, &mut lines, &mut account)?;
+    carried_out(&mut debugger, &mut lines, &mut account, progress)?;
     account.sum_up()
 }

@@ -1,26 +1,8 @@
-use clap::error::ErrorKind;
 use iom_asm::{AsmFault, ListFault, LoadFault};
+use iom_cli::{Escaped, WordsFault};
 use iom_tool::RunFault;
 use std::alloc::AllocError;
-use std::fmt::{self, Display, Formatter, Write};
 use thiserror::Error;
-
-// A word of the command line, its control characters escaped, so that a fault is one line.
-#[derive(Clone, Copy)]
-struct Told<'a>(&'a str);
-
-impl Display for Told<'_> {
-    fn fmt<W: Write>(&self, f: &mut Formatter<W>) -> fmt::Result {
-        for c in self.0.chars() {
-            if c.is_control() {
-                Display::fmt(&c.escape_default(), f)?;
-            } else {
-                f.write_char(c)?;
-            }
-        }
-        Ok(())
-    }
-}
 
 /// Why the program ends, if not well.
 #[derive(Debug, Drop, Error)]
@@ -29,19 +11,16 @@ pub enum Fault<'a> {
     #[error("a word isn't UTF-8")]
     BadWord,
     /// A word isn't the kind of an item.
-    #[error("{}: KIND is cmd, fault, context, dir, pte or u64", Told(*.word))]
+    #[error("{}: KIND is cmd, fault, context, dir, pte or u64", Escaped(*.word))]
     BadKind { word: &'a str },
-    /// The word of the operand `name` is no number below 2^64.
-    #[error("{}: {name} is decimal, or hex after 0x, below 2^64", Told(*.word))]
-    BadNumber { name: &'a str, word: &'a str },
-    /// Help or version that was asked for, or what clap finds wrong.
+    /// The words ask for help or version, or for nothing that the program does.
     #[error("{0}")]
-    Words(clap::Error),
+    Words(WordsFault<'a>),
     /// The file of this name can't be read, or has more than 2^30 bytes.
-    #[error("cannot read {}", Told(*.0))]
+    #[error("cannot read {}", Escaped(*.0))]
     CannotRead(&'a str),
     /// The file of this name can't be written.
-    #[error("cannot write {}", Told(*.0))]
+    #[error("cannot write {}", Escaped(*.0))]
     CannotWrite(&'a str),
     /// A text is refused by the assembler.
     #[error("{0}")]
@@ -67,8 +46,8 @@ impl Fault<'_> {
     /// The status to end with: 2 for bad words, else 1.
     pub fn status(&self) -> u8 {
         match self {
-            Fault::BadWord | Fault::BadKind { .. } | Fault::BadNumber { .. } => 2,
-            Fault::Words(error) => error.exit_code() as u8,
+            Fault::BadWord | Fault::BadKind { .. } => 2,
+            Fault::Words(fault) => fault.status(),
             _ => 1,
         }
     }
@@ -80,12 +59,9 @@ impl From<AllocError> for Fault<'_> {
     }
 }
 
-impl From<clap::Error> for Fault<'_> {
-    fn from(error: clap::Error) -> Self {
-        if error.kind() == ErrorKind::OutOfMemory {
-            return Fault::OutOfMemory;
-        }
-        Fault::Words(error)
+impl<'a> From<WordsFault<'a>> for Fault<'a> {
+    fn from(fault: WordsFault<'a>) -> Self {
+        Fault::Words(fault)
     }
 }
 

@@ -39,6 +39,11 @@ impl<R: BufRead> Lines<R> {
         }
     }
 
+    /// How many bytes were read.
+    pub fn taken(&self) -> u64 {
+        (MOST_BYTES + 1).saturating_sub(self.reader.limit())
+    }
+
     /// The next line without its line end, of a longer one its first 513 bytes; None at the end. The faults are those of `run`, and
     /// `OutOfMemory`.
     pub fn next_line(&mut self) -> Result<Option<&[u8]>, Fault<'static>> {

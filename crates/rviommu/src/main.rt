@@ -6,16 +6,18 @@ use debugging::{Telling, carry_out};
 use explaining::explain;
 use fault::Fault;
 use iom_asm::Item;
+use iom_cli::{How, Task, WordsFault, task_of};
 use iom_tool::RunFault;
+use progress::Progress;
 use std::alloc::Global;
 use std::cell::RefCell;
 use std::env;
 use std::fs::Files;
-use std::io::{self, BufRead, BufReader, BufWriter, Read, Write};
+use std::io::{self, BufRead, BufReader, BufWriter, IsTerminal, Read, Write};
 use std::process::ExitCode;
 use std::rt::Env;
+use std::time::Clock;
 use tied::{Shared, Tied};
-use words::{How, Task, task_of};
 
 mod access;
 mod checking;
@@ -23,17 +25,26 @@ mod debugging;
 mod explaining;
 mod fault;
 mod files;
-mod help;
 mod lines;
+mod progress;
 mod summary;
+mod text;
 mod tied;
-mod words;
 
 // The bytes that are read at once; their room is cleared at the start.
 const READ_BLOCK: usize = 0x8000;
 
 // The bytes that are written at once.
 const WRITE_BLOCK: usize = 0x1_0000;
+
+// What the program reads and writes.
+#[derive(Drop)]
+struct Streams<I, O> {
+    input: I,
+    output: O,
+    // Whether standard error is a terminal.
+    has_terminal: bool,
+}
 
 // Runs, debugs, checks or explains the script that a reader gives.
 fn play<'a, R: BufRead, W: Write>(
@@ -42,37 +53,43 @@ fn play<'a, R: BufRead, W: Write>(
     how: How,
     reader: &mut R,
     writer: &mut W,
+    progress: &mut Progress<'_, impl Clock + Eprint + Files>,
 ) -> Result<(), Fault<'a>> {
     match how {
         How::Run => Ok(iom_tool::play(alloc, image, reader, writer)?.ended?),
-        How::Explain => explain(alloc, image, reader, writer),
-        How::Debug => carry_out(alloc, image, Telling::Answers, reader, writer),
+        How::Explain => explain(alloc, image, reader, writer, progress),
+        How::Debug => carry_out(alloc, image, Telling::Answers, reader, writer, progress),
         How::Check { is_stale_told } => {
             let telling = Telling::Failures(Tally::new(is_stale_told));
-            carry_out(alloc, image, telling, reader, writer)
+            carry_out(alloc, image, telling, reader, writer, progress)
         }
     }
 }
 
 // Plays a script on an image. Its answers are written by blocks, but before it waits for input.
 fn played<'a>(
+    rt: &(impl Clock + Eprint + Files),
     alloc: Global,
     image: &[u8],
     how: How,
-    input: impl Read + Drop,
-    output: impl Write + Drop,
+    streams: Streams<impl Read + Drop, impl Write + Drop>,
 ) -> Result<(), Fault<'a>> {
-    let writer = BufWriter::with_capacity(alloc, WRITE_BLOCK, output).map_err(
+    let mut progress = Progress::new(rt, how.word(), streams.has_terminal);
+    let writer = BufWriter::with_capacity(alloc, WRITE_BLOCK, streams.output).map_err(
         |_| Fault::OutOfMemory,
     )?;
     let output = RefCell::new(writer);
     let output = &output;
-    let tied = Tied { input, output };
+    let tied = Tied {
+        input: streams.input,
+        output,
+    };
     let mut reader = BufReader::with_capacity(alloc, READ_BLOCK, tied).map_err(
         |_| Fault::OutOfMemory,
     )?;
     let mut writer = Shared { output };
-    let ended = play(alloc, image, how, &mut reader, &mut writer);
+    let ended = play(alloc, image, how, &mut reader, &mut writer, &mut progress);
+    progress.clear();
     // The answers before a fault are written too.
     writer.flush().map_err(|_| RunFault::Write)?;
     ended
@@ -122,31 +139,31 @@ fn list<'a>(
 
 // Does what the words of the command line ask for.
 fn done<'a>(
-    rt: &impl Files,
+    rt: &(impl Clock + Eprint + Files),
     alloc: Global,
     task: Task<'a>,
-    input: impl Read + Drop,
-    output: impl Write + Drop,
+    streams: Streams<impl Read + Drop, impl Write + Drop>,
 ) -> Result<(), Fault<'a>> {
     match task {
-        Task::Play { how, image: None } => played(alloc, &iom_asm::built_in(), how, input, output),
+        Task::Play { how, image: None } => { played(rt, alloc, &iom_asm::built_in(), how, streams) }
         Task::Play {
             how,
             image: Some(image),
         } => {
             let image = files::read(rt, alloc, image)?;
-            played(alloc, image.as_slice(), how, input, output)
+            played(rt, alloc, image.as_slice(), how, streams)
         }
         Task::Assemble { source, image } => assemble(rt, alloc, source, image),
         Task::Upgrade { image, new } => upgrade(rt, alloc, image, new),
         Task::List {
             image,
-            item,
+            kind,
             addr,
             count,
         } => {
+            let item = Item::named(kind.as_bytes()).ok_or(Fault::BadKind { word: kind })?;
             let image = files::read(rt, alloc, image)?;
-            list(alloc, image.as_slice(), item, addr, count, output)
+            list(alloc, image.as_slice(), item, addr, count, streams.output)
         }
     }
 }
@@ -163,13 +180,13 @@ fn given(
     }
 }
 
-// Help that can't be written is a failed write. What is wrong may go unseen, and the status stays.
-fn shown(rt: &(impl Print + Eprint), error: &clap::Error) -> u8 {
-    let printed = error.print(rt);
-    if printed.is_err() && !error.use_stderr() {
-        return told(rt, &Fault::Run(RunFault::Write));
+// Help that can't be written is a failed write.
+fn shown(rt: &(impl Print + Eprint), fault: &WordsFault<'_>) -> u8 {
+    if fault.show(rt) {
+        fault.status()
+    } else {
+        told(rt, &Fault::Run(RunFault::Write))
     }
-    error.exit_code() as u8
 }
 
 // Writes a fault to standard error, and answers the status to end with.
@@ -182,30 +199,35 @@ fn told(rt: &impl Eprint, fault: &Fault<'_>) -> u8 {
 fn status_of(rt: &(impl Print + Eprint), ended: Result<(), Fault<'_>>) -> ExitCode {
     match ended {
         Ok(()) => ExitCode::SUCCESS,
-        Err(Fault::Words(error)) => ExitCode::from(shown(rt, &error)),
+        Err(Fault::Words(fault)) => ExitCode::from(shown(rt, &fault)),
         Err(Fault::Failed) => ExitCode::FAILURE,
         Err(fault) => ExitCode::from(told(rt, &fault)),
     }
 }
 
-// The whole program over an input and an output.
+// The whole program over its streams.
 fn program(
-    rt: &(impl Env + Files + Alloc<A = Global> + Print + Eprint),
+    rt: &(impl Clock + Env + Files + Alloc<A = Global> + Print + Eprint),
     alloc: Global,
-    input: impl Read + Drop,
-    output: impl Write + Drop,
+    streams: Streams<impl Read + Drop, impl Write + Drop>,
 ) -> ExitCode {
     let words = match given(rt, alloc) {
         Ok(words) => words,
         Err(fault) => return status_of(rt, Err(fault)),
     };
     let ended = match task_of(alloc, words.as_slice()) {
-        Ok(task) => done(rt, alloc, task, input, output),
-        Err(fault) => Err(fault),
+        Ok(task) => done(rt, alloc, task, streams),
+        Err(fault) => Err(Fault::Words(fault)),
     };
     status_of(rt, ended)
 }
 
+// The program over the streams of its process.
 fn main(rt: HostRuntime) -> ExitCode {
-    program(&rt, rt.alloc(), rt.stdin(), rt.stdout())
+    let streams = Streams {
+        input: rt.stdin(),
+        output: rt.stdout(),
+        has_terminal: rt.stderr().is_terminal(),
+    };
+    program(&rt, rt.alloc(), streams)
 }

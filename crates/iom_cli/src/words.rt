@@ -1,9 +1,8 @@
 //! What the words of the command line ask for.
 
-use crate::fault::Fault;
+use crate::fault::WordsFault;
 use crate::help;
-use clap::{Arg, ArgAction, ArgMatches, Command, Error};
-use iom_asm::Item;
+use clap::{Arg, ArgAction, ArgMatches, Command};
 use std::alloc::{AllocError, Global};
 
 /// The operand that says what is listed.
@@ -28,6 +27,18 @@ pub enum How {
     Explain,
 }
 
+impl How {
+    /// The word of the command line that asks for it.
+    pub fn word(self) -> &'static str {
+        match self {
+            How::Run => "run",
+            How::Debug => "debug",
+            How::Check { .. } => "check",
+            How::Explain => "explain",
+        }
+    }
+}
+
 /// What the program is asked to do.
 pub enum Task<'a> {
     /// A script on the image in a file, or on the built-in one.
@@ -45,10 +56,10 @@ pub enum Task<'a> {
         image: &'a str,
         new: &'a str,
     },
-    /// `count` items in the memory that the image in a file starts, from physical address `addr` on.
+    /// `count` items in the memory that the image in a file starts, from physical address `addr` on. `kind` is the name of such an item.
     List {
         image: &'a str,
-        item: Item,
+        kind: &'a str,
         addr: u64,
         count: u64,
     },
@@ -229,17 +240,16 @@ fn value<'a>(found: &ArgMatches<'a>, name: &str) -> &'a str {
 }
 
 // The number of an operand that has to be there.
-fn number<'a>(found: &ArgMatches<'a>, name: &'a str) -> Result<u64, Fault<'a>> {
+fn number<'a>(found: &ArgMatches<'a>, name: &'a str) -> Result<u64, WordsFault<'a>> {
     let word = value(found, name);
-    iom_text::number(word.as_bytes()).ok_or(Fault::BadNumber { name, word })
+    iom_text::number(word.as_bytes()).ok_or(WordsFault::BadNumber { name, word })
 }
 
 // What the operands of `list` ask for.
-fn listing<'a>(found: &ArgMatches<'a>) -> Result<Task<'a>, Fault<'a>> {
-    let kind = value(found, KIND);
+fn listing<'a>(found: &ArgMatches<'a>) -> Result<Task<'a>, WordsFault<'a>> {
     Ok(Task::List {
         image: value(found, "IMAGE"),
-        item: Item::named(kind.as_bytes()).ok_or(Fault::BadKind { word: kind })?,
+        kind: value(found, KIND),
         addr: number(found, "ADDR")?,
         count: number(found, "COUNT")?,
     })
@@ -254,7 +264,7 @@ fn script<'a>(how: How, found: &ArgMatches<'a>) -> Task<'a> {
 }
 
 // What words that clap accepts ask for.
-fn task_in<'a>(matches: &ArgMatches<'a>) -> Result<Task<'a>, Fault<'a>> {
+fn task_in<'a>(matches: &ArgMatches<'a>) -> Result<Task<'a>, WordsFault<'a>> {
     match matches.subcommand() {
         Some(("asm", found)) => Ok(Task::Assemble {
             source: value(found, "SOURCE"),
@@ -279,8 +289,8 @@ fn task_in<'a>(matches: &ArgMatches<'a>) -> Result<Task<'a>, Fault<'a>> {
     }
 }
 
-/// What the words ask for. Help and version that were asked for, and what clap finds wrong, are the fault `Words`.
-pub fn task_of<'a>(alloc: Global, words: &'a [String]) -> Result<Task<'a>, Fault<'a>> {
+/// What the words ask for. Help and version that were asked for, and what clap finds wrong, are the fault `Clap`.
+pub fn task_of<'a>(alloc: Global, words: &'a [String]) -> Result<Task<'a>, WordsFault<'a>> {
     let command = command(alloc)?;
     let matches = command.try_get_matches_from(words)?;
     task_in(&matches)

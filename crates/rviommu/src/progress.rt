@@ -1,0 +1,73 @@
+//! How far a script is, told on standard error while it is played.
+
+use std::fs::{self, Files};
+use std::time::{Clock, Duration, Instant};
+
+/// How many seconds a script is played before anything is told.
+const PATIENCE: u64 = 1;
+
+/// A script of a known size that is played.
+#[derive(Clone, Copy)]
+struct Watch {
+    start: Instant,
+    // in bytes
+    size: u64,
+    // how many of a hundred were told last
+    told: Option<u64>,
+}
+
+/// How far a script is, in one line that is written again and again, and cleared at the end.
+#[derive(Drop)]
+pub struct Progress<'r, R> {
+    rt: &'r R,
+    word: &'r str,
+    watch: Option<Watch>,
+}
+
+// A watch on the script on standard input, where that is a file which isn't empty.
+fn watch_on(rt: &(impl Clock + Files)) -> Option<Watch> {
+    let script = fs::metadata(rt, "/dev/stdin").ok()?;
+    if !script.is_file() || script.len() == 0 {
+        return None;
+    }
+    Some(Watch {
+        start: Instant::now(rt).ok()?,
+        size: script.len(),
+        told: None,
+    })
+}
+
+impl<'r, R: Clock + Eprint + Files> Progress<'r, R> {
+    /// Of the script on standard input that this word plays. It is told only where there is a terminal to tell it on and the script
+    /// is a file.
+    pub fn new(rt: &'r R, word: &'r str, has_terminal: bool) -> Progress<'r, R> {
+        let watch = if has_terminal { watch_on(rt) } else { None };
+        Progress { rt, word, watch }
+    }
+
+    /// Tells that so many bytes of the script are played, if it takes long. What can't be told goes untold.
+    pub fn reach(&mut self, bytes: u64) {
+        let Some(watch) = &mut self.watch else {
+            return;
+        };
+        let is_long = match watch.start.elapsed(self.rt) {
+            Ok(time) => time >= Duration::from_secs(PATIENCE),
+            Err(_) => false,
+        };
+        let hundredths = bytes.min(watch.size).saturating_mul(100);
+        let percent = hundredths.checked_div(watch.size);
+        if !is_long || percent == watch.told {
+            return;
+        }
+        watch.told = percent;
+        let (rt, word, percent) = (self.rt, self.word, percent.unwrap_or(0));
+        let _ = rt.eprint(format_args!("\r{word}: {percent} %"));
+    }
+
+    /// Clears what was told.
+    pub fn clear(&mut self) {
+        if let Some(Watch { told: Some(_), .. }) = self.watch {
+            let _ = self.rt.eprint("\r                \r");
+        }
+    }
+}
