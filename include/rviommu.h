@@ -2,8 +2,10 @@
  * rviommu: a proved platform model of the RISC-V IOMMU, for tests of drivers and of hardware.
  *
  * A handle owns a platform (physical memory, one IOMMU of the RISC-V IOMMU Architecture 1.0 and up to eight virtio 1.2 block
- * devices) and the trace of its last 32 steps. Each function here does what the call of the proved library does that it
- * stands on; that is proved of the function itself, as far as its caller does what is said beside it.
+ * devices), the trace of its last 32 steps, and an account of them: why each went as it did, and which steps filled what the caches
+ * hold. There a step is told by its number: how many steps the handle was given with it, from 1 on. Each function here does what the
+ * call of the proved library does that it stands on; that is proved of the function itself, as far as its caller does what is said
+ * beside it.
  *
  * What the caller owes, for every function:
  * - No pointer is NULL, also where the length beside it is 0. A buffer has as many bytes as the length beside it says.
@@ -189,6 +191,30 @@ struct rviommu_walk_part {
     struct rviommu_way way; /* of END */
 };
 
+/* Where the translation came from that a step used. */
+enum rviommu_why_kind {
+    RVIOMMU_WHY_NO_ACCESS = 0, /* none: the step made no access of a device */
+    RVIOMMU_WHY_DENIED = 1,    /* none: its access was denied */
+    RVIOMMU_WHY_REGISTER = 2,  /* ddtp, whose mode was Bare */
+    RVIOMMU_WHY_CONTEXT = 3,   /* a context whose stages were both Bare */
+    RVIOMMU_WHY_WALK = 4       /* the stages of a context */
+};
+
+/* Why a step went as it did. The number of a step that filled something may be its own. What its kind doesn't have is 0. */
+struct rviommu_why {
+    struct rviommu_way way; /* where `is_stale`, the way that the tables said of its access, before it */
+    uint64_t number;        /* the number of the step */
+    uint64_t iova;          /* of its access, of all but NO_ACCESS */
+    uint64_t context;       /* the number of the step that filled the context that led it, of CONTEXT; of WALK the context under which its page
+                               was filled */
+    uint64_t walk;          /* the number of the step that filled its page, of WALK */
+    uint64_t current;       /* the number of the step that filled the context in force, which gives its page the same key, of WALK */
+    uint32_t did;           /* of its access, of all but NO_ACCESS */
+    uint32_t kind;          /* an enum rviommu_why_kind */
+    bool is_write;          /* of its access, of all but NO_ACCESS: it wrote */
+    bool is_stale;          /* the caches led its access otherwise than the tables did then */
+};
+
 /*
  * Start and end. `handle` is closed, or was never used; an open one's memory would be lost.
  */
@@ -202,8 +228,8 @@ uint32_t rviommu_open(const uint8_t *image, size_t length, rviommu_t *handle);
  * RVIOMMU_OUT_OF_MEMORY; the handle is closed then. */
 uint32_t rviommu_open_built_in(rviommu_t *handle);
 
-/* Opens an equal platform, which goes its own way from here, with an empty trace. `handle` is open and stays as it is; `copy` is
- * closed. Answers RVIOMMU_OK, or RVIOMMU_OUT_OF_MEMORY; `copy` stays closed then. */
+/* Opens an equal platform with an equal account of the steps, which goes its own way from here and counts its steps on, with an empty
+ * trace. `handle` is open and stays as it is; `copy` is closed. Answers RVIOMMU_OK, or RVIOMMU_OUT_OF_MEMORY; `copy` stays closed then. */
 uint32_t rviommu_copy(rviommu_t *handle, rviommu_t *copy);
 
 /* Closes an open handle, and gives its memory back. */
@@ -219,9 +245,10 @@ void rviommu_close(rviommu_t *handle);
 uint32_t rviommu_line(rviommu_t *handle, const char *line, size_t line_length, char *answer, size_t room, size_t *length);
 
 /*
- * By numbers. The handle is open. Each is one step, which the trace keeps, and answers an enum rviommu_answer; the answers that
- * a step can have stand beside it. `value` and `bytes` are put for RVIOMMU_VALUE and RVIOMMU_BYTES, `cause` for RVIOMMU_DENIED,
- * and unchanged else. A refusal changes nothing, but for a denial's fault record and what was cached on the way.
+ * By numbers. The handle is open. Each is one step, which the trace keeps and the account counts, as they do a line that is a step,
+ * and answers an enum rviommu_answer; the answers that a step can have stand beside it. `value` and `bytes` are put for
+ * RVIOMMU_VALUE and RVIOMMU_BYTES, `cause` for RVIOMMU_DENIED, and unchanged else. A refusal changes nothing, but for a denial's fault
+ * record and what was cached on the way.
  */
 
 /* The hart reads `size` bytes, 1, 2, 4 or 8, at a physical address, a multiple of the size: VALUE, BUS_ERROR, MISUSE. */
@@ -241,7 +268,7 @@ uint32_t rviommu_reg_write(rviommu_t *handle, uint64_t offset, uint64_t size, ui
 uint32_t rviommu_dma_read(rviommu_t *handle, uint64_t did, uint64_t iova, uint8_t *bytes, size_t length, uint64_t *cause);
 
 /* A device writes 1 to 64 bytes at an IOVA, all in one page: DONE, DENIED, BUS_ERROR, MISUSE. More than 64 bytes are MISUSE, and
- * no step that the trace keeps. */
+ * no step that the trace keeps or the account counts. */
 uint32_t rviommu_dma_write(rviommu_t *handle, uint64_t did, uint64_t iova, const uint8_t *bytes, size_t length, uint64_t *cause);
 
 /* The command unit takes one command and carries it out ("Command-Queue (CQ)"): DONE, also where it stops the queue, or IDLE. */
@@ -258,7 +285,7 @@ uint32_t rviommu_dev_write(rviommu_t *handle, uint64_t device, uint64_t offset, 
 uint32_t rviommu_dev_step(rviommu_t *handle, uint64_t device, uint64_t *cause);
 
 /*
- * Looking. The handle is open. None of these is a step, and none changes the platform or the trace.
+ * Looking. The handle is open. None of these is a step, and none changes the platform, the trace or the account.
  */
 
 /* The first physical address of memory, and its size. */
@@ -295,6 +322,16 @@ uint32_t rviommu_stale(rviommu_t *handle, uint64_t did, uint64_t iova, bool is_w
  * directory say of its device; unchanged else. */
 uint32_t rviommu_stale_page(rviommu_t *handle, uint64_t place, struct rviommu_way *way);
 uint32_t rviommu_stale_context(rviommu_t *handle, uint64_t place, struct rviommu_located *located);
+
+/* Why one of the last 32 steps went as it did, the oldest step 0, those of the handle that this one was copied from among them. Answers
+ * RVIOMMU_OK; or RVIOMMU_NO_SUCH where there are fewer steps, and `why` is unchanged then. */
+uint32_t rviommu_why(rviommu_t *handle, uint64_t step, struct rviommu_why *why);
+
+/* Which step filled a place of a cache: its number; of the translation cache also, in `context`, the number of the step that filled the
+ * context under which the place was filled. Where a command dropped what stood at the place, it is the step that filled that. Answers
+ * RVIOMMU_OK; or RVIOMMU_NO_SUCH where there are fewer places, and the numbers are unchanged then. */
+uint32_t rviommu_page_origin(rviommu_t *handle, uint64_t place, uint64_t *context, uint64_t *walk);
+uint32_t rviommu_context_origin(rviommu_t *handle, uint64_t place, uint64_t *number);
 
 /*
  * Texts.

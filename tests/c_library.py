@@ -103,17 +103,45 @@ def scripts():
         yield from sorted(glob.glob(os.path.join(TOP, folder, "*.script")))
 
 
+def image_of(place, script):
+    """The image of a script, if it has one, as words."""
+    text, image = script[: -len("script")] + "asm", os.path.join(place.here, "image")
+    if not os.path.exists(text):
+        return []
+    run([place.program, "asm", text, image])
+    return [image]
+
+
+def run_words(image):
+    return ["run", *image] if image else []
+
+
+def is_told_alike(place):
+    """Behind each line of each script that `debug` plays as `run` does, each of the last 32 steps has the same reason."""
+    play, told = compiled(place, "gcc", "play", ["tests/c/play.c"]), 0
+    for script in scripts():
+        image = image_of(place, script)
+        with open(script, "rb") as file:
+            lines = file.read().split(b"\n")[:-1]
+        plain = b"".join(line + b"\n" for line in lines)
+        if run([place.program, "debug", *image], input=plain) != run([place.program, *run_words(image)], input=plain):
+            continue
+        asking = b"".join(line + b"\n" + b"".join(b"why %d\n" % step for step in range(32)) for line in lines)
+        if run([play, "why", *image], input=plain) != run([place.program, "debug", *image], input=asking):
+            raise Failure(f"the reasons of {os.path.relpath(script, TOP)} are told otherwise than by the program")
+        told += 1
+    if told < 50:
+        raise Failure(f"only {told} scripts were compared")
+
+
 def is_played_alike(place, how):
     play = compiled(place, "gcc", "play", ["tests/c/play.c"])
-    image = os.path.join(place.here, "image")
     for script in scripts():
-        text = script[: -len("script")] + "asm"
-        if os.path.exists(text):
-            run([place.program, "asm", text, image])
+        image = image_of(place, script)
         with open(script, "rb") as lines:
-            wanted = run([place.program, "run", image] if os.path.exists(text) else [place.program], stdin=lines)
+            wanted = run([place.program, *run_words(image)], stdin=lines)
         with open(script, "rb") as lines:
-            seen = run([play, how, *([image] if os.path.exists(text) else [])], stdin=lines)
+            seen = run([play, how, *image], stdin=lines)
         if seen != wanted:
             raise Failure(f"{os.path.relpath(script, TOP)} is answered otherwise than by the program")
 
@@ -241,6 +269,7 @@ CHECKS = [
     ("pkg-config finds the library, and the shared object is used", by_pkg_config),
     ("each script is played alike, line by line", lambda place: is_played_alike(place, "text")),
     ("each script is played alike, by numbers", lambda place: is_played_alike(place, "numbers")),
+    ("why each step went as it did is told alike", is_told_alike),
     ("100,000 generated lines are played alike by numbers, and the sanitizer reports nothing", lambda place: is_generated_alike(place, "numbers")),
     ("the same line by line", lambda place: is_generated_alike(place, "text")),
     ("the same by numbers under valgrind", lambda place: is_generated_alike(place, "numbers", VALGRIND)),

@@ -7,19 +7,20 @@ a `Refusal`. Addresses and lengths are in bytes. `rviommu.forms` puts together w
 import ctypes
 
 from . import forms
-from ._library import LIBRARY, Handle, Located, Page, Part, Way, Context as CachedContext
+from ._library import LIBRARY, Handle, Located, Page, Part, Way, Why, Context as CachedContext
 from .forms import Context, FaultRecord, Fence, Gvma, Iodir, Pte, Vma
-from .reasons import LocatedKind, PartKind, Ruling, WayKind
+from .reasons import LocatedKind, PartKind, Ruling, WayKind, WhyKind
 
 __all__ = ["AssemblyError", "BadAccess", "BusError", "CachedContext", "Context", "Denied", "FaultRecord", "Fence", "Gvma", "ImageError",
            "Iodir", "Located", "LocatedKind", "Misuse", "NoDevice", "Outside", "Page", "Part", "PartKind", "Platform", "Pte", "Refusal", "Ruling",
-           "Vma", "Way", "WayKind", "assemble", "forms"]
+           "Vma", "Way", "WayKind", "Why", "WhyKind", "assemble", "forms"]
 __version__ = "0.3.0"
 
 _VALUE, _DONE, _BYTES, _IDLE, _DENIED, _BUS_ERROR, _BAD_ACCESS, _NO_DEVICE, _MISUSE = range(9)
 _OK, _OUT_OF_MEMORY, _OUTSIDE, _LITTLE_ROOM, _NO_DISK = 0, 7, 10, 11, 12
 _LIVE, _EMPTY = 0, 1
 _STALE = 3
+_MOST_STEPS = 32
 _ROOM = 321
 _FQB, _FQH, _FQT, _CQB, _CQH, _CQT = 0x28, 0x30, 0x34, 0x18, 0x20, 0x24
 
@@ -136,7 +137,7 @@ class Platform:
         return self._handle
 
     def copy(self):
-        """An equal platform, which goes its own way from here."""
+        """An equal platform, which goes its own way from here, and counts its steps on."""
         made = Platform.__new__(Platform)
         made._handle = Handle()
         _started(LIBRARY.rviommu_copy(self._open, made._handle))
@@ -311,3 +312,23 @@ class Platform:
         """What ddtp and the directory say of the device of a place of the context cache that holds something else; None where it
         doesn't."""
         return self._stale_place("stale_context", place, Located())
+
+    def why(self, step=None):
+        """Why one of the last 32 steps went as it did, the oldest step 0; the last where none is named. None where there is no such
+        step."""
+        why = Why()
+        places = range(_MOST_STEPS - 1, -1, -1) if step is None else [step]
+        found = any(LIBRARY.rviommu_why(self._open, place, why) == _OK for place in places)
+        return why if found else None
+
+    def page_origin(self, place):
+        """The numbers of the steps that filled a place of the translation cache: of the context under which it was filled, and of the
+        place; None where there are fewer places."""
+        context, walk = ctypes.c_uint64(), ctypes.c_uint64()
+        found = LIBRARY.rviommu_page_origin(self._open, place, context, walk) == _OK
+        return (context.value, walk.value) if found else None
+
+    def context_origin(self, place):
+        """The number of the step that filled a place of the context cache; None where there are fewer places."""
+        number = ctypes.c_uint64()
+        return number.value if LIBRARY.rviommu_context_origin(self._open, place, number) == _OK else None

@@ -50,6 +50,15 @@ class Part(Structure):
     _fields_ += [("has_word", c_bool), ("has_read_at", c_bool), ("way", Way)]
 
 
+class Why(Structure):
+    """struct rviommu_why"""
+
+    _fields_ = [("way", Way)]
+    _fields_ += [(name, c_uint64) for name in ("number", "iova", "context", "walk", "current")]
+    _fields_ += [(name, c_uint32) for name in ("did", "kind")]
+    _fields_ += [("is_write", c_bool), ("is_stale", c_bool)]
+
+
 HANDLE, NUMBER, SIZE, BYTES = POINTER(Handle), POINTER(c_uint64), POINTER(c_size_t), POINTER(c_uint8)
 
 # What each function takes; each answers a uint32_t but for those of NOTHING.
@@ -79,6 +88,9 @@ FUNCTIONS = {
     "stale": (HANDLE, c_uint64, c_uint64, c_bool, POINTER(Way)),
     "stale_page": (HANDLE, c_uint64, POINTER(Way)),
     "stale_context": (HANDLE, c_uint64, POINTER(Located)),
+    "why": (HANDLE, c_uint64, POINTER(Why)),
+    "page_origin": (HANDLE, c_uint64, NUMBER, NUMBER),
+    "context_origin": (HANDLE, c_uint64, NUMBER),
     "assemble": (c_char_p, c_size_t, BYTES, c_size_t, SIZE, NUMBER),
     "text": (c_uint32, c_char_p, c_size_t, SIZE),
 }

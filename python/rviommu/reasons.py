@@ -1,4 +1,4 @@
-"""What the kinds in a `Part`, a `Way` and a `Located` say."""
+"""What the kinds in a `Part`, a `Way`, a `Located` and a `Why` say."""
 from enum import IntEnum
 
 WayKind = IntEnum("WayKind", "REGISTER CONTEXT WALK NOWHERE", start=0)
@@ -13,3 +13,6 @@ PartKind.__doc__ = "What is looked at: ddtp, an entry of the directory or its le
 Ruling = IntEnum("Ruling", "OUTSIDE GUEST INVALID WRITE_ONLY RESERVED RESERVED_IN_POINTER LAST_LEVEL POINTER MISALIGNED NOT_USER NOT_READABLE NOT_WRITABLE "
                  "NOT_ACCESSED NOT_DIRTY LEAF", start=0)
 Ruling.__doc__ = "What decides of an entry of a page table. All but POINTER and LEAF are faults."
+
+WhyKind = IntEnum("WhyKind", "NO_ACCESS DENIED REGISTER CONTEXT WALK", start=0)
+WhyKind.__doc__ = "Where the translation came from that a step used: nowhere, ddtp, a context whose stages are both Bare, or the stages of a context."

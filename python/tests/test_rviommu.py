@@ -3,7 +3,7 @@ import unittest
 
 import rviommu
 from rviommu import (AssemblyError, BadAccess, BusError, Context, Denied, FaultRecord, Fence, Gvma, ImageError, Iodir, LocatedKind, Misuse, NoDevice, Outside,
-                     PartKind, Platform, Pte, Ruling, Vma, WayKind, assemble, forms)
+                     PartKind, Platform, Pte, Ruling, Vma, WayKind, WhyKind, assemble, forms)
 
 RAM = 0x80000000
 ROOT, DATA, IOVA, DID = 0x80002000, 0x80010000, 0x40201000, 5
@@ -122,6 +122,57 @@ class Reasons(unittest.TestCase):
         self.assertIsNone(platform.stale_context(1))
         platform.reg_write(DDTP, 1)
         self.assertEqual((platform.stale_context(0).kind, platform.stale_page(0).kind), (LocatedKind.NO_DIRECTORY, WayKind.REGISTER))
+
+
+class Accounts(unittest.TestCase):
+    """Steps are counted from 1 on: `mapped` takes 8, ddtp, four words of the context and three entries."""
+
+    def test_why(self):
+        platform = Platform()
+        self.assertIsNone(platform.why())
+        platform = mapped(pscid=9)
+        self.assertEqual((platform.why().number, platform.why().kind, platform.why(0).number, platform.why(8)), (8, WhyKind.NO_ACCESS, 1, None))
+        platform.dma_read(DID, IOVA, 1)
+        platform.dma_read(DID, IOVA + 5, 1)
+        why = platform.why()
+        self.assertEqual((why.number, why.kind, why.context, why.walk, why.current), (10, WhyKind.WALK, 9, 9, 9))
+        self.assertEqual((why.did, why.iova, why.is_write, why.is_stale), (DID, IOVA + 5, False, False))
+        platform.put(0x80004008, Pte(0x80020, "vrwuad"))
+        platform.dma_read(DID, IOVA, 1)
+        why = platform.why()
+        self.assertEqual((why.number, why.walk, why.is_stale, why.way.kind, why.way.frame), (12, 9, True, WayKind.WALK, 0x80020))
+        with self.assertRaises(Denied):
+            platform.dma_write(6, IOVA, b"a")
+        why = platform.why()
+        self.assertEqual((why.number, why.kind, why.did, why.iova, why.is_write), (13, WhyKind.DENIED, 6, IOVA, True))
+        self.assertEqual([platform.why(step).number for step in range(13)], list(range(1, 14)))
+
+    def test_last_steps(self):
+        platform = mapped()
+        for _ in range(40):
+            platform.dma_write(DID, IOVA, b"a")
+        self.assertEqual((platform.why().number, platform.why(0).number, platform.why(31).number, platform.why(32)), (48, 17, 48, None))
+
+    def test_origins(self):
+        platform = with_queues(mapped(pscid=9))
+        self.assertEqual((platform.context_origin(0), platform.page_origin(0)), (None, None))
+        platform.dma_read(DID, IOVA, 1)
+        platform.dma_write(DID, IOVA, b"a")
+        self.assertEqual((platform.context_origin(0), platform.page_origin(0), platform.page_origin(1)), (13, (13, 13), (13, 14)))
+        platform.send(Iodir(did=DID))
+        platform.dma_read(DID, IOVA, 1)
+        why = platform.why()
+        self.assertEqual((platform.contexts()[0], why.context, why.walk, why.current), (None, 13, 13, why.number))
+        self.assertEqual((platform.context_origin(0), platform.context_origin(1), platform.context_origin(2)), (13, why.number, None))
+
+    def test_copy_counts_on(self):
+        platform = mapped()
+        platform.dma_read(DID, IOVA, 1)
+        copy = platform.copy()
+        platform.close()
+        self.assertEqual((copy.why().number, copy.page_origin(0)), (9, (9, 9)))
+        copy.dma_read(DID, IOVA, 1)
+        self.assertEqual((copy.why().number, copy.why().walk, copy.why(0).number), (10, 9, 1))
 
 
 class Starts(unittest.TestCase):

@@ -222,6 +222,82 @@ static void test_stale(rviommu_t *platform) {
     want("its device", located.context.did, 5);
 }
 
+static void test_why(rviommu_t *platform) {
+    struct rviommu_why why;
+    uint64_t cause, context = 77, walk = 77;
+    uint8_t byte = 0;
+    memset(&why, 0, sizeof why);
+    want("why of no step", rviommu_why(platform, 0, &why), RVIOMMU_NO_SUCH);
+    want("nor one far off", rviommu_why(platform, UINT64_MAX, &why), RVIOMMU_NO_SUCH);
+    map(platform);
+    want("a page of no place", rviommu_page_origin(platform, 0, &context, &walk), RVIOMMU_NO_SUCH);
+    want("a context of no place", rviommu_context_origin(platform, UINT64_MAX, &context), RVIOMMU_NO_SUCH);
+    want("what is left", context + walk, 154);
+    want("a read", rviommu_dma_read(platform, 5, 0x40201abc, &byte, 1, &cause), RVIOMMU_BYTES);
+    want("a write", rviommu_dma_write(platform, 5, 0x40201abc, &byte, 1, &cause), RVIOMMU_DONE);
+    want("another leaf", rviommu_store(platform, 0x80004008, 8, 0x200080d7), RVIOMMU_DONE);
+    want("a stale write", rviommu_dma_write(platform, 5, 0x40201abc, &byte, 1, &cause), RVIOMMU_DONE);
+    want("no context", rviommu_dma_read(platform, 6, 0x40201abc, &byte, 1, &cause), RVIOMMU_DENIED);
+    want("why of ddtp's write", rviommu_why(platform, 5, &why), RVIOMMU_OK);
+    want("its number", why.number, 6);
+    want("its kind", why.kind, RVIOMMU_WHY_NO_ACCESS);
+    want("why of the first write", rviommu_why(platform, 7, &why), RVIOMMU_OK);
+    want("its number", why.number, 8);
+    want("its kind", why.kind, RVIOMMU_WHY_WALK);
+    want("its context, by the read", why.context, 7);
+    want("its walk, its own", why.walk, 8);
+    want("the context in force", why.current, 7);
+    want("its device", why.did, 5);
+    want("its IOVA", why.iova, 0x40201abc);
+    want("that it wrote", why.is_write, true);
+    want("that it wasn't stale", why.is_stale, false);
+    want("why of the stale write", rviommu_why(platform, 9, &why), RVIOMMU_OK);
+    want("its walk", why.walk, 8);
+    want("that it was stale", why.is_stale, true);
+    want("the way by the tables", why.way.kind, RVIOMMU_BY_WALK);
+    want("its frame", why.way.frame, 0x80020);
+    want("why of the denial", rviommu_why(platform, 10, &why), RVIOMMU_OK);
+    want("its kind", why.kind, RVIOMMU_WHY_DENIED);
+    want("the last step", rviommu_why(platform, 11, &why), RVIOMMU_NO_SUCH);
+    want("the page of the write", rviommu_page_origin(platform, 1, &context, &walk), RVIOMMU_OK);
+    want("its context and its walk", 100 * context + walk, 708);
+    want("the context", rviommu_context_origin(platform, 0, &context), RVIOMMU_OK);
+    want("its step", context, 7);
+}
+
+/* A copy tells what was told of the steps before it, and counts on. */
+static void test_copied_account(rviommu_t *platform) {
+    rviommu_t copy = {NULL};
+    struct rviommu_why why, other;
+    uint64_t cause, context = 0, walk = 0;
+    uint8_t byte;
+    memset(&why, 0, sizeof why);
+    memset(&other, 0, sizeof other);
+    want("copied", rviommu_copy(platform, &copy), RVIOMMU_OK);
+    for (uint64_t step = 0; step < 12; step++) {
+        uint32_t told = rviommu_why(platform, step, &why);
+        want("why in the copy", rviommu_why(&copy, step, &other), told);
+        want("its number", other.number, why.number);
+        want("its walk", other.walk, why.walk);
+    }
+    want("a step of the copy", rviommu_dma_read(&copy, 5, 0x40201abc, &byte, 1, &cause), RVIOMMU_BYTES);
+    want("why of it", rviommu_why(&copy, 11, &why), RVIOMMU_OK);
+    want("its number", why.number, 12);
+    want("its walk, before the copy", why.walk, 7);
+    want("none of the other", rviommu_why(platform, 11, &why), RVIOMMU_NO_SUCH);
+    want("the page of the read", rviommu_page_origin(&copy, 0, &context, &walk), RVIOMMU_OK);
+    want("its context and its walk", 100 * context + walk, 707);
+    rviommu_close(&copy);
+}
+
+static void test_account(void) {
+    rviommu_t platform = {NULL};
+    want("opened", rviommu_open_built_in(&platform), RVIOMMU_OK);
+    test_why(&platform);
+    test_copied_account(&platform);
+    rviommu_close(&platform);
+}
+
 static void test_reasons(void) {
     rviommu_t platform = {NULL};
     char answer[321];
@@ -254,6 +330,7 @@ int main(void) {
     test_lines();
     test_looks();
     test_reasons();
+    test_account();
     test_words();
     printf(failed ? "failed\n" : "passed\n");
     return failed;

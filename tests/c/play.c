@@ -1,6 +1,8 @@
 /*
  * play text|numbers [IMAGE] < SCRIPT: plays a script on an image, or on the built-in one, through the C library, as the program does.
  * play text|numbers IMAGE SCRIPT [IMAGE SCRIPT].. plays several, one after another.
+ * play why [IMAGE] < SCRIPT: behind each line it tells why each of the last steps went as it did, as `why 0` to `why 31` of `rviommu debug` do
+ * behind each line of the same script.
  * With `text` each line is given to rviommu_line. With `numbers` each step is given to its function and its answer is told by what
  * that put; the other lines, which are questions or no lines, are given to rviommu_line.
  */
@@ -12,7 +14,11 @@
 #include "rviommu.h"
 
 #define MOST_WORDS 8
+#define MOST_STEPS 32
+#define MOST_LINES (1 << 12)
 #define ROOM 321
+
+enum how { TEXT, NUMBERS, WHY };
 
 static void fail(const char *why) {
     fprintf(stderr, "play: %s\n", why);
@@ -146,9 +152,65 @@ static void by_text(rviommu_t *platform, const char *line, size_t length) {
     }
 }
 
-static void play(rviommu_t *platform, bool numbers, const char *line, size_t length) {
+static void tell_tables(const struct rviommu_why *why) {
+    if (why->way.kind == RVIOMMU_TO_NOWHERE) {
+        printf(" stale denied %" PRIu32, why->way.cause);
+    } else if (why->way.kind == RVIOMMU_BY_WALK) {
+        printf(" stale addr=0x%" PRIx64, why->way.frame * 4096 + why->iova % 4096);
+    } else {
+        printf(" stale addr=0x%" PRIx64, why->iova);
+    }
+}
+
+/* Tells one reason, with the lines of the steps in place of their numbers. */
+static void tell_reason(const struct rviommu_why *why, const uint64_t *lines) {
+    switch (why->kind) {
+    case RVIOMMU_WHY_NO_ACCESS:
+        printf("no access");
+        break;
+    case RVIOMMU_WHY_DENIED:
+        printf("denied");
+        break;
+    case RVIOMMU_WHY_REGISTER:
+        printf("register");
+        break;
+    case RVIOMMU_WHY_CONTEXT:
+        printf("context %" PRIu64, lines[why->context]);
+        break;
+    default:
+        printf("walked context=%" PRIu64 " walk=%" PRIu64 " current=%" PRIu64, lines[why->context], lines[why->walk], lines[why->current]);
+    }
+    if (why->is_stale) {
+        tell_tables(why);
+    }
+    printf("\n");
+}
+
+/* Why the last steps went as they did, behind the line of this number, counted from 0. */
+static void tell_reasons(rviommu_t *platform, uint64_t line) {
+    static uint64_t lines[MOST_LINES], last;
+    struct rviommu_why why;
+    for (uint64_t step = 0; step < MOST_STEPS && rviommu_why(platform, step, &why) == RVIOMMU_OK; step++) {
+        if (why.number >= MOST_LINES) {
+            fail("too many steps");
+        }
+        if (why.number > last) {
+            last = why.number;
+            lines[last] = line * (MOST_STEPS + 1) + 1;
+        }
+    }
+    for (uint64_t step = 0; step < MOST_STEPS; step++) {
+        if (rviommu_why(platform, step, &why) == RVIOMMU_OK) {
+            tell_reason(&why, lines);
+        } else {
+            printf("none\n");
+        }
+    }
+}
+
+static void play(rviommu_t *platform, enum how how, const char *line, size_t length) {
     char copy[513];
-    if (numbers && length < sizeof copy && memchr(line, 0, length) == NULL) {
+    if (how == NUMBERS && length < sizeof copy && memchr(line, 0, length) == NULL) {
         memcpy(copy, line, length);
         copy[length] = 0;
         copy[strcspn(copy, "#")] = 0;
@@ -168,7 +230,7 @@ static FILE *opened(const char *path) {
 }
 
 /* Plays a script on an image; on the built-in one where there is none. */
-static void play_all(bool numbers, const char *image_path, FILE *script_file) {
+static void play_all(enum how how, const char *image_path, FILE *script_file) {
     rviommu_t platform = {NULL};
     uint32_t told;
     size_t length;
@@ -187,11 +249,15 @@ static void play_all(bool numbers, const char *image_path, FILE *script_file) {
         fail(words);
     }
     uint8_t *script = contents(script_file, &length);
+    uint64_t line = 0;
     for (size_t at = 0; at < length;) {
         const uint8_t *end = memchr(script + at, '\n', length - at);
         size_t count = end == NULL ? length - at : (size_t)(end - (script + at));
-        play(&platform, numbers, (const char *)script + at, count);
+        play(&platform, how, (const char *)script + at, count);
         at += count + 1;
+        if (how == WHY) {
+            tell_reasons(&platform, line++);
+        }
     }
     free(script);
     rviommu_close(&platform);
@@ -201,13 +267,13 @@ int main(int argc, char **argv) {
     if (argc < 2) {
         fail("how?");
     }
-    bool numbers = strcmp(argv[1], "numbers") == 0;
+    enum how how = strcmp(argv[1], "numbers") == 0 ? NUMBERS : strcmp(argv[1], "why") == 0 ? WHY : TEXT;
     if (argc <= 3) {
-        play_all(numbers, argc == 3 ? argv[2] : NULL, stdin);
+        play_all(how, argc == 3 ? argv[2] : NULL, stdin);
     }
     for (int i = 2; argc > 3 && i + 1 < argc; i += 2) {
         FILE *script = opened(argv[i + 1]);
-        play_all(numbers, argv[i], script);
+        play_all(how, argv[i], script);
         fclose(script);
     }
     return 0;

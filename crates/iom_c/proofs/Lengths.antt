@@ -6,6 +6,7 @@ use Rattle.iom_virtq.specs.Bus.{Read}
 use Rattle.iom_core.specs.State.{State}
 use Rattle.iom_core.specs.Reach.{Reaches, Takes, TakesAt, TakesBy, address_in}
 use Rattle.iom_core.specs.Table.{asked, asking_where, is_device_access, next, probed}
+use Rattle.iom_core.proofs.Reaches.{reaches}
 use Rattle.iom_core.specs.declared.access.Denial.{Denial}
 use Rattle.iom_core.specs.declared.step.Step.TheVariants as step
 use Rattle.iom_core.specs.declared.step.Answer.{Answer}
@@ -48,9 +49,14 @@ by_legality state did iova count true given is takes =
     by_answer state.machine.memory iova count (address_in state (record { did = did; ask = Read iova count })) given takes
 by_legality state did iova count false given is takes = subst (λ (a : Answer). HasLength a count) (sym is) tt
 
-pub read_fills : (state : State) (did iova count : ℕ) (given : Answer) (new : State) →
+read_fills : (state : State) (did iova count : ℕ) (given : Answer) (new : State) →
     given ≡ (next state (step.DmaRead did iova count)).answer → Reaches state (step.DmaRead did iova count) given new →
     HasLength given count
 unfolding next asked
 read_fills state did iova count given new is reaches =
     by_legality state did iova count (is_device_access did iova count) given is reaches.takes
+
+pub fills : (state : State) (did iova count : ℕ) → HasLength (next state (step.DmaRead did iova count)).answer count
+fills state did iova count =
+    let taken = next state (step.DmaRead did iova count) in
+    read_fills state did iova count taken.answer taken.state refl (reaches state (step.DmaRead did iova count))

@@ -1,2 +1,3 @@
 pub mod AsBox
 pub mod Lengths
+pub mod Telling

@@ -1,9 +1,8 @@
 -- Texts in the caller's buffers.
 use Rattle.std.specs.Prelude.{ℕ, ◌+◌, ◌++◌, List, [], ◌∷◌, length, drop}
 use Rattle.std.specs.Option.{unwrap_or}
-use Rattle.iom_core.specs.Run.{end_of}
-use Rattle.iom_tool.specs.Console.{console, trace_after}
-use Rattle.iom_tool.specs.Output.{reply, steps_of}
+use Rattle.iom_tool.specs.Console.{console}
+use Rattle.iom_tool.specs.Output.{reply}
 use Rattle.iom_tool.specs.Script.{line_of}
 use Rattle.iom_c.specs.declared.owned.Owned.{Owned}
 
@@ -18,10 +17,3 @@ told_in text old = text ++ 0 ∷ drop (length text + 1) old
 -- the answer to a line; none: empty
 abbrev pub reply_to : Owned → List ℕ → List ℕ
 reply_to own line = unwrap_or (reply (console own.platform own.trace) (line_of line)) []
-
--- the platform and its trace after a line
-abbrev pub after_line : Owned → List ℕ → Owned
-after_line own line = record {
-  platform = end_of own.platform (steps_of line);
-  trace = trace_after own.trace own.platform (steps_of line);
-}

@@ -1,14 +1,13 @@
 -- The numbers of refusals, and their words.
-use Rattle.std.specs.Prelude.{ℕ, ◌≡◌, ◌⊎◌, List, [], ◌∷◌, codes, slice_get, Option, Some, None, Result, Ok, Err}
+use Rattle.std.specs.Prelude.{ℕ, ◌≡◌, ◌⊎◌, List, [], ◌∷◌, codes, slice_get, Option, None, IsSomeAnd, Result, Ok, Err}
 use Rattle.std.specs.Option.{unwrap_or}
-use Rattle.iom_core.specs.State.{State}
 use Rattle.iom_image.specs.Image.{Image}
 use Rattle.iom_image.specs.Loading.{state_from}
 use Rattle.iom_image.specs.declared.fault.LoadFault.{LoadFault}
 use Rattle.iom_image.specs.declared.fault.LoadFault.TheVariants as load
 use Rattle.iom_asm.specs.declared.asm_fault.AsmFault.{AsmFault}
 use Rattle.iom_asm.specs.declared.asm_fault.AsmFault.TheVariants as asm
-use Rattle.iom_c.specs.Handles.{fresh}
+use Rattle.iom_c.specs.Handles.{Begins}
 use Rattle.iom_c.specs.declared.owned.Owned.{Owned}
 
 -- it was done
@@ -62,11 +61,11 @@ all_words =
 abbrev pub words_for : ℕ → List ℕ
 words_for number = unwrap_or (slice_get all_words number) (codes "no such number")
 
--- a start is made, and the handle owns it, or there is no memory for it
-abbrev pub Starts : State → ℕ → Option Owned → Type 0
-Starts state told held = ((told ≡ ok) × (held ≡ Some (fresh state))) ⊎ ((told ≡ out_of_memory) × (held ≡ None))
+-- a start is made, of what the handle owns then, or there is no memory for it
+abbrev pub Starts : (Owned → Type 0) → ℕ → Option Owned → Type 0
+Starts IsStart told held = ((told ≡ ok) × IsSomeAnd held IsStart) ⊎ ((told ≡ out_of_memory) × (held ≡ None))
 
 -- what the opening of bytes is told, and what the handle owns after it: the bytes are an image that starts a platform, or are refused
 abbrev pub Opens : Result Image LoadFault → ℕ → Option Owned → Type 0
-Opens (Ok found) told held = Starts (state_from found) told held
+Opens (Ok found) told held = Starts (Begins (state_from found)) told held
 Opens (Err fault) told held = (told ≡ load_number fault) × (held ≡ None)

@@ -1,6 +1,8 @@
+pub mod Account
 pub mod Handles
 pub mod Answers
 pub mod Buffers
 pub mod Faults
 pub mod Looks
 pub mod Reasons
+pub mod Why

@@ -1,15 +1,19 @@
 //! The platform for C: exports over one handle, each with the clauses of the call that it makes.
 #![tactic(auto)]
 
+mod account;
 mod answers;
 mod handle;
 mod looking;
 mod opening;
+mod origins;
 mod owned;
 mod parts;
 mod places;
 mod reasons;
+mod replies;
 mod steps;
 mod texts;
 mod walks;
 mod ways;
+mod why;

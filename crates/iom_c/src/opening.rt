@@ -1,19 +1,18 @@
 //! A handle's start and its end.
 
-ghost use Rattle.std.specs.Prelude.{◌≡◌, ◌≢◌, None, Some, IfErr, IfOk, IsOk, Ok};
+ghost use Rattle.std.specs.Prelude.{◌≡◌, None, Some, MatchResult};
 ghost use Rattle.iom_image.specs.Image.{image_bytes};
 ghost use Rattle.iom_image.specs.Loading.{built_in, state_from};
 ghost use Rattle.iom_image.specs.Reading.{Gives, image_of, mapped};
 ghost use Rattle.iom_image.specs.declared.fault.LoadFault.TheVariants as fault;
 ghost use Rattle.iom_c.specs.Faults.{load_number, ok, out_of_memory, Opens, Starts};
-ghost use Rattle.iom_c.specs.Handles.{fresh};
+ghost use Rattle.iom_c.specs.Handles.{Begins, copied};
 ghost use Rattle.iom_c.specs.declared.owned.Owned.{Owned};
 
 use crate::handle::Handle;
-use crate::owned::Owned;
+use crate::owned::{Owned, begun, copied};
 use iom_core::Platform;
 use iom_image::{LoadFault, built_in, load};
-use iom_tool::Trace;
 use std::alloc::{AllocError, Global};
 
 // The number of a refusal, 1 to 7, in the order of `LoadFault`.
@@ -31,19 +30,12 @@ fn load_number(fault: LoadFault) -> u32
     }
 }
 
-// A platform put on the heap, with a trace that has no step.
-fn boxed(alloc: Global, platform: Platform) -> Result<Box<Owned>, AllocError>
-    ensures { IfOk result (λ own. own.value ≡ fresh platform) }
+// Puts behind a closed handle what was made for it; 7 where there was no memory for that.
+fn put(alloc: Global, made: Result<Box<Owned>, AllocError>, handle: &mut Handle) -> u32
+    ensures { MatchResult made (λ own. (result ≡ ok) × (handle.new.held ≡ Some own.value))
+        (λ _. (result ≡ out_of_memory) × (handle.new.held ≡ None)) }
 {
-    let trace = Trace::new(alloc)?;
-    Ok(Box::new(alloc, Owned { platform, trace })?)
-}
-
-// Puts a platform behind a closed handle.
-fn start(alloc: Global, platform: Platform, handle: &mut Handle) -> u32
-    ensures { Starts platform result handle.new.held }
-{
-    match boxed(alloc, platform) {
+    match made {
         Ok(own) => {
             *handle = Handle::of(own);
             0
@@ -53,6 +45,13 @@ fn start(alloc: Global, platform: Platform, handle: &mut Handle) -> u32
             7
         }
     }
+}
+
+// Puts a platform behind a closed handle.
+fn start(alloc: Global, platform: Platform, handle: &mut Handle) -> u32
+    ensures { Starts (Begins platform) result handle.new.held }
+{
+    put(alloc, begun(alloc, platform), handle)
 }
 
 /// Opens the platform that an image starts: its memory and its block devices, the registers at reset, nothing cached. It answers
@@ -81,26 +80,20 @@ pub extern "C" fn rviommu_open_built_in(alloc: Global, handle: &mut Handle) -> u
     rviommu_open(alloc, &built_in(), handle)
 }
 
-/// Opens an equal platform, which goes its own way from here, with a trace that has no step. It answers 0, or 7 where there is no
-/// memory for it; the handle `copy` is closed then.
+/// Opens an equal platform with an equal account of its steps, which goes its own way from here, with a trace that has no step. It
+/// answers 0, or 7 where there is no memory for it; the handle `copy` is closed then.
 #[unsafe(no_mangle)]
 pub extern "C" fn rviommu_copy(alloc: Global, handle: &mut Handle, copy: &mut Handle) -> u32
     ghost own: { Owned }
     requires open { handle.old.held ≡ Some own }
     requires closed { copy.old.held ≡ None }
-    ensures copy { Starts own.platform result copy.new.held }
+    ensures copy { Starts (λ other. other ≡ copied own) result copy.new.held }
     ensures same { handle.new.held ≡ Some own }
 {
     let owned = handle.take(alloc);
-    let cloned = owned.platform.try_clone(alloc);
+    let made = copied(alloc, &owned);
     *handle = Handle::of(owned);
-    match cloned {
-        Ok(platform) => start(alloc, platform, copy),
-        Err(_) => {
-            *copy = Handle::closed(alloc);
-            7
-        }
-    }
+    put(alloc, made, copy)
 }
 
 /// Closes an open handle, and gives its memory back.

@@ -1,31 +1,60 @@
 //! Steps by numbers.
 
-ghost use Rattle.std.specs.Prelude.{◌≡◌, ◌≤◌, ◌<◌, length, Some, IsSome, IfSome};
+ghost use Rattle.std.specs.Prelude.{◌≡◌, ◌≤◌, ◌<◌, length, Some, IsSome, IfSome, IsSomeAnd};
 ghost use Rattle.iom_core.specs.Table.{next};
 ghost use Rattle.iom_core.specs.declared.step.Step.TheVariants as step;
-ghost use Rattle.iom_c.specs.Answers.{bytes_in, code_of, misuse, number_in, writing};
-ghost use Rattle.iom_c.specs.Handles.{stepped};
+ghost use Rattle.iom_c.specs.Answers.{bytes_in, code_of, HasLength, misuse, number_in, writing};
+ghost use Rattle.iom_c.specs.Handles.{Stepped};
 ghost use Rattle.iom_c.specs.declared.owned.Owned.{Owned};
 
 use crate::answers::{code_of, put_bytes, put_number};
 use crate::handle::Handle;
+use crate::owned::{Owned, carry_out};
 use arrayvec::ArrayVec;
 use iom_core::Step;
 use std::alloc::Global;
 
-// Carries out a step on what a handle owns, and keeps it in the trace; puts the number that is answered.
+// Carries out a step on what a handle owns, and keeps it; puts the number that is answered.
+#[inline(always)]
+fn take_on(own: &mut Owned, step: Step, number: &mut u64) -> u32
+    ensures answer { result ≡ code_of (next own.old.platform step).answer }
+    ensures number { number.new ≡ number_in (next own.old.platform step).answer number.old }
+    ensures after { Stepped own.old step own.new }
+{
+    let answer = carry_out(own, &step);
+    let code = code_of(&answer);
+    put_number(&answer, number);
+    own.trace.keep(step, answer);
+    code
+}
+
+// The same of a device's read; puts the bytes too.
+#[inline(always)]
+fn read_on(own: &mut Owned, step: Step, bytes: &mut [u8], cause: &mut u64) -> u32
+    requires { HasLength (next own.old.platform step).answer (length bytes.old) }
+    ensures answer { result ≡ code_of (next own.old.platform step).answer }
+    ensures bytes { bytes.new ≡ bytes_in (next own.old.platform step).answer bytes.old }
+    ensures cause { cause.new ≡ number_in (next own.old.platform step).answer cause.old }
+    ensures after { Stepped own.old step own.new }
+{
+    let answer = carry_out(own, &step);
+    let code = code_of(&answer);
+    put_number(&answer, cause);
+    put_bytes(&answer, bytes);
+    own.trace.keep(step, answer);
+    code
+}
+
+// Carries out a step on what a handle owns.
 #[inline(always)]
 fn take_step(handle: &mut Handle, alloc: Global, step: Step, number: &mut u64) -> u32
     requires open { IsSome handle.old.held }
     ensures answer { IfSome handle.old.held (λ own. result ≡ code_of (next own.platform step).answer) }
     ensures number { IfSome handle.old.held (λ own. number.new ≡ number_in (next own.platform step).answer number.old) }
-    ensures after { IfSome handle.old.held (λ own. handle.new.held ≡ Some (stepped own step)) }
+    ensures after { IfSome handle.old.held (λ own. IsSomeAnd handle.new.held (Stepped own step)) }
 {
     let mut owned = handle.take(alloc);
-    let answer = owned.platform.step(&step);
-    let code = code_of(&answer);
-    put_number(&answer, number);
-    owned.trace.keep(step, answer);
+    let code = take_on(&mut owned, step, number);
     *handle = Handle::of(owned);
     code
 }
@@ -35,7 +64,7 @@ fn take_step(handle: &mut Handle, alloc: Global, step: Step, number: &mut u64) -
 fn give_step(handle: &mut Handle, alloc: Global, step: Step) -> u32
     requires open { IsSome handle.old.held }
     ensures answer { IfSome handle.old.held (λ own. result ≡ code_of (next own.platform step).answer) }
-    ensures after { IfSome handle.old.held (λ own. handle.new.held ≡ Some (stepped own step)) }
+    ensures after { IfSome handle.old.held (λ own. IsSomeAnd handle.new.held (Stepped own step)) }
 {
     let mut number = 0;
     take_step(handle, alloc, step, &mut number)
@@ -54,7 +83,7 @@ pub extern "C" fn rviommu_load(
     requires open { handle.old.held ≡ Some own }
     ensures answer { result ≡ code_of (next own.platform (step.Load addr size)).answer }
     ensures value { value.new ≡ number_in (next own.platform (step.Load addr size)).answer value.old }
-    ensures after { handle.new.held ≡ Some (stepped own (step.Load addr size)) }
+    ensures after { IsSomeAnd handle.new.held (Stepped own (step.Load addr size)) }
 {
     take_step(handle, alloc, Step::Load { addr, size }, value)
 }
@@ -72,7 +101,7 @@ pub extern "C" fn rviommu_store(
     ghost own: { Owned }
     requires open { handle.old.held ≡ Some own }
     ensures answer { result ≡ code_of (next own.platform (step.Store addr size value)).answer }
-    ensures after { handle.new.held ≡ Some (stepped own (step.Store addr size value)) }
+    ensures after { IsSomeAnd handle.new.held (Stepped own (step.Store addr size value)) }
 {
     give_step(handle, alloc, Step::Store { addr, size, value })
 }
@@ -91,7 +120,7 @@ pub extern "C" fn rviommu_reg_read(
     requires open { handle.old.held ≡ Some own }
     ensures answer { result ≡ code_of (next own.platform (step.RegRead off size)).answer }
     ensures value { value.new ≡ number_in (next own.platform (step.RegRead off size)).answer value.old }
-    ensures after { handle.new.held ≡ Some (stepped own (step.RegRead off size)) }
+    ensures after { IsSomeAnd handle.new.held (Stepped own (step.RegRead off size)) }
 {
     take_step(handle, alloc, Step::RegRead { off, size }, value)
 }
@@ -108,7 +137,7 @@ pub extern "C" fn rviommu_reg_write(
     ghost own: { Owned }
     requires open { handle.old.held ≡ Some own }
     ensures answer { result ≡ code_of (next own.platform (step.RegWrite off size value)).answer }
-    ensures after { handle.new.held ≡ Some (stepped own (step.RegWrite off size value)) }
+    ensures after { IsSomeAnd handle.new.held (Stepped own (step.RegWrite off size value)) }
 {
     give_step(handle, alloc, Step::RegWrite { off, size, value })
 }
@@ -116,7 +145,7 @@ pub extern "C" fn rviommu_reg_write(
 /// Device `did`, below 2^24, reads as many bytes as there is room for in `bytes`, 1 to 64, at IOVA `iova`, all in one page of 4096
 /// bytes: bytes, denied, bus error or misuse.
 #[unsafe(no_mangle)]
-#[tactic(auto, using(crate::proofs::Lengths::read_fills))]
+#[tactic(auto, using(crate::proofs::Lengths::fills))]
 pub extern "C" fn rviommu_dma_read(
     alloc: Global,
     handle: &mut Handle,
@@ -130,7 +159,7 @@ pub extern "C" fn rviommu_dma_read(
     ensures answer { result ≡ code_of (next own.platform (step.DmaRead did iova (length bytes.old))).answer }
     ensures bytes { bytes.new ≡ bytes_in (next own.platform (step.DmaRead did iova (length bytes.old))).answer bytes.old }
     ensures cause { cause.new ≡ number_in (next own.platform (step.DmaRead did iova (length bytes.old))).answer cause.old }
-    ensures after { handle.new.held ≡ Some (stepped own (step.DmaRead did iova (length bytes.old))) }
+    ensures after { IsSomeAnd handle.new.held (Stepped own (step.DmaRead did iova (length bytes.old))) }
 {
     let step = Step::DmaRead {
         did,
@@ -138,11 +167,7 @@ pub extern "C" fn rviommu_dma_read(
         len: bytes.len() as u64,
     };
     let mut owned = handle.take(alloc);
-    let answer = owned.platform.step(&step);
-    let code = code_of(&answer);
-    put_number(&answer, cause);
-    put_bytes(&answer, bytes);
-    owned.trace.keep(step, answer);
+    let code = read_on(&mut owned, step, bytes, cause);
     *handle = Handle::of(owned);
     code
 }
@@ -162,7 +187,7 @@ pub extern "C" fn rviommu_dma_write(
     requires open { handle.old.held ≡ Some own }
     ensures answer { length bytes.now ≤ 64 → result ≡ code_of (next own.platform (writing did iova bytes.now)).answer }
     ensures cause { length bytes.now ≤ 64 → cause.new ≡ number_in (next own.platform (writing did iova bytes.now)).answer cause.old }
-    ensures after { length bytes.now ≤ 64 → handle.new.held ≡ Some (stepped own (writing did iova bytes.now)) }
+    ensures after { length bytes.now ≤ 64 → IsSomeAnd handle.new.held (Stepped own (writing did iova bytes.now)) }
     ensures long { 64 < length bytes.now → (result ≡ misuse) × (cause.new ≡ cause.old) × (handle.new.held ≡ Some own) }
 {
     let mut given = ArrayVec::new();
@@ -187,7 +212,7 @@ pub extern "C" fn rviommu_command(alloc: Global, handle: &mut Handle) -> u32
     ghost own: { Owned }
     requires open { handle.old.held ≡ Some own }
     ensures answer { result ≡ code_of (next own.platform step.Command).answer }
-    ensures after { handle.new.held ≡ Some (stepped own step.Command) }
+    ensures after { IsSomeAnd handle.new.held (Stepped own step.Command) }
 {
     give_step(handle, alloc, Step::Command)
 }
@@ -207,7 +232,7 @@ pub extern "C" fn rviommu_dev_read(
     requires open { handle.old.held ≡ Some own }
     ensures answer { result ≡ code_of (next own.platform (step.DevRead dev off size)).answer }
     ensures value { value.new ≡ number_in (next own.platform (step.DevRead dev off size)).answer value.old }
-    ensures after { handle.new.held ≡ Some (stepped own (step.DevRead dev off size)) }
+    ensures after { IsSomeAnd handle.new.held (Stepped own (step.DevRead dev off size)) }
 {
     take_step(handle, alloc, Step::DevRead { dev, off, size }, value)
 }
@@ -226,7 +251,7 @@ pub extern "C" fn rviommu_dev_write(
     ghost own: { Owned }
     requires open { handle.old.held ≡ Some own }
     ensures answer { result ≡ code_of (next own.platform (step.DevWrite dev off size value)).answer }
-    ensures after { handle.new.held ≡ Some (stepped own (step.DevWrite dev off size value)) }
+    ensures after { IsSomeAnd handle.new.held (Stepped own (step.DevWrite dev off size value)) }
 {
     let step = Step::DevWrite {
         dev,
@@ -249,7 +274,7 @@ pub extern "C" fn rviommu_dev_step(
     requires open { handle.old.held ≡ Some own }
     ensures answer { result ≡ code_of (next own.platform (step.Device dev)).answer }
     ensures cause { cause.new ≡ number_in (next own.platform (step.Device dev)).answer cause.old }
-    ensures after { handle.new.held ≡ Some (stepped own (step.Device dev)) }
+    ensures after { IsSomeAnd handle.new.held (Stepped own (step.Device dev)) }
 {
     take_step(handle, alloc, Step::Device { dev }, cause)
 }

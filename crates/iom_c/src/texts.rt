@@ -1,16 +1,22 @@
 //! Lines of the script, the words of refusals, and texts of images.
 
-ghost use Rattle.std.specs.Prelude.{◌≡◌, ◌≢◌, ◌<◌, ◌≤◌, length, IsErr, Some};
+ghost use Rattle.std.specs.Prelude.{◌≡◌, ◌≢◌, ◌<◌, ◌≤◌, length, IsSomeAnd, Some};
 ghost use Rattle.std.specs.Result.{IsErrAnd, IsOkAnd};
 ghost use Rattle.iom_asm.specs.Assembly.{assembled, Makes};
-ghost use Rattle.iom_c.specs.Buffers.{after_line, begun_by, reply_to, told_in};
+ghost use Rattle.iom_c.specs.Buffers.{begun_by, reply_to, told_in};
+ghost use Rattle.iom_core.specs.Table.{next};
+ghost use Rattle.iom_tool.specs.Script.{line_of};
+ghost use Rattle.iom_tool.specs.Texts.{text_of};
 ghost use Rattle.iom_c.specs.Faults.{asm_number, line_in, little_room, ok, out_of_memory, words_for};
+ghost use Rattle.iom_c.specs.Handles.{After, Stepped};
 ghost use Rattle.iom_c.specs.declared.owned.Owned.{Owned};
 
 use crate::handle::Handle;
-use crate::owned::Owned;
+use crate::owned::{Owned, carry_out};
+use crate::replies::answer_text;
 use iom_asm::{AsmFault, assemble};
-use iom_tool::{Reply, Session};
+use iom_core::Step;
+use iom_tool::{Reply, Session, step_of};
 use std::alloc::Global;
 
 // Puts a text and a 0 behind it, and how many bytes it has.
@@ -24,12 +30,26 @@ fn put_text(text: &[u8], out: &mut [u8], count: &mut usize)
     *count = text.len();
 }
 
+// Carries out a step that a line is.
+fn answer_step(own: &mut Owned, step: Step) -> Reply
+    ensures reply { result.items ≡ text_of (next own.old.platform step).answer }
+    ensures after { Stepped own.old step own.new }
+{
+    let answer = carry_out(own, &step);
+    let reply = answer_text(&answer);
+    own.trace.keep(step, answer);
+    reply
+}
+
 // Carries out a line.
 fn answer_line(own: &mut Owned, line: &[u8]) -> Reply
     ensures reply { result.items ≡ reply_to own.old line.now }
-    ensures after { own.new ≡ after_line own.old line.now }
+    ensures after { After own.old (line_of line.now) own.new }
 {
-    Session::new(&mut own.platform, &mut own.trace).line(line)
+    match step_of(line) {
+        Some(step) => answer_step(own, step),
+        None => Session::new(&mut own.platform, &mut own.trace).line(line),
+    }
 }
 
 /// Carries out a line of the script, given without its line end, and puts the text of its answer with a 0 behind it, and in `count`
@@ -48,7 +68,7 @@ pub extern "C" fn rviommu_line(
     ensures told { 320 < length answer.old → result ≡ ok }
     ensures answer { 320 < length answer.old → answer.new ≡ told_in (reply_to own line.now) answer.old }
     ensures count { 320 < length answer.old → count.new ≡ length (reply_to own line.now) }
-    ensures after { 320 < length answer.old → handle.new.held ≡ Some (after_line own line.now) }
+    ensures after { 320 < length answer.old → IsSomeAnd handle.new.held (After own (line_of line.now)) }
     ensures little { length answer.old ≤ 320 →
         (result ≡ little_room) × (answer.new ≡ answer.old) × (count.new ≡ count.old) × (handle.new.held ≡ Some own) }
 {

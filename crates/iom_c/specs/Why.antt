@@ -1,0 +1,73 @@
+-- Why a step went as it did, and which step filled a place of a cache, as C is told.
+use Rattle.std.specs.Prelude.{ℕ, ◌≡◌, true, false, Option, Some, None}
+use Rattle.iom_core.specs.declared.access.Request.{Request}
+use Rattle.iom_reasons.specs.declared.way.Way.{Way}
+use Rattle.iom_history.specs.declared.history.Filled.{Filled}
+use Rattle.iom_history.specs.declared.origin.Origin.{Origin}
+use Rattle.iom_history.specs.declared.origin.Origin.TheVariants as origin
+use Rattle.iom_c.specs.Looks.{is_write}
+use Rattle.iom_c.specs.Reasons.{plain_way, way_of}
+use Rattle.iom_c.specs.declared.account.Told.{Told}
+use Rattle.iom_c.specs.declared.why.StepReason.{StepReason}
+
+-- a reason of which nothing but its step's number and its kind is told
+abbrev pub plain_reason : ℕ → ℕ → StepReason
+plain_reason number kind = record {
+  way = plain_way 0;
+  number = number;
+  iova = 0;
+  context = 0;
+  walk = 0;
+  current = 0;
+  did = 0;
+  kind = kind;
+  is_write = false;
+  is_stale = false;
+}
+
+-- the same of a step that asked this
+abbrev pub asked_by : ℕ → ℕ → Request → StepReason
+asked_by number kind request = record (plain_reason number kind) {
+  iova = request.iova;
+  did = request.did;
+  is_write = is_write request.kind;
+}
+
+-- of one whose access was let through
+abbrev pub led_by : ℕ → Request → Origin → StepReason
+led_by number request origin.Register = asked_by number 2 request
+led_by number request (origin.Context context) = record (asked_by number 3 request) { context = context }
+led_by number request (origin.Walked context walk current) =
+    record (asked_by number 4 request) { context = context; walk = walk; current = current }
+
+-- what a step asked, and where the translation came from that it used
+abbrev pub used_by : ℕ → Option Request → Option Origin → StepReason
+used_by number None used = plain_reason number 0
+used_by number (Some request) None = asked_by number 1 request
+used_by number (Some request) (Some found) = led_by number request found
+
+-- where it was stale, the way that the tables said
+abbrev pub beside_tables : Option Request → Option Way → StepReason → StepReason
+beside_tables None stale reason = reason
+beside_tables (Some request) None reason = reason
+beside_tables (Some request) (Some way) reason = record reason { way = way_of request.did way; is_stale = true }
+
+abbrev pub reason_of : Told → StepReason
+reason_of told = beside_tables told.request told.stale (used_by told.number told.request told.origin)
+
+-- of a step that there is, why it went as it did
+abbrev pub WhyTold : Option Told → ℕ → StepReason → StepReason → Type 0
+WhyTold (Some told) answer old new = (answer ≡ 0) × (new ≡ reason_of told)
+WhyTold None answer old new = (answer ≡ 2) × (new ≡ old)
+
+-- of a place that there is, the number of the step that filled it
+abbrev pub OriginTold : Option ℕ → ℕ → ℕ → ℕ → Type 0
+OriginTold (Some number) answer old new = (answer ≡ 0) × (new ≡ number)
+OriginTold None answer old new = (answer ≡ 2) × (new ≡ old)
+
+-- of a place of the translation cache, the numbers of the step that filled the context under which it was filled, and of that which
+-- filled it
+abbrev pub PageOriginTold : Option Filled → ℕ → ℕ → ℕ → ℕ → ℕ → Type 0
+PageOriginTold (Some filled) answer old new old_walk new_walk =
+    (answer ≡ 0) × (new ≡ filled.context) × (new_walk ≡ filled.walk)
+PageOriginTold None answer old new old_walk new_walk = (answer ≡ 2) × (new ≡ old) × (new_walk ≡ old_walk)

@@ -1,0 +1,135 @@
+//! Why the last steps went as they did, and which steps filled the caches. None of these is a step, and none changes the platform.
+
+ghost use Rattle.std.specs.Prelude.{◌≡◌, ℕ, List, slice_get, Some};
+ghost use Rattle.iom_core.specs.State.{State};
+ghost use Rattle.iom_core.specs.Warrants.{IsUncached};
+ghost use Rattle.iom_core.specs.declared.step.Step.{Step};
+ghost use Rattle.iom_cache.specs.declared.key.Key.{Key};
+ghost use Rattle.iom_ddt.specs.declared.context.Context.{Context};
+ghost use Rattle.iom_nested.specs.declared.translation.Hit.{Hit};
+ghost use Rattle.iom_history.specs.Following.{ContextFrom, PageFrom, numbers_of};
+ghost use Rattle.iom_c.specs.Account.{Accounts};
+ghost use Rattle.iom_c.specs.Why.{OriginTold, PageOriginTold, WhyTold};
+ghost use Rattle.iom_c.specs.declared.owned.Owned.{Owned};
+
+use crate::account::Account;
+use crate::handle::Handle;
+use crate::why::{StepReason, reason_of};
+use std::alloc::Global;
+
+// Puts why step `i` of the last went as it did.
+fn put_why(account: &Account, i: u64, out: &mut StepReason) -> u32
+    ensures { WhyTold (slice_get account.now.told i) result out.old out.new }
+{
+    match account.told(i) {
+        Some(told) => {
+            *out = reason_of(told);
+            0
+        }
+        None => 2,
+    }
+}
+
+/// Why step `i`, any number, of the last 32 went as it did; the oldest is 0. It answers 0; or 2 where there are so many steps or fewer,
+/// and `why` is unchanged then.
+#[unsafe(no_mangle)]
+pub extern "C" fn rviommu_why(
+    alloc: Global,
+    handle: &mut Handle,
+    i: u64,
+    why: &mut StepReason,
+) -> u32
+    ghost own: { Owned }
+    requires open { handle.old.held ≡ Some own }
+    ensures why { WhyTold (slice_get own.account.told i) result why.old why.new }
+    ensures same { handle.new.held ≡ Some own }
+{
+    let owned = handle.take(alloc);
+    let answer = put_why(&owned.account, i, why);
+    *handle = Handle::of(owned);
+    answer
+}
+
+// Puts the number of the step that filled a place of the context cache.
+fn put_context_origin(account: &Account, i: u64, number: &mut u64) -> u32
+    ensures { OriginTold (slice_get account.now.history.contexts i) result number.old number.new }
+{
+    match account.history().context(i) {
+        Some(found) => {
+            *number = found;
+            0
+        }
+        None => 2,
+    }
+}
+
+/// The number of the step that filled place `i`, any number, of the context cache, in the standard the DDTC; the oldest is place 0. It
+/// answers 0, also of a place that was dropped since; or 2 beyond the last place, and `number` is unchanged then.
+#[unsafe(no_mangle)]
+#[tactic(auto, using(crate::proofs::Telling::context_told))]
+pub extern "C" fn rviommu_context_origin(
+    alloc: Global,
+    handle: &mut Handle,
+    i: u64,
+    number: &mut u64,
+) -> u32
+    ghost own: { Owned }
+    requires open { handle.old.held ≡ Some own }
+    ensures number { OriginTold (slice_get own.account.history.contexts i) result number.old number.new }
+
+    // Where the caches held nothing at the start, it filled what stands there, and nothing has dropped that since.
+    ensures from { (start : State) (steps : List Step) (numbers : List ℕ) (did : ℕ) (context : Context) →
+        Accounts own.account own.platform start steps numbers → IsUncached start →
+        slice_get own.platform.machine.contexts i ≡ Some (Some (did, context)) →
+        ContextFrom start steps numbers did context number.new }
+    ensures same { handle.new.held ≡ Some own }
+{
+    let owned = handle.take(alloc);
+    let answer = put_context_origin(&owned.account, i, number);
+    *handle = Handle::of(owned);
+    answer
+}
+
+// Puts the numbers of the steps that filled a place of the translation cache and its context.
+fn put_page_origin(account: &Account, i: u64, context: &mut u64, walk: &mut u64) -> u32
+    ensures { PageOriginTold (numbers_of (slice_get account.now.history.bases i) (slice_get account.now.history.walks i)) result
+        context.old context.new walk.old walk.new }
+{
+    match account.history().page(i) {
+        Some(filled) => {
+            *context = filled.context;
+            *walk = filled.walk;
+            0
+        }
+        None => 2,
+    }
+}
+
+/// The same of the translation cache, in the standard the IOTLB: in `walk` the number of the step that filled the place, and in `context`
+/// that of the step that had filled the context under which it was filled.
+#[unsafe(no_mangle)]
+#[tactic(auto, using(crate::proofs::Telling::page_told))]
+pub extern "C" fn rviommu_page_origin(
+    alloc: Global,
+    handle: &mut Handle,
+    i: u64,
+    context: &mut u64,
+    walk: &mut u64,
+) -> u32
+    ghost own: { Owned }
+    requires open { handle.old.held ≡ Some own }
+    ensures numbers { PageOriginTold (numbers_of (slice_get own.account.history.bases i) (slice_get own.account.history.walks i)) result
+        context.old context.new walk.old walk.new }
+
+    // Where the caches held nothing at the start, they filled what stands there, and nothing has dropped that since.
+    ensures from { (start : State) (steps : List Step) (numbers : List ℕ) (key : Key) (hit : Hit) →
+        Accounts own.account own.platform start steps numbers → IsUncached start →
+        slice_get own.platform.machine.pages i ≡ Some (Some (key, hit)) →
+        PageFrom start steps numbers key hit context.new walk.new }
+    ensures same { handle.new.held ≡ Some own }
+{
+    let owned = handle.take(alloc);
+    let answer = put_page_origin(&owned.account, i, context, walk);
+    *handle = Handle::of(owned);
+    answer
+}

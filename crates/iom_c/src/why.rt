@@ -1,0 +1,114 @@
+ghost use Rattle.std.specs.Prelude.{◌≡◌};
+ghost use Rattle.iom_c.specs.Why.{asked_by, led_by, plain_reason, reason_of, used_by};
+
+use crate::account::Told;
+use crate::ways::{RequestWay, plain_way, way_of};
+use iom_bits::Kind;
+use iom_core::Request;
+use iom_history::Origin;
+
+/// Why a step went as it did, in C `struct rviommu_why`. What its kind doesn't have is 0.
+#[repr(C)]
+#[derive(Drop)]
+pub struct StepReason {
+    /// The way that the tables said of its access before the step, where it was stale.
+    pub way: RequestWay,
+    /// The number of the step.
+    pub number: u64,
+    /// The IOVA of the access, of kinds 1 to 4.
+    pub iova: u64,
+    /// The number of the step that filled a context: of kind 3 the one that led the access, of kind 4 the one under which its page
+    /// was filled.
+    pub context: u64,
+    /// The number of the step that filled its page, of kind 4.
+    pub walk: u64,
+    /// The number of the step that filled the context in force at the access, of kind 4.
+    pub current: u64,
+    /// The device id, 24 bits, of kinds 1 to 4.
+    pub did: u32,
+    /// 0 no access; 1 denied; 2 led by ddtp, 3 by a context whose stages are both Bare, 4 by the stages of a context.
+    pub kind: u32,
+    /// Whether the access was a write, of kinds 1 to 4.
+    pub is_write: bool,
+    /// Whether the access was stale.
+    pub is_stale: bool,
+}
+
+// A reason of which nothing but its step's number and its kind is told.
+fn plain_reason(number: u64, kind: u32) -> StepReason
+    ensures { result ≡ plain_reason number kind }
+{
+    StepReason {
+        way: plain_way(0),
+        number,
+        iova: 0,
+        context: 0,
+        walk: 0,
+        current: 0,
+        did: 0,
+        kind,
+        is_write: false,
+        is_stale: false,
+    }
+}
+
+// The same of a step that asked this.
+fn asked_by(number: u64, kind: u32, request: Request) -> StepReason
+    ensures { result ≡ asked_by number kind request }
+{
+    StepReason {
+        iova: request.iova,
+        did: request.did,
+        is_write: matches!(request.kind, Kind::Write),
+        ..plain_reason(number, kind)
+    }
+}
+
+// Of one whose access was let through.
+fn led_by(number: u64, request: Request, origin: Origin) -> StepReason
+    ensures { result ≡ led_by number request origin }
+{
+    match origin {
+        Origin::Register => asked_by(number, 2, request),
+        Origin::Context { context } => StepReason {
+            context,
+            ..asked_by(number, 3, request)
+        },
+        Origin::Walked {
+            context,
+            walk,
+            current,
+        } => StepReason {
+            context,
+            walk,
+            current,
+            ..asked_by(number, 4, request)
+        },
+    }
+}
+
+// What a step asked, and where the translation came from that it used.
+fn used_by(number: u64, request: Option<Request>, origin: Option<Origin>) -> StepReason
+    ensures { result ≡ used_by number request origin }
+{
+    match (request, origin) {
+        (None, _) => plain_reason(number, 0),
+        (Some(request), None) => asked_by(number, 1, request),
+        (Some(request), Some(origin)) => led_by(number, request, origin),
+    }
+}
+
+/// Why a step went as it did, for C.
+pub fn reason_of(told: &Told) -> StepReason
+    ensures { result ≡ reason_of told.now }
+{
+    let used = used_by(told.number, told.request, told.origin);
+    match (told.request, told.stale) {
+        (Some(request), Some(way)) => StepReason {
+            way: way_of(request.did, way),
+            is_stale: true,
+            ..used
+        },
+        _ => used,
+    }
+}
