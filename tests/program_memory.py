@@ -99,11 +99,15 @@ def exported(crate):
 KEEP_AN_ALLOCATOR = {"Summary::new"}
 
 
+# Tests, and the words of the command line, whose allocations are refused above.
+NO_LIBRARY = {"iom_tests", "iom_cli"}
+
+
 def calls_that_take_memory():
     found = set()
     for root in sorted(glob.glob(os.path.join(TOP, "crates", "*", "src", "lib.rt"))):
         crate = os.path.dirname(os.path.dirname(root))
-        if os.path.basename(crate) == "iom_tests":
+        if os.path.basename(crate) in NO_LIBRARY:
             continue
         names = exported(crate)
         for path in glob.glob(os.path.join(crate, "src", "*.rt")):
