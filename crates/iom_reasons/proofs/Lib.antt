@@ -1,4 +1,6 @@
 pub mod Ways
 pub mod Fetches
 pub mod Passing
+pub mod Refusing
+pub mod Bounds
 pub mod Sameness

@@ -1,10 +1,21 @@
--- Where a request is granted, nothing that is looked at refuses it: RISC-V IOMMU Architecture 1.0, "Process to locate the
--- Device-context" and "Process to translate an IOVA".
-use Rattle.std.specs.Prelude.{◌≡◌, ◌≢◌, ◌⊎◌, Option, Some, None, Result, Ok, Err}
+-- Where a request is granted, nothing that is looked at refuses it; where it is denied, something does, or an id or an address is too
+-- wide: RISC-V IOMMU Architecture 1.0, "Process to locate the Device-context" and "Process to translate an IOVA".
+use Rattle.std.specs.Prelude.{ℕ, ◌≡◌, ◌≢◌, ◌⊎◌, true, false, Option, Some, None, Result, Ok, Err}
 use Rattle.iom_bits.specs.declared.causes.Cause.{Cause}
+use Rattle.iom_bits.specs.declared.causes.Kind.{Kind}
+use Rattle.iom_mem.specs.Memory.{Memory}
+use Rattle.iom_regs.specs.Views.{mode_of}
 use Rattle.iom_regs.specs.declared.views.Mode.TheVariants as mode
-use Rattle.iom_ddt.specs.Directory.{decided_by}
+use Rattle.iom_ddt.specs.Directory.{decided_by, is_too_wide, levels_of, located}
 use Rattle.iom_ddt.specs.declared.context.Context.{Context}
+use Rattle.iom_walk.specs.Shape.{is_in_width}
+use Rattle.iom_walk.specs.declared.shape.Shape.{Shape}
+use Rattle.iom_nested.specs.Faults.{Failure}
+use Rattle.iom_nested.specs.Nested.{first_stage}
+use Rattle.iom_nested.specs.Stages.{first_shape_of, second_shape_of}
+use Rattle.iom_nested.specs.declared.translation.Reached.{Reached}
+use Rattle.iom_core.specs.State.{Machine}
+use Rattle.iom_core.specs.declared.access.Request.{Request}
 use Rattle.iom_walk.specs.declared.entry.Ruling.{Ruling}
 use Rattle.iom_walk.specs.declared.entry.Ruling.TheVariants as ruling
 use Rattle.iom_reasons.specs.declared.part.Part.{Part}
@@ -34,3 +45,33 @@ Passes (part.Directory met) = IsNoFault (decided_by met)
 Passes (part.First entry addr) = Lets entry.ruling
 Passes (part.Second guest entry) = Lets entry.ruling
 Passes (part.End end) = IsGranted end
+
+-- the same refuses it; the end only tells that something did
+abbrev pub Refuses : Part → Type 0
+Refuses (part.Ddtp own root) = own ≡ mode.Off
+Refuses (part.Directory met) = ¬ IsNoFault (decided_by met)
+Refuses (part.First entry addr) = ¬ Lets entry.ruling
+Refuses (part.Second guest entry) = ¬ Lets entry.ruling
+Refuses (part.End end) = ⊥
+
+-- an address breaks the width rule of a stage; a Bare one has none
+abbrev pub IsBeyond : Option Shape → ℕ → Type 0
+IsBeyond None address = ⊥
+IsBeyond (Some shape) address = is_in_width shape address ≡ false
+
+-- the address that the first stage reached breaks that of the second
+abbrev pub IsBeyondSecond : Context → Result Reached Failure → Type 0
+IsBeyondSecond context (Ok reached) = IsBeyond (second_shape_of context) reached.addr
+IsBeyondSecond context (Err failure) = ⊥
+
+-- the IOVA breaks that of the first, or what it reaches that of the second
+abbrev pub IsBeyondStages : Memory → ℕ → Kind → Result Context Cause → Type 0
+IsBeyondStages memory iova kind (Ok context) =
+    IsBeyond (first_shape_of context) iova ⊎ IsBeyondSecond context (first_stage memory context iova kind (first_shape_of context))
+IsBeyondStages memory iova kind (Err why) = ⊥
+
+-- the device id is too wide for the directory, or an address for a stage
+abbrev pub IsWide : Machine → Request → Type 0
+IsWide m request =
+    (is_too_wide (levels_of (mode_of m.registers)) request.did ≡ true)
+    ⊎ IsBeyondStages m.memory request.iova request.kind (located m.memory m.registers request.did)

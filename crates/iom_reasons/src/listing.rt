@@ -1,6 +1,6 @@
 //! The parts of a walk.
 
-ghost use Rattle.std.specs.Prelude.{◌≡◌, ◌++◌, ◌+◌, ◌<◌, ◌≤◌, ◌^◌, ◌-◌, [], ◌∷◌, map, flat_map, slice_get, All, Some};
+ghost use Rattle.std.specs.Prelude.{◌≡◌, ◌++◌, ◌+◌, ◌<◌, ◌≤◌, ◌^◌, ◌-◌, ◌⊎◌, [], ◌∷◌, map, flat_map, slice_get, All, Any, Some};
 ghost use Rattle.arrayvec.specs.ArrayVec.{array_vec_len};
 ghost use Rattle.iom_regs.specs.Views.{mode_of};
 ghost use Rattle.iom_ddt.specs.Contexts.{IsWellFormed};
@@ -8,10 +8,11 @@ ghost use Rattle.iom_ddt.specs.Directory.{levels_of, located, path_of};
 ghost use Rattle.iom_nested.specs.Nested.{first_stage};
 ghost use Rattle.iom_nested.specs.Stages.{first_shape_of};
 ghost use Rattle.iom_reasons.specs.Parts.{access_parts, entry_parts, first_parts, parts_by, parts_of, read_at, second_parts, stage_parts};
+ghost use Rattle.iom_reasons.specs.Bounds.{PartFits};
 ghost use Rattle.iom_reasons.specs.Fetches.{IsRead};
-ghost use Rattle.iom_reasons.specs.Passing.{IsGranted, Passes};
+ghost use Rattle.iom_reasons.specs.Passing.{IsGranted, IsWide, Passes, Refuses};
 ghost use Rattle.iom_reasons.specs.declared.part.Part.TheVariants.{Directory, End};
-ghost use Rattle.iom_reasons.specs.Stale.{by_tables};
+ghost use Rattle.iom_reasons.specs.Stale.{Fits, by_tables};
 
 use crate::Part;
 use crate::staleness::way_by_tables;
@@ -33,15 +34,19 @@ pub type Parts = ArrayVec<Part, 29>;
 /// ddtp comes first, then the directory down to the device's context, then the first stage: before each of its entries those of the
 /// second stage that translate the entry's place, for a read. The second stage for the access itself is next, for the access's kind,
 /// and the end is the way that the request is led. A device id that is too wide has no directory, and an address that breaks the width
-/// rule no entries. Where the request is granted no part refuses it. The device id is below 2^24, the IOVA any. No memory is taken.
+/// rule no entries. Where the request is granted no part refuses it; where it is denied one does, but for such an id and such an address.
+/// Each PPN told is below 2^44, and each address of an entry below 2^56. The device id is below 2^24, the IOVA any. No memory is taken.
 pub fn parts(platform: &Platform, request: &Request) -> Parts
     requires { request.now.did < 2 ^ 24 }
     ensures parts { result.items ≡ parts_of platform.now.machine request.now }
     ensures read { All (IsRead platform.now.machine.memory) result.items }
     ensures passed { IsGranted (by_tables platform.now.machine request.now) → All Passes result.items }
+    ensures refused { (IsGranted (by_tables platform.now.machine request.now) → ⊥) →
+        IsWide platform.now.machine request.now ⊎ Any Refuses result.items }
     ensures end { slice_get result.items (array_vec_len result - 1) ≡ Some (End (by_tables platform.now.machine request.now)) }
     ensures some { 2 ≤ array_vec_len result }
     ensures most { array_vec_len result ≤ 29 }
+    ensures fits { All PartFits result.items }
 {
     let mut out = Parts::new();
     put_parts(&mut out, platform, request);
@@ -55,9 +60,12 @@ pub fn put_parts(out: &mut Parts, platform: &Platform, request: &Request)
     ensures parts { out.new.items ≡ parts_of platform.now.machine request.now }
     ensures read { All (IsRead platform.now.machine.memory) out.new.items }
     ensures passed { IsGranted (by_tables platform.now.machine request.now) → All Passes out.new.items }
+    ensures refused { (IsGranted (by_tables platform.now.machine request.now) → ⊥) →
+        IsWide platform.now.machine request.now ⊎ Any Refuses out.new.items }
     ensures end { slice_get out.new.items (array_vec_len out.new - 1) ≡ Some (End (by_tables platform.now.machine request.now)) }
     ensures some { 2 ≤ array_vec_len out.new }
     ensures most { array_vec_len out.new ≤ 29 }
+    ensures fits { All PartFits out.new.items }
 {
     let registers = platform.registers();
     let mode = registers.mode();
@@ -75,6 +83,7 @@ fn push_walk(out: &mut Parts, platform: &Platform, request: &Request)
     ensures items { out.new.items ≡ out.old.items
         ++ parts_by (mode_of platform.now.machine.registers) platform.now.machine request.now }
     ensures len { array_vec_len out.new ≤ array_vec_len out.old + 27 }
+    ensures fits { All PartFits (parts_by (mode_of platform.now.machine.registers) platform.now.machine request.now) }
 {
     if let Mode::Levels(_) = platform.registers().mode() {
         push_directory(out, platform, request.did);
@@ -86,7 +95,8 @@ fn push_walk(out: &mut Parts, platform: &Platform, request: &Request)
 fn push_end(out: &mut Parts, platform: &Platform, request: &Request)
     requires width { request.now.did < 2 ^ 24 }
     requires room { array_vec_len out.old ≤ 28 }
-    ensures { out.new.items ≡ out.old.items ++ End (by_tables platform.now.machine request.now) ∷ [] }
+    ensures items { out.new.items ≡ out.old.items ++ End (by_tables platform.now.machine request.now) ∷ [] }
+    ensures fits { Fits (by_tables platform.now.machine request.now) }
 {
     out.push(Part::End(way_by_tables(platform, request)));
 }
@@ -113,6 +123,8 @@ fn push_located(out: &mut Parts, platform: &Platform, request: &Request)
     ensures items { out.new.items ≡ out.old.items ++ stage_parts platform.now.machine.memory request.now.iova request.now.kind
         (located platform.now.machine.memory platform.now.machine.registers request.now.did) }
     ensures len { array_vec_len out.new ≤ array_vec_len out.old + 24 }
+    ensures fits { All PartFits (stage_parts platform.now.machine.memory request.now.iova request.now.kind
+        (located platform.now.machine.memory platform.now.machine.registers request.now.did)) }
 {
     let ram = platform.ram();
     if let Ok(context) = locate(ram, platform.registers(), request.did) {

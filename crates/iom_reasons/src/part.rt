@@ -13,7 +13,7 @@ pub enum Part {
     /// An entry of the first stage, whose place is guest-physical under a second stage, else physical; `addr` is the physical
     /// address that it was read at, None where the second stage leads its place nowhere.
     First { entry: PathEntry, addr: Option<u64> },
-    /// An entry of the second stage, at its physical place, on the way from the guest-physical address `guest`.
+    /// An entry of the second stage, at its physical place, on the way from the guest-physical address `guest`, at most 50 bits.
     Second { guest: u64, entry: PathEntry },
     /// The way that the request is led.
     End(Way),

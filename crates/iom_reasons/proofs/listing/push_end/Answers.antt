@@ -1,5 +1,5 @@
 use Rattle.std.proofs.Common.{rules}
 use Rattle.iom_reasons.proofs.listing.push_end.Goals as goal
 
-pub returns : goal.returns
-returns c = search rules
+pub returns-clause-items : goal.returns-clause-items
+returns-clause-items c = search rules

@@ -1,7 +1,10 @@
-use Rattle.std.proofs.Common.{rules}
+use Rattle.std.proofs.Common.{rules, subst}
+use Rattle.iom_regs.specs.Sound.{IsSound}
 use Rattle.iom_reasons.specs.Parts.{parts_of}
+use Rattle.iom_reasons.proofs.Bounds.{each_fits}
 use Rattle.iom_reasons.proofs.Fetches.{each_read_of}
 use Rattle.iom_reasons.proofs.Passing.{each_passes_of}
+use Rattle.iom_reasons.proofs.Refusing.{some_refuses_of}
 use Rattle.iom_reasons.proofs.listing.put_parts.Goals as goal
 
 pub returns-clause-parts : goal.returns-clause-parts
@@ -13,3 +16,11 @@ returns-clause-read c = each_read_of c.args.platform.now.machine c.args.request.
 
 pub returns-clause-passed : goal.returns-clause-passed
 returns-clause-passed c = each_passes_of c.args.platform.now.machine c.args.request.now _ (returns-clause-parts c)
+
+pub returns-clause-refused : goal.returns-clause-refused
+returns-clause-refused c = some_refuses_of c.args.platform.now.machine c.args.request.now _ (returns-clause-parts c)
+
+pub returns-clause-fits : goal.returns-clause-fits
+returns-clause-fits c =
+    each_fits c.args.platform.now.machine c.args.request.now _ (returns-clause-parts c) (subst IsSound c.registers-registers.ensures c.mode-mode.ensures.sound)
+    c.push_walk.ensures.fits c.push_end.ensures.fits

@@ -1,0 +1,352 @@
+-- Where a request is denied, something that is looked at refuses it, or an id or an address is too wide.
+use Rattle.std.proofs.Common.{◌≡◌, ◌≢◌, ◌-◌, ◌<◌, ◌⊎◌, ◌++◌, ℕ, zero, suc, Bool, true, false, not, List, [], ◌∷◌, map, length, Option, Some, None, Result, Ok, Err, if◌then◌else◌, refl, sym, subst, inl, inr, arith}
+use Rattle.std.specs.Prelude.{Any, find, flat_map}
+use Rattle.std.proofs.lemmas.Grind.{common_steps}
+use Rattle.iom_bits.specs.declared.causes.Cause.{Cause}
+use Rattle.iom_bits.specs.declared.causes.Cause.TheVariants.{TooWide}
+use Rattle.iom_bits.specs.declared.causes.Kind.{Kind}
+use Rattle.iom_bits.specs.declared.causes.Kind.TheVariants.{Read}
+use Rattle.iom_mem.specs.Memory.{Memory, word, words_at}
+use Rattle.iom_regs.specs.Table.{Registers}
+use Rattle.iom_regs.specs.Views.{mode_of, root_of}
+use Rattle.iom_regs.specs.declared.views.Mode.{Mode}
+use Rattle.iom_regs.specs.declared.views.Mode.TheVariants as mode
+use Rattle.iom_ddt.specs.Contexts.{is_bare}
+use Rattle.iom_ddt.specs.Directory.{behind, decided_by, entry_place, is_too_wide, leaf_place, levels_of, located, path_of, pointed_by}
+use Rattle.iom_ddt.specs.Directory as directory
+use Rattle.iom_ddt.specs.declared.context.Context.{Context}
+use Rattle.iom_ddt.specs.declared.listing.Met.{Met}
+use Rattle.iom_ddt.specs.declared.listing.Met.TheVariants as met
+use Rattle.iom_walk.specs.Outcome.{conclude, conclude_at, leaf_of, outcome_of, verdict_on_path}
+use Rattle.iom_walk.specs.Path.{Entry, entry_at, next_table, path_from, path_of as walk_path_of, verdict_on}
+use Rattle.iom_walk.specs.Shape.{is_in_width, levels}
+use Rattle.iom_walk.specs.Told.{path_told, told}
+use Rattle.iom_walk.specs.Verdict.{consequence, is_pointer, ruling_of, verdict_of, word_of}
+use Rattle.iom_walk.specs.declared.entry.Ruling.{Ruling}
+use Rattle.iom_walk.specs.declared.listing.PathEntry.{PathEntry}
+use Rattle.iom_walk.specs.declared.outcome.Leaf.{Leaf}
+use Rattle.iom_walk.specs.declared.outcome.Outcome.{Outcome}
+use Rattle.iom_walk.specs.declared.outcome.Outcome.TheVariants as outcome
+use Rattle.iom_walk.specs.declared.shape.Shape.{Shape}
+use Rattle.iom_walk.specs.declared.shape.Shape.TheVariants.{Sv39, Sv39x4, Sv48, Sv48x4}
+use Rattle.iom_walk.specs.declared.source.Got.{Got}
+use Rattle.iom_walk.proofs.Entries.{pointer_for_each}
+use Rattle.iom_nested.specs.Faults.{Failure}
+use Rattle.iom_nested.specs.Nested.{behind_first, first_stage, hit_by, reached_by, second_stage, told_of, translation}
+use Rattle.iom_nested.specs.Stages.{first_shape_of, ram_got, second_shape_of, table_got}
+use Rattle.iom_nested.specs.declared.translation.Fault.{Fault}
+use Rattle.iom_nested.specs.declared.translation.Hit.{Hit}
+use Rattle.iom_nested.specs.declared.translation.Reached.{Reached}
+use Rattle.iom_cache.specs.Places.{look}
+use Rattle.iom_cache.specs.declared.key.Key.{Key}
+use Rattle.iom_core.specs.State.{Machine}
+use Rattle.iom_core.specs.Access.{ByContext, led, led_by_context, led_by_mode, led_by_page, page_look, request_key}
+use Rattle.iom_core.specs.declared.access.Request.{Request}
+use Rattle.iom_reasons.specs.Parts.{access_parts, entry_parts, first_by, first_parts, parts_by, parts_of, read_at, second_by, second_parts, stage_parts}
+use Rattle.iom_reasons.specs.Stale.{by_tables, told as way_of, uncached}
+use Rattle.iom_reasons.specs.Passing.{IsBeyond, IsBeyondSecond, IsBeyondStages, IsGranted, IsNoFault, IsWide, Lets, Refuses}
+use Rattle.iom_reasons.specs.declared.part.Part.{Part}
+use Rattle.iom_reasons.specs.declared.part.Part.TheVariants as part
+use Rattle.iom_reasons.proofs.Ways.{looked_uncached}
+
+-- something in a list is so
+abbrev Occurs : {X : Type 0} → (X → Type 0) → List X → Type 0
+Occurs P [] = ⊥
+Occurs P (x ∷ xs) = P x ⊎ Occurs P xs
+
+in_first : {X : Type 0} (P : X → Type 0) (xs ys : List X) → Occurs P xs → Occurs P (xs ++ ys)
+in_first P [] ys is = absurd is
+in_first P (x ∷ xs) ys is = elim is [ inl here ↦ inl here | inr later ↦ inr (in_first P xs ys later) ]
+
+in_second : {X : Type 0} (P : X → Type 0) (xs ys : List X) → Occurs P ys → Occurs P (xs ++ ys)
+in_second P [] ys is = is
+in_second P (x ∷ xs) ys is = inr (in_second P xs ys is)
+
+in_mapped : {X Y : Type 0} (P : X → Type 0) (Q : Y → Type 0) (f : X → Y) → ((x : X) → P x → Q (f x)) → (xs : List X) → Occurs P xs → Occurs Q (map f xs)
+in_mapped P Q f each [] is = absurd is
+in_mapped P Q f each (x ∷ xs) is = elim is [ inl here ↦ inl (each x here) | inr later ↦ inr (in_mapped P Q f each xs later) ]
+
+in_flat : {X Y : Type 0} (P : X → Type 0) (Q : Y → Type 0) (f : X → List Y) → ((x : X) → P x → Occurs Q (f x)) → (xs : List X) → Occurs P xs →
+    Occurs Q (flat_map f xs)
+in_flat P Q f each [] is = absurd is
+in_flat P Q f each (x ∷ xs) is = elim is [
+  | inl here ↦ in_first Q (f x) (flat_map f xs) (each x here)
+  | inr later ↦ in_second Q (f x) (flat_map f xs) (in_flat P Q f each xs later)
+]
+
+any_of : {X : Type 0} (P : X → Type 0) (xs : List X) → Occurs P xs → Any P xs
+any_of P [] is = absurd is
+any_of P (x ∷ xs) is = elim is [
+  | inl here ↦ (0, x, omega arith, refl, here)
+  | inr later ↦
+      let a = any_of P xs later in
+      let low : a.0 < length xs = a.2 in
+      (suc a.0, a.1, omega arith, a.3, a.4)
+]
+
+-- the directory
+abbrev Faults : Met → Type 0
+Faults item = ¬ IsNoFault (decided_by item)
+
+leaf_refuses : (place : ℕ) (words : Option (List ℕ)) (cause : Cause) →
+    directory.verdict_on (met.Leaf place words ∷ []) ≡ Err cause → Faults (met.Leaf place words)
+unfolding directory.verdict_on
+leaf_refuses place None cause is = λ never. never
+leaf_refuses place (Some words) cause is = rw is (λ never. never)
+
+entry_refuses : (place : ℕ) (entry : Option ℕ) (pointed : Result ℕ Cause) (from : ℕ → List Met) (cause : Cause) → pointed_by entry ≡ pointed →
+    ((table : ℕ) → directory.verdict_on (from table) ≡ Err cause → Occurs Faults (from table)) →
+    directory.verdict_on (met.Entry place entry ∷ behind pointed from) ≡ Err cause →
+    Occurs Faults (met.Entry place entry ∷ behind pointed from)
+unfolding directory.verdict_on
+entry_refuses place entry (Ok table) from cause is more found =
+    let left : directory.verdict_on (from table) ≡ Err cause = rw is at found in inr (more table left)
+entry_refuses place entry (Err why) from cause is more found = inl (rw is (λ never. never))
+
+directory_from : (memory : Memory) (did level table : ℕ) (cause : Cause) →
+    directory.verdict_on (directory.path_from memory did level table) ≡ Err cause → Occurs Faults (directory.path_from memory did level table)
+directory_from memory did zero table cause found =
+    inl (leaf_refuses (leaf_place did table) (words_at memory (leaf_place did table) 4) cause found)
+directory_from memory did (suc level) table cause found =
+    let place : ℕ = entry_place did (suc level) table in
+    entry_refuses place (word memory place) (pointed_by (word memory place)) (directory.path_from memory did level) cause refl
+    (λ next. directory_from memory did level next cause) found
+
+directory_refuses : (memory : Memory) (registers : Registers) (did : ℕ) (cause : Cause) → located memory registers did ≡ Err cause →
+    (is_too_wide (levels_of (mode_of registers)) did ≡ true) ⊎ Occurs Refuses (map part.Directory (path_of memory registers did))
+unfolding located path_of
+directory_refuses memory registers did cause =
+    let path : List Met = directory.path_from memory did (levels_of (mode_of registers) - 1) (root_of registers) in
+    let Goal : Bool → Type 0 = λ wide. is_too_wide (levels_of (mode_of registers)) did ≡ wide → (if wide then Err TooWide else directory.verdict_on path) ≡ Err cause →
+    (is_too_wide (levels_of (mode_of registers)) did ≡ true) ⊎ Occurs Refuses (map part.Directory (if wide then [] else path)) in
+    let by_width : (wide : Bool) → Goal wide = λ wide. elim wide as Goal [
+      | true ↦ λ is found. inl is
+      | false ↦ λ is found. inr (in_mapped Faults Refuses part.Directory (λ item is. is) path
+          (directory_from memory did (levels_of (mode_of registers) - 1) (root_of registers) cause found))
+    ] in by_width (is_too_wide (levels_of (mode_of registers)) did) refl
+
+-- a walk that doesn't end at a leaf
+abbrev NoLeaf : Outcome → Type 0
+NoLeaf end = (leaf : Leaf) → end ≢ outcome.Leaf leaf
+
+abbrev end_on : Kind → Bool → ℕ → List Entry → Outcome
+end_on kind global address path = conclude_at kind global address (find (λ entry. not (is_pointer (verdict_on kind entry))) path)
+
+-- a row that neither points on nor maps
+abbrev Stops : Kind → Entry → Type 0
+Stops kind entry = ¬ Lets (ruling_of kind entry.level entry.got)
+
+row_stops : (global : Bool) (address : ℕ) (entry : Entry) (row : Ruling) (word : ℕ) → is_pointer (consequence row word) ≡ false →
+    NoLeaf (conclude global address entry (consequence row word)) → ¬ Lets row
+row_stops global address entry row word points maps = λ lets. elim lets [
+  | inl is ↦ let other : is_pointer (consequence row word) ≡ true = rw is refl in absurd (cc)
+  | inr is ↦ maps (leaf_of global address entry.level word) (rw is refl)
+]
+
+-- there is no pointer in a last table
+no_last_pointer : (kind : Kind) (got : Got) → is_pointer (verdict_of kind 0 got) ≡ false
+unfolding verdict_of ruling_of
+no_last_pointer kind got = grind (arith, common_steps)
+
+end_stops : (kind : Kind) (global : Bool) (address : ℕ) (entry : Entry) (rest : List Entry) → is_pointer (verdict_on kind entry) ≡ false →
+    NoLeaf (end_on kind global address (entry ∷ rest)) → Stops kind entry
+unfolding verdict_of
+end_stops kind global address entry rest points no_leaf =
+    let last : NoLeaf (conclude global address entry (verdict_on kind entry)) = rw points at no_leaf in
+    row_stops global address entry (ruling_of kind entry.level entry.got) (word_of entry.got) points last
+
+goes_on : (kind : Kind) (global : Bool) (address : ℕ) (entry : Entry) (rest : List Entry) (pointer : Bool) → is_pointer (verdict_on kind entry) ≡ pointer →
+    (NoLeaf (end_on kind global address rest) → Occurs (Stops kind) rest) →
+    NoLeaf (end_on kind global address (entry ∷ (if pointer then rest else []))) → Occurs (Stops kind) (entry ∷ (if pointer then rest else []))
+goes_on kind global address entry rest true is more no_leaf =
+    let left : NoLeaf (end_on kind global address rest) = rw is at no_leaf in inr (more left)
+goes_on kind global address entry rest false is more no_leaf = inl (end_stops kind global address entry [] is no_leaf)
+
+walk_stops : (at : ℕ → Got) (shape : Shape) (kind : Kind) (global : Bool) (address table count : ℕ) →
+    NoLeaf (end_on kind global address (path_from at shape address table (suc count))) →
+    Occurs (Stops kind) (path_from at shape address table (suc count))
+unfolding path_from
+walk_stops at shape kind global address table zero no_leaf =
+    let entry : Entry = entry_at at shape address table zero in
+    inl (end_stops kind global address entry (if is_pointer (verdict_on Read entry) then path_from at shape address (next_table entry) zero else [])
+    (no_last_pointer kind entry.got) no_leaf)
+walk_stops at shape kind global address table (suc count) no_leaf =
+    let entry : Entry = entry_at at shape address table (suc count) in
+    goes_on kind global address entry (path_from at shape address (next_table entry) (suc count)) (is_pointer (verdict_on Read entry))
+    (sym (pointer_for_each kind (suc count) entry.got)) (walk_stops at shape kind global address (next_table entry) count) no_leaf
+
+root_stops : (at : ℕ → Got) (shape : Shape) (kind : Kind) (global : Bool) (address root count : ℕ) → 0 < count →
+    NoLeaf (end_on kind global address (path_from at shape address root count)) → Occurs (Stops kind) (path_from at shape address root count)
+root_stops at shape kind global address root zero some no_leaf = absurd (omega arith)
+root_stops at shape kind global address root (suc count) some no_leaf = walk_stops at shape kind global address root count no_leaf
+
+some_level : (shape : Shape) → 0 < levels shape
+some_level Sv39 = omega arith
+some_level Sv39x4 = omega arith
+some_level Sv48 = omega arith
+some_level Sv48x4 = omega arith
+
+abbrev IsStop : PathEntry → Type 0
+IsStop entry = ¬ Lets entry.ruling
+
+outcome_stops : (at : ℕ → Got) (shape : Shape) (root address : ℕ) (kind : Kind) → NoLeaf (outcome_of at shape root address kind) →
+    (is_in_width shape address ≡ false) ⊎ Occurs IsStop (path_told at shape root address kind)
+unfolding outcome_of verdict_on_path path_told
+outcome_stops at shape root address kind =
+    let path : List Entry = walk_path_of at shape root address in
+    let Goal : Bool → Type 0 = λ wide. is_in_width shape address ≡ wide → NoLeaf (if wide then verdict_on_path kind address path else outcome.Fault) →
+    (is_in_width shape address ≡ false) ⊎ Occurs IsStop (if wide then map (told kind) path else []) in
+    let by_width : (wide : Bool) → Goal wide = λ wide. elim wide as Goal [
+      | true ↦ λ is no_leaf. inr (in_mapped (Stops kind) IsStop (told kind) (λ entry is. is) path
+          (root_stops at shape kind _ address root (levels shape) (some_level shape) no_leaf))
+      | false ↦ λ is no_leaf. inl is
+    ] in by_width (is_in_width shape address) refl
+
+-- the second stage, where it leads an address nowhere
+abbrev LeadsNot : Memory → ℕ → Kind → ℕ → Option Shape → Type 0
+LeadsNot memory root kind guest None = ⊥
+LeadsNot memory root kind guest (Some shape) = NoLeaf (outcome_of (ram_got memory) shape root guest kind)
+
+second_by_stops : (memory : Memory) (root : ℕ) (kind : Kind) (guest : ℕ) (shape : Option Shape) → LeadsNot memory root kind guest shape →
+    IsBeyond shape guest ⊎ Occurs Refuses (second_by memory root kind guest shape)
+second_by_stops memory root kind guest None never = absurd never
+second_by_stops memory root kind guest (Some shape) stops =
+    elim (outcome_stops (ram_got memory) shape root guest kind stops) [
+      | inl wide ↦ inl wide
+      | inr some ↦ inr (in_mapped IsStop Refuses (part.Second guest) (λ entry is. is) (path_told (ram_got memory) shape root guest kind) some)
+    ]
+
+access_no_leaf : (reached : Reached) (end : Outcome) (failure : Failure) → hit_by reached end ≡ Err failure → NoLeaf end
+access_no_leaf reached (outcome.Leaf leaf) failure is = absurd (cc)
+access_no_leaf reached outcome.Outside failure is = λ leaf other. cc
+access_no_leaf reached (outcome.Guest place) failure is = λ leaf other. cc
+access_no_leaf reached outcome.Fault failure is = λ leaf other. cc
+
+access_leads_not : (memory : Memory) (context : Context) (kind : Kind) (reached : Reached) (shape : Option Shape) (failure : Failure) →
+    second_stage memory context kind shape reached ≡ Err failure → LeadsNot memory context.gppn kind reached.addr shape
+access_leads_not memory context kind reached None failure is = absurd (cc)
+access_leads_not memory context kind reached (Some shape) failure is =
+    access_no_leaf reached (outcome_of (ram_got memory) shape context.gppn reached.addr kind) failure is
+
+access_stops : (memory : Memory) (context : Context) (kind : Kind) (reached : Reached) (failure : Failure) →
+    second_stage memory context kind (second_shape_of context) reached ≡ Err failure →
+    IsBeyond (second_shape_of context) reached.addr ⊎ Occurs Refuses (access_parts memory context kind (Ok reached))
+unfolding second_parts
+access_stops memory context kind reached failure is =
+    second_by_stops memory context.gppn kind reached.addr (second_shape_of context)
+    (access_leads_not memory context kind reached (second_shape_of context) failure is)
+
+-- the first
+first_no_leaf : (iova : ℕ) (end : Outcome) (failure : Failure) → reached_by iova end ≡ Err failure → NoLeaf end
+first_no_leaf iova (outcome.Leaf leaf) failure is = absurd (cc)
+first_no_leaf iova outcome.Outside failure is = λ leaf other. cc
+first_no_leaf iova (outcome.Guest place) failure is = λ leaf other. cc
+first_no_leaf iova outcome.Fault failure is = λ leaf other. cc
+
+first_by_stops : (memory : Memory) (context : Context) (iova : ℕ) (kind : Kind) (shape : Option Shape) (failure : Failure) →
+    first_stage memory context iova kind shape ≡ Err failure → IsBeyond shape iova ⊎ Occurs Refuses (first_by memory context iova kind shape)
+first_by_stops memory context iova kind None failure is = absurd (cc)
+first_by_stops memory context iova kind (Some shape) failure is =
+    let path : List PathEntry = path_told (table_got memory context) shape context.ppn iova kind in
+    elim (outcome_stops (table_got memory context) shape context.ppn iova kind
+    (first_no_leaf iova (outcome_of (table_got memory context) shape context.ppn iova kind) failure is)) [
+      | inl wide ↦ inl wide
+      | inr stops ↦ inr (in_flat IsStop Refuses (entry_parts memory context)
+          (λ entry is. in_second Refuses (second_parts memory context Read entry.place) (part.First entry (read_at memory context entry.place) ∷ []) (inl is))
+          path stops)
+    ]
+
+-- both stages
+stages_stop : (memory : Memory) (context : Context) (iova : ℕ) (kind : Kind) (reached : Result Reached Failure) (failure : Failure) →
+    first_stage memory context iova kind (first_shape_of context) ≡ reached → behind_first memory context kind reached ≡ Err failure →
+    IsBeyondStages memory iova kind (Ok context) ⊎ Occurs Refuses (stage_parts memory iova kind (Ok context))
+unfolding first_parts
+stages_stop memory context iova kind (Ok reached) failure is found =
+    let access : Result Reached Failure → List Part = access_parts memory context kind in
+    let first : Result Reached Failure = first_stage memory context iova kind (first_shape_of context) in
+    elim (access_stops memory context kind reached failure found) [
+      | inl wide ↦ inl (inr (subst (IsBeyondSecond context) (sym is) wide))
+      | inr stops ↦ inr (in_second Refuses (first_parts memory context iova kind) (access first) (subst (λ r. Occurs Refuses (access r)) (sym is) stops))
+    ]
+stages_stop memory context iova kind (Err why) failure is found =
+    elim (first_by_stops memory context iova kind (first_shape_of context) why is) [
+      | inl wide ↦ inl (inl wide)
+      | inr stops ↦ inr (in_first Refuses (first_parts memory context iova kind)
+          (access_parts memory context kind (first_stage memory context iova kind (first_shape_of context))) stops)
+    ]
+
+failure_of : (kind : Kind) (found : Result Hit Failure) (fault : Fault) → told_of kind found ≡ Err fault → (failure : Failure) × (found ≡ Err failure)
+failure_of kind (Ok hit) fault is = absurd (cc)
+failure_of kind (Err failure) fault is = (failure, refl)
+
+translated_stages_stop : (memory : Memory) (context : Context) (iova : ℕ) (kind : Kind) (fault : Fault) → translation memory context iova kind ≡ Err fault →
+    IsBeyondStages memory iova kind (Ok context) ⊎ Occurs Refuses (stage_parts memory iova kind (Ok context))
+unfolding translation
+translated_stages_stop memory context iova kind fault is =
+    let f = failure_of kind _ fault is in stages_stop memory context iova kind _ f.0 refl f.1
+
+-- by the way that is led
+page_refuses : (m : Machine) (request : Request) (context : Context) (fill : Option (ℕ × Context)) (key : Key) (found : Result Hit Fault) →
+    translation m.memory context request.iova request.kind ≡ found →
+    (IsGranted (way_of (led_by_page context fill (look key None found).filled (look key None found).used).way) → ⊥) →
+    IsBeyondStages m.memory request.iova request.kind (Ok context) ⊎ Occurs Refuses (stage_parts m.memory request.iova request.kind (Ok context))
+page_refuses m request context fill key (Ok hit) is denied = absurd (denied tt)
+page_refuses m request context fill key (Err fault) is denied = translated_stages_stop m.memory context request.iova request.kind fault is
+
+context_refuses : (m : Machine) (request : Request) (context : Context) (fill : Option (ℕ × Context)) (bare : Bool) →
+    (IsGranted (way_of (if bare then record { way = ByContext context; context = fill; page = None }
+    else led_by_page context fill (page_look (uncached m) request context).filled (page_look (uncached m) request context).used).way) → ⊥) →
+    IsBeyondStages m.memory request.iova request.kind (Ok context) ⊎ Occurs Refuses (stage_parts m.memory request.iova request.kind (Ok context))
+unfolding page_look
+context_refuses m request context fill true denied = absurd (denied tt)
+context_refuses m request context fill false denied =
+    page_refuses m request context fill (request_key request context) (translation m.memory context request.iova request.kind) refl denied
+
+found_refuses : (m : Machine) (request : Request) (found : Result Context Cause) → located m.memory m.registers request.did ≡ found →
+    (IsGranted (way_of (led_by_context (uncached m) request (look request.did None found).filled (look request.did None found).used).way) → ⊥) →
+    ((is_too_wide (levels_of (mode_of m.registers)) request.did ≡ true) ⊎ IsBeyondStages m.memory request.iova request.kind found)
+    ⊎ Occurs Refuses (map part.Directory (path_of m.memory m.registers request.did) ++ stage_parts m.memory request.iova request.kind found)
+found_refuses m request (Ok context) is denied =
+    elim (context_refuses m request context (Some (request.did, context)) (is_bare context) denied) [
+      | inl wide ↦ inl (inr wide)
+      | inr refuses ↦ inr (in_second Refuses (map part.Directory (path_of m.memory m.registers request.did))
+          (stage_parts m.memory request.iova request.kind (Ok context)) refuses)
+    ]
+found_refuses m request (Err why) is denied =
+    elim (directory_refuses m.memory m.registers request.did why is) [
+      | inl wide ↦ inl (inl wide)
+      | inr refuses ↦ inr (in_first Refuses (map part.Directory (path_of m.memory m.registers request.did))
+          (stage_parts m.memory request.iova request.kind (Err why)) refuses)
+    ]
+
+mode_refuses : (m : Machine) (request : Request) (own : Mode) → (IsGranted (way_of (led_by_mode own (uncached m) request).way) → ⊥) →
+    IsWide m request ⊎ ((own ≡ mode.Off) ⊎ Occurs Refuses (parts_by own m request))
+mode_refuses m request mode.Off denied = inr (inl refl)
+mode_refuses m request mode.Bare denied = absurd (denied tt)
+mode_refuses m request (mode.Levels levels) denied =
+    elim (found_refuses m request (located m.memory m.registers request.did) refl
+    (subst (λ l. IsGranted (way_of (led_by_context (uncached m) request l.filled l.used).way) → ⊥) (looked_uncached m request.did) denied)) [
+      | inl wide ↦ inl wide
+      | inr refuses ↦ inr (inr refuses)
+    ]
+
+some_refuses : (m : Machine) (request : Request) → (IsGranted (by_tables m request) → ⊥) → IsWide m request ⊎ Occurs Refuses (parts_of m request)
+unfolding parts_of led
+some_refuses m request denied =
+    let end : Part = part.End (by_tables m request) in
+    let between : List Part = parts_by (mode_of m.registers) m request in
+    elim (mode_refuses m request (mode_of m.registers) denied) [
+      | inl wide ↦ inl wide
+      | inr refuses ↦ elim refuses [
+        | inl off ↦ inr (inl off)
+        | inr later ↦ inr (inr (in_first Refuses between (end ∷ []) later))
+      ]
+    ]
+
+pub some_refuses_of : (m : Machine) (request : Request) (parts : List Part) → parts ≡ parts_of m request → (IsGranted (by_tables m request) → ⊥) →
+    IsWide m request ⊎ Any Refuses parts
+some_refuses_of m request parts are denied =
+    elim (some_refuses m request denied) [
+      | inl wide ↦ inl wide
+      | inr refuses ↦ inr (any_of Refuses parts (subst (Occurs Refuses) (sym are) refuses))
+    ]
