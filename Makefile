@@ -1,7 +1,8 @@
 # Short names over the toolchain's commands.
 #
-#   make run < FILE           run a script on standard input; builds the program first where it is not current
-#   make build                build the program where it is not current, crates side by side
+#   make run < FILE           run a script on standard input, on the built-in image; what runs it (iom_player) is built first where
+#                             it is not current, crates side by side
+#   make build                build the program where it is not current, likewise
 #   make test                 every proof from nothing, the edits that must be refused, every test
 #   make rows                 plays the scripts of crates/iom_rows/data, and prints each answer that is not the expected one
 #   make cost                 processor seconds of what make test does, crate by crate, on a copy
@@ -18,6 +19,7 @@ MINUTES = 1
 SEED = 1
 CASES = 5000
 program = crates/rviommu/out/rviommu
+player = crates/iom_player/out/iom_player
 library = c/out/lib/librviommu.so
 sources = $(shell find crates -name out -prune -o -type f \( -name '*.rt' -o -name '*.antt' \) -print)
 
@@ -33,6 +35,12 @@ $(program): crates.txt $(sources)
 	@packaging/build.py
 	@touch $@
 
+$(player): crates.txt $(sources)
+	@$(has_rt)
+	@$(has_python)
+	@packaging/build.py iom_player
+	@touch $@
+
 $(library): crates.txt $(sources) c/build.py include/rviommu.h
 	@$(has_rt)
 	@$(has_python)
@@ -41,8 +49,8 @@ $(library): crates.txt $(sources) c/build.py include/rviommu.h
 
 build: $(program)
 
-run: $(program)
-	@$(program)
+run: $(player)
+	@$(player)
 
 test:
 	@$(has_rt)
@@ -50,6 +58,7 @@ test:
 	rt ci
 	sh tests/refused_memory.sh
 	@test -x $(program) || packaging/build.py
+	@test -x $(player) || packaging/build.py iom_player
 	tests/program.py $(program)
 	c/build.py
 	tests/c_library.py $(program)

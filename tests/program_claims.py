@@ -6,13 +6,14 @@ import re
 import shutil
 import subprocess
 
-from checks import EXAMPLES, PROGRAM, RUN_SECONDS, Failure, Skip, check, folder, put, run, want, want_words
+from checks import EXAMPLES, RUN_SECONDS, Failure, Skip, check, folder, put, run, want, want_words
 from program_checking import INVALIDATE, MAP, MAPPED, READ, UNMAP
 from program_completions import commands
 from program_debugging import BREAKING
 from program_documents import IMAGE, READY, answers, last_answer, section, text_of
 from program_names import OTHERS, spans
 from program_pages import plain
+from program_player import PLAYER
 
 
 TOP = os.path.normpath(os.path.join(EXAMPLES, os.pardir))
@@ -137,13 +138,13 @@ def _():
     want("the lines that README does not have", sorted(left), [])
 
 
-@check("README: `make run` answers a script, where the program is current")
+@check("README: `make run` answers a script, where what plays it is current")
 def _():
     if not shutil.which("make"):
         raise Skip("there is no make")
     shown = re.findall(r"(?m)^    make run < (.*)$", text_of("README.md"))
     want("how often README shows it", len(shown), 1)
-    words = ["make", "-s", "-C", TOP, "-o", PROGRAM, "run", f"program={PROGRAM}"]
+    words = ["make", "-s", "-C", TOP, "-o", PLAYER, "run", f"player={PLAYER}"]
     with open(os.path.join(TOP, shown[0]), "rb") as script:
         ended = subprocess.run(words, stdin=script, stdout=subprocess.PIPE, check=False, timeout=RUN_SECONDS)
     want("status and standard output", (ended.returncode, ended.stdout.decode()), (0, text_of(shown[0].replace(".script", ".answers"))))

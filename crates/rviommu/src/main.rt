@@ -7,6 +7,7 @@ use explaining::explain;
 use fault::Fault;
 use iom_asm::Item;
 use iom_cli::{How, Task, WordsFault, task_of};
+use iom_streams::{READ_BLOCK, Shared, Tied, WRITE_BLOCK};
 use iom_tool::RunFault;
 use progress::Progress;
 use std::alloc::Global;
@@ -17,7 +18,6 @@ use std::io::{self, BufRead, BufReader, BufWriter, IsTerminal, Read, Write};
 use std::process::ExitCode;
 use std::rt::Env;
 use std::time::Clock;
-use tied::{Shared, Tied};
 
 mod access;
 mod checking;
@@ -29,13 +29,6 @@ mod lines;
 mod progress;
 mod summary;
 mod text;
-mod tied;
-
-// The bytes that are read at once; their room is cleared at the start.
-const READ_BLOCK: usize = 0x8000;
-
-// The bytes that are written at once.
-const WRITE_BLOCK: usize = 0x1_0000;
 
 // What the program reads and writes.
 #[derive(Drop)]
