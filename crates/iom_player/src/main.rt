@@ -46,6 +46,7 @@ fn is_without_words(rt: &(impl Env + Alloc<A = Global>)) -> bool {
     }
 }
 
+// Plays what stands on standard input, or tells why it does not.
 fn main(rt: HostRuntime) -> ExitCode {
     let ended = if is_without_words(&rt) {
         played(rt.alloc(), rt.stdin(), rt.stdout())
