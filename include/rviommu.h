@@ -150,7 +150,11 @@ enum rviommu_part_kind {
     RVIOMMU_PART_CONTEXT = 2, /* a leaf entry of the device directory: the context's words, tc in `word` */
     RVIOMMU_PART_FIRST = 3,   /* an entry of the first stage's tables */
     RVIOMMU_PART_SECOND = 4,  /* an entry of the second stage's tables */
-    RVIOMMU_PART_END = 5      /* the end: the way that the request is led */
+    RVIOMMU_PART_END = 5,     /* the end: the way that the request is led */
+    /* In place of the entries of a table: what breaks its width rule, in `word`. */
+    RVIOMMU_PART_WIDE_DEVICE = 6, /* a device id with bits above those that the directory's levels take */
+    RVIOMMU_PART_WIDE_IOVA = 7,   /* an IOVA whose high bits don't repeat the highest one that the first stage takes */
+    RVIOMMU_PART_WIDE_GUEST = 8   /* a guest-physical address with bits above those that the second stage takes */
 };
 
 /* What decides of an entry of a page table. All but POINTER and LEAF are faults. */
@@ -178,7 +182,7 @@ struct rviommu_walk_part {
                                stage */
     uint64_t read_at;       /* the physical address that it was read at, of FIRST and SECOND */
     uint64_t guest;         /* the guest-physical address that is translated, of SECOND */
-    uint64_t word;          /* the entry's word; of CONTEXT tc; of DDTP its PPN */
+    uint64_t word;          /* the entry's word; of CONTEXT tc; of DDTP its PPN; of the WIDE ones what is too wide */
     uint64_t iohgatp;       /* of CONTEXT */
     uint64_t ta;            /* of CONTEXT */
     uint64_t fsc;           /* of CONTEXT */
@@ -186,7 +190,7 @@ struct rviommu_walk_part {
     uint32_t mode;          /* ddtp.iommu_mode, of DDTP: 0 Off, 1 Bare, 2 to 4 for one to three levels */
     uint32_t level;         /* the level of the entry's table, of FIRST and SECOND */
     uint32_t ruling;        /* an enum rviommu_ruling, of FIRST and SECOND */
-    bool has_word;          /* it was read: no byte of it is outside memory, and its place leads somewhere */
+    bool has_word;          /* there is a word: no byte of it is outside memory, and its place leads somewhere */
     bool has_read_at;       /* of FIRST and SECOND: there is a physical address that it was read at */
     struct rviommu_way way; /* of END */
 };

@@ -151,15 +151,14 @@ class Build:
             self.changed.notify()
 
     def words(self, name):
-        """The command that builds the crate. Those with a long way to the top have the processors first, and share them; where it
-        is one alone, rt chooses its jobs."""
+        """The command that builds the crate. Those with a long way to the top have the processors first, and share them."""
         is_program = os.path.isfile(os.path.join(CRATES, name, "src", "main.rt"))
         words = ["rt", "run" if is_program else "lib"]
         others = [self.ways[it] for it in [*self.running, *self.next_ones()]]
         first = [way for way in others if way >= LONG * max(others)]
         if self.ways[name] not in first:
             return ["nice", *words, "--jobs", "1"]
-        return words if len(first) == 1 else [*words, "--jobs", str(max(1, processors() // len(first)))]
+        return [*words, "--jobs", str(max(1, at_once() // len(first)))]
 
     def tell(self, text):
         print(f"build: {len(self.ready)} of {len(self.crates)}: {text}", file=sys.stderr, flush=True)

@@ -60,7 +60,7 @@ def located(memory, ddtp, did):
     levels, table, told = field(ddtp, 3, 0) - 1, field(ddtp, 53, 10) * PAGE, []
     indices = [field(did, 6, 0), field(did, 15, 7), field(did, 23, 16)]
     if any(indices[levels:]):
-        return told, TOO_WIDE
+        return [f"dir did={did:#x} width"], TOO_WIDE
     for index in reversed(indices[1:levels]):
         place = table + 8 * index
         entry = memory.word(place)
@@ -128,25 +128,26 @@ def read_text(got):
 
 
 def second_stage(memory, context, guest, is_write):
-    """The second stage's entries for a guest-physical address, and where they lead: "Two-Stage Address Translation"."""
+    """The second stage's entries for a guest-physical address, or that it is too wide, and where they lead: "Two-Stage Address Translation"."""
     if context.second == 0:
         return [], guest
     levels = LEVELS[context.second]
     if guest >> 12 + 9 * levels + 2:
-        return [], "too wide"
+        return [f"second guest={guest:#x} width"], "too wide"
     read = lambda place: OUTSIDE if memory.word(place) is None else memory.word(place)
     met, end = walked(read, levels, 2, context.guest_root, guest, is_write)
     return [f"second of={guest:#x} level={level:#x} at={place:#x}{read_text(got)} {judgement}" for level, place, got, judgement in met], end
 
 
 def first_stage(memory, context, iova, is_write):
-    """The first stage's entries, each behind those of the second by which it is read; where they lead, and the place of the last one."""
+    """The first stage's entries, each behind those of the second by which it is read, or that the IOVA is too wide; where they lead, and the place
+    of the last one."""
     if context.first == 0:
         return [], iova, None
     levels = LEVELS[context.first]
     width = 12 + 9 * levels
     if iova >> width - 1 not in (0, (1 << 65 - width) - 1):
-        return [], "too wide", None
+        return [f"first iova={iova:#x} width"], "too wide", None
     ways = []
 
     def read(place):

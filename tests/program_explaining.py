@@ -87,7 +87,7 @@ def _():
     wanted += f"    walk: ddtp mode=0x2 root=0x80001\n    walk: context at=0x80001000 {CONTEXT.replace('0x3 mode=0x8', '0x0 mode=0x0').replace('0x80002', '0x0')}\n"
     wanted += "    walk: context addr=0x80000000\n    warrant: context 6\n7: dma read 0x0 0x80000000 0x1 -> 00\n    caches: context of line 6\n"
     wanted += "    warrant: context 6\n8: dma read 0x80 0x0 0x1 -> denied 260\n    walk: ddtp mode=0x2 root=0x80001\n"
-    wanted += "    walk: denied 260 iotval2=0x0\n    warrant: none, it is denied\n9: dma read 0x1 0x0 0x1 -> denied 258\n"
+    wanted += "    walk: dir did=0x80 width\n    walk: denied 260 iotval2=0x0\n    warrant: none, it is denied\n9: dma read 0x1 0x0 0x1 -> denied 258\n"
     wanted += "    walk: ddtp mode=0x2 root=0x80001\n    walk: context at=0x80001020 u64 0x0 0x0 0x0 0x0\n    walk: denied 258 iotval2=0x0\n"
     wanted += "    warrant: none, it is denied\n10: dma read 0x1000000 0x0 0x1 -> misuse\n"
     want_explained(given, wanted + summary(4, 1, _256=1, _258=1, _260=1), text)

@@ -1,6 +1,7 @@
 """The parts of walks that a debugger tells, beside those of a plain program (parts.py), on tables with defects at random."""
 import random
 import re
+from collections import Counter
 
 from checks import Failure, check, run, want
 from parts import GUEST, OUTSIDE, Memory, parts
@@ -11,9 +12,13 @@ SEED, WORLDS, LEAST = 1, 12, 800
 DIRECTORY = range(PAGES.stop, BASE + SIZE >> 12)
 NOWHERE = 0x90000
 # What there is to meet, without numbers: how entries of both stages are judged, and how walks end.
-FIELDS = re.compile(r" ?\b(?:level|at|in|of|ppn|flags|frame|addr|iotval2)=\S+| pte| u64 \S+")
+FIELDS = re.compile(r" ?\b(?:level|at|in|of|ppn|flags|frame|addr|iotval2|did|iova|guest)=\S+| pte| u64 \S+")
 JUDGED = ["V=0", "R=0 W=1", "reserved bits", "reserved in pointer", "last level", "pointer", "misaligned", *"URWAD", "leaf", OUTSIDE]
 ENDS = ["register", "context", "", *(f"denied {cause}" for cause in (5, 7, 13, 15, 21, 23, 256, 257, 258, 259, 260))]
+# What is too wide for a table, with the part behind it; each is met as often as this at least.
+WIDE = ["dir width, denied 260", *(f"first width, denied {cause}" for cause in (13, 15))]
+WIDE += [f"second width, {it}" for it in (f"first {GUEST}", "denied 21", "denied 23")]
+LEAST_WIDE = 8
 TO_MEET = {f"{stage} {it}" for stage in ("first", "second") for it in JUDGED} | {f"first {GUEST}", *ENDS}
 
 
@@ -22,7 +27,7 @@ class Play:
 
     def __init__(self, rng):
         self.rng, self.memory = rng, Memory(BASE, SIZE)
-        self.lines, self.wanted, self.met, self.walks = [], [], set(), 0
+        self.lines, self.wanted, self.met, self.wide, self.walks = [], [], set(), Counter(), 0
 
     def line(self, text, wanted="done"):
         self.lines.append(text)
@@ -39,11 +44,13 @@ class Play:
         return word ^ 1 << self.rng.randrange(64)
 
     def spoilt(self, word):
-        """The word with a bit turned over or as it is refused by one of the rules: as a pointer, as a leaf without a flag, and outside memory."""
+        """The word with a bit turned over or as it is refused by one of the rules: as a pointer, as a leaf without a flag, outside memory, and with a
+        PPN beyond a second stage."""
         rng, leaf = self.rng, word | 0xDF
-        bare, reserved = word & ~0xDE | 1, leaf | 1 << rng.randrange(54, 64)
+        bare, reserved, beyond = word & ~0xDE | 1, leaf | 1 << rng.randrange(54, 64), 1 << rng.randrange(39, 54)
         without = [leaf & ~flags for flags in (0x1, 0x2, 0x4, 0x6, 0x10, 0x40, 0x80)]
-        return rng.choice([*without, *without, 0, leaf, reserved, bare, bare, bare, bare | 1 << rng.choice([4, 6, 7]), NOWHERE << 10 | word & 1023, self.flipped(word)])
+        pointers = [bare, bare, bare, bare | 1 << rng.choice([4, 6, 7])]
+        return rng.choice([*without, *without, 0, leaf, reserved, *pointers, NOWHERE << 10 | word & 1023, self.flipped(word), *[word | beyond] * 5])
 
     def directory(self, first, second):
         """Stores a context of these stages behind a directory of its own; returns ddtp and the device's id."""
@@ -75,6 +82,8 @@ class Play:
         return place, word
 
     def walk(self, first, second, iova, is_write):
+        if self.chance(0.04):
+            iova ^= 1 << self.rng.randrange(38, 64)
         ddtp, did = self.directory(first, second)
         self.line(f"reg write ddtp {ddtp:#x}")
         request = ddtp, did, iova, is_write
@@ -85,7 +94,9 @@ class Play:
         if before:
             self.store(*before)
         self.walks += 1
-        self.met |= {FIELDS.sub("", part) for part in told}
+        told = [FIELDS.sub("", part) for part in told]
+        self.met |= set(told)
+        self.wide.update(f"{part}, {behind}" for part, behind in zip(told, told[1:]) if part.endswith(" width"))
 
 
 @check("walk: the parts of walks are those of a plain program, on tables with defects at random")
@@ -106,5 +117,6 @@ def _():
     for line, wanted, answer in zip(play.lines, play.wanted, answers):
         want(f"the answer to {line}", answer, wanted)
     want("what no walk met", TO_MEET - play.met, set())
+    want("what is too wide, and too seldom met", [it for it in WIDE if play.wide[it] < LEAST_WIDE], [])
     if play.walks < LEAST:
         raise Failure(f"there are {play.walks} walks, fewer than {LEAST}")

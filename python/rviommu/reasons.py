@@ -7,8 +7,9 @@ WayKind.__doc__ = "How a request is led: by ddtp alone, by a context whose stage
 LocatedKind = IntEnum("LocatedKind", "NO_DIRECTORY CONTEXT NO_CONTEXT", start=0)
 LocatedKind.__doc__ = "What ddtp and the directory say of a device id."
 
-PartKind = IntEnum("PartKind", "DDTP ENTRY CONTEXT FIRST SECOND END", start=0)
-PartKind.__doc__ = "What is looked at: ddtp, an entry of the directory or its leaf, an entry of the first stage or of the second, the end."
+PartKind = IntEnum("PartKind", "DDTP ENTRY CONTEXT FIRST SECOND END WIDE_DEVICE WIDE_IOVA WIDE_GUEST", start=0)
+PartKind.__doc__ = ("What is looked at: ddtp, an entry of the directory or its leaf, an entry of the first stage or of the second, the end; and, in place of "
+                    "entries, what is too wide for the directory, the first stage or the second.")
 
 Ruling = IntEnum("Ruling", "OUTSIDE GUEST INVALID WRITE_ONLY RESERVED RESERVED_IN_POINTER LAST_LEVEL POINTER MISALIGNED NOT_USER NOT_READABLE NOT_WRITABLE "
                  "NOT_ACCESSED NOT_DIRTY LEAF", start=0)

@@ -98,6 +98,16 @@ class Reasons(unittest.TestCase):
         second = platform.walk(DID, IOVA)[2]
         self.assertEqual((second.kind, second.guest, second.place, second.ruling), (PartKind.SECOND, ROOT + 8, 0x80008000 + 8 * 2, Ruling.INVALID))
 
+    def test_walk_of_what_is_too_wide(self):
+        *_, wide, end = mapped().walk(DID, 1 << 39)
+        self.assertEqual((wide.kind, wide.word, end.way.cause), (PartKind.WIDE_IOVA, 1 << 39, 13))
+        *_, wide, end = mapped().walk(0x80, IOVA)
+        self.assertEqual((wide.kind, wide.word, end.way.cause), (PartKind.WIDE_DEVICE, 0x80, 260))
+        platform = mapped()
+        platform.put(0x80001000 + 32 * DID, Context(mode=forms.SV39, ppn=1 << 29, gmode=forms.SV39, gppn=0x80008))
+        *_, wide, first, end = platform.walk(DID, IOVA)
+        self.assertEqual((wide.kind, wide.word, first.ruling, end.way.cause), (PartKind.WIDE_GUEST, 1 << 41 | 8, Ruling.GUEST, 21))
+
     def test_no_walk(self):
         platform = Platform()
         ddtp, end = platform.walk(DID, IOVA)

@@ -183,6 +183,13 @@ static void test_walk(rviommu_t *platform) {
     want("its frame", part.way.frame, 0x80010);
     want("its device", part.way.context.did, 5);
     want("its root", part.way.context.ppn, 0x80002);
+    want("an IOVA of 40 bits", rviommu_part(platform, 5, 0x8000000000, false, 2, &part), RVIOMMU_OK);
+    want("its kind", part.kind, RVIOMMU_PART_WIDE_IOVA);
+    want("itself", part.has_word ? part.word : 0, 0x8000000000);
+    want("a device id of 8 bits", rviommu_part(platform, 0x80, 0x40201abc, false, 1, &part), RVIOMMU_OK);
+    want("its kind", part.kind, RVIOMMU_PART_WIDE_DEVICE);
+    want("itself", part.has_word ? part.word : 0, 0x80);
+    want("the end", rviommu_part(platform, 5, 0x40201abc, false, 5, &part), RVIOMMU_OK);
     want("a part past the end", rviommu_part(platform, 5, 0x40201abc, false, 6, &part), RVIOMMU_NO_SUCH);
     want("a part far past the end", rviommu_part(platform, 5, 0x40201abc, false, UINT64_MAX, &part), RVIOMMU_NO_SUCH);
     want("a part of no device", rviommu_part(platform, 1 << 24, 0x40201abc, false, 0, &part), RVIOMMU_NO_SUCH);

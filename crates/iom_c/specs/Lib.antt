@@ -1,4 +1,3 @@
-pub mod Account
 pub mod Handles
 pub mod Answers
 pub mod Buffers

@@ -24,6 +24,8 @@ use Rattle.iom_reasons.specs.Stale.{IsStale, by_tables}
 use Rattle.iom_reasons.specs.Standing.{IsContextNow, IsHitNow, found_now, request_of}
 use Rattle.iom_reasons.specs.declared.part.Part.{Part}
 use Rattle.iom_reasons.specs.declared.part.Part.TheVariants as part
+use Rattle.iom_reasons.specs.declared.part.Wide.{Wide}
+use Rattle.iom_reasons.specs.declared.part.Wide.TheVariants as wide
 use Rattle.iom_reasons.specs.declared.standing.Located.{Located}
 use Rattle.iom_reasons.specs.declared.standing.Located.TheVariants as located
 use Rattle.iom_reasons.specs.declared.way.Way.{Way}
@@ -166,10 +168,17 @@ entry_part kind entry = record (plain_part kind) {
   has_word = is_some (word_in entry.got);
 }
 
+-- what is too wide for a table: a device id, an IOVA, or a guest-physical address
+abbrev pub wide_part : Wide → WalkPart
+wide_part (wide.Directory did) = record (plain_part 6) { word = did; has_word = true }
+wide_part (wide.First iova) = record (plain_part 7) { word = iova; has_word = true }
+wide_part (wide.Second guest) = record (plain_part 8) { word = guest; has_word = true }
+
 -- a part of the walk of a request of device `did`
 abbrev pub part_of : ℕ → Part → WalkPart
 part_of did (part.Ddtp mode root) = record (plain_part 0) { mode = mode_number mode; word = root; has_word = true }
 part_of did (part.Directory met) = met_part met
+part_of did (part.Wide what) = wide_part what
 part_of did (part.First entry addr) =
     record (entry_part 3 entry) { read_at = unwrap_or addr 0; has_read_at = is_some addr }
 part_of did (part.Second guest entry) =

@@ -5,9 +5,9 @@ use Rattle.iom_reasons.specs.declared.way.Way.{Way}
 use Rattle.iom_history.specs.declared.history.Filled.{Filled}
 use Rattle.iom_history.specs.declared.origin.Origin.{Origin}
 use Rattle.iom_history.specs.declared.origin.Origin.TheVariants as origin
+use Rattle.iom_account.specs.declared.reason.Reason.{Reason}
 use Rattle.iom_c.specs.Looks.{is_write}
 use Rattle.iom_c.specs.Reasons.{plain_way, way_of}
-use Rattle.iom_c.specs.declared.account.Told.{Told}
 use Rattle.iom_c.specs.declared.why.StepReason.{StepReason}
 
 -- a reason of which nothing but its step's number and its kind is told
@@ -52,12 +52,12 @@ beside_tables None stale reason = reason
 beside_tables (Some request) None reason = reason
 beside_tables (Some request) (Some way) reason = record reason { way = way_of request.did way; is_stale = true }
 
-abbrev pub reason_of : Told → StepReason
-reason_of told = beside_tables told.request told.stale (used_by told.number told.request told.origin)
+abbrev pub reason_of : Reason → StepReason
+reason_of reason = beside_tables reason.request reason.stale (used_by reason.number reason.request reason.origin)
 
 -- of a step that there is, why it went as it did
-abbrev pub WhyTold : Option Told → ℕ → StepReason → StepReason → Type 0
-WhyTold (Some told) answer old new = (answer ≡ 0) × (new ≡ reason_of told)
+abbrev pub WhyTold : Option Reason → ℕ → StepReason → StepReason → Type 0
+WhyTold (Some reason) answer old new = (answer ≡ 0) × (new ≡ reason_of reason)
 WhyTold None answer old new = (answer ≡ 2) × (new ≡ old)
 
 -- of a place that there is, the number of the step that filled it

@@ -1,7 +1,6 @@
 //! The platform for C: exports over one handle, each with the clauses of the call that it makes.
 #![tactic(auto)]
 
-mod account;
 mod answers;
 mod handle;
 mod looking;
@@ -11,7 +10,6 @@ mod owned;
 mod parts;
 mod places;
 mod reasons;
-mod replies;
 mod steps;
 mod texts;
 mod walks;

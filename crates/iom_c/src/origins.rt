@@ -8,22 +8,22 @@ ghost use Rattle.iom_cache.specs.declared.key.Key.{Key};
 ghost use Rattle.iom_ddt.specs.declared.context.Context.{Context};
 ghost use Rattle.iom_nested.specs.declared.translation.Hit.{Hit};
 ghost use Rattle.iom_history.specs.Following.{ContextFrom, PageFrom, numbers_of};
-ghost use Rattle.iom_c.specs.Account.{Accounts};
+ghost use Rattle.iom_account.specs.Account.{Accounts};
 ghost use Rattle.iom_c.specs.Why.{OriginTold, PageOriginTold, WhyTold};
 ghost use Rattle.iom_c.specs.declared.owned.Owned.{Owned};
 
-use crate::account::Account;
 use crate::handle::Handle;
 use crate::why::{StepReason, reason_of};
+use iom_account::Account;
 use std::alloc::Global;
 
 // Puts why step `i` of the last went as it did.
 fn put_why(account: &Account, i: u64, out: &mut StepReason) -> u32
     ensures { WhyTold (slice_get account.now.told i) result out.old out.new }
 {
-    match account.told(i) {
-        Some(told) => {
-            *out = reason_of(told);
+    match account.reason(i) {
+        Some(reason) => {
+            *out = reason_of(reason);
             0
         }
         None => 2,

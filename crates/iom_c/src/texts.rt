@@ -13,10 +13,9 @@ ghost use Rattle.iom_c.specs.declared.owned.Owned.{Owned};
 
 use crate::handle::Handle;
 use crate::owned::{Owned, carry_out};
-use crate::replies::answer_text;
 use iom_asm::{AsmFault, assemble};
 use iom_core::Step;
-use iom_tool::{Reply, Session, step_of};
+use iom_tool::{Reply, Session, answer_text, step_of};
 use std::alloc::Global;
 
 // Puts a text and a 0 behind it, and how many bytes it has.

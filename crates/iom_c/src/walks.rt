@@ -1,9 +1,9 @@
 ghost use Rattle.std.specs.Prelude.{◌≡◌};
-ghost use Rattle.iom_c.specs.Reasons.{entry_part, met_part, mode_number, part_of, plain_part, ruling_number, word_in};
+ghost use Rattle.iom_c.specs.Reasons.{entry_part, met_part, mode_number, part_of, plain_part, ruling_number, wide_part, word_in};
 
 use crate::ways::{RequestWay, plain_way, way_of};
 use iom_ddt::Met;
-use iom_reasons::Part;
+use iom_reasons::{Part, Wide};
 use iom_regs::Mode;
 use iom_walk::{Got, PathEntry, Ruling};
 
@@ -18,7 +18,7 @@ pub struct WalkPart {
     pub read_at: u64,
     /// The guest-physical address that is translated, of kind 4.
     pub guest: u64,
-    /// The word of an entry; tc of a context; of ddtp its PPN.
+    /// The word of an entry; tc of a context; of ddtp its PPN; what is too wide, of kinds 6 to 8.
     pub word: u64,
     /// iohgatp of a context.
     pub iohgatp: u64,
@@ -26,7 +26,8 @@ pub struct WalkPart {
     pub ta: u64,
     /// fsc of a context.
     pub fsc: u64,
-    /// 0 ddtp, 1 a non-leaf entry of the directory, 2 a context, 3 an entry of the first stage, 4 one of the second, 5 the end.
+    /// 0 ddtp, 1 a non-leaf entry of the directory, 2 a context, 3 an entry of the first stage, 4 one of the second, 5 the end, 6 a device
+    /// id that is too wide for the directory, 7 an IOVA that is too wide for the first stage, 8 a guest-physical address for the second.
     pub kind: u32,
     /// ddtp's iommu_mode, 0 to 4, of kind 0.
     pub mode: u32,
@@ -149,6 +150,22 @@ fn entry_part(kind: u32, entry: &PathEntry) -> WalkPart
     }
 }
 
+// What is too wide for a table.
+fn wide_part(what: Wide) -> WalkPart
+    ensures { result ≡ wide_part what }
+{
+    let (kind, word) = match what {
+        Wide::Directory { did } => (6, u64::from(did)),
+        Wide::First { iova } => (7, iova),
+        Wide::Second { guest } => (8, guest),
+    };
+    WalkPart {
+        word,
+        has_word: true,
+        ..plain_part(kind)
+    }
+}
+
 /// A part of the walk of a request of device `did`, for C.
 pub fn part_of(did: u32, part: &Part) -> WalkPart
     ensures { result ≡ part_of did part.now }
@@ -161,6 +178,7 @@ pub fn part_of(did: u32, part: &Part) -> WalkPart
             ..plain_part(0)
         },
         Part::Directory(met) => met_part(met),
+        Part::Wide(what) => wide_part(what),
         Part::First { entry, addr } => WalkPart {
             read_at: addr.unwrap_or(0),
             has_read_at: addr.is_some(),

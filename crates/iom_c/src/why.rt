@@ -1,8 +1,8 @@
 ghost use Rattle.std.specs.Prelude.{◌≡◌};
 ghost use Rattle.iom_c.specs.Why.{asked_by, led_by, plain_reason, reason_of, used_by};
 
-use crate::account::Told;
 use crate::ways::{RequestWay, plain_way, way_of};
+use iom_account::Reason;
 use iom_bits::Kind;
 use iom_core::Request;
 use iom_history::Origin;
@@ -99,11 +99,11 @@ fn used_by(number: u64, request: Option<Request>, origin: Option<Origin>) -> Ste
 }
 
 /// Why a step went as it did, for C.
-pub fn reason_of(told: &Told) -> StepReason
-    ensures { result ≡ reason_of told.now }
+pub fn reason_of(reason: &Reason) -> StepReason
+    ensures { result ≡ reason_of reason.now }
 {
-    let used = used_by(told.number, told.request, told.origin);
-    match (told.request, told.stale) {
+    let used = used_by(reason.number, reason.request, reason.origin);
+    match (reason.request, reason.stale) {
         (Some(request), Some(way)) => StepReason {
             way: way_of(request.did, way),
             is_stale: true,

@@ -123,7 +123,6 @@ impl Platform {
     }
 
     /// Carries out one step, and answers what the step table says. It takes no memory.
-    #[inline(always)]
     pub fn step(&mut self, step: &Step) -> Answer
         ensures answer { result ≡ (next self.old step.now).answer }
         ensures state { self.new ≡ (next self.old step.now).state }
@@ -132,7 +131,20 @@ impl Platform {
         ensures reach { Reaches self.old step.now result self.new }
         ensures refused { Refuses result self.old self.new }
     {
-        self.take(step)
+        let mut answer = Answer::Done;
+        self.step_into(step, &mut answer);
+        answer
+    }
+
+    /// Carries out one step as `step` does, and puts its answer in place of what `answer` holds.
+    #[inline(always)]
+    pub fn step_into(&mut self, step: &Step, answer: &mut Answer)
+        ensures answer { answer.new ≡ (next self.old step.now).answer }
+        ensures state { self.new ≡ (next self.old step.now).state }
+        ensures reach { Reaches self.old step.now answer.new self.new }
+        ensures refused { Refuses answer.new self.old self.new }
+    {
+        self.take(step, answer);
     }
 
     /// Carries out steps in their order, and puts the answer to each at its place in `out`.
@@ -164,25 +176,25 @@ impl Platform {
         ensures end { self.new ≡ end_of self.old steps.now }
     {
         for (i, step) in steps.iter().enumerate() {
-            out[i] = self.take(step);
+            self.take(step, &mut out[i]);
         }
     }
 
-    // A step by its row of the step table.
+    // A step by its row of the step table, its answer put in place. A device's read puts its own, so that no bytes are moved.
     #[inline(always)]
     #[tactic(auto, unfolding(crate::specs::Table::next, crate::specs::Table::asked))]
-    fn take(&mut self, step: &Step) -> Answer
-        ensures answer { result ≡ (next self.old step.now).answer }
+    fn take(&mut self, step: &Step, answer: &mut Answer)
+        ensures answer { answer.new ≡ (next self.old step.now).answer }
         ensures state { self.new ≡ (next self.old step.now).state }
     {
-        match step {
+        *answer = match step {
             Step::Load { addr, size } => self.machine.load(*addr, *size),
             Step::Store { addr, size, value } => self.machine.store(*addr, *size, *value),
             Step::RegRead { off, size } => self.machine.reg_read(*off, *size),
             Step::RegWrite { off, size, value } => self.machine.reg_write(*off, *size, *value),
             Step::Command if self.machine.command() => Answer::Done,
             Step::Command => Answer::Idle,
-            Step::DmaRead { did, iova, len } => self.dma_read(*did, *iova, *len),
+            Step::DmaRead { did, iova, len } => return self.dma_read(*did, *iova, *len, answer),
             Step::DmaWrite { did, iova, bytes } => self.dma_write(*did, *iova, bytes.as_slice()),
             Step::DevRead { dev, off, size } => self.dev_read(*dev, *off, *size),
             Step::DevWrite {
@@ -192,30 +204,34 @@ impl Platform {
                 value,
             } => self.dev_write(*dev, *off, *size, *value),
             Step::Device { dev } => self.device(*dev),
-        }
+        };
     }
 
-    // Apart from the other steps, so that these needn't clear room for its bytes.
+    // Apart from the other steps, so that these needn't clear room for its bytes, which are read in the answer's place.
     #[inline(never)]
-    fn dma_read(&mut self, did: u64, iova: u64, len: u64) -> Answer
-        ensures answer { result
+    fn dma_read(&mut self, did: u64, iova: u64, len: u64, answer: &mut Answer)
+        ensures answer { answer.new
             ≡ (probed self.old (asking_where (is_device_access did iova len) did (Read iova len))).answer }
         ensures state { self.new
             ≡ (probed self.old (asking_where (is_device_access did iova len) did (Read iova len))).state }
     {
         let Some(request) = device_request(did, iova, len, Kind::Read) else {
-            return Answer::Misuse;
+            *answer = Answer::Misuse;
+            return;
         };
-        let mut bytes = ArrayVec::from([0; 64]);
+        *answer = Answer::Bytes(ArrayVec::from([0; 64]));
+        let Answer::Bytes(bytes) = answer else {
+            unreachable!();
+        };
         bytes.truncate(len as usize);
         let mut port = Port {
             machine: &mut self.machine,
             did: request.did,
         };
         match port.read(request.iova, bytes.as_mut_slice()) {
-            Access::Ok => Answer::Bytes(bytes),
-            Access::Denied(cause) => Answer::Denied(cause.number()),
-            Access::Outside => Answer::BusError,
+            Access::Ok => {}
+            Access::Denied(cause) => *answer = Answer::Denied(cause.number()),
+            Access::Outside => *answer = Answer::BusError,
         }
     }
 

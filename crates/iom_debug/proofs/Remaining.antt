@@ -5,21 +5,21 @@ use Rattle.iom_core.specs.Table.{next}
 use Rattle.iom_core.specs.Run.{end_of}
 use Rattle.iom_core.specs.declared.step.Step.{Step}
 use Rattle.iom_core.specs.declared.step.Step.TheVariants as step
+use Rattle.iom_account.proofs.Telling.{along_more, along_none}
 use Rattle.iom_tool.specs.declared.trace.Entry.{Entry}
 use Rattle.iom_tool.specs.Console.{trace_after}
-use Rattle.iom_debug.specs.Reasons.{Account, GoesAlong, last_stale}
+use Rattle.iom_debug.specs.Reasons.{GoesAlong, Reasons, last_stale}
 use Rattle.iom_debug.specs.Script.{stores_at}
 use Rattle.iom_debug.specs.Taking.{Desk, Took, is_done, last_answer, taken}
-use Rattle.iom_debug.proofs.Telling.{along_more, along_none}
 
 -- some steps of one number from a start, after `count` of them that were done: `rest` is left here
 pub record Left (start : Desk) (number : ℕ) (all : List Step) (here : Desk) (rest : List Step) (count : ℕ) : Type 0 where
   pub state_is : end_of start.state (taken start.state all) ≡ end_of here.state (taken here.state rest)
   pub trace_is : trace_after start.trace start.state (taken start.state all) ≡ trace_after here.trace here.state (taken here.state rest)
-  pub stale_is : last_stale start.account.stale start.state (taken start.state all)
-      ≡ last_stale here.account.stale here.state (taken here.state rest)
-  pub along : (after : Account) (left : State) → GoesAlong here.account here.state (taken here.state rest) number after left →
-      GoesAlong start.account start.state (taken start.state all) number after left
+  pub stale_is : last_stale start.reasons.stale start.state (taken start.state all)
+      ≡ last_stale here.reasons.stale here.state (taken here.state rest)
+  pub along : (after : Reasons) (left : State) → GoesAlong here.reasons here.state (taken here.state rest) number after left →
+      GoesAlong start.reasons start.state (taken start.state all) number after left
   pub count_is : length (taken start.state all) ≡ count + length (taken here.state rest)
   pub last_is : last_answer start.state all ≡ last_answer here.state rest
 
@@ -37,8 +37,8 @@ begins start number all = record {
 pub record Stopped (start : Desk) (number : ℕ) (all : List Step) (here : Desk) (step : Step) (count : ℕ) (after : Desk) : Type 0 where
   pub state_is : after.state ≡ end_of start.state (taken start.state all)
   pub trace_is : after.trace ≡ trace_after start.trace start.state (taken start.state all)
-  pub stale_is : after.account.stale ≡ last_stale start.account.stale start.state (taken start.state all)
-  pub along : GoesAlong start.account start.state (taken start.state all) number after.account after.state
+  pub stale_is : after.reasons.stale ≡ last_stale start.reasons.stale start.state (taken start.state all)
+  pub along : GoesAlong start.reasons start.state (taken start.state all) number after.reasons after.state
   pub count_is : length (taken start.state all) ≡ count + 1
   pub last_is : last_answer start.state all ≡ (next here.state step).answer
 
@@ -53,13 +53,13 @@ module _ (start : Desk) (number : ℕ) (all : List Step) (here : Desk) (step : S
         trace_is = left.trace_is ∙ ap (trace_after here.trace here.state) is
             ∙ ap (λ (t : List Entry). trace_after t there (taken there rest)) (sym took.trace)
             ∙ ap (λ (s : State). trace_after after.trace s (taken s rest)) (sym took.state);
-        stale_is = left.stale_is ∙ ap (last_stale here.account.stale here.state) is
+        stale_is = left.stale_is ∙ ap (last_stale here.reasons.stale here.state) is
             ∙ ap (λ found. last_stale found there (taken there rest)) (sym took.stale)
-            ∙ ap (λ (s : State). last_stale after.account.stale s (taken s rest)) (sym took.state);
+            ∙ ap (λ (s : State). last_stale after.reasons.stale s (taken s rest)) (sym took.state);
         along = λ last end more. left.along last end
-            (subst (λ (steps : List Step). GoesAlong here.account here.state steps number last end) (sym is)
-            (along_more here.account after.account last here.state after.state end step (taken there rest) number took.along
-            (subst (λ (s : State). GoesAlong after.account after.state (taken s rest) number last end) took.state more)));
+            (subst (λ (steps : List Step). GoesAlong here.reasons here.state steps number last end) (sym is)
+            (along_more here.reasons.account after.reasons.account last.account here.state after.state end step (taken there rest) number took.along
+            (subst (λ (s : State). GoesAlong after.reasons after.state (taken s rest) number last end) took.state more)));
         count_is =
             let one : length (taken here.state (step ∷ rest)) ≡ suc (length (taken there rest)) = ap length is in
             let same : length (taken there rest) ≡ length (taken after.state rest) = ap (λ (s : State). length (taken s rest)) (sym took.state) in
@@ -73,9 +73,9 @@ module _ (start : Desk) (number : ℕ) (all : List Step) (here : Desk) (step : S
       record {
         state_is = took.state ∙ sym (left.state_is ∙ ap (end_of here.state) is);
         trace_is = took.trace ∙ sym (left.trace_is ∙ ap (trace_after here.trace here.state) is);
-        stale_is = took.stale ∙ sym (left.stale_is ∙ ap (last_stale here.account.stale here.state) is);
-        along = left.along after.account after.state
-            (subst (λ (steps : List Step). GoesAlong here.account here.state steps number after.account after.state) (sym is) took.along);
+        stale_is = took.stale ∙ sym (left.stale_is ∙ ap (last_stale here.reasons.stale here.state) is);
+        along = left.along after.reasons after.state
+            (subst (λ (steps : List Step). GoesAlong here.reasons here.state steps number after.reasons after.state) (sym is) took.along);
         count_is =
             let one : length (taken here.state (step ∷ rest)) ≡ 1 = ap length is in
             let before = left.count_is in omega (arith, one, before);
@@ -84,9 +84,9 @@ module _ (start : Desk) (number : ℕ) (all : List Step) (here : Desk) (step : S
 
 -- where none is left
 pub ends : (start : Desk) (number : ℕ) (all : List Step) (here : Desk) (count : ℕ) → Left start number all here [] count →
-    GoesAlong start.account start.state (taken start.state all) number here.account here.state
+    GoesAlong start.reasons start.state (taken start.state all) number here.reasons here.state
 ends start number all here count left =
-    left.along here.account here.state (along_none here.account here.state number)
+    left.along here.reasons here.state (along_none here.reasons.account here.state number)
 
 -- a step that is repeated
 pub again : (step : Step) (most i : ℕ) → i < most → replicate (most - i) step ≡ step ∷ replicate (most - (i + 1)) step

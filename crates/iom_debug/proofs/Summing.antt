@@ -1,5 +1,5 @@
 -- The counts over some accesses and one more.
-use Rattle.std.proofs.Common.{◌≡◌, ◌∙◌, ◌++◌, ◌+◌, ◌-◌, ◌==◌, ℕ, suc, Bool, true, false, List, [], ◌∷◌, length, map, if◌then◌else◌, append-nil, refl, sym, ap, length-append, arith}
+use Rattle.std.proofs.Common.{◌≡◌, ◌∙◌, ◌++◌, ◌+◌, ◌-◌, ◌==◌, ℕ, suc, None, Bool, true, false, List, [], ◌∷◌, length, map, if◌then◌else◌, append-nil, refl, sym, ap, length-append, arith}
 use Rattle.std.specs.Prelude.{cond, slice_get}
 use Rattle.std.specs.List.{count_by, dedup, dedup_from, filter}
 use Rattle.std.proofs.lemmas.List.{map-append}
@@ -26,6 +26,16 @@ denied_more : (cs : List ℕ) (told : List Outcome) (o : Outcome) →
 denied_more [] told o = refl
 denied_more (c ∷ cs) told o =
     rw (counted_more (is_denied_for c) told o, denied_more cs told o) refl
+
+-- an access that was granted leaves what is beside a cause
+kept_entry : (o : Outcome) (entry : ℕ × ℕ) → o.denied ≡ None → denied_with o entry ≡ entry
+kept_entry o entry is = ap (λ denied. (entry.0, and_one (is_it entry.0 denied) entry.1)) is
+
+pub none_denied : (o : Outcome) (counts : List (ℕ × ℕ)) → o.denied ≡ None → counts ≡ map (denied_with o) counts
+none_denied o [] is = refl
+none_denied o (entry ∷ counts) is =
+    ap (λ (l : List (ℕ × ℕ)). entry ∷ l) (none_denied o counts is)
+    ∙ ap (λ (e : ℕ × ℕ). e ∷ map (denied_with o) counts) (sym (kept_entry o entry is))
 
 -- the last of a list is that of its rest
 last_of_rest : (k y : ℕ) (ys : List ℕ) → last_item (k ∷ y ∷ ys) ≡ last_item (y ∷ ys)

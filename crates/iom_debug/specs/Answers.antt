@@ -8,7 +8,7 @@ use Rattle.iom_debug.specs.Ways.{stale_address, stale_context_text, stale_page_t
 use Rattle.iom_debug.specs.Texts.{bytes_text, device_text, disk_text, queue_text}
 use Rattle.iom_debug.specs.declared.form.Inquiry.{Inquiry}
 use Rattle.iom_debug.specs.declared.form.Inquiry.TheVariants as inquiry
-use Rattle.iom_debug.specs.declared.reason.Reason.{Reason}
+use Rattle.iom_account.specs.declared.reason.Reason.{Reason}
 
 -- by what is told of the last steps
 abbrev pub inquired : Console → List Reason → Inquiry → List ℕ

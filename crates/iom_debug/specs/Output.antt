@@ -10,7 +10,7 @@ use Rattle.iom_debug.specs.Script.{DebugLine, Plain, Inquires, Again, Stores, de
 use Rattle.iom_tool.specs.Texts.{text_of}
 use Rattle.iom_debug.specs.Taking.{last_answer, run_text, taken}
 use Rattle.iom_debug.specs.Answers.{inquired}
-use Rattle.iom_debug.specs.declared.reason.Reason.{Reason}
+use Rattle.iom_account.specs.declared.reason.Reason.{Reason}
 
 -- by what is told of the last steps; None: nothing
 abbrev pub debug_reply : Console → List Reason → DebugLine → Option (List ℕ)

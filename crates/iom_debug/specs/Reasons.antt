@@ -1,59 +1,42 @@
--- What is told of steps while they are carried out: where each access's translation came from, and where the tables led it then.
-use Rattle.std.specs.Prelude.{ℕ, suc, ◌≡◌, ◌++◌, List, [], ◌∷◌, codes, length, replicate, take, slice_get, Option, Some, None, Result}
-use Rattle.circular_buffer.specs.Buffer.{keep_last}
+-- What is told of the steps of lines while they are carried out: where each access's translation came from, and where the tables led it
+-- then.
+use Rattle.std.specs.Prelude.{ℕ, ◌++◌, List, [], ◌∷◌, codes, Option, Some, None, Result}
+use Rattle.std.specs.Option.{option_map}
 use Rattle.iom_text.specs.Texts.{numeral}
 use Rattle.iom_core.specs.State.{State}
-use Rattle.iom_core.specs.Run.{end_of}
 use Rattle.iom_core.specs.Table.{next, request_of_step}
-use Rattle.iom_core.specs.Warrants.{IsUncached, moment, request_at}
 use Rattle.iom_core.specs.declared.access.Denial.{Denial}
 use Rattle.iom_core.specs.declared.access.Request.{Request}
 use Rattle.iom_core.specs.declared.step.Step.{Step}
-use Rattle.iom_history.specs.Following.{ComesFrom, Follows, Notes, number_of}
+use Rattle.iom_reasons.specs.declared.way.Way.{Way}
 use Rattle.iom_history.specs.declared.origin.Origin.{Origin}
 use Rattle.iom_history.specs.declared.origin.Origin.TheVariants as origin
-use Rattle.iom_debug.specs.Ways.{address_text, stale_address}
-use Rattle.iom_debug.specs.declared.reason.Reason.{Reason}
+use Rattle.iom_account.specs.Account.{Account, GoesAlong as AccountGoesAlong}
+use Rattle.iom_account.specs.declared.reason.Reason.{Reason}
+use Rattle.iom_debug.specs.Ways.{address_of, address_text, stale_address}
 
 -- where the tables lead an access that is stale, before the step that makes it; None: it isn't, or there is none
 abbrev pub stale_in : State → Option Request → Option (Result ℕ Denial)
 stale_in state None = None
 stale_in state (Some request) = stale_address state.machine request
 
--- what is told of step n, the last of these
-pub record IsReason (start : State) (steps : List Step) (numbers : List ℕ) (n : ℕ) (reason : Reason) : Type 0 where
-  pub number : reason.number ≡ number_of numbers n
-  pub request : reason.request ≡ request_at start steps n
-  pub origin : IsUncached start → ComesFrom start steps numbers n reason.origin
-  pub stale : reason.stale ≡ stale_in (moment start steps n) (request_at start steps n)
+-- where a way leads a request, if there are both
+abbrev pub address_by : Option Request → Option Way → Option (Result ℕ Denial)
+address_by None way = None
+address_by (Some request) way = option_map (λ way. address_of way request.iova) way
 
--- Of all these steps something is told, of each as it was carried out; the last 32 are kept.
-pub record Tells (start : State) (steps : List Step) (numbers : List ℕ) (told : List Reason) : Type 0 where
-  pub all : List Reason
-  pub many : length all ≡ length steps
-  pub each : (n : ℕ) (reason : Reason) → slice_get all n ≡ Some reason →
-      IsReason start (take (suc n) steps) (take (suc n) numbers) n reason
-  pub kept : told ≡ keep_last 32 all
+-- where the tables led the access of a step that was stale, by what is told of it
+abbrev pub stale_of : Reason → Option (Result ℕ Denial)
+stale_of reason = address_by reason.request reason.stale
 
--- what is kept beside a platform: which steps filled its caches, what is told of the last steps, and where the tables led the last
--- access of a line that was stale
-pub record Account : Type 0 where
-  pub history : Notes
-  pub told : List Reason
+-- what is kept beside a platform: the account of its steps, and where the tables led the last access of a line that was stale
+pub record Reasons : Type 0 where
+  pub account : Account
   pub stale : Option (Result ℕ Denial)
 
--- It goes along with the platform: since the start these steps were carried out, with these numbers.
-pub record Accounts (account : Account) (platform start : State) (steps : List Step) (numbers : List ℕ) : Type 0 where
-  pub reached : platform ≡ end_of start steps
-  pub numbered : length numbers ≡ length steps
-  pub follows : IsUncached start → Follows account.history platform start steps numbers
-  pub tells : Tells start steps numbers account.told
-
 -- It went along with these steps of one number.
-abbrev pub GoesAlong : Account → State → List Step → ℕ → Account → State → Type 0
-GoesAlong before state more number after left =
-    (start : State) (steps : List Step) (numbers : List ℕ) → Accounts before state start steps numbers →
-    Accounts after left start (steps ++ more) (numbers ++ replicate (length more) number)
+abbrev pub GoesAlong : Reasons → State → List Step → ℕ → Reasons → State → Type 0
+GoesAlong before state more number after left = AccountGoesAlong before.account state more number after.account left
 
 -- where the tables led the last access of some steps that was stale; `found`: that of the steps before them
 abbrev pub later : Option (Result ℕ Denial) → Option (Result ℕ Denial) → Option (Result ℕ Denial)
@@ -82,7 +65,7 @@ tables_text None = []
 tables_text (Some address) = codes " stale " ++ address_text address
 
 unfoldable pub reason_text : Reason → List ℕ
-reason_text reason = used_text reason.request reason.origin ++ tables_text reason.stale
+reason_text reason = used_text reason.request reason.origin ++ tables_text (stale_of reason)
 
 abbrev pub why_text : Option Reason → List ℕ
 why_text None = codes "none"

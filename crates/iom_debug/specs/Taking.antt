@@ -9,23 +9,23 @@ use Rattle.iom_core.specs.declared.step.Answer.TheVariants as answer
 use Rattle.iom_tool.specs.Console.{traced}
 use Rattle.iom_tool.specs.Texts.{text_of}
 use Rattle.iom_tool.specs.declared.trace.Entry.{Entry}
-use Rattle.iom_debug.specs.Reasons.{Account, GoesAlong, later, stale_in}
+use Rattle.iom_debug.specs.Reasons.{GoesAlong, Reasons, later, stale_in}
 
 -- what the lines of `debug` drive: a platform, the trace of its last steps, and what is told beside them
 pub record Desk : Type 0 where
   pub state : State
   pub trace : List Entry
-  pub account : Account
+  pub reasons : Reasons
 
-abbrev pub desk : State → List Entry → Account → Desk
-desk state trace account = record { state = state; trace = trace; account = account }
+abbrev pub desk : State → List Entry → Reasons → Desk
+desk state trace reasons = record { state = state; trace = trace; reasons = reasons }
 
 -- what a step of a line of this number leaves
 pub record Took (before : Desk) (step : Step) (number : ℕ) (after : Desk) : Type 0 where
   pub state : after.state ≡ (next before.state step).state
   pub trace : after.trace ≡ traced before.trace step (next before.state step).answer
-  pub stale : after.account.stale ≡ later before.account.stale (stale_in before.state (request_of_step before.state step))
-  pub along : GoesAlong before.account before.state (step ∷ []) number after.account after.state
+  pub stale : after.reasons.stale ≡ later before.reasons.stale (stale_in before.state (request_of_step before.state step))
+  pub along : GoesAlong before.reasons before.state (step ∷ []) number after.reasons after.state
 
 unfoldable pub is_done : Answer → Bool
 is_done answer.Done = true

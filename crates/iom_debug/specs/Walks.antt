@@ -17,6 +17,8 @@ use Rattle.iom_core.specs.declared.access.Request.{Request}
 use Rattle.iom_reasons.specs.Parts.{parts_of}
 use Rattle.iom_reasons.specs.declared.part.Part.{Part}
 use Rattle.iom_reasons.specs.declared.part.Part.TheVariants as part
+use Rattle.iom_reasons.specs.declared.part.Wide.{Wide}
+use Rattle.iom_reasons.specs.declared.part.Wide.TheVariants as wide
 use Rattle.iom_reasons.specs.declared.way.Way.{Way}
 use Rattle.iom_reasons.specs.declared.way.Way.TheVariants as way
 use Rattle.iom_items.specs.Lines.{line_of, operand}
@@ -76,6 +78,12 @@ second_text guest entry =
     codes "second" ++ operand (codes "of") guest ++ operand (codes "level") entry.level
     ++ operand (codes "at") entry.place ++ got_text entry.got ++ row_text entry.ruling
 
+-- what is too wide for the directory or for a stage
+unfoldable pub wide_text : Wide → List ℕ
+wide_text (wide.Directory did) = codes "dir" ++ operand (codes "did") did ++ codes " width"
+wide_text (wide.First iova) = codes "first" ++ operand (codes "iova") iova ++ codes " width"
+wide_text (wide.Second guest) = codes "second" ++ operand (codes "guest") guest ++ codes " width"
+
 -- where the walk ends, with the physical address or the denial
 unfoldable pub end_text : Way → Result ℕ Denial → List ℕ
 end_text way.Register addr = codes "register " ++ address_text addr
@@ -87,6 +95,7 @@ abbrev pub part_text : Machine → Request → Part → List ℕ
 part_text m request (part.Ddtp mode root) =
     codes "ddtp" ++ operand (codes "mode") (mode_number mode) ++ operand (codes "root") root
 part_text m request (part.Directory met) = met_text m.memory met
+part_text m request (part.Wide what) = wide_text what
 part_text m request (part.First entry addr) = first_text entry addr
 part_text m request (part.Second guest entry) = second_text guest entry
 part_text m request (part.End way) = end_text way (address_by_tables m request)

@@ -28,7 +28,7 @@ use iom_virtq::ChainFault;
 /// The answer to a question. Nothing is changed.
 pub fn answer_to(platform: &Platform, trace: &Trace, reasons: &Reasons, inquiry: &Inquiry) -> Reply
     requires { InRange inquiry.now }
-    ensures { result.items ≡ inquired (console platform.now trace.now) reasons.now.told inquiry.now }
+    ensures { result.items ≡ inquired (console platform.now trace.now) reasons.now.account.told inquiry.now }
 {
     match *inquiry {
         Inquiry::Stale(request) => stale_line(platform, &request),

@@ -5,7 +5,6 @@ ghost use Rattle.iom_core.specs.Table.{next};
 ghost use Rattle.iom_tool.specs.Script.{Bad, line_of};
 ghost use Rattle.iom_tool.specs.Console.{console, trace_after};
 ghost use Rattle.iom_tool.specs.Output.{reply, steps_of};
-ghost use Rattle.iom_tool.specs.Texts.{text_of};
 ghost use Rattle.iom_debug.specs.Reasons.{GoesAlong, last_stale, stale_only};
 ghost use Rattle.iom_debug.specs.Script.{debug_line_of};
 ghost use Rattle.iom_debug.specs.Output.{IsAsRun, debug_reply, debug_steps_of, repeated_in};
@@ -14,7 +13,7 @@ ghost use Rattle.iom_debug.specs.Taking.{Took, desk, is_done};
 use crate::answers::answer_to;
 use crate::form::{Form, form_of};
 use crate::reasons::Reasons;
-use crate::taking::{StepAnswer, step_by, store_all, take, take_again};
+use crate::taking::{step_by, store_all, take, take_again, take_told};
 use crate::ways::address_line;
 use iom_core::{Platform, Step};
 use iom_tool::{Reply, Session, Trace, step_of};
@@ -56,7 +55,7 @@ impl<'a> Debugger<'a> {
     /// `bad` is answered so here too, and leaves the same.
     pub fn line(&mut self, number: u64, text: &[u8]) -> Reply
         ensures reply { result.items ≡ unwrap_or
-            (debug_reply (console self.old.platform.now self.old.trace.now) self.old.reasons.now.told (debug_line_of text.now)) [] }
+            (debug_reply (console self.old.platform.now self.old.trace.now) self.old.reasons.now.account.told (debug_line_of text.now)) [] }
         ensures state { self.new.platform.now
             ≡ end_of self.old.platform.now (debug_steps_of self.old.platform.now text.now) }
         ensures trace { self.new.trace.now
@@ -77,10 +76,9 @@ impl<'a> Debugger<'a> {
         answer_line(self.platform, self.trace, self.reasons, number, text)
     }
 
-    /// Carries out a step by itself, as one of the line of this number.
-    pub fn take(&mut self, number: u64, step: Step) -> StepAnswer
-        ensures done { result.is_done ≡ is_done (next self.old.platform.now step).answer }
-        ensures text { result.text.items ≡ text_of (next self.old.platform.now step).answer }
+    /// Carries out a step by itself, as one of the line of this number, and answers whether it was done. The trace has its answer.
+    pub fn take(&mut self, number: u64, step: Step) -> bool
+        ensures done { result ≡ is_done (next self.old.platform.now step).answer }
         ensures took { Took (desk self.old.platform.now self.old.trace.now self.old.reasons.now) step number
             (desk self.new.platform.now self.new.trace.now self.new.reasons.now) }
         ensures same_platform { self.new.platform.ghost_name ≡ self.old.platform.ghost_name }
@@ -123,7 +121,7 @@ fn answer_line(
     text: &[u8],
 ) -> Reply
     ensures reply { result.items
-        ≡ unwrap_or (debug_reply (console platform.old trace.old) reasons.old.told (debug_line_of text.now)) [] }
+        ≡ unwrap_or (debug_reply (console platform.old trace.old) reasons.old.account.told (debug_line_of text.now)) [] }
     ensures state { platform.new ≡ end_of platform.old (debug_steps_of platform.old text.now) }
     ensures trace { trace.new ≡ trace_after trace.old platform.old (debug_steps_of platform.old text.now) }
     ensures along { GoesAlong reasons.old platform.old (debug_steps_of platform.old text.now) number reasons.new platform.new }
@@ -143,18 +141,18 @@ fn carry_out(
     text: &[u8],
 ) -> Reply
     ensures reply { result.items
-        ≡ unwrap_or (debug_reply (console platform.old trace.old) reasons.old.told (debug_line_of text.now)) [] }
+        ≡ unwrap_or (debug_reply (console platform.old trace.old) reasons.old.account.told (debug_line_of text.now)) [] }
     ensures state { platform.new ≡ end_of platform.old (debug_steps_of platform.old text.now) }
     ensures trace { trace.new ≡ trace_after trace.old platform.old (debug_steps_of platform.old text.now) }
     ensures along { GoesAlong reasons.old platform.old (debug_steps_of platform.old text.now) number reasons.new platform.new }
     ensures stale { reasons.new.stale ≡ last_stale reasons.old.stale platform.old (debug_steps_of platform.old text.now) }
 {
     if let Some(step) = step_of(text) {
-        return take(platform, trace, reasons, number, step).text;
+        return take_told(platform, trace, reasons, number, step).text;
     }
     match form_of(text) {
         None => Session::new(platform, trace).line(text),
-        Some(Form::Does(step)) => take(platform, trace, reasons, number, step).text,
+        Some(Form::Does(step)) => take_told(platform, trace, reasons, number, step).text,
         Some(Form::Inquires(inquiry)) => answer_to(platform, trace, reasons, &inquiry),
         Some(Form::Again(actor, most)) => {
             take_again(platform, trace, reasons, number, actor, most)

@@ -2,19 +2,19 @@
 #![tactic(auto)]
 
 pub use debugger::{Debugger, repeated};
+pub use iom_account::Reason;
 pub use iom_tool::Reply;
-pub use reason::Reason;
+pub use parts::put_part;
 pub use reasons::Reasons;
 pub use summary::{Outcome, Summary};
-pub use taking::{StepAnswer, counted};
-pub use walks::part_line;
+pub use taking::counted;
 pub use wanting::wanted;
 
 mod answers;
 mod debugger;
 mod form;
-mod kept;
 mod names;
+mod parts;
 mod reason;
 mod reasons;
 mod standings;

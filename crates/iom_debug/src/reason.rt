@@ -1,38 +1,36 @@
-ghost use Rattle.std.specs.Prelude.{◌≡◌, ◌+◌, ◌++◌, ◌≤◌, length};
-ghost use Rattle.iom_debug.specs.Reasons.{origin_text, reason_text, tables_text, used_text, why_text};
+ghost use Rattle.std.specs.Prelude.{◌≡◌, ◌+◌, ◌++◌, ◌≤◌, length, IfSome};
 ghost use Rattle.std.specs.Option.{option_copied};
+ghost use Rattle.iom_account.specs.Account.{ReasonFits};
+ghost use Rattle.iom_debug.specs.Reasons.{origin_text, reason_text, stale_of, tables_text, used_text, why_text};
 
 use crate::text::{push_number, push_text, said};
-use crate::ways::push_address;
+use crate::ways::{address_of, push_address};
+use iom_account::Reason;
 use iom_core::{Denial, Request};
 use iom_history::Origin;
 use iom_tool::Reply;
 
-/// What is told of a step that was carried out.
-#[derive(Clone, Copy, Default)]
-pub struct Reason {
-    /// The number that the caller gave its line.
-    pub number: u64,
-    /// What it asked of the IOMMU; None where it made no access.
-    pub request: Option<Request>,
-    /// Where the translation came from that it used, each step told by its number; None where it made no access, or was denied.
-    pub origin: Option<Origin>,
-    /// Where the tables led its access before the step, a physical address or a denial, where something cached led it elsewhere.
-    pub stale: Option<Result<u64, Denial>>,
+/// Where the tables led the access of a step before it, a physical address or a denial; None where it was not stale.
+pub fn stale_of(reason: &Reason) -> Option<Result<u64, Denial>>
+    requires { ReasonFits reason.now }
+    ensures { result ≡ stale_of reason.now }
+{
+    let request = reason.request?;
+    let way = reason.stale?;
+    Some(address_of(&way, request.iova))
 }
 
-impl Reason {
-    /// The text of it, at most 128 bytes: `walked context=12 walk=14 current=15`, `context 12`, `register`, `denied` or `no access`,
-    /// and behind that ` stale addr=0x80020abc` or ` stale denied 13` where it was stale.
-    #[tactic(auto, unfolding(crate::specs::Reasons::reason_text))]
-    pub fn line(&self) -> Reply
-        ensures { result.items ≡ reason_text self.now }
-    {
-        let mut out = Reply::new();
-        push_used(&mut out, self.request, self.origin);
-        push_tables(&mut out, self.stale);
-        out
-    }
+// The text of what is told of a step, at most 128 bytes: `walked context=12 walk=14 current=15`, `context 12`, `register`, `denied` or
+// `no access`, and behind that ` stale addr=0x80020abc` or ` stale denied 13` where it was stale.
+#[tactic(auto, unfolding(crate::specs::Reasons::reason_text))]
+fn reason_line(reason: &Reason) -> Reply
+    requires { ReasonFits reason.now }
+    ensures { result.items ≡ reason_text reason.now }
+{
+    let mut out = Reply::new();
+    push_used(&mut out, reason.request, reason.origin);
+    push_tables(&mut out, stale_of(reason));
+    out
 }
 
 // Appends what an access used.
@@ -80,12 +78,13 @@ fn push_tables(out: &mut Reply, stale: Option<Result<u64, Denial>>)
     }
 }
 
-/// The same of a step that there may be, and `none` where there is none.
+/// The text of what is told of a step that there may be, at most 128 bytes; `none` where there is none.
 pub fn why_line(reason: Option<&Reason>) -> Reply
+    requires { IfSome (option_copied reason) ReasonFits }
     ensures { result.items ≡ why_text (option_copied reason.entry) }
 {
     match reason {
-        Some(reason) => reason.line(),
+        Some(reason) => reason_line(reason),
         None => said(b"none"),
     }
 }

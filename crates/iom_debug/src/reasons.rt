@@ -1,67 +1,71 @@
 //! What is told of the last steps.
 
 ghost use Rattle.std.specs.Prelude.{◌≡◌};
-ghost use Rattle.iom_core.specs.Table.{request_of_step};
-ghost use Rattle.iom_debug.specs.Reasons.{stale_in};
 
-use crate::kept::Kept;
-use crate::reason::Reason;
-use crate::ways::stale_address;
+use crate::reason::stale_of;
+use iom_account::{Account, Reason};
 use iom_core::{Answer, Denial, Platform, Step};
-use iom_history::{History, Taken};
 use std::marker::Model;
 
 /// What is told of the last 32 steps that a script's lines were, beside a platform and a trace: where the translation of each access
 /// came from, and where the tables led it then.
 #[derive(Drop)]
 pub struct Reasons {
-    history: History,
-    told: Kept,
+    account: Account,
     stale: Option<Result<u64, Denial>>,
 }
 
 impl Model for Reasons {
-    ghost use Rattle.iom_debug.specs.Reasons.{Account};
+    ghost use Rattle.iom_debug.specs.Reasons.{Reasons};
 
-    ghost Value = { Account };
+    ghost Value = { Reasons };
 
-    ghost view = { λ r. record { history = r.history; told = r.told; stale = r.stale } };
+    ghost view = { λ r. record { account = r.account; stale = r.stale } };
 }
 
 impl Reasons {
-    ghost use Rattle.std.specs.Prelude.{◌≡◌, ◌++◌, [], ◌∷◌, None, slice_get};
-    ghost use Rattle.std.specs.Option.{option_copied};
-    ghost use Rattle.circular_buffer.specs.Buffer.{keep_last, last_item};
+    ghost use Rattle.std.specs.Prelude.{◌≡◌, [], ◌∷◌, None, IfSome, slice_get};
+    ghost use Rattle.std.specs.Option.{option_and_then, option_copied};
+    ghost use Rattle.circular_buffer.specs.Buffer.{last_item};
+    ghost use Rattle.iom_account.specs.Account.{Accounts, ReasonFits};
     ghost use Rattle.iom_core.specs.Table.{next, request_of_step};
-    ghost use Rattle.iom_debug.specs.Reasons.{Accounts, GoesAlong, later, stale_in};
+    ghost use Rattle.iom_debug.specs.Reasons.{GoesAlong, later, stale_in, stale_of};
 
     /// Reasons that begin at this platform, of no step yet. No call of theirs takes memory. Where translations come from is told if
     /// both caches hold nothing now.
     pub fn new(platform: &Platform) -> Reasons
-        ensures begins { Accounts result platform.now platform.now [] [] }
-        ensures empty { result.told ≡ [] }
+        ensures begins { Accounts result.account platform.now platform.now [] [] }
+        ensures empty { result.account.told ≡ [] }
         ensures current { result.stale ≡ None }
     {
         Reasons {
-            history: History::new(platform),
-            told: Kept::new(),
+            account: Account::new(platform),
             stale: None,
         }
     }
 
     /// What is told of step `i` of the last 32, any number; the oldest is 0, as in the trace. None where there are so many steps or
-    /// fewer.
+    /// fewer. The way that it tells is one that the tables may say.
     pub fn reason(&self, i: u64) -> Option<&Reason>
-        ensures { option_copied result ≡ slice_get self.now.told i }
+        ensures reason { option_copied result ≡ slice_get self.now.account.told i }
+        ensures fits { IfSome (option_copied result) ReasonFits }
     {
-        self.told.get(i as usize)
+        self.account.reason(i)
     }
 
     /// What is told of the last step; None where there was none.
     pub fn newest(&self) -> Option<&Reason>
-        ensures { option_copied result ≡ last_item self.now.told }
+        ensures reason { option_copied result ≡ last_item self.now.account.told }
+        ensures fits { IfSome (option_copied result) ReasonFits }
     {
-        self.told.newest()
+        self.account.newest()
+    }
+
+    /// Where the tables led the access of the last step before it, a physical address or a denial; None where it was not stale.
+    pub fn newest_stale(&self) -> Option<Result<u64, Denial>>
+        ensures { result ≡ option_and_then stale_of (last_item self.now.account.told) }
+    {
+        stale_of(self.newest()?)
     }
 
     /// Where the tables led the last access of the last line that was stale; None where none was.
@@ -80,46 +84,18 @@ impl Reasons {
 
     /// Carries out the next step on the platform, a step of the line of this number, and keeps what is told of it. Of 32 steps the
     /// oldest leaves.
+    #[tactic(auto, using(crate::proofs::Newest::stale_newest))]
     pub fn step(&mut self, platform: &mut Platform, step: &Step, number: u64) -> Answer
         ensures answer { result ≡ (next platform.old step.now).answer }
         ensures state { platform.new ≡ (next platform.old step.now).state }
         ensures stale { self.new.stale ≡ later self.old.stale (stale_in platform.old (request_of_step platform.old step.now)) }
         ensures along { GoesAlong self.old platform.old (step.now ∷ []) number self.new platform.new }
     {
-        let stale = stale_before(platform, step);
-        let Taken {
-            answer,
-            request,
-            origin,
-        } = self.history.step(platform, step, number);
-        self.keep(Reason {
-            number,
-            request,
-            origin,
-            stale,
-        });
+        let answer = self.account.step(platform, step, number);
+        let stale = self.newest_stale();
+        if stale.is_some() {
+            self.stale = stale;
+        }
         answer
     }
-
-    // Keeps what is told of a step.
-    fn keep(&mut self, reason: Reason)
-        ensures { self.new ≡ record {
-          history = self.old.history;
-          told = keep_last 32 (self.old.told ++ reason ∷ []);
-          stale = later self.old.stale reason.stale;
-        } }
-    {
-        if reason.stale.is_some() {
-            self.stale = reason.stale;
-        }
-        self.told.keep(reason);
-    }
-}
-
-// Where the tables lead the access that a step makes, where it is stale.
-fn stale_before(platform: &Platform, step: &Step) -> Option<Result<u64, Denial>>
-    ensures { result ≡ stale_in platform.now (request_of_step platform.now step.now) }
-{
-    let request = platform.request_of(step)?;
-    stale_address(platform, &request)
 }

@@ -161,9 +161,13 @@ fn and_one(is: bool, count: u64) -> u64
 }
 
 // Counts one more beside its cause, where it was denied.
+#[tactic(auto, using(crate::proofs::Summing::none_denied))]
 fn count_denied(counts: &mut [(u16, u64)], outcome: &Outcome)
     ensures { counts.new ≡ map (denied_with outcome.now) counts.old }
 {
+    if outcome.denied.is_none() {
+        return;
+    }
     for entry in counts.iter_mut() {
         *entry = denied_with(outcome, *entry);
     }

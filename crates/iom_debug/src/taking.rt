@@ -13,11 +13,11 @@ ghost use Rattle.iom_debug.specs.Taking.{Took, desk, is_done, last_answer, run_t
 
 use crate::form::Actor;
 use crate::reasons::Reasons;
-use crate::text::{push_answer, push_hexed, push_text};
+use crate::text::{push_hexed, push_text};
 use iom_core::{Answer, Platform, Step};
-use iom_tool::{Reply, Trace};
+use iom_tool::{Reply, Trace, answer_text};
 
-/// What a step was answered.
+/// What a step was answered, told.
 #[derive(Drop)]
 pub struct StepAnswer {
     /// Whether it was done.
@@ -26,8 +26,25 @@ pub struct StepAnswer {
     pub text: Reply,
 }
 
-/// Carries out a step of the line of this number.
+/// Carries out a step of the line of this number, and answers whether it was done.
 pub fn take(
+    platform: &mut Platform,
+    trace: &mut Trace,
+    reasons: &mut Reasons,
+    number: u64,
+    step: Step,
+) -> bool
+    ensures done { result ≡ is_done (next platform.old step).answer }
+    ensures took { Took (desk platform.old trace.old reasons.old) step number (desk platform.new trace.new reasons.new) }
+{
+    let answer = reasons.step(platform, &step, number);
+    let is_done = is_done(&answer);
+    trace.keep(step, answer);
+    is_done
+}
+
+/// The same, with the text of the answer.
+pub fn take_told(
     platform: &mut Platform,
     trace: &mut Trace,
     reasons: &mut Reasons,
@@ -42,20 +59,10 @@ pub fn take(
     let answer = reasons.step(platform, &step, number);
     let answered = StepAnswer {
         is_done: is_done(&answer),
-        text: told(&answer),
+        text: answer_text(&answer),
     };
     trace.keep(step, answer);
     answered
-}
-
-// The text of an answer.
-fn told(answer: &Answer) -> Reply
-    ensures text { result.items ≡ text_of answer.now }
-    ensures short { length result.items ≤ 128 }
-{
-    let mut out = Reply::new();
-    push_answer(&mut out, answer);
-    out
 }
 
 // Whether a step was done.
@@ -109,7 +116,7 @@ pub fn take_again(
 {
     for i in 0..most {
         let step = step_by(actor);
-        let answered = take(platform, trace, reasons, number, step);
+        let answered = take_told(platform, trace, reasons, number, step);
         if !answered.is_done {
             return counted(i + 1, answered.text.as_slice());
         }
@@ -140,10 +147,10 @@ pub fn store_all(
             size: 8,
             value: *word,
         };
-        let answered = take(platform, trace, reasons, number, step);
+        let answered = take_told(platform, trace, reasons, number, step);
         if !answered.is_done {
             return answered.text;
         }
     }
-    told(&Answer::Done)
+    answer_text(&Answer::Done)
 }

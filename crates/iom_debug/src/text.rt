@@ -5,11 +5,9 @@ ghost use Rattle.hex.specs.Hex.{encode_lower};
 ghost use Rattle.iom_bits.specs.Causes.{cause_number};
 ghost use Rattle.iom_text.specs.Texts.{numeral, hexed};
 ghost use Rattle.iom_items.specs.Lines.{operand};
-ghost use Rattle.iom_tool.specs.Texts.{text_of};
 
 use hex::encode_to_slice;
 use iom_bits::Cause;
-use iom_core::Answer;
 use iom_text::{decimal, put_hex};
 use iom_tool::Reply;
 
@@ -97,24 +95,4 @@ pub fn push_cause(out: &mut Reply, cause: Cause)
     ensures room { length out.new.items ≤ length out.old.items + 27 }
 {
     push_denied(out, cause.number());
-}
-
-/// Appends the text of an answer, at most 128 bytes.
-#[tactic(auto, unfolding(iom_tool::specs::Texts::text_of))]
-pub fn push_answer(out: &mut Reply, answer: &Answer)
-    requires { length out.old.items + 128 ≤ 320 }
-    ensures text { out.new.items ≡ out.old.items ++ text_of answer.now }
-    ensures room { length out.new.items ≤ length out.old.items + 128 }
-{
-    match answer {
-        Answer::Value(value) => push_hexed(out, *value),
-        Answer::Done => push_text(out, b"done"),
-        Answer::Bytes(bytes) => push_bytes(out, bytes.as_slice()),
-        Answer::Idle => push_text(out, b"idle"),
-        Answer::Denied(cause) => push_denied(out, *cause),
-        Answer::BusError => push_text(out, b"bus error"),
-        Answer::BadAccess => push_text(out, b"bad access"),
-        Answer::NoDevice => push_text(out, b"no device"),
-        Answer::Misuse => push_text(out, b"misuse"),
-    }
 }

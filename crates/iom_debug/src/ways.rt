@@ -9,8 +9,8 @@ use iom_core::{Denial, Platform, Request};
 use iom_reasons::{Way, stale, way_by_tables};
 use iom_tool::Reply;
 
-// The physical address that a way leads an IOVA to, or its denial.
-fn address_of(way: &Way, iova: u64) -> Result<u64, Denial>
+/// The physical address that a way leads an IOVA to, or its denial.
+pub fn address_of(way: &Way, iova: u64) -> Result<u64, Denial>
     requires { Fits way.now }
     ensures { result ≡ address_of way.now iova }
 {

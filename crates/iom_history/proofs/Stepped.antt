@@ -1,7 +1,9 @@
 -- What a step of a history that follows a platform keeps and tells.
 use Rattle.std.proofs.Common.{◌≡◌, ◌∙◌, ◌++◌, ℕ, suc, List, [], ◌∷◌, length, Bool, true, false, Option, Some, None, if◌then◌else◌, refl, sym, ap, subst}
+use Rattle.std.specs.Prelude.{◌↔◌}
 use Rattle.iom_cache.proofs.Stamped.{Stamped-length}
-use Rattle.iom_core.specs.Access.{led}
+use Rattle.iom_ddt.specs.declared.context.Context.{Context}
+use Rattle.iom_core.specs.Access.{ByContext, ByRegister, Denied, Walked, Way, led}
 use Rattle.iom_core.specs.Histories.{IsLedBy, IsNoAccess, is_denial, leading_context}
 use Rattle.iom_core.specs.State.{State}
 use Rattle.iom_core.specs.Table.{next, request_of_step}
@@ -15,6 +17,33 @@ use Rattle.iom_history.specs.declared.origin.Origin.{Origin}
 use Rattle.iom_history.proofs.Followed.{followed}
 use Rattle.iom_history.proofs.Runs.{length_more, moment_all, moment_last, request_last}
 use Rattle.iom_history.proofs.Told.{by_leading, contexts_noted, notes_at, walks_noted}
+
+-- what is led somewhere isn't denied
+led_somewhere : (way : Way) (by : Option Context) → IsLedBy way by → IsDenied way → ⊥
+led_somewhere ByRegister by is refused = refused
+led_somewhere (ByContext context) by is refused = refused
+led_somewhere (Walked context hit) by is refused = refused
+led_somewhere (Denied denial) by is refused = is
+
+-- no origin is told where there was no access, and of no other step
+pub none_idle : (state : State) (taken : Step) → request_of_step state taken ≡ None → (found : Option Origin) → found ≡ None →
+    (found ≡ None) ↔ IsNoAccess state (request_of_step state taken)
+none_idle state taken none found is = (λ same. subst (IsNoAccess state) (sym none) tt, λ no. is)
+
+pub none_request : (state : State) (taken : Step) (request : Request) → request_of_step state taken ≡ Some request →
+    (given : Answer) → given ≡ (next state taken).answer → (found : Option Origin) (other : Origin) →
+    found ≡ (if is_denial given then None else Some other) → (found ≡ None) ↔ IsNoAccess state (request_of_step state taken)
+none_request state taken request asked given answer found other told =
+    let Goal : Bool → Type 0 = λ b. is_denial (next state taken).answer ≡ b → found ≡ (if b then None else Some other) →
+    (found ≡ None) ↔ IsNoAccess state (request_of_step state taken) in
+    let by_answer : (b : Bool) → Goal b = λ b. elim b as Goal [
+      | true ↦ λ answered is. (λ same. denied state taken request asked answered, λ no. is)
+      | false ↦ λ answered is. (
+        λ same. let never : Some other ≡ None = sym is ∙ same in absurd (cc),
+        λ no. absurd (led_somewhere (led state.machine request).way _ (passed state taken request asked answered) (subst (IsNoAccess state) asked no)),
+      )
+    ] in
+    by_answer (is_denial (next state taken).answer) refl (told ∙ ap (λ (b : Bool). if b then None else Some other) (ap is_denial answer))
 
 module _ (history : Notes) (platform start : State) (steps : List Step) (numbers : List ℕ) (h : Follows history platform start steps numbers) where
   -- as many notes as places

@@ -3,7 +3,7 @@ ghost use Rattle.iom_ddt.specs.Contexts.{is_bare};
 ghost use Rattle.iom_cache.specs.Keys.{same_did, same_key};
 ghost use Rattle.iom_cache.specs.Origins.{first_stamps};
 ghost use Rattle.iom_core.specs.Access.{request_key};
-ghost use Rattle.iom_core.specs.Histories.{is_denial, leading_context};
+ghost use Rattle.iom_core.specs.Histories.{IsNoAccess, is_denial, leading_context};
 ghost use Rattle.iom_core.specs.Table.{next, request_of_step};
 ghost use Rattle.iom_core.specs.Warrants.{IsUncached};
 ghost use Rattle.iom_cache.specs.Places.{made_room};
@@ -100,6 +100,8 @@ impl History {
         ensures answer { result.answer ≡ (next platform.old step.now).answer }
         ensures state { platform.new ≡ (next platform.old step.now).state }
         ensures request { result.request ≡ request_of_step platform.old step.now }
+        // Whatever the caches held, it tells no origin of a step that made no access or was denied, and one of every other.
+        ensures none { (result.origin ≡ None) ↔ IsNoAccess platform.old (request_of_step platform.old step.now) }
 
         // From a start whose caches hold nothing it goes along with the steps, and tells of each what explains it.
         ensures follows { (start : State) (steps : List Step) (numbers : List ℕ) →

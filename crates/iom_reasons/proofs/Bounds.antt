@@ -43,10 +43,12 @@ use Rattle.iom_nested.specs.declared.translation.Reached.{Reached}
 use Rattle.iom_core.specs.State.{Machine}
 use Rattle.iom_core.specs.declared.access.Request.{Request}
 use Rattle.iom_reasons.specs.Bounds.{EntryFits, MetFits, ModeFits, PartFits}
-use Rattle.iom_reasons.specs.Parts.{access_parts, address_by, entry_parts, first_by, first_parts, parts_by, parts_of, read_at, read_by, second_by, second_parts, stage_parts}
+use Rattle.iom_reasons.specs.Parts.{access_parts, address_by, directory_parts, entry_parts, first_by, first_parts, parts_by, parts_of, read_at, read_by, second_by, second_parts, stage_parts}
 use Rattle.iom_reasons.specs.Stale.{Fits, by_tables}
 use Rattle.iom_reasons.specs.declared.part.Part.{Part}
 use Rattle.iom_reasons.specs.declared.part.Part.TheVariants as part
+use Rattle.iom_reasons.specs.declared.part.Wide.TheVariants as wide
+use Rattle.iom_reasons.proofs.Widths.{each_by_width}
 
 field_below : (word low width : ℕ) → field_of word low width < 2 ^ width
 field_below word low width = mod_below (word / 2 ^ low) (2 ^ width) (pow_pos width)
@@ -280,9 +282,10 @@ second_by_fits : (memory : Memory) (root : ℕ) (kind : Kind) (guest : ℕ) (sha
 second_by_fits memory root kind guest None rooted below = All-nil PartFits
 second_by_fits memory root kind guest (Some shape) rooted below =
     let path : List PathEntry = path_told (ram_got memory) shape root guest kind in
-    All-map PartFits (part.Second guest) path
+    each_by_width PartFits (is_in_width shape guest) (wide.Second guest) (map (part.Second guest) path) (λ is. below)
+    (All-map PartFits (part.Second guest) path
     (All-weaker (IsTold shape guest) (λ entry. PartFits (part.Second guest entry)) (λ entry is. (rooted.guest guest below is.0, is.1)) path
-    (walk_fits (ram_got memory) shape root guest kind rooted.stands))
+    (walk_fits (ram_got memory) shape root guest kind rooted.stands)))
 
 second_fits : (memory : Memory) (context : Context) (kind : Kind) (guest : ℕ) → IsWellFormed context → guest < 2 ^ 64 →
     All PartFits (second_parts memory context kind guest)
@@ -329,18 +332,19 @@ entries_fit memory context (entry ∷ more) well each =
     (entries_fit memory context more well (All-tail EntryFits entry more each))
 
 first_by_fits : (memory : Memory) (context : Context) (iova : ℕ) (kind : Kind) (shape : Option Shape) → IsWellFormed context →
-    FirstFits shape context.ppn → All PartFits (first_by memory context iova kind shape)
-first_by_fits memory context iova kind None well rooted = All-nil PartFits
-first_by_fits memory context iova kind (Some shape) well rooted =
+    FirstFits shape context.ppn → iova < 2 ^ 64 → All PartFits (first_by memory context iova kind shape)
+first_by_fits memory context iova kind None well rooted below = All-nil PartFits
+first_by_fits memory context iova kind (Some shape) well rooted below =
     let path : List PathEntry = path_told (table_got memory context) shape context.ppn iova kind in
-    entries_fit memory context path well
-    (All-weaker (IsTold shape iova) EntryFits (λ entry is. is.1) path (walk_fits (table_got memory context) shape context.ppn iova kind rooted))
+    each_by_width PartFits (is_in_width shape iova) (wide.First iova) (flat_map (entry_parts memory context) path) (λ is. below)
+    (entries_fit memory context path well
+    (All-weaker (IsTold shape iova) EntryFits (λ entry is. is.1) path (walk_fits (table_got memory context) shape context.ppn iova kind rooted)))
 
-first_parts_fit : (memory : Memory) (context : Context) (iova : ℕ) (kind : Kind) → IsWellFormed context →
+first_parts_fit : (memory : Memory) (context : Context) (iova : ℕ) (kind : Kind) → IsWellFormed context → iova < 2 ^ 64 →
     All PartFits (first_parts memory context iova kind)
 unfolding first_parts
-first_parts_fit memory context iova kind well =
-    first_by_fits memory context iova kind (first_shape_of context) well (first_root context.mode context.ppn well.first_root)
+first_parts_fit memory context iova kind well below =
+    first_by_fits memory context iova kind (first_shape_of context) well (first_root context.mode context.ppn well.first_root) below
 
 -- those of the access
 reached_fits : (iova : ℕ) (end : Outcome) → FrameFits end → IfOk (reached_by iova end) (λ reached. reached.addr < 2 ^ 64)
@@ -367,21 +371,26 @@ pub stages_fit : (memory : Memory) (iova : ℕ) (kind : Kind) (found : Result Co
 stages_fit memory iova kind (Ok context) well below =
     let reached : Result Reached Failure = first_stage memory context iova kind (first_shape_of context) in
     All-append PartFits (first_parts memory context iova kind) (access_parts memory context kind reached)
-    (first_parts_fit memory context iova kind well)
+    (first_parts_fit memory context iova kind well below)
     (access_fits memory context kind reached well
     (first_stage_fits memory context iova kind (first_shape_of context) (first_root context.mode context.ppn well.first_root) below))
 stages_fit memory iova kind (Err why) well below = All-nil PartFits
 
-pub mode_fits : (own : Mode) (m : Machine) (request : Request) →
+directory_parts_fit : (m : Machine) (did : ℕ) → did < 2 ^ 24 → All PartFits (directory_parts m did)
+directory_parts_fit m did below =
+    let items : List Met = path_of m.memory m.registers did in
+    each_by_width PartFits (not (is_too_wide (levels_of (mode_of m.registers)) did)) (wide.Directory did) (map part.Directory items) (λ is. below)
+    (All-map PartFits part.Directory items (path_fits m.memory m.registers did))
+
+pub mode_fits : (own : Mode) (m : Machine) (request : Request) → request.did < 2 ^ 24 →
     ((levels : ℕ) → own ≡ mode.Levels levels → All PartFits (stage_parts m.memory request.iova request.kind (located m.memory m.registers request.did))) →
     All PartFits (parts_by own m request)
-mode_fits mode.Off m request each = All-nil PartFits
-mode_fits mode.Bare m request each = All-nil PartFits
-mode_fits (mode.Levels levels) m request each =
-    let items : List Met = path_of m.memory m.registers request.did in
+mode_fits mode.Off m request below each = All-nil PartFits
+mode_fits mode.Bare m request below each = All-nil PartFits
+mode_fits (mode.Levels levels) m request below each =
     let found : Result Context Cause = located m.memory m.registers request.did in
-    All-append PartFits (map part.Directory items) (stage_parts m.memory request.iova request.kind found)
-    (All-map PartFits part.Directory items (path_fits m.memory m.registers request.did)) (each levels refl)
+    All-append PartFits (directory_parts m request.did) (stage_parts m.memory request.iova request.kind found)
+    (directory_parts_fit m request.did below) (each levels refl)
 
 levels_fit : (n : ℕ) → n ≤ 4 → ModeFits (if n == 0 then mode.Off else if n == 1 then mode.Bare else mode.Levels (n - 1))
 levels_fit n few =

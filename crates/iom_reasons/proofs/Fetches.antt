@@ -1,5 +1,5 @@
 -- What is told of memory is what memory has.
-use Rattle.std.proofs.Common.{◌≡◌, ◌-◌, ◌++◌, ℕ, zero, suc, Bool, true, false, List, [], ◌∷◌, map, Option, Some, None, Result, Ok, Err, if◌then◌else◌, refl, sym, subst}
+use Rattle.std.proofs.Common.{◌≡◌, ◌-◌, ◌++◌, ℕ, zero, suc, Bool, true, false, not, List, [], ◌∷◌, map, Option, Some, None, Result, Ok, Err, if◌then◌else◌, refl, sym, subst}
 use Rattle.std.specs.Prelude.{All, flat_map}
 use Rattle.std.proofs.lemmas.List.Elements.{All-nil, All-cons, All-head, All-tail, All-append, All-map}
 use Rattle.iom_bits.specs.declared.causes.Cause.{Cause}
@@ -32,10 +32,12 @@ use Rattle.iom_nested.specs.declared.translation.Reached.{Reached}
 use Rattle.iom_core.specs.State.{Machine}
 use Rattle.iom_core.specs.declared.access.Request.{Request}
 use Rattle.iom_reasons.specs.Stale.{by_tables}
-use Rattle.iom_reasons.specs.Parts.{access_parts, address_by, entry_parts, first_by, first_parts, parts_by, parts_of, read_at, read_by, second_by, second_parts, stage_parts}
+use Rattle.iom_reasons.specs.Parts.{access_parts, address_by, directory_parts, entry_parts, first_by, first_parts, parts_by, parts_of, read_at, read_by, second_by, second_parts, stage_parts}
 use Rattle.iom_reasons.specs.Fetches.{IsGot, IsItem, IsRead}
 use Rattle.iom_reasons.specs.declared.part.Part.{Part}
 use Rattle.iom_reasons.specs.declared.part.Part.TheVariants as part
+use Rattle.iom_reasons.specs.declared.part.Wide.TheVariants as wide
+use Rattle.iom_reasons.proofs.Widths.{each_by_width}
 
 -- the items of a path of the directory
 behind_read : (memory : Memory) (got : Result ℕ Cause) (from : ℕ → List Met) → ((table : ℕ) → All (IsItem memory) (from table)) →
@@ -93,8 +95,9 @@ second_by_read : (memory : Memory) (root : ℕ) (kind : Kind) (guest : ℕ) (sha
     All (IsRead memory) (second_by memory root kind guest shape)
 second_by_read memory root kind guest None = All-nil (IsRead memory)
 second_by_read memory root kind guest (Some shape) =
-    All-map (IsRead memory) (part.Second guest) (path_told (ram_got memory) shape root guest kind)
-    (walk_met (ram_got memory) shape root guest kind)
+    let path : List PathEntry = path_told (ram_got memory) shape root guest kind in
+    each_by_width (IsRead memory) (is_in_width shape guest) (wide.Second guest) (map (part.Second guest) path) (λ is. tt)
+    (All-map (IsRead memory) (part.Second guest) path (walk_met (ram_got memory) shape root guest kind))
 
 second_read : (memory : Memory) (context : Context) (kind : Kind) (guest : ℕ) → All (IsRead memory) (second_parts memory context kind guest)
 unfolding second_parts
@@ -139,8 +142,9 @@ first_by_read : (memory : Memory) (context : Context) (iova : ℕ) (kind : Kind)
     All (IsRead memory) (first_by memory context iova kind shape)
 first_by_read memory context iova kind None = All-nil (IsRead memory)
 first_by_read memory context iova kind (Some shape) =
-    entries_read memory context (path_told (table_got memory context) shape context.ppn iova kind)
-    (walk_met (table_got memory context) shape context.ppn iova kind)
+    let path : List PathEntry = path_told (table_got memory context) shape context.ppn iova kind in
+    each_by_width (IsRead memory) (is_in_width shape iova) (wide.First iova) (flat_map (entry_parts memory context) path) (λ is. tt)
+    (entries_read memory context path (walk_met (table_got memory context) shape context.ppn iova kind))
 
 first_parts_read : (memory : Memory) (context : Context) (iova : ℕ) (kind : Kind) → All (IsRead memory) (first_parts memory context iova kind)
 unfolding first_parts
@@ -160,15 +164,19 @@ stages_read memory iova kind (Ok context) =
     (first_parts_read memory context iova kind) (access_read memory context kind reached)
 stages_read memory iova kind (Err why) = All-nil (IsRead memory)
 
+directory_parts_read : (m : Machine) (did : ℕ) → All (IsRead m.memory) (directory_parts m did)
+directory_parts_read m did =
+    let items : List Met = path_of m.memory m.registers did in
+    each_by_width (IsRead m.memory) (not (is_too_wide (levels_of (mode_of m.registers)) did)) (wide.Directory did) (map part.Directory items) (λ is. tt)
+    (All-map (IsRead m.memory) part.Directory items (path_read m.memory m.registers did))
+
 by_mode_read : (mode : Mode) (m : Machine) (request : Request) → All (IsRead m.memory) (parts_by mode m request)
 by_mode_read mode.Off m request = All-nil (IsRead m.memory)
 by_mode_read mode.Bare m request = All-nil (IsRead m.memory)
 by_mode_read (mode.Levels levels) m request =
-    let items : List Met = path_of m.memory m.registers request.did in
     let found : Result Context Cause = located m.memory m.registers request.did in
-    All-append (IsRead m.memory) (map part.Directory items) (stage_parts m.memory request.iova request.kind found)
-    (All-map (IsRead m.memory) part.Directory items (path_read m.memory m.registers request.did))
-    (stages_read m.memory request.iova request.kind found)
+    All-append (IsRead m.memory) (directory_parts m request.did) (stage_parts m.memory request.iova request.kind found)
+    (directory_parts_read m request.did) (stages_read m.memory request.iova request.kind found)
 
 pub each_read : (m : Machine) (request : Request) → All (IsRead m.memory) (parts_of m request)
 unfolding parts_of

@@ -4,3 +4,4 @@ pub mod Passing
 pub mod Refusing
 pub mod Bounds
 pub mod Sameness
+pub mod Widths

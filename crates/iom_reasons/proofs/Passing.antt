@@ -43,12 +43,14 @@ use Rattle.iom_cache.specs.declared.key.Key.{Key}
 use Rattle.iom_core.specs.State.{Machine}
 use Rattle.iom_core.specs.Access.{ByContext, led, led_by_context, led_by_mode, led_by_page, page_look, request_key}
 use Rattle.iom_core.specs.declared.access.Request.{Request}
-use Rattle.iom_reasons.specs.Parts.{access_parts, entry_parts, first_by, first_parts, parts_by, parts_of, read_at, second_by, second_parts, stage_parts}
+use Rattle.iom_reasons.specs.Parts.{access_parts, directory_parts, entry_parts, first_by, first_parts, parts_by, parts_of, read_at, second_by, second_parts, stage_parts}
 use Rattle.iom_reasons.specs.Stale.{by_tables, told as way_of, uncached}
 use Rattle.iom_reasons.proofs.Ways.{looked_uncached}
 use Rattle.iom_reasons.specs.Passing.{IsGranted, IsNoFault, Lets, Passes}
 use Rattle.iom_reasons.specs.declared.part.Part.{Part}
 use Rattle.iom_reasons.specs.declared.part.Part.TheVariants as part
+use Rattle.iom_reasons.specs.declared.part.Wide.TheVariants as wide
+use Rattle.iom_reasons.proofs.Widths.{each_by_width, not_false}
 
 -- a verdict that points on or maps is that of such a row
 let_pointer : (row : Ruling) (word : ℕ) → is_pointer (consequence row word) ≡ true → Lets row
@@ -133,6 +135,13 @@ walk_lets at shape root address kind leaf =
       | false ↦ λ ends. All-nil (IsLet at kind)
     ]
 
+-- what leads somewhere keeps the width rule
+leaf_in_width : (at : ℕ → Got) (shape : Shape) (root address : ℕ) (kind : Kind) (leaf : Leaf) →
+    outcome_of at shape root address kind ≡ outcome.Leaf leaf → is_in_width shape address ≡ false → ⊥
+unfolding outcome_of
+leaf_in_width at shape root address kind leaf ends wide =
+    let other : outcome.Fault ≡ outcome.Leaf leaf = rw wide at ends in absurd (cc)
+
 -- the directory
 leaf_passes : (place : ℕ) (words : Option (List ℕ)) (context : Context) →
     directory.verdict_on (met.Leaf place words ∷ []) ≡ Ok context → IsNoFault (decided_by (met.Leaf place words))
@@ -165,10 +174,10 @@ directory_from memory did (suc level) table context found =
     entry_passes place (word memory place) (pointed_by (word memory place)) (directory.path_from memory did level) context refl
     (λ next. directory_from memory did level next context) found
 
-directory_passes : (memory : Memory) (registers : Registers) (did : ℕ) (context : Context) → located memory registers did ≡ Ok context →
+path_passes : (memory : Memory) (registers : Registers) (did : ℕ) (context : Context) → located memory registers did ≡ Ok context →
     All Passes (map part.Directory (path_of memory registers did))
 unfolding located path_of
-directory_passes memory registers did context =
+path_passes memory registers did context =
     let path : List Met = directory.path_from memory did (levels_of (mode_of registers) - 1) (root_of registers) in
     elim (is_too_wide (levels_of (mode_of registers)) did) as (λ wide. (if wide then Err TooWide else directory.verdict_on path) ≡ Ok context →
     All Passes (map part.Directory (if wide then [] else path))) [
@@ -176,6 +185,20 @@ directory_passes memory registers did context =
       | false ↦ λ found. All-map Passes part.Directory path
           (directory_from memory did (levels_of (mode_of registers) - 1) (root_of registers) context found)
     ]
+
+-- a context that is found has an id that keeps the width rule
+found_in_width : (memory : Memory) (registers : Registers) (did : ℕ) (context : Context) → located memory registers did ≡ Ok context →
+    not (is_too_wide (levels_of (mode_of registers)) did) ≡ false → ⊥
+unfolding located
+found_in_width memory registers did context found wide =
+    let is : is_too_wide (levels_of (mode_of registers)) did ≡ true = not_false _ wide in
+    fault_never TooWide context (located memory registers did) (rw is refl) found
+
+directory_passes : (m : Machine) (did : ℕ) (context : Context) → located m.memory m.registers did ≡ Ok context → All Passes (directory_parts m did)
+directory_passes m did context found =
+    each_by_width Passes (not (is_too_wide (levels_of (mode_of m.registers)) did)) (wide.Directory did)
+    (map part.Directory (path_of m.memory m.registers did)) (found_in_width m.memory m.registers did context found)
+    (path_passes m.memory m.registers did context found)
 
 -- the second stage, where it leads an address
 abbrev Leads : Memory → ℕ → Kind → ℕ → Option Shape → Type 0
@@ -187,9 +210,11 @@ second_by_passes : (memory : Memory) (root : ℕ) (kind : Kind) (guest : ℕ) (s
 second_by_passes memory root kind guest None leads = All-nil Passes
 second_by_passes memory root kind guest (Some shape) leads =
     let path : List PathEntry = path_told (ram_got memory) shape root guest kind in
-    All-map Passes (part.Second guest) path
+    each_by_width Passes (is_in_width shape guest) (wide.Second guest) (map (part.Second guest) path)
+    (leaf_in_width (ram_got memory) shape root guest kind leads.0 leads.1)
+    (All-map Passes (part.Second guest) path
     (All-weaker (IsLet (ram_got memory) kind) (λ entry. Lets entry.ruling) (λ entry is. is.lets) path
-    (walk_lets (ram_got memory) shape root guest kind leads.0 leads.1))
+    (walk_lets (ram_got memory) shape root guest kind leads.0 leads.1)))
 
 second_passes : (memory : Memory) (context : Context) (kind : Kind) (guest : ℕ) →
     Leads memory context.gppn kind guest (second_shape_of context) → All Passes (second_parts memory context kind guest)
@@ -262,8 +287,10 @@ end_passes : (memory : Memory) (context : Context) (iova : ℕ) (kind : Kind) (s
 end_passes memory context iova kind shape (outcome.Leaf leaf) hit is found =
     let path : List PathEntry = path_told (table_got memory context) shape context.ppn iova kind in
     let reached : Reached = record { addr = leaf.frame * 4096 + iova % 4096; level = leaf.level; global = leaf.global } in
-    All-append Passes (flat_map (entry_parts memory context) path) (access_parts memory context kind (Ok reached))
-    (entries_pass memory context kind path (walk_lets (table_got memory context) shape context.ppn iova kind leaf is))
+    All-append Passes (first_by memory context iova kind (Some shape)) (access_parts memory context kind (Ok reached))
+    (each_by_width Passes (is_in_width shape iova) (wide.First iova) (flat_map (entry_parts memory context) path)
+    (leaf_in_width (table_got memory context) shape context.ppn iova kind leaf is)
+    (entries_pass memory context kind path (walk_lets (table_got memory context) shape context.ppn iova kind leaf is)))
     (access_passes memory context kind reached hit found)
 end_passes memory context iova kind shape outcome.Outside hit is found = cc
 end_passes memory context iova kind shape (outcome.Guest place) hit is found = cc
@@ -319,10 +346,10 @@ context_passes m request context fill false is granted =
 
 found_passes : (m : Machine) (request : Request) (found : Result Context Cause) → located m.memory m.registers request.did ≡ found →
     IsGranted (way_of (led_by_context (uncached m) request (look request.did None found).filled (look request.did None found).used).way) →
-    All Passes (map part.Directory (path_of m.memory m.registers request.did) ++ stage_parts m.memory request.iova request.kind found)
+    All Passes (directory_parts m request.did ++ stage_parts m.memory request.iova request.kind found)
 found_passes m request (Ok context) is granted =
-    All-append Passes (map part.Directory (path_of m.memory m.registers request.did)) (stage_parts m.memory request.iova request.kind (Ok context))
-    (directory_passes m.memory m.registers request.did context is)
+    All-append Passes (directory_parts m request.did) (stage_parts m.memory request.iova request.kind (Ok context))
+    (directory_passes m request.did context is)
     (context_passes m request context (Some (request.did, context)) (is_bare context) refl granted)
 found_passes m request (Err why) is granted = absurd granted
 

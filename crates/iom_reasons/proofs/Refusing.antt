@@ -1,7 +1,8 @@
--- Where a request is denied, something that is looked at refuses it, or an id or an address is too wide.
-use Rattle.std.proofs.Common.{◌≡◌, ◌≢◌, ◌-◌, ◌<◌, ◌⊎◌, ◌++◌, ℕ, zero, suc, Bool, true, false, not, List, [], ◌∷◌, map, length, Option, Some, None, Result, Ok, Err, if◌then◌else◌, refl, sym, subst, inl, inr, arith}
-use Rattle.std.specs.Prelude.{Any, find, flat_map}
+-- Where a request is denied, something that is looked at refuses it.
+use Rattle.std.proofs.Common.{◌≡◌, ◌≢◌, ◌-◌, ◌<◌, ◌⊎◌, ◌++◌, ℕ, zero, suc, Bool, true, false, not, List, [], ◌∷◌, map, length, Option, Some, None, Result, Ok, Err, if◌then◌else◌, refl, sym, ap, subst, inl, inr, arith}
+use Rattle.std.specs.Prelude.{All, Any, find, flat_map}
 use Rattle.std.proofs.lemmas.Grind.{common_steps}
+use Rattle.std.proofs.lemmas.List.Elements.{All-head, All-tail}
 use Rattle.iom_bits.specs.declared.causes.Cause.{Cause}
 use Rattle.iom_bits.specs.declared.causes.Cause.TheVariants.{TooWide}
 use Rattle.iom_bits.specs.declared.causes.Kind.{Kind}
@@ -42,12 +43,15 @@ use Rattle.iom_cache.specs.declared.key.Key.{Key}
 use Rattle.iom_core.specs.State.{Machine}
 use Rattle.iom_core.specs.Access.{ByContext, led, led_by_context, led_by_mode, led_by_page, page_look, request_key}
 use Rattle.iom_core.specs.declared.access.Request.{Request}
-use Rattle.iom_reasons.specs.Parts.{access_parts, entry_parts, first_by, first_parts, parts_by, parts_of, read_at, second_by, second_parts, stage_parts}
+use Rattle.iom_reasons.specs.Parts.{access_parts, by_width, directory_parts, entry_parts, first_by, first_parts, parts_by, parts_of, read_at, second_by, second_parts, stage_parts}
 use Rattle.iom_reasons.specs.Stale.{by_tables, told as way_of, uncached}
-use Rattle.iom_reasons.specs.Passing.{IsBeyond, IsBeyondSecond, IsBeyondStages, IsGranted, IsNoFault, IsWide, Lets, Refuses}
+use Rattle.iom_reasons.specs.Passing.{IsGranted, IsNoFault, Lets, Refuses}
 use Rattle.iom_reasons.specs.declared.part.Part.{Part}
 use Rattle.iom_reasons.specs.declared.part.Part.TheVariants as part
+use Rattle.iom_reasons.specs.declared.part.Wide.{Wide}
+use Rattle.iom_reasons.specs.declared.part.Wide.TheVariants as wide
 use Rattle.iom_reasons.proofs.Ways.{looked_uncached}
+use Rattle.iom_reasons.proofs.Widths.{IsWide, each_is_wide}
 
 -- something in a list is so
 abbrev Occurs : {X : Type 0} → (X → Type 0) → List X → Type 0
@@ -84,6 +88,20 @@ any_of P (x ∷ xs) is = elim is [
       (suc a.0, a.1, omega arith, a.3, a.4)
 ]
 
+-- a part that refuses, where what is too wide does so by itself
+abbrev Bars : Part → Type 0
+Bars (part.Ddtp own root) = own ≡ mode.Off
+Bars (part.Directory met) = ¬ IsNoFault (decided_by met)
+Bars (part.Wide what) = Unit {0}
+Bars (part.First entry addr) = ¬ Lets entry.ruling
+Bars (part.Second guest entry) = ¬ Lets entry.ruling
+Bars (part.End end) = ⊥
+
+-- the width rule refuses, or one of the entries does
+refused_by_width : (kept : Bool) (what : Wide) (entries : List Part) → (kept ≡ false) ⊎ Occurs Bars entries → Occurs Bars (by_width kept what entries)
+refused_by_width true what entries is = elim is [ inl wide ↦ absurd (cc) | inr some ↦ some ]
+refused_by_width false what entries is = inl tt
+
 -- the directory
 abbrev Faults : Met → Type 0
 Faults item = ¬ IsNoFault (decided_by item)
@@ -112,18 +130,23 @@ directory_from memory did (suc level) table cause found =
     entry_refuses place (word memory place) (pointed_by (word memory place)) (directory.path_from memory did level) cause refl
     (λ next. directory_from memory did level next cause) found
 
-directory_refuses : (memory : Memory) (registers : Registers) (did : ℕ) (cause : Cause) → located memory registers did ≡ Err cause →
-    (is_too_wide (levels_of (mode_of registers)) did ≡ true) ⊎ Occurs Refuses (map part.Directory (path_of memory registers did))
+path_refuses : (memory : Memory) (registers : Registers) (did : ℕ) (cause : Cause) → located memory registers did ≡ Err cause →
+    (not (is_too_wide (levels_of (mode_of registers)) did) ≡ false) ⊎ Occurs Bars (map part.Directory (path_of memory registers did))
 unfolding located path_of
-directory_refuses memory registers did cause =
+path_refuses memory registers did cause =
     let path : List Met = directory.path_from memory did (levels_of (mode_of registers) - 1) (root_of registers) in
     let Goal : Bool → Type 0 = λ wide. is_too_wide (levels_of (mode_of registers)) did ≡ wide → (if wide then Err TooWide else directory.verdict_on path) ≡ Err cause →
-    (is_too_wide (levels_of (mode_of registers)) did ≡ true) ⊎ Occurs Refuses (map part.Directory (if wide then [] else path)) in
-    let by_width : (wide : Bool) → Goal wide = λ wide. elim wide as Goal [
-      | true ↦ λ is found. inl is
-      | false ↦ λ is found. inr (in_mapped Faults Refuses part.Directory (λ item is. is) path
+    (not (is_too_wide (levels_of (mode_of registers)) did) ≡ false) ⊎ Occurs Bars (map part.Directory (if wide then [] else path)) in
+    let by_cases : (wide : Bool) → Goal wide = λ wide. elim wide as Goal [
+      | true ↦ λ is found. inl (ap not is)
+      | false ↦ λ is found. inr (in_mapped Faults Bars part.Directory (λ item is. is) path
           (directory_from memory did (levels_of (mode_of registers) - 1) (root_of registers) cause found))
-    ] in by_width (is_too_wide (levels_of (mode_of registers)) did) refl
+    ] in by_cases (is_too_wide (levels_of (mode_of registers)) did) refl
+
+directory_refuses : (m : Machine) (did : ℕ) (cause : Cause) → located m.memory m.registers did ≡ Err cause → Occurs Bars (directory_parts m did)
+directory_refuses m did cause is =
+    refused_by_width (not (is_too_wide (levels_of (mode_of m.registers)) did)) (wide.Directory did)
+    (map part.Directory (path_of m.memory m.registers did)) (path_refuses m.memory m.registers did cause is)
 
 -- a walk that doesn't end at a leaf
 abbrev NoLeaf : Outcome → Type 0
@@ -196,11 +219,11 @@ outcome_stops at shape root address kind =
     let path : List Entry = walk_path_of at shape root address in
     let Goal : Bool → Type 0 = λ wide. is_in_width shape address ≡ wide → NoLeaf (if wide then verdict_on_path kind address path else outcome.Fault) →
     (is_in_width shape address ≡ false) ⊎ Occurs IsStop (if wide then map (told kind) path else []) in
-    let by_width : (wide : Bool) → Goal wide = λ wide. elim wide as Goal [
+    let by_cases : (wide : Bool) → Goal wide = λ wide. elim wide as Goal [
       | true ↦ λ is no_leaf. inr (in_mapped (Stops kind) IsStop (told kind) (λ entry is. is) path
           (root_stops at shape kind _ address root (levels shape) (some_level shape) no_leaf))
       | false ↦ λ is no_leaf. inl is
-    ] in by_width (is_in_width shape address) refl
+    ] in by_cases (is_in_width shape address) refl
 
 -- the second stage, where it leads an address nowhere
 abbrev LeadsNot : Memory → ℕ → Kind → ℕ → Option Shape → Type 0
@@ -208,13 +231,15 @@ LeadsNot memory root kind guest None = ⊥
 LeadsNot memory root kind guest (Some shape) = NoLeaf (outcome_of (ram_got memory) shape root guest kind)
 
 second_by_stops : (memory : Memory) (root : ℕ) (kind : Kind) (guest : ℕ) (shape : Option Shape) → LeadsNot memory root kind guest shape →
-    IsBeyond shape guest ⊎ Occurs Refuses (second_by memory root kind guest shape)
+    Occurs Bars (second_by memory root kind guest shape)
 second_by_stops memory root kind guest None never = absurd never
 second_by_stops memory root kind guest (Some shape) stops =
-    elim (outcome_stops (ram_got memory) shape root guest kind stops) [
-      | inl wide ↦ inl wide
-      | inr some ↦ inr (in_mapped IsStop Refuses (part.Second guest) (λ entry is. is) (path_told (ram_got memory) shape root guest kind) some)
-    ]
+    let path : List PathEntry = path_told (ram_got memory) shape root guest kind in
+    refused_by_width (is_in_width shape guest) (wide.Second guest) (map (part.Second guest) path)
+    (elim (outcome_stops (ram_got memory) shape root guest kind stops) [
+      | inl beyond ↦ inl beyond
+      | inr some ↦ inr (in_mapped IsStop Bars (part.Second guest) (λ entry is. is) path some)
+    ])
 
 access_no_leaf : (reached : Reached) (end : Outcome) (failure : Failure) → hit_by reached end ≡ Err failure → NoLeaf end
 access_no_leaf reached (outcome.Leaf leaf) failure is = absurd (cc)
@@ -230,7 +255,7 @@ access_leads_not memory context kind reached (Some shape) failure is =
 
 access_stops : (memory : Memory) (context : Context) (kind : Kind) (reached : Reached) (failure : Failure) →
     second_stage memory context kind (second_shape_of context) reached ≡ Err failure →
-    IsBeyond (second_shape_of context) reached.addr ⊎ Occurs Refuses (access_parts memory context kind (Ok reached))
+    Occurs Bars (access_parts memory context kind (Ok reached))
 unfolding second_parts
 access_stops memory context kind reached failure is =
     second_by_stops memory context.gppn kind reached.addr (second_shape_of context)
@@ -244,43 +269,40 @@ first_no_leaf iova (outcome.Guest place) failure is = λ leaf other. cc
 first_no_leaf iova outcome.Fault failure is = λ leaf other. cc
 
 first_by_stops : (memory : Memory) (context : Context) (iova : ℕ) (kind : Kind) (shape : Option Shape) (failure : Failure) →
-    first_stage memory context iova kind shape ≡ Err failure → IsBeyond shape iova ⊎ Occurs Refuses (first_by memory context iova kind shape)
+    first_stage memory context iova kind shape ≡ Err failure → Occurs Bars (first_by memory context iova kind shape)
 first_by_stops memory context iova kind None failure is = absurd (cc)
 first_by_stops memory context iova kind (Some shape) failure is =
     let path : List PathEntry = path_told (table_got memory context) shape context.ppn iova kind in
-    elim (outcome_stops (table_got memory context) shape context.ppn iova kind
+    refused_by_width (is_in_width shape iova) (wide.First iova) (flat_map (entry_parts memory context) path)
+    (elim (outcome_stops (table_got memory context) shape context.ppn iova kind
     (first_no_leaf iova (outcome_of (table_got memory context) shape context.ppn iova kind) failure is)) [
-      | inl wide ↦ inl wide
-      | inr stops ↦ inr (in_flat IsStop Refuses (entry_parts memory context)
-          (λ entry is. in_second Refuses (second_parts memory context Read entry.place) (part.First entry (read_at memory context entry.place) ∷ []) (inl is))
+      | inl beyond ↦ inl beyond
+      | inr stops ↦ inr (in_flat IsStop Bars (entry_parts memory context)
+          (λ entry is. in_second Bars (second_parts memory context Read entry.place) (part.First entry (read_at memory context entry.place) ∷ []) (inl is))
           path stops)
-    ]
+    ])
 
 -- both stages
 stages_stop : (memory : Memory) (context : Context) (iova : ℕ) (kind : Kind) (reached : Result Reached Failure) (failure : Failure) →
     first_stage memory context iova kind (first_shape_of context) ≡ reached → behind_first memory context kind reached ≡ Err failure →
-    IsBeyondStages memory iova kind (Ok context) ⊎ Occurs Refuses (stage_parts memory iova kind (Ok context))
+    Occurs Bars (stage_parts memory iova kind (Ok context))
 unfolding first_parts
 stages_stop memory context iova kind (Ok reached) failure is found =
     let access : Result Reached Failure → List Part = access_parts memory context kind in
     let first : Result Reached Failure = first_stage memory context iova kind (first_shape_of context) in
-    elim (access_stops memory context kind reached failure found) [
-      | inl wide ↦ inl (inr (subst (IsBeyondSecond context) (sym is) wide))
-      | inr stops ↦ inr (in_second Refuses (first_parts memory context iova kind) (access first) (subst (λ r. Occurs Refuses (access r)) (sym is) stops))
-    ]
+    in_second Bars (first_parts memory context iova kind) (access first)
+    (subst (λ r. Occurs Bars (access r)) (sym is) (access_stops memory context kind reached failure found))
 stages_stop memory context iova kind (Err why) failure is found =
-    elim (first_by_stops memory context iova kind (first_shape_of context) why is) [
-      | inl wide ↦ inl (inl wide)
-      | inr stops ↦ inr (in_first Refuses (first_parts memory context iova kind)
-          (access_parts memory context kind (first_stage memory context iova kind (first_shape_of context))) stops)
-    ]
+    in_first Bars (first_parts memory context iova kind)
+    (access_parts memory context kind (first_stage memory context iova kind (first_shape_of context)))
+    (first_by_stops memory context iova kind (first_shape_of context) why is)
 
 failure_of : (kind : Kind) (found : Result Hit Failure) (fault : Fault) → told_of kind found ≡ Err fault → (failure : Failure) × (found ≡ Err failure)
 failure_of kind (Ok hit) fault is = absurd (cc)
 failure_of kind (Err failure) fault is = (failure, refl)
 
 translated_stages_stop : (memory : Memory) (context : Context) (iova : ℕ) (kind : Kind) (fault : Fault) → translation memory context iova kind ≡ Err fault →
-    IsBeyondStages memory iova kind (Ok context) ⊎ Occurs Refuses (stage_parts memory iova kind (Ok context))
+    Occurs Bars (stage_parts memory iova kind (Ok context))
 unfolding translation
 translated_stages_stop memory context iova kind fault is =
     let f = failure_of kind _ fault is in stages_stop memory context iova kind _ f.0 refl f.1
@@ -289,14 +311,14 @@ translated_stages_stop memory context iova kind fault is =
 page_refuses : (m : Machine) (request : Request) (context : Context) (fill : Option (ℕ × Context)) (key : Key) (found : Result Hit Fault) →
     translation m.memory context request.iova request.kind ≡ found →
     (IsGranted (way_of (led_by_page context fill (look key None found).filled (look key None found).used).way) → ⊥) →
-    IsBeyondStages m.memory request.iova request.kind (Ok context) ⊎ Occurs Refuses (stage_parts m.memory request.iova request.kind (Ok context))
+    Occurs Bars (stage_parts m.memory request.iova request.kind (Ok context))
 page_refuses m request context fill key (Ok hit) is denied = absurd (denied tt)
 page_refuses m request context fill key (Err fault) is denied = translated_stages_stop m.memory context request.iova request.kind fault is
 
 context_refuses : (m : Machine) (request : Request) (context : Context) (fill : Option (ℕ × Context)) (bare : Bool) →
     (IsGranted (way_of (if bare then record { way = ByContext context; context = fill; page = None }
     else led_by_page context fill (page_look (uncached m) request context).filled (page_look (uncached m) request context).used).way) → ⊥) →
-    IsBeyondStages m.memory request.iova request.kind (Ok context) ⊎ Occurs Refuses (stage_parts m.memory request.iova request.kind (Ok context))
+    Occurs Bars (stage_parts m.memory request.iova request.kind (Ok context))
 unfolding page_look
 context_refuses m request context fill true denied = absurd (denied tt)
 context_refuses m request context fill false denied =
@@ -304,49 +326,50 @@ context_refuses m request context fill false denied =
 
 found_refuses : (m : Machine) (request : Request) (found : Result Context Cause) → located m.memory m.registers request.did ≡ found →
     (IsGranted (way_of (led_by_context (uncached m) request (look request.did None found).filled (look request.did None found).used).way) → ⊥) →
-    ((is_too_wide (levels_of (mode_of m.registers)) request.did ≡ true) ⊎ IsBeyondStages m.memory request.iova request.kind found)
-    ⊎ Occurs Refuses (map part.Directory (path_of m.memory m.registers request.did) ++ stage_parts m.memory request.iova request.kind found)
+    Occurs Bars (directory_parts m request.did ++ stage_parts m.memory request.iova request.kind found)
 found_refuses m request (Ok context) is denied =
-    elim (context_refuses m request context (Some (request.did, context)) (is_bare context) denied) [
-      | inl wide ↦ inl (inr wide)
-      | inr refuses ↦ inr (in_second Refuses (map part.Directory (path_of m.memory m.registers request.did))
-          (stage_parts m.memory request.iova request.kind (Ok context)) refuses)
-    ]
+    in_second Bars (directory_parts m request.did) (stage_parts m.memory request.iova request.kind (Ok context))
+    (context_refuses m request context (Some (request.did, context)) (is_bare context) denied)
 found_refuses m request (Err why) is denied =
-    elim (directory_refuses m.memory m.registers request.did why is) [
-      | inl wide ↦ inl (inl wide)
-      | inr refuses ↦ inr (in_first Refuses (map part.Directory (path_of m.memory m.registers request.did))
-          (stage_parts m.memory request.iova request.kind (Err why)) refuses)
-    ]
+    in_first Bars (directory_parts m request.did) (stage_parts m.memory request.iova request.kind (Err why))
+    (directory_refuses m request.did why is)
 
 mode_refuses : (m : Machine) (request : Request) (own : Mode) → (IsGranted (way_of (led_by_mode own (uncached m) request).way) → ⊥) →
-    IsWide m request ⊎ ((own ≡ mode.Off) ⊎ Occurs Refuses (parts_by own m request))
-mode_refuses m request mode.Off denied = inr (inl refl)
+    (own ≡ mode.Off) ⊎ Occurs Bars (parts_by own m request)
+mode_refuses m request mode.Off denied = inl refl
 mode_refuses m request mode.Bare denied = absurd (denied tt)
 mode_refuses m request (mode.Levels levels) denied =
-    elim (found_refuses m request (located m.memory m.registers request.did) refl
-    (subst (λ l. IsGranted (way_of (led_by_context (uncached m) request l.filled l.used).way) → ⊥) (looked_uncached m request.did) denied)) [
-      | inl wide ↦ inl wide
-      | inr refuses ↦ inr (inr refuses)
-    ]
+    inr (found_refuses m request (located m.memory m.registers request.did) refl
+    (subst (λ l. IsGranted (way_of (led_by_context (uncached m) request l.filled l.used).way) → ⊥) (looked_uncached m request.did) denied))
 
-some_refuses : (m : Machine) (request : Request) → (IsGranted (by_tables m request) → ⊥) → IsWide m request ⊎ Occurs Refuses (parts_of m request)
+some_refuses : (m : Machine) (request : Request) → (IsGranted (by_tables m request) → ⊥) → Occurs Bars (parts_of m request)
 unfolding parts_of led
 some_refuses m request denied =
     let end : Part = part.End (by_tables m request) in
     let between : List Part = parts_by (mode_of m.registers) m request in
     elim (mode_refuses m request (mode_of m.registers) denied) [
-      | inl wide ↦ inl wide
-      | inr refuses ↦ elim refuses [
-        | inl off ↦ inr (inl off)
-        | inr later ↦ inr (inr (in_first Refuses between (end ∷ []) later))
-      ]
+      | inl off ↦ inl off
+      | inr later ↦ inr (in_first Bars between (end ∷ []) later)
     ]
 
+-- what is too wide breaks its rule
+refuses : (m : Machine) (request : Request) (one : Part) → IsWide m request one → Bars one → Refuses m request one
+refuses m request (part.Ddtp own root) wide is = is
+refuses m request (part.Directory met) wide is = is
+refuses m request (part.Wide what) wide is = wide
+refuses m request (part.First entry addr) wide is = is
+refuses m request (part.Second guest entry) wide is = is
+refuses m request (part.End end) wide is = is
+
+all_refuse : (m : Machine) (request : Request) (parts : List Part) → All (IsWide m request) parts → Occurs Bars parts → Occurs (Refuses m request) parts
+all_refuse m request [] each is = absurd is
+all_refuse m request (one ∷ more) each is = elim is [
+  | inl here ↦ inl (refuses m request one (All-head (IsWide m request) one more each) here)
+  | inr later ↦ inr (all_refuse m request more (All-tail (IsWide m request) one more each) later)
+]
+
 pub some_refuses_of : (m : Machine) (request : Request) (parts : List Part) → parts ≡ parts_of m request → (IsGranted (by_tables m request) → ⊥) →
-    IsWide m request ⊎ Any Refuses parts
+    Any (Refuses m request) parts
 some_refuses_of m request parts are denied =
-    elim (some_refuses m request denied) [
-      | inl wide ↦ inl wide
-      | inr refuses ↦ inr (any_of Refuses parts (subst (Occurs Refuses) (sym are) refuses))
-    ]
+    any_of (Refuses m request) parts
+    (subst (Occurs (Refuses m request)) (sym are) (all_refuse m request (parts_of m request) (each_is_wide m request) (some_refuses m request denied)))

@@ -10,6 +10,8 @@ use Rattle.iom_walk.specs.declared.listing.PathEntry.{PathEntry}
 use Rattle.iom_reasons.specs.Stale.{Fits}
 use Rattle.iom_reasons.specs.declared.part.Part.{Part}
 use Rattle.iom_reasons.specs.declared.part.Part.TheVariants as part
+use Rattle.iom_reasons.specs.declared.part.Wide.{Wide}
+use Rattle.iom_reasons.specs.declared.part.Wide.TheVariants as wide
 
 -- a directory has one to three levels
 abbrev pub ModeFits : Mode → Type 0
@@ -26,9 +28,16 @@ MetFits (met.Leaf place words) = place < 2 ^ 56
 abbrev pub EntryFits : PathEntry → Type 0
 EntryFits entry = (entry.place < 2 ^ 56) × (entry.level < 4)
 
+-- a device id has 24 bits, an address 64
+abbrev pub WideFits : Wide → Type 0
+WideFits (wide.Directory did) = did < 2 ^ 24
+WideFits (wide.First iova) = iova < 2 ^ 64
+WideFits (wide.Second guest) = guest < 2 ^ 64
+
 abbrev pub PartFits : Part → Type 0
 PartFits (part.Ddtp own root) = ModeFits own × (root < 2 ^ 44)
 PartFits (part.Directory met) = MetFits met
+PartFits (part.Wide what) = WideFits what
 PartFits (part.First entry addr) = EntryFits entry × IfSome addr (λ addr. addr < 2 ^ 56)
 PartFits (part.Second guest entry) = (guest < 2 ^ 50) × EntryFits entry
 PartFits (part.End way) = Fits way

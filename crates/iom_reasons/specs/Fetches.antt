@@ -22,6 +22,7 @@ IsGot memory read (Some addr) = read ≡ ram_got memory addr
 abbrev pub IsRead : Memory → Part → Type 0
 IsRead memory (part.Ddtp mode root) = Unit {0}
 IsRead memory (part.Directory met) = IsItem memory met
+IsRead memory (part.Wide what) = Unit {0}
 IsRead memory (part.First entry addr) = IsGot memory entry.got addr
 IsRead memory (part.Second guest entry) = entry.got ≡ ram_got memory entry.place
 IsRead memory (part.End way) = Unit {0}

@@ -1,6 +1,7 @@
 -- All that is looked at to lead a request where nothing is cached, in order: RISC-V IOMMU Architecture 1.0, "Process to locate the
 -- Device-context" and "Process to translate an IOVA"; RISC-V Privileged Architecture 1.12, "Two-Stage Address Translation".
-use Rattle.std.specs.Prelude.{ℕ, ◌+◌, ◌*◌, ◌%◌, List, [], ◌∷◌, ◌++◌, map, flat_map, Option, Some, None, Result, Ok, Err}
+-- An id or an address that breaks the width rule of a table stands in place of the table's entries.
+use Rattle.std.specs.Prelude.{ℕ, ◌+◌, ◌*◌, ◌%◌, Bool, true, false, not, List, [], ◌∷◌, ◌++◌, map, flat_map, Option, Some, None, Result, Ok, Err}
 use Rattle.iom_bits.specs.declared.causes.Cause.{Cause}
 use Rattle.iom_bits.specs.declared.causes.Kind.{Kind}
 use Rattle.iom_bits.specs.declared.causes.Kind.TheVariants.{Read}
@@ -8,9 +9,10 @@ use Rattle.iom_mem.specs.Memory.{Memory}
 use Rattle.iom_regs.specs.Views.{mode_of, root_of}
 use Rattle.iom_regs.specs.declared.views.Mode.{Mode}
 use Rattle.iom_regs.specs.declared.views.Mode.TheVariants as mode
-use Rattle.iom_ddt.specs.Directory.{located, path_of}
+use Rattle.iom_ddt.specs.Directory.{is_too_wide, levels_of, located, path_of}
 use Rattle.iom_ddt.specs.declared.context.Context.{Context}
 use Rattle.iom_walk.specs.Outcome.{outcome_of}
+use Rattle.iom_walk.specs.Shape.{is_in_width}
 use Rattle.iom_walk.specs.Told.{path_told}
 use Rattle.iom_walk.specs.declared.listing.PathEntry.{PathEntry}
 use Rattle.iom_walk.specs.declared.outcome.Outcome.{Outcome}
@@ -25,11 +27,19 @@ use Rattle.iom_core.specs.declared.access.Request.{Request}
 use Rattle.iom_reasons.specs.Stale.{by_tables}
 use Rattle.iom_reasons.specs.declared.part.Part.{Part}
 use Rattle.iom_reasons.specs.declared.part.Part.TheVariants as part
+use Rattle.iom_reasons.specs.declared.part.Wide.{Wide}
+use Rattle.iom_reasons.specs.declared.part.Wide.TheVariants as wide
+
+-- the entries of a table where its width rule is kept, else what breaks the rule
+abbrev pub by_width : Bool → Wide → List Part → List Part
+by_width true what entries = entries
+by_width false what entries = part.Wide what ∷ []
 
 -- the entries of the second stage on the way from a guest-physical address; none where that stage is Bare
 abbrev pub second_by : Memory → ℕ → Kind → ℕ → Option Shape → List Part
 second_by memory root kind guest None = []
-second_by memory root kind guest (Some shape) = map (part.Second guest) (path_told (ram_got memory) shape root guest kind)
+second_by memory root kind guest (Some shape) =
+    by_width (is_in_width shape guest) (wide.Second guest) (map (part.Second guest) (path_told (ram_got memory) shape root guest kind))
 
 unfoldable pub second_parts : Memory → Context → Kind → ℕ → List Part
 second_parts memory context kind guest = second_by memory context.gppn kind guest (second_shape_of context)
@@ -58,7 +68,8 @@ entry_parts memory context entry =
 abbrev pub first_by : Memory → Context → ℕ → Kind → Option Shape → List Part
 first_by memory context iova kind None = []
 first_by memory context iova kind (Some shape) =
-    flat_map (entry_parts memory context) (path_told (table_got memory context) shape context.ppn iova kind)
+    by_width (is_in_width shape iova) (wide.First iova)
+    (flat_map (entry_parts memory context) (path_told (table_got memory context) shape context.ppn iova kind))
 
 unfoldable pub first_parts : Memory → Context → ℕ → Kind → List Part
 first_parts memory context iova kind = first_by memory context iova kind (first_shape_of context)
@@ -75,12 +86,18 @@ stage_parts memory iova kind (Ok context) =
     ++ access_parts memory context kind (first_stage memory context iova kind (first_shape_of context))
 stage_parts memory iova kind (Err why) = []
 
+-- the directory, item by item
+abbrev pub directory_parts : Machine → ℕ → List Part
+directory_parts m did =
+    by_width (not (is_too_wide (levels_of (mode_of m.registers)) did)) (wide.Directory did)
+    (map part.Directory (path_of m.memory m.registers did))
+
 -- what is behind ddtp: the directory and the stages, where its mode has a directory
 abbrev pub parts_by : Mode → Machine → Request → List Part
 parts_by mode.Off m request = []
 parts_by mode.Bare m request = []
 parts_by (mode.Levels levels) m request =
-    map part.Directory (path_of m.memory m.registers request.did)
+    directory_parts m request.did
     ++ stage_parts m.memory request.iova request.kind (located m.memory m.registers request.did)
 
 -- ddtp first, and last the way that the request is led

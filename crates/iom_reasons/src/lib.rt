@@ -4,7 +4,7 @@
 
 pub use finding::{Found, found_by};
 pub use listing::{Parts, parts, put_parts};
-pub use part::Part;
+pub use part::{Part, Wide};
 pub use places::{stale_context, stale_page};
 pub use staleness::{stale, way_by_tables, way_now};
 pub use standing::{Located, Standing};

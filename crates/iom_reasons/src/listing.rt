@@ -1,25 +1,25 @@
 //! The parts of a walk.
 
-ghost use Rattle.std.specs.Prelude.{◌≡◌, ◌++◌, ◌+◌, ◌<◌, ◌≤◌, ◌^◌, ◌-◌, ◌⊎◌, [], ◌∷◌, map, flat_map, slice_get, All, Any, Some};
+ghost use Rattle.std.specs.Prelude.{◌≡◌, ◌++◌, ◌+◌, ◌<◌, ◌≤◌, ◌^◌, ◌-◌, [], ◌∷◌, map, flat_map, slice_get, All, Any, Some};
 ghost use Rattle.arrayvec.specs.ArrayVec.{array_vec_len};
 ghost use Rattle.iom_regs.specs.Views.{mode_of};
 ghost use Rattle.iom_ddt.specs.Contexts.{IsWellFormed};
 ghost use Rattle.iom_ddt.specs.Directory.{levels_of, located, path_of};
 ghost use Rattle.iom_nested.specs.Nested.{first_stage};
 ghost use Rattle.iom_nested.specs.Stages.{first_shape_of};
-ghost use Rattle.iom_reasons.specs.Parts.{access_parts, entry_parts, first_parts, parts_by, parts_of, read_at, second_parts, stage_parts};
+ghost use Rattle.iom_reasons.specs.Parts.{access_parts, directory_parts, entry_parts, first_parts, parts_by, parts_of, read_at, second_parts, stage_parts};
 ghost use Rattle.iom_reasons.specs.Bounds.{PartFits};
 ghost use Rattle.iom_reasons.specs.Fetches.{IsRead};
-ghost use Rattle.iom_reasons.specs.Passing.{IsGranted, IsWide, Passes, Refuses};
-ghost use Rattle.iom_reasons.specs.declared.part.Part.TheVariants.{Directory, End};
+ghost use Rattle.iom_reasons.specs.Passing.{IsGranted, Passes, Refuses};
+ghost use Rattle.iom_reasons.specs.declared.part.Part.TheVariants as part;
 ghost use Rattle.iom_reasons.specs.Stale.{Fits, by_tables};
 
-use crate::Part;
 use crate::staleness::way_by_tables;
+use crate::{Part, Wide};
 use arrayvec::ArrayVec;
 use iom_bits::Kind;
 use iom_core::{Platform, Request};
-use iom_ddt::{Context, locate};
+use iom_ddt::{Context, is_too_wide, locate};
 use iom_mem::Ram;
 use iom_nested::{Physical, Second, first_shape, first_stage, second_shape};
 use iom_regs::Mode;
@@ -33,8 +33,8 @@ pub type Parts = ArrayVec<Part, 29>;
 ///
 /// ddtp comes first, then the directory down to the device's context, then the first stage: before each of its entries those of the
 /// second stage that translate the entry's place, for a read. The second stage for the access itself is next, for the access's kind,
-/// and the end is the way that the request is led. A device id that is too wide has no directory, and an address that breaks the width
-/// rule no entries. Where the request is granted no part refuses it; where it is denied one does, but for such an id and such an address.
+/// and the end is the way that the request is led. A device id that is too wide stands in place of the directory, and an address that
+/// breaks the width rule of a stage in place of its entries. Where the request is granted no part refuses it; where it is denied one does.
 /// Each PPN told is below 2^44, and each address of an entry below 2^56. The device id is below 2^24, the IOVA any. No memory is taken.
 pub fn parts(platform: &Platform, request: &Request) -> Parts
     requires { request.now.did < 2 ^ 24 }
@@ -42,8 +42,8 @@ pub fn parts(platform: &Platform, request: &Request) -> Parts
     ensures read { All (IsRead platform.now.machine.memory) result.items }
     ensures passed { IsGranted (by_tables platform.now.machine request.now) → All Passes result.items }
     ensures refused { (IsGranted (by_tables platform.now.machine request.now) → ⊥) →
-        IsWide platform.now.machine request.now ⊎ Any Refuses result.items }
-    ensures end { slice_get result.items (array_vec_len result - 1) ≡ Some (End (by_tables platform.now.machine request.now)) }
+        Any (Refuses platform.now.machine request.now) result.items }
+    ensures end { slice_get result.items (array_vec_len result - 1) ≡ Some (part.End (by_tables platform.now.machine request.now)) }
     ensures some { 2 ≤ array_vec_len result }
     ensures most { array_vec_len result ≤ 29 }
     ensures fits { All PartFits result.items }
@@ -61,8 +61,8 @@ pub fn put_parts(out: &mut Parts, platform: &Platform, request: &Request)
     ensures read { All (IsRead platform.now.machine.memory) out.new.items }
     ensures passed { IsGranted (by_tables platform.now.machine request.now) → All Passes out.new.items }
     ensures refused { (IsGranted (by_tables platform.now.machine request.now) → ⊥) →
-        IsWide platform.now.machine request.now ⊎ Any Refuses out.new.items }
-    ensures end { slice_get out.new.items (array_vec_len out.new - 1) ≡ Some (End (by_tables platform.now.machine request.now)) }
+        Any (Refuses platform.now.machine request.now) out.new.items }
+    ensures end { slice_get out.new.items (array_vec_len out.new - 1) ≡ Some (part.End (by_tables platform.now.machine request.now)) }
     ensures some { 2 ≤ array_vec_len out.new }
     ensures most { array_vec_len out.new ≤ 29 }
     ensures fits { All PartFits out.new.items }
@@ -95,18 +95,33 @@ fn push_walk(out: &mut Parts, platform: &Platform, request: &Request)
 fn push_end(out: &mut Parts, platform: &Platform, request: &Request)
     requires width { request.now.did < 2 ^ 24 }
     requires room { array_vec_len out.old ≤ 28 }
-    ensures items { out.new.items ≡ out.old.items ++ End (by_tables platform.now.machine request.now) ∷ [] }
+    ensures items { out.new.items ≡ out.old.items ++ part.End (by_tables platform.now.machine request.now) ∷ [] }
     ensures fits { Fits (by_tables platform.now.machine request.now) }
 {
     out.push(Part::End(way_by_tables(platform, request)));
 }
 
-// The items of the directory.
+// The items of the directory, or a device id that is too wide for it.
 fn push_directory(out: &mut Parts, platform: &Platform, did: u32)
     requires directory { 1 ≤ levels_of (mode_of platform.now.machine.registers) }
     requires width { did < 2 ^ 24 }
     requires room { array_vec_len out.old ≤ 26 }
-    ensures items { out.new.items ≡ out.old.items ++ map Directory (path_of platform.now.machine.memory platform.now.machine.registers did) }
+    ensures items { out.new.items ≡ out.old.items ++ directory_parts platform.now.machine did }
+    ensures len { array_vec_len out.new ≤ array_vec_len out.old + 3 }
+{
+    if is_too_wide(platform.registers(), did) {
+        out.push(Part::Wide(Wide::Directory { did }));
+    } else {
+        push_items(out, platform, did);
+    }
+}
+
+// The items of the directory.
+fn push_items(out: &mut Parts, platform: &Platform, did: u32)
+    requires directory { 1 ≤ levels_of (mode_of platform.now.machine.registers) }
+    requires width { did < 2 ^ 24 }
+    requires room { array_vec_len out.old ≤ 26 }
+    ensures items { out.new.items ≡ out.old.items ++ map part.Directory (path_of platform.now.machine.memory platform.now.machine.registers did) }
     ensures len { array_vec_len out.new ≤ array_vec_len out.old + 3 }
 {
     let path = iom_ddt::path(platform.ram(), platform.registers(), did);
@@ -133,7 +148,7 @@ fn push_located(out: &mut Parts, platform: &Platform, request: &Request)
     }
 }
 
-// The first stage, entry by entry.
+// The first stage, entry by entry, or an IOVA that is too wide for it.
 #[tactic(auto, unfolding(crate::specs::Parts::first_parts))]
 fn push_first(out: &mut Parts, ram: &Ram, context: &Context, iova: u64, kind: Kind)
     requires well_formed { IsWellFormed context.now }
@@ -141,13 +156,18 @@ fn push_first(out: &mut Parts, ram: &Ram, context: &Context, iova: u64, kind: Ki
     ensures items { out.new.items ≡ out.old.items ++ first_parts ram.now context.now iova kind }
     ensures len { array_vec_len out.new ≤ array_vec_len out.old + 20 }
 {
-    if let Some(shape) = first_shape(context) {
-        let entries = match second_shape(context) {
-            Some(_) => iom_walk::path(&Second::new(ram, context), shape, context.ppn, iova, kind),
-            None => iom_walk::path(&Physical { ram }, shape, context.ppn, iova, kind),
-        };
-        push_entries(out, ram, context, &entries);
+    let Some(shape) = first_shape(context) else {
+        return;
+    };
+    if !shape.covers(iova) {
+        out.push(Part::Wide(Wide::First { iova }));
+        return;
     }
+    let entries = match second_shape(context) {
+        Some(_) => iom_walk::path(&Second::new(ram, context), shape, context.ppn, iova, kind),
+        None => iom_walk::path(&Physical { ram }, shape, context.ppn, iova, kind),
+    };
+    push_entries(out, ram, context, &entries);
 }
 
 // Entries of the first stage, each behind those of the second.
@@ -182,7 +202,7 @@ fn push_access(out: &mut Parts, ram: &Ram, context: &Context, iova: u64, kind: K
     }
 }
 
-// The entries of the second stage on the way from a guest-physical address.
+// The second stage from a guest-physical address on, entry by entry, or that address where it is too wide for it.
 #[tactic(auto, unfolding(crate::specs::Parts::second_parts))]
 fn push_second(out: &mut Parts, ram: &Ram, context: &Context, guest: u64, kind: Kind)
     requires well_formed { IsWellFormed context.now }
@@ -190,10 +210,26 @@ fn push_second(out: &mut Parts, ram: &Ram, context: &Context, guest: u64, kind: 
     ensures items { out.new.items ≡ out.old.items ++ second_parts ram.now context.now kind guest }
     ensures len { array_vec_len out.new ≤ array_vec_len out.old + 4 }
 {
-    let entries = match second_shape(context) {
-        Some(shape) => iom_walk::path(&Physical { ram }, shape, context.gppn, guest, kind),
-        None => PathEntries::new(),
-    };
+    match second_shape(context) {
+        Some(shape) if shape.covers(guest) => {
+            push_path(
+                out,
+                &iom_walk::path(&Physical { ram }, shape, context.gppn, guest, kind),
+                guest,
+            );
+        }
+        Some(_) => out.push(Part::Wide(Wide::Second { guest })),
+        None => {}
+    }
+}
+
+// Entries of the second stage, from a guest-physical address on.
+fn push_path(out: &mut Parts, entries: &PathEntries, guest: u64)
+    requires few { array_vec_len entries.now ≤ 4 }
+    requires room { array_vec_len out.old ≤ 25 }
+    ensures items { out.new.items ≡ out.old.items ++ map (part.Second guest) entries.now.items }
+    ensures len { array_vec_len out.new ≤ array_vec_len out.old + array_vec_len entries.now }
+{
     for met in entries.iter() {
         out.push(Part::Second { guest, entry: *met });
     }

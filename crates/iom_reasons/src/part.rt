@@ -10,6 +10,8 @@ pub enum Part {
     Ddtp { mode: Mode, root: u64 },
     /// An item of the device directory, at its physical address.
     Directory(Met),
+    /// What breaks the width rule of a table, in place of the entries that it has there.
+    Wide(Wide),
     /// An entry of the first stage, whose place is guest-physical under a second stage, else physical; `addr` is the physical
     /// address that it was read at, None where the second stage leads its place nowhere.
     First { entry: PathEntry, addr: Option<u64> },
@@ -17,6 +19,18 @@ pub enum Part {
     Second { guest: u64, entry: PathEntry },
     /// The way that the request is led.
     End(Way),
+}
+
+/// A device id that is too wide for the directory ("Process to locate the Device-context"), or an address that is too wide for a stage
+/// ("Sv39", "Sv48" and "Guest Physical Address Translation" of RISC-V Privileged Architecture).
+#[derive(Clone, Copy)]
+pub enum Wide {
+    /// A device id, below 2^24, with bits above those that the directory's levels take.
+    Directory { did: u32 },
+    /// An IOVA whose high bits don't repeat the highest one that the first stage takes.
+    First { iova: u64 },
+    /// A guest-physical address with bits above those that the second stage takes.
+    Second { guest: u64 },
 }
 
 impl Default for Part {

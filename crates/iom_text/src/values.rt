@@ -1,7 +1,8 @@
-//! The values of digits.
+//! The values of digits, and the digits of bytes.
 
-ghost use Rattle.std.specs.Prelude.{◌≡◌};
+ghost use Rattle.std.specs.Prelude.{◌≡◌, ◌/◌, ◌%◌, ◌<◌, [], ◌∷◌, false};
 ghost use Rattle.std.specs.Char.{digit_value};
+ghost use Rattle.std.specs.Fmt.{digit_glyph};
 
 // The value of each byte as a digit: 0 to 35, and 36 where it is no digit. A table has no branch, and digits and letters follow
 // each other by chance.
@@ -31,4 +32,43 @@ pub fn digit_value(c: u8) -> u8
     ensures { result ≡ digit_value c }
 {
     DIGITS[usize::from(c)]
+}
+
+// The two hex digits of each byte.
+#[rattlefmt::skip]
+static PAIRS: [u8; 512] = *b"\
+    000102030405060708090a0b0c0d0e0f\
+    101112131415161718191a1b1c1d1e1f\
+    202122232425262728292a2b2c2d2e2f\
+    303132333435363738393a3b3c3d3e3f\
+    404142434445464748494a4b4c4d4e4f\
+    505152535455565758595a5b5c5d5e5f\
+    606162636465666768696a6b6c6d6e6f\
+    707172737475767778797a7b7c7d7e7f\
+    808182838485868788898a8b8c8d8e8f\
+    909192939495969798999a9b9c9d9e9f\
+    a0a1a2a3a4a5a6a7a8a9aaabacadaeaf\
+    b0b1b2b3b4b5b6b7b8b9babbbcbdbebf\
+    c0c1c2c3c4c5c6c7c8c9cacbcccdcecf\
+    d0d1d2d3d4d5d6d7d8d9dadbdcdddedf\
+    e0e1e2e3e4e5e6e7e8e9eaebecedeeef\
+    f0f1f2f3f4f5f6f7f8f9fafbfcfdfeff";
+
+// What stands at a place of that table: one of the two digits of a byte.
+#[inline(always)]
+fn digit_at(place: usize) -> u8
+    requires { place < 512 }
+    ensures higher { place % 2 ≡ 0 → result ≡ digit_glyph false (place / 2 / 16) }
+    ensures lower { place % 2 ≡ 1 → result ≡ digit_glyph false (place / 2 % 16) }
+{
+    PAIRS[place]
+}
+
+/// The two hex digits of a byte in lower case, the higher one first.
+#[inline(always)]
+pub fn digit_pair(byte: u8) -> [u8; 2]
+    ensures { result ≡ digit_glyph false (byte / 16) ∷ digit_glyph false (byte % 16) ∷ [] }
+{
+    let place = 2 * usize::from(byte);
+    [digit_at(place), digit_at(place + 1)]
 }

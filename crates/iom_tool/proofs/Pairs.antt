@@ -1,9 +1,9 @@
 -- What pairs of hex digits write.
-use Rattle.std.proofs.Common.{◌≡◌, zero, suc, ◌==◌, ◌%◌, ◌/◌, slice_index, ◌+◌, ◌*◌, ◌<◌, ◌≤◌, ◌&&◌, nat_le, ◌++◌, ℕ, List, [], ◌∷◌, Bool, true, if◌then◌else◌, length, take, drop, get_or, false, Option, Some, None, Result, Ok, Err, is_some, sym, ◌∙◌, ap, refl, arith, append_assoc, append-nil, ◌⊎◌, inl, inr, ⊎_elim}
+use Rattle.std.proofs.Common.{◌≡◌, zero, suc, ◌==◌, ◌%◌, ◌/◌, slice_index, ◌+◌, ◌-◌, ◌*◌, ◌<◌, ◌≤◌, ◌&&◌, nat_le, ◌++◌, ℕ, List, [], ◌∷◌, Bool, true, if◌then◌else◌, length, take, drop, replicate, get_or, false, Option, Some, None, Result, Ok, Err, is_some, sym, ◌∙◌, ap, refl, arith, append_assoc, append-nil, length-append, ◌⊎◌, inl, inr, ⊎_elim}
 use Rattle.std.specs.List.{list_all}
 use Rattle.std.specs.Option.{option_map}
 use Rattle.std.specs.Result.{result_ok}
-use Rattle.std.proofs.lemmas.List.{drop_more, length-take-le, take-take, take_more, take_more_set, take_all, drop_all, length-set}
+use Rattle.std.proofs.lemmas.List.{drop_more, length-take-le, take-take, take_more, take_more_set, take_all, drop_all, length-set, length-replicate, take_at}
 use Rattle.std.proofs.Math.ListN.{set}
 use Rattle.std.proofs.Math.Seq.{take-nil, take-append-add}
 use Rattle.std.proofs.lemmas.Slice.{take-put_mid}
@@ -117,6 +117,72 @@ no_bytes word other = by_length (nat_le 2 (length word) && nat_le (length word) 
   by_length : (fits : Bool) → (if fits then result_ok (decode_of word) else None) ≡ None
   by_length true = no_data word other
   by_length false = refl
+
+-- digits 0 write zeros
+zeros : (at m : ℕ) → decode_pairs at (replicate (2 * m) 48) ≡ Ok (replicate m 0)
+unfolding decode_pairs
+zeros at zero = refl
+zeros at (suc m) =
+    let twice : 2 * suc m ≡ suc (suc (2 * m)) = omega arith in
+    ap (λ n. decode_pairs at (replicate n 48)) twice ∙ rw (zeros (at + 2) m) refl
+
+behind_one : (byte : Result ℕ FromHexError) (rest more : Result (List ℕ) FromHexError) (zs : List ℕ) →
+    result_ok more ≡ option_map (λ bytes. bytes ++ zs) (result_ok rest) →
+    result_ok (byte >>= λ first. more >>= λ bytes. Ok (first ∷ bytes))
+    ≡ option_map (λ bytes. bytes ++ zs) (result_ok (byte >>= λ first. rest >>= λ bytes. Ok (first ∷ bytes)))
+behind_one (Err e) rest more zs is = refl
+behind_one (Ok first) (Ok xs) (Ok ys) zs is = ap (option_map (λ bytes. first ∷ bytes)) is
+behind_one (Ok first) (Ok xs) (Err e) zs is = absurd (cc is)
+behind_one (Ok first) (Err e) (Ok ys) zs is = absurd (cc is)
+behind_one (Ok first) (Err e) (Err f) zs is = refl
+
+-- and behind a word they write them behind its bytes
+padded_pairs : (at m half : ℕ) (word : List ℕ) → length word ≡ 2 * half →
+    result_ok (decode_pairs at (word ++ replicate (2 * m) 48)) ≡ option_map (λ bytes. bytes ++ replicate m 0) (result_ok (decode_pairs at word))
+unfolding decode_pairs
+padded_pairs at m half [] is = ap result_ok (zeros at m)
+padded_pairs at m half (digit ∷ []) is = absurd (omega (arith, is))
+padded_pairs at m half (high ∷ low ∷ rest) is =
+    behind_one (pair_value high low at) (decode_pairs (at + 2) rest) (decode_pairs (at + 2) (rest ++ replicate (2 * m) 48)) (replicate m 0)
+    (padded_pairs (at + 2) m (half - 1) rest (omega (arith, is)))
+
+fits : (word : List ℕ) → 2 ≤ length word → length word ≤ 128 → length word % 2 ≡ 0 → bytes_of word ≡ result_ok (decode_pairs 0 word)
+unfolding bytes_of
+fits word least most even =
+    let within : nat_le 2 (length word) && nat_le (length word) 128 ≡ true = grind arith in
+    let paired : length word % 2 == 1 ≡ false = grind arith in
+    rw (within, paired) refl
+
+padding : (word : List ℕ) → length word ≤ 128 → length word % 2 ≡ 0 →
+    result_ok (decode_pairs 0 (word ++ replicate (128 - length word) 48))
+    ≡ option_map (λ bytes. bytes ++ replicate (64 - length word / 2) 0) (result_ok (decode_pairs 0 word))
+padding word most even =
+    let twice : 128 - length word ≡ 2 * (64 - length word / 2) = omega arith in
+    ap (λ n. result_ok (decode_pairs 0 (word ++ replicate n 48))) twice
+    ∙ padded_pairs 0 (64 - length word / 2) (length word / 2) word (omega arith)
+
+front_of : (bytes : Option (List ℕ)) (all : List ℕ) (n : ℕ) → n ≤ 64 → length all ≡ 64 →
+    Some all ≡ option_map (λ bytes. bytes ++ replicate (64 - n) 0) bytes → bytes ≡ Some (take n all)
+front_of None all n below full is = absurd (cc is)
+front_of (Some bytes) all n below full is =
+    let both : all ≡ bytes ++ replicate (64 - n) 0 = cc is in
+    let long : length bytes ≡ n = omega (arith, ap length both, length-append bytes (replicate (64 - n) 0), length-replicate {A = ℕ} (64 - n) 0) in
+    ap Some (sym (ap (take n) both ∙ take_at bytes (replicate (64 - n) 0) n long))
+
+-- what a word writes is the front of what it writes with digits 0 behind it
+pub front_decoded : (word all : List ℕ) → 2 ≤ length word → length word ≤ 128 → length word % 2 ≡ 0 → length all ≡ 64 →
+    Some all ≡ result_ok (decode_pairs 0 (word ++ replicate (128 - length word) 48)) → bytes_of word ≡ Some (take (length word / 2) all)
+front_decoded word all least most even full is =
+    fits word least most even ∙ front_of (result_ok (decode_pairs 0 word)) all (length word / 2) (omega arith) full (is ∙ padding word most even)
+
+none_of_front : (bytes : Option (List ℕ)) (zs : List ℕ) → option_map (λ bytes. bytes ++ zs) bytes ≡ None → bytes ≡ None
+none_of_front None zs is = refl
+none_of_front (Some bytes) zs is = absurd (cc is)
+
+pub none_decoded : (word : List ℕ) → 2 ≤ length word → length word ≤ 128 → length word % 2 ≡ 0 →
+    result_ok (decode_pairs 0 (word ++ replicate (128 - length word) 48)) ≡ None → bytes_of word ≡ None
+none_decoded word least most even is =
+    fits word least most even ∙ none_of_front (result_ok (decode_pairs 0 word)) (replicate (64 - length word / 2) 0) (sym (padding word most even) ∙ is)
 
 -- the digits of one byte more
 encode-more : (table bytes : List ℕ) (byte : ℕ) →

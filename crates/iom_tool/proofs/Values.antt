@@ -1,16 +1,22 @@
 -- The values of hex digits.
-use Rattle.std.proofs.Common.{◌≡◌, ℕ, ◌<◌, ◌≤◌, ◌&&◌, Bool, true, false, Option, Some, None, is_some, nat_lt, if◌then◌else◌, map, get_or, refl, sym, ap, subst, ◌∙◌, arith, ⊎_elim}
+use Rattle.std.proofs.Common.{◌≡◌, ℕ, ◌+◌, ◌-◌, ◌%◌, ◌^◌, ◌<◌, ◌≤◌, ◌&&◌, Bool, true, false, Option, Some, None, is_some, nat_lt, if◌then◌else◌, map, get_or, refl, sym, ap, subst, ◌∙◌, arith, ⊎_elim}
 use Rattle.std.proofs.lemmas.Bool.{cases_lt, lt-ltb, le-ltb}
 use Rattle.std.proofs.lemmas.Nat.{le_or_l, le_or_r, or_lt}
 use Rattle.std.proofs.lemmas.List.FromFn.{get_or-map-range_with_len}
 use Rattle.std.specs.Int.Bits.{bit_or}
 use Rattle.std.specs.List.{range_with_len}
-use Rattle.std.specs.Char.{digit_value}
 use Rattle.hex.specs.Hex.{hex_digit_value}
 
--- a hex digit is a digit below 16
+-- a byte from the digit 0 on, and from the letter a on, whatever its case is
+abbrev from_zero : ℕ → ℕ
+from_zero c = (c + (2 ^ 8 - 48)) % 2 ^ 8
+
+abbrev from_a : ℕ → ℕ
+from_a c = (bit_or c 32 + (2 ^ 8 - 97)) % 2 ^ 8
+
+-- the value that they tell
 abbrev value : ℕ → Option ℕ
-value c = if nat_lt (digit_value c) 16 then Some (digit_value c) else None
+value c = if nat_lt (from_zero c) 10 then Some (from_zero c) else if nat_lt (from_a c) 6 then Some (from_a c + 10) else None
 
 all : map hex_digit_value (range_with_len 0 256) ≡ map value (range_with_len 0 256)
 all = refl
@@ -20,16 +26,22 @@ told c below =
     sym (get_or-map-range_with_len hex_digit_value 0 256 c c None below (omega arith)) ∙ ap (λ table. get_or table c None) all
     ∙ get_or-map-range_with_len value 0 256 c c None below (omega arith)
 
-pub digit : (c n : ℕ) → c < 256 → n ≡ digit_value c → n < 16 → hex_digit_value c ≡ Some n
-digit c n byte is below =
-    let small : nat_lt (digit_value c) 16 ≡ true = lt-ltb _ _ (subst (λ n. n < 16) is below) in
+pub of_digit : (c n : ℕ) → c < 256 → n ≡ from_zero c → n < 10 → hex_digit_value c ≡ Some n
+of_digit c n byte is below =
+    let small : nat_lt (from_zero c) 10 ≡ true = lt-ltb _ _ (subst (λ n. n < 10) is below) in
     told c byte ∙ rw small (ap Some (sym is))
 
--- and what is 16 or above is no hex digit's
-pub other : (c n : ℕ) → c < 256 → n ≡ digit_value c → 16 ≤ n → hex_digit_value c ≡ None
-other c n byte is above =
-    let large : nat_lt (digit_value c) 16 ≡ false = le-ltb _ _ (subst (λ n. 16 ≤ n) is above) in
-    told c byte ∙ rw large refl
+pub of_letter : (c m n : ℕ) → c < 256 → m ≡ from_zero c → 10 ≤ m → n ≡ from_a c → n < 6 → hex_digit_value c ≡ Some (n + 10)
+of_letter c m n byte first large is below =
+    let no_digit : nat_lt (from_zero c) 10 ≡ false = le-ltb _ _ (subst (λ m. 10 ≤ m) first large) in
+    let small : nat_lt (from_a c) 6 ≡ true = lt-ltb _ _ (subst (λ n. n < 6) is below) in
+    told c byte ∙ rw (no_digit, small) (ap (λ n. Some (n + 10)) (sym is))
+
+pub of_none : (c m n : ℕ) → c < 256 → m ≡ from_zero c → 10 ≤ m → n ≡ from_a c → 6 ≤ n → hex_digit_value c ≡ None
+of_none c m n byte first large is above =
+    let no_digit : nat_lt (from_zero c) 10 ≡ false = le-ltb _ _ (subst (λ m. 10 ≤ m) first large) in
+    let no_letter : nat_lt (from_a c) 6 ≡ false = le-ltb _ _ (subst (λ n. 6 ≤ n) is above) in
+    told c byte ∙ rw (no_digit, no_letter) refl
 
 -- where what was met and two more values are below 16 together, each of them is
 pub each_below : (met high low : ℕ) → bit_or met (bit_or high low) < 16 → (met < 16) × (high < 16) × (low < 16)

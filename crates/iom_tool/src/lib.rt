@@ -1,6 +1,7 @@
 //! The script: lines in, answer lines out.
 #![tactic(auto)]
 
+pub use draft::Draft;
 pub use fault::RunFault;
 pub use feeder::Feeder;
 pub use playing::{Played, play};
@@ -8,6 +9,7 @@ pub use reading::step_of;
 pub use rest::Rest;
 pub use running::run;
 pub use session::{Reply, Session};
+pub use told::{answer_text, put_entry};
 pub use trace::{Entry, Trace};
 
 mod answering;
@@ -24,5 +26,6 @@ mod running;
 mod script;
 mod session;
 mod text;
+mod told;
 mod trace;
 mod watched;

@@ -1,11 +1,11 @@
 //! The operands of a line, where it has just so many.
 
-ghost use Rattle.std.specs.Prelude.{◌≡◌};
+ghost use Rattle.std.specs.Prelude.{◌≡◌, Some, None, true, false};
 ghost use Rattle.std.specs.Option.{option_map};
 ghost use Rattle.iom_text.specs.Words.{words_of};
 ghost use Rattle.iom_tool.specs.Operands.{one, with_first, data_in};
 
-use crate::data::bytes_of;
+use crate::data::put_bytes_of;
 use arrayvec::ArrayVec;
 use iom_text::{is_over, past_blanks, take_number, take_word};
 
@@ -49,37 +49,42 @@ pub fn four(text: &[u8]) -> Option<(u64, (u64, (u64, u64)))>
     Some((first, three(rest)?))
 }
 
-// The bytes that the only word of a text writes.
+// Puts the bytes that the only word of a text writes, and answers whether it writes some.
 #[inline(never)]
 #[tactic(auto, using(crate::proofs::Forms::data_none, crate::proofs::Forms::data_some, crate::proofs::Forms::data_more))]
-fn word_of_data(text: &[u8]) -> Option<ArrayVec<u8, 64>>
-    ensures { option_map (λ bytes. bytes.items) result ≡ data_in (words_of text.now) }
+fn put_word_of_data(text: &[u8], bytes: &mut ArrayVec<u8, 64>) -> bool
+    ensures some { result ≡ true → data_in (words_of text.now) ≡ Some bytes.new.items }
+    ensures none { result ≡ false → data_in (words_of text.now) ≡ None }
 {
-    let (word, rest) = take_word(text)?;
-    if is_over(rest) { bytes_of(word) } else { None }
+    let Some((word, rest)) = take_word(text) else {
+        return false;
+    };
+    is_over(rest) && put_bytes_of(word, bytes)
 }
 
-// Data that is all of the line's rest needs no search for the end of the word.
+// The same. Data that is all of the line's rest needs no search for the end of the word.
 #[inline(always)]
 #[tactic(auto, using(crate::proofs::Forms::data_left))]
-fn data_in(text: &[u8]) -> Option<ArrayVec<u8, 64>>
-    ensures { option_map (λ bytes. bytes.items) result ≡ data_in (words_of text.now) }
+fn put_data_in(text: &[u8], bytes: &mut ArrayVec<u8, 64>) -> bool
+    ensures some { result ≡ true → data_in (words_of text.now) ≡ Some bytes.new.items }
+    ensures none { result ≡ false → data_in (words_of text.now) ≡ None }
 {
-    match bytes_of(past_blanks(text)) {
-        Some(bytes) => Some(bytes),
-        None => word_of_data(text),
-    }
+    put_bytes_of(past_blanks(text), bytes) || put_word_of_data(text, bytes)
 }
 
-/// The two numbers and the 1 to 64 bytes that a text is; None where it has another number of words, or one of them writes no such
-/// thing.
+/// The two numbers of a text that is two numbers and 1 to 64 bytes, which are put in place of what `bytes` holds. None where the text
+/// has another number of words, or one of them writes no such thing; then `bytes` may hold anything.
 #[inline(always)]
 #[tactic(auto, using(crate::proofs::Forms::first_none, crate::proofs::Forms::first_some))]
-pub fn numbers_and_data(text: &[u8]) -> Option<(u64, (u64, ArrayVec<u8, 64>))>
-    ensures { option_map (λ it. (it.0, (it.1.0, it.1.1.items))) result
+pub fn numbers_and_data(text: &[u8], bytes: &mut ArrayVec<u8, 64>) -> Option<(u64, u64)>
+    ensures { option_map (λ it. (it.0, (it.1, bytes.new.items))) result
         ≡ with_first (with_first data_in) (words_of text.now) }
 {
     let (first, rest) = take_number(text)?;
     let (second, rest) = take_number(rest)?;
-    Some((first, (second, data_in(rest)?)))
+    if put_data_in(rest, bytes) {
+        Some((first, second))
+    } else {
+        None
+    }
 }

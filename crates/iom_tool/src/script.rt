@@ -3,6 +3,7 @@ ghost use Rattle.iom_text.specs.Words.{words_of};
 ghost use Rattle.iom_tool.specs.Script.{load, store, reg_read, reg_write, reg, cmd, dma_read, dma_write, dma, dev_read, dev_write, dev_step, dev, place_page, place_context, place, shown, show, trace, step_of, question_of};
 
 use crate::operands::{four, numbers_and_data, one, three, two};
+use arrayvec::ArrayVec;
 use iom_core::Step;
 use iom_items::Item;
 use iom_text::{is_over, take_word};
@@ -110,16 +111,6 @@ fn dma_read(text: &[u8]) -> Option<Step>
     Some(Step::DmaRead { did, iova, len })
 }
 
-// What follows `dma write`: device id, IOVA and bytes.
-#[inline(always)]
-#[tactic(auto, using(crate::proofs::Forms::dma_write_none, crate::proofs::Forms::dma_write_some))]
-fn dma_write(text: &[u8]) -> Option<Step>
-    ensures { result ≡ dma_write (words_of text.now) }
-{
-    let (did, (iova, bytes)) = numbers_and_data(text)?;
-    Some(Step::DmaWrite { did, iova, bytes })
-}
-
 // Puts a step that a form gave. Each form does so for itself: a move of all forms' steps by one code waits for what was just
 // written.
 #[inline(always)]
@@ -134,13 +125,27 @@ fn put(parsed: Option<Step>, place: &mut Step) -> bool
     true
 }
 
-// Puts the step of a line `dma write`.
+// Puts the step of a line `dma write`, by what follows that: device id, IOVA and bytes, which are decoded in their place.
 #[inline(never)]
+#[tactic(auto, using(crate::proofs::Forms::dma_write_none, crate::proofs::Forms::dma_write_some))]
 fn put_dma_write(text: &[u8], place: &mut Step) -> bool
     ensures some { result ≡ true → dma_write (words_of text.now) ≡ Some place.new }
     ensures none { result ≡ false → dma_write (words_of text.now) ≡ None }
 {
-    put(dma_write(text), place)
+    *place = Step::DmaWrite {
+        did: 0,
+        iova: 0,
+        bytes: ArrayVec::new(),
+    };
+    let Step::DmaWrite { did, iova, bytes } = place else {
+        unreachable!();
+    };
+    let Some((device, address)) = numbers_and_data(text, bytes) else {
+        return false;
+    };
+    *did = device;
+    *iova = address;
+    true
 }
 
 // Puts the step of a line `dma`.

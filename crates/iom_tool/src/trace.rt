@@ -178,7 +178,7 @@ fn carried_out(
     if !put_step_of(verb, text, &mut entry.step) {
         return false;
     }
-    entry.answer = platform.step(&entry.step);
+    platform.step_into(&entry.step, &mut entry.answer);
     push_answer(out, &entry.answer);
     true
 }

@@ -5,9 +5,10 @@ ghost use Rattle.std.specs.Prelude.{◌<◌, ◌^◌};
 use crate::text::Text;
 use iom_blk::{Phase, Want};
 use iom_core::{Denial, Platform, Request, Step};
-use iom_debug::part_line;
+use iom_debug::put_part;
 use iom_history::Origin;
 use iom_reasons::{Found, Parts, put_parts};
+use iom_tool::Draft;
 use std::alloc::AllocError;
 
 /// What a block device asks of the IOMMU.
@@ -73,11 +74,12 @@ pub fn asked_by(platform: &Platform, step: &Step) -> Option<Asked> {
     })
 }
 
-/// Appends the parts of the walk of a request, a line each. They are put into a list first, in place of what it holds. Its device id is
-/// below 2^24. The fault is want of memory.
+/// Appends the parts of the walk of a request, a line each. They are put into a list first, and each into a draft, in place of what
+/// these hold. Its device id is below 2^24. The fault is want of memory.
 pub fn push_walk(
     out: &mut Text,
     parts: &mut Parts,
+    draft: &mut Draft,
     platform: &Platform,
     request: &Request,
 ) -> Result<(), AllocError>
@@ -85,9 +87,8 @@ pub fn push_walk(
 {
     put_parts(parts, platform, request);
     for part in parts.as_slice() {
-        out.push(b"    walk: ")?;
-        out.push(part_line(platform, request, part).as_slice())?;
-        out.push(b"\n")?;
+        put_part(draft, platform, request, part);
+        out.push_line(b"    walk: ", draft.as_slice())?;
     }
     Ok(())
 }

@@ -7,22 +7,17 @@ use crate::lines::{Lines, MOST_LINES};
 use crate::progress::Progress;
 use crate::summary::tell;
 use crate::text::Text;
-use iom_core::{Answer, Step};
-use iom_debug::{
-    Debugger, Outcome, Reason, Reasons, Reply, StepAnswer, Summary, counted, repeated,
-};
+use iom_core::{Answer, Denial, Step};
+use iom_debug::{Debugger, Outcome, Reason, Reasons, Reply, Summary, counted, repeated};
 use iom_reasons::{Found, Parts, found_by};
-use iom_tool::{RunFault, Session, Trace, step_of};
+use iom_tool::{Draft, Entry, RunFault, Trace, answer_text, put_entry, step_of};
 use std::alloc::{AllocError, Global};
 use std::fs::Files;
 use std::io::{BufRead, Write};
 use std::time::Clock;
 
-/// The most bytes of an answer to a step.
-const MOST_IN_ANSWER: usize = 128;
-
-/// The last step that a trace keeps.
-const LAST: u8 = 31;
+/// How many steps a trace keeps at most.
+const MOST_STEPS: u64 = 32;
 
 /// How many bytes the lines of a walk take: 29 parts at most, each a text of at most 320 bytes behind a word, and a line end.
 const WALK_ROOM: usize = 29 * 331;
@@ -39,6 +34,8 @@ struct Account<'w, W> {
     // The lines of the walk of the access that is made, and its parts.
     walk: Text,
     parts: Parts,
+    // One text of either.
+    draft: Draft,
     summary: Summary,
 }
 
@@ -49,39 +46,31 @@ struct Before {
     asked: Option<Asked>,
 }
 
-// The place of the last step in the trace.
-fn newest(trace: &Trace) -> u8 {
-    for at in 0..LAST {
-        if trace.entry(u64::from(LAST - at)).is_some() {
-            return LAST - at;
+// The last step of a trace, and its answer.
+fn newest(trace: &Trace) -> Option<&Entry> {
+    for at in 0..MOST_STEPS {
+        if let Some(entry) = trace.entry(MOST_STEPS - 1 - at) {
+            return Some(entry);
         }
     }
-    0
+    None
 }
 
-// The text of the last step and of its answer.
-fn newest_text(debugger: &mut Debugger<'_>) -> Reply {
-    let at = newest(debugger.trace);
-    let question = [
-        b't',
-        b'r',
-        b'a',
-        b'c',
-        b'e',
-        b' ',
-        b'0' + at / 10,
-        b'0' + at % 10,
-    ];
-    Session::new(debugger.platform, debugger.trace).line(&question)
-}
-
-// The cause that the last step was denied for, if it was.
-fn newest_denial(debugger: &Debugger<'_>) -> Option<u16> {
-    let entry = debugger.trace.entry(u64::from(newest(debugger.trace)))?;
-    match entry.answer {
-        Answer::Denied(cause) => Some(cause),
+// The cause that an answer is a denial for, if it is one.
+fn denial(answer: &Answer) -> Option<u16> {
+    match answer {
+        Answer::Denied(cause) => Some(*cause),
         _ => None,
     }
+}
+
+// The answer to a line of many steps, behind the last one of them.
+fn told(trace: &Trace, taken: u64) -> Reply {
+    let Some(entry) = newest(trace) else {
+        return Reply::new();
+    };
+    let answer = answer_text(&entry.answer);
+    counted(taken, answer.as_slice())
 }
 
 impl<W: Write> Account<'_, W> {
@@ -97,39 +86,51 @@ impl<W: Write> Account<'_, W> {
         };
         let found = found_by(debugger.platform, &request);
         if !found.is_whole {
-            push_walk(&mut self.walk, &mut self.parts, debugger.platform, &request)?;
+            push_walk(
+                &mut self.walk,
+                &mut self.parts,
+                &mut self.draft,
+                debugger.platform,
+                &request,
+            )?;
         }
         let asked = asked_by(debugger.platform, step);
         Ok(Some(Before { found, asked }))
     }
 
-    // Takes a step, and tells it and its reason.
+    // Takes a step, tells it and its reason, and answers whether it was done.
     fn take(
         &mut self,
         debugger: &mut Debugger<'_>,
         number: u64,
         step: Step,
-    ) -> Result<StepAnswer, Fault<'static>> {
+    ) -> Result<bool, Fault<'static>> {
         let before = self.look(debugger, &step)?;
-        let answer = debugger.take(number, step);
-        self.text.push_decimal(b"", number)?;
-        self.text.push(b": ")?;
-        self.text.push(newest_text(debugger).as_slice())?;
-        self.text.push(b"\n")?;
-        let denied = newest_denial(debugger);
-        let reason = debugger.reasons.newest().copied();
-        if let (Some(before), Some(reason)) = (before, reason) {
-            self.tell(before, reason, denied)?;
+        let is_done = debugger.take(number, step);
+        if let Some(entry) = newest(debugger.trace) {
+            self.tell_step(number, entry)?;
+            if let (Some(before), Some(reason)) = (before, debugger.reasons.newest()) {
+                let stale = debugger.reasons.newest_stale();
+                self.tell(&before, reason, stale, denial(&entry.answer))?;
+            }
+            self.write()?;
         }
-        self.write()?;
-        Ok(answer)
+        Ok(is_done)
     }
 
-    // Tells the reason of an access that was denied for this cause, if it was.
+    // Tells a step and its answer.
+    fn tell_step(&mut self, number: u64, entry: &Entry) -> Result<(), AllocError> {
+        put_entry(&mut self.draft, entry);
+        self.text.push_decimal(b"", number)?;
+        self.text.push_line(b": ", self.draft.as_slice())
+    }
+
+    // Tells the reason of an access: where the tables led it, if it was stale, and the cause that it was denied for, if it was.
     fn tell(
         &mut self,
-        before: Before,
-        reason: Reason,
+        before: &Before,
+        reason: &Reason,
+        stale: Option<Result<u64, Denial>>,
         denied: Option<u16>,
     ) -> Result<(), AllocError> {
         if let Some(asked) = before.asked {
@@ -140,12 +141,12 @@ impl<W: Write> Account<'_, W> {
         }
         self.text.push(self.walk.as_slice())?;
         push_warrant(&mut self.text, reason.origin)?;
-        push_stale(&mut self.text, reason.stale)?;
+        push_stale(&mut self.text, stale)?;
         self.summary.count(&Outcome {
             number: reason.number,
             denied,
             is_cached: before.found.is_whole,
-            is_stale: reason.stale.is_some(),
+            is_stale: stale.is_some(),
         })
     }
 
@@ -174,10 +175,9 @@ impl<W: Write> Account<'_, W> {
             let Some((step, _)) = repeated(line) else {
                 break;
             };
-            let answer = self.take(debugger, number, step)?;
-            if taken == most || !answer.is_done {
-                let text = answer.text.as_slice();
-                return Ok(counted(taken, &text[..text.len().min(MOST_IN_ANSWER)]));
+            let is_done = self.take(debugger, number, step)?;
+            if taken == most || !is_done {
+                return Ok(told(debugger.trace, taken));
             }
         }
         Ok(Reply::new())
@@ -254,6 +254,7 @@ pub fn explain<R: BufRead, W: Write>(
         text,
         walk,
         parts: Parts::new(),
+        draft: Draft::new(),
         summary,
     };
     carried_out(&mut debugger, &mut lines, &mut account, progress)?;

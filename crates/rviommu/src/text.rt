@@ -1,6 +1,6 @@
 //! Text that is put together before it is written.
 
-use iom_text::{decimal, hexed};
+use iom_text::{put_decimal, put_hex};
 use std::alloc::{AllocError, Global};
 
 /// A text that grows. The fault of what appends to it is want of memory.
@@ -28,20 +28,33 @@ impl Text {
     }
 
     /// Appends bytes.
+    #[inline(always)]
     pub fn push(&mut self, bytes: &[u8]) -> Result<(), AllocError> {
         self.bytes.extend_from_slice(bytes)
     }
 
     /// Appends a name, and a number in decimal.
     pub fn push_decimal(&mut self, name: &[u8], number: u64) -> Result<(), AllocError> {
+        let mut digits = [0; 20];
+        let count = put_decimal(&mut digits, number);
         self.push(name)?;
-        self.push(decimal(number).as_slice())
+        self.push(&digits[..count])
     }
 
     /// Appends a name, and a number in hex after `0x`.
     pub fn push_hexed(&mut self, name: &[u8], number: u64) -> Result<(), AllocError> {
+        let mut digits = [0; 16];
+        let count = put_hex(&mut digits, number);
         self.push(name)?;
-        self.push(hexed(number).as_slice())
+        self.push(b"0x")?;
+        self.push(&digits[..count])
+    }
+
+    /// Appends a name, a text and a line end.
+    pub fn push_line(&mut self, name: &[u8], text: &[u8]) -> Result<(), AllocError> {
+        self.push(name)?;
+        self.push(text)?;
+        self.push(b"\n")
     }
 
     /// Appends bytes, those that aren't printable escaped.

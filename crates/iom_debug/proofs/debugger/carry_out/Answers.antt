@@ -3,11 +3,11 @@ use Rattle.iom_debug.proofs.Apart.{along_line, more, stepped}
 use Rattle.iom_debug.proofs.debugger.carry_out.Goals as goal
 
 pub returns-in-Some-clause-along : goal.returns-in-Some-clause-along
-returns-in-Some-clause-along c = along_line _ _ c.args.text.now _ _ _ _ (stepped c.args.text.now _ c.in-Some.ensures) c.take.ensures.took.along
+returns-in-Some-clause-along c = along_line _ _ c.args.text.now _ _ _ _ (stepped c.args.text.now _ c.in-Some.ensures) c.take_told.ensures.took.along
 
 pub returns-in-Some-Does-clause-along : goal.returns-in-Some-Does-clause-along
 returns-in-Some-Does-clause-along c =
-    along_line _ _ c.args.text.now _ _ _ _ (more c.args.text.now _ (rw c.in-Some-Does.field-0-is at (sym c.in-Some-Does.ensures.line))) c.take-in-Some-Does.ensures.took.along
+    along_line _ _ c.args.text.now _ _ _ _ (more c.args.text.now _ (rw c.in-Some-Does.field-0-is at (sym c.in-Some-Does.ensures.line))) c.take_told-in-Some-Does.ensures.took.along
 
 pub returns-in-Some-Again-clause-along : goal.returns-in-Some-Again-clause-along
 returns-in-Some-Again-clause-along c =

@@ -9,13 +9,13 @@ loop-i-init c =
 pub loop-i-preserved : goal.loop-i-preserved
 loop-i-preserved c =
     let same = stored c.args.addr c.args.words.now c.loop-i.i (omega arith) in
-    goes_on _ _ _ _ _ _ _ _ (rw same at c.loop-i.invariant) c.take-answered.ensures.took (sym c.take-answered.ensures.done ∙ was_true _ c.if-not-answered.false)
+    goes_on _ _ _ _ _ _ _ _ (rw same at c.loop-i.invariant) c.take_told-answered.ensures.took (sym c.take_told-answered.ensures.done ∙ was_true _ c.if-not-answered.false)
 
 pub returns-then-not-answered-clause-along : goal.returns-then-not-answered-clause-along
 returns-then-not-answered-clause-along c =
     let same = stored c.args.addr c.args.words.now c.loop-i.i (omega arith) in
-    let stopped = stops _ _ _ _ _ _ _ _ (rw same at c.loop-i.invariant) c.take-answered.ensures.took
-    (sym c.take-answered.ensures.done ∙ was_false _ c.if-not-answered.true) in
+    let stopped = stops _ _ _ _ _ _ _ _ (rw same at c.loop-i.invariant) c.take_told-answered.ensures.took
+    (sym c.take_told-answered.ensures.done ∙ was_false _ c.if-not-answered.true) in
     stopped.along
 
 pub returns-clause-along : goal.returns-clause-along

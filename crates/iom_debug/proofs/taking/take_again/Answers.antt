@@ -13,7 +13,7 @@ loop-i-preserved c =
     let done : is_done (next c.loop-i.platform (step_by c.args.actor)).answer ≡ true = cc in
     record {
       within = omega arith;
-      left = goes_on _ _ _ _ (step_by c.args.actor) _ _ _ (rw same at c.loop-i.invariant.left) (rw c.step_by-step.ensures at c.take-answered.ensures.took) done;
+      left = goes_on _ _ _ _ (step_by c.args.actor) _ _ _ (rw same at c.loop-i.invariant.left) (rw c.step_by-step.ensures at c.take_told-answered.ensures.took) done;
     }
 
 pub loop-i-init : goal.loop-i-init
@@ -26,16 +26,16 @@ unfolding count_text
 returns-then-not-answered-clause-reply c =
     let same = again (step_by c.args.actor) c.args.most c.loop-i.i c.loop-i-test.true in
     let other : is_done (next c.loop-i.platform (step_by c.args.actor)).answer ≡ false = cc in
-    let stopped = stops _ _ _ _ _ _ _ _ (rw same at c.loop-i.invariant.left) (rw c.step_by-step.ensures at c.take-answered.ensures.took) other in
+    let stopped = stops _ _ _ _ _ _ _ _ (rw same at c.loop-i.invariant.left) (rw c.step_by-step.ensures at c.take_told-answered.ensures.took) other in
     rw (stopped.count_is, stopped.last_is)
-    (c.counted.ensures ∙ ap (λ t. hexed (c.loop-i.i + 1) ++ codes " " ++ t) (c.as_slice.ensures.value ∙ c.take-answered.ensures.text
+    (c.counted.ensures ∙ ap (λ t. hexed (c.loop-i.i + 1) ++ codes " " ++ t) (c.as_slice.ensures.value ∙ c.take_told-answered.ensures.text
     ∙ ap (λ s. text_of (next c.loop-i.platform s).answer) c.step_by-step.ensures))
 
 pub returns-then-not-answered-clause-along : goal.returns-then-not-answered-clause-along
 returns-then-not-answered-clause-along c =
     let same = again (step_by c.args.actor) c.args.most c.loop-i.i c.loop-i-test.true in
     let other : is_done (next c.loop-i.platform (step_by c.args.actor)).answer ≡ false = cc in
-    let stopped = stops _ _ _ _ _ _ _ _ (rw same at c.loop-i.invariant.left) (rw c.step_by-step.ensures at c.take-answered.ensures.took) other in
+    let stopped = stops _ _ _ _ _ _ _ _ (rw same at c.loop-i.invariant.left) (rw c.step_by-step.ensures at c.take_told-answered.ensures.took) other in
     stopped.along
 
 pub returns-clause-reply : goal.returns-clause-reply

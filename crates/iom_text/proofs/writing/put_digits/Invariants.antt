@@ -4,5 +4,5 @@ use Rattle.iom_text.specs.Texts.{digits_in}
 use Rattle.iom_text.proofs.writing.put_digits.Given as goal
 
 abbrev pub invariant-loop-i : goal.invariant-loop-i
-invariant-loop-i l = (length l.places ≡ length (digits_of 16 l.number)) × (length (digits_of 16 l.rest) ≡ l.i)
-    × (digits_in 16 l.rest ++ drop l.i l.places ≡ digits_in 16 l.number)
+invariant-loop-i l = (length l.places ≡ length (digits_of 10 l.number)) × (length (digits_of 10 l.rest) ≡ l.i)
+    × (digits_in 10 l.rest ++ drop l.i l.places ≡ digits_in 10 l.number)

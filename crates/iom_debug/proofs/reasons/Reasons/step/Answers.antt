@@ -1,28 +1,15 @@
-use Rattle.std.proofs.Common.{◌≡◌, ◌++◌, [], ◌∷◌, List, ◌∙◌, refl, sym, ap, subst}
-use Rattle.circular_buffer.specs.Buffer.{keep_last}
-use Rattle.iom_history.specs.Following.{Follows, Notes}
-use Rattle.iom_debug.specs.declared.reason.Reason.{Reason}
-use Rattle.iom_debug.specs.Reasons.{Account}
-use Rattle.iom_debug.proofs.Telling.{along_step}
+use Rattle.std.proofs.Common.{◌≡◌, [], ◌∷◌, sym, subst}
+use Rattle.iom_account.specs.Account.{Account, GoesAlong}
 use Rattle.iom_debug.proofs.reasons.Reasons.step.Goals as goal
 
-pub returns-clause-along : goal.returns-clause-along
-returns-clause-along c =
-    let reason : Reason = record {
-      number = c.args.number;
-      request = c.step-answer.result.request;
-      origin = c.step-answer.result.origin;
-      stale = c.stale_before-stale.result;
-    } in
-    let before : c.args.self.now.history ≡ c.self.inside.history = cc in
-    let history : c.keep.new.self.history ≡ c.step-answer.new.self = cc in
-    let inside : c.args.self.now.told ≡ c.self.inside.told = cc in
-    let told : c.keep.new.self.told ≡ keep_last 32 (c.args.self.now.told ++ reason ∷ []) =
-    ap (λ (a : Account). a.told) c.keep.ensures ∙ ap (λ (l : List Reason). keep_last 32 (l ++ reason ∷ [])) (sym inside) in
-    along_step c.args.self.now c.args.platform.now c.args.step.now c.args.number c.keep.new.self c.step-answer.new.platform reason
-    c.step-answer.ensures.state told refl c.step-answer.ensures.request c.stale_before-stale.ensures
-    (λ start steps numbers h.
-    subst (λ (notes : Notes). Follows notes c.step-answer.new.platform start (steps ++ c.args.step.now ∷ []) (numbers ++ c.args.number ∷ [])) (sym history)
-    (c.step-answer.ensures.follows start steps numbers (subst (λ (notes : Notes). Follows notes c.args.platform.now start steps numbers) before h)))
-    (λ start steps numbers h.
-    c.step-answer.ensures.origin start steps numbers (subst (λ (notes : Notes). Follows notes c.args.platform.now start steps numbers) before h))
+pub returns-then-is_some-clause-along : goal.returns-then-is_some-clause-along
+returns-then-is_some-clause-along c =
+    let before : c.self.inside.account ≡ c.args.self.now.account = cc in
+    subst (λ (account : Account). GoesAlong account c.args.platform.now (c.args.step.now ∷ []) c.args.number c.step-answer.new.self
+    c.step-answer.new.platform) before c.step-answer.ensures.along
+
+pub returns-else-is_some-clause-along : goal.returns-else-is_some-clause-along
+returns-else-is_some-clause-along c =
+    let before : c.self.inside.account ≡ c.args.self.now.account = cc in
+    subst (λ (account : Account). GoesAlong account c.args.platform.now (c.args.step.now ∷ []) c.args.number c.step-answer.new.self
+    c.step-answer.new.platform) before c.step-answer.ensures.along

@@ -1,8 +1,12 @@
-use Rattle.std.proofs.Common.{◌++◌, [], ◌∷◌, sym, subst}
+use Rattle.std.proofs.Common.{◌++◌, [], ◌∷◌, refl, sym, subst}
 use Rattle.iom_core.specs.State.{State}
 use Rattle.iom_history.specs.Following.{Follows}
-use Rattle.iom_history.proofs.Stepped.{are_beside, follows_idle, follows_request, origin_idle, origin_request}
+use Rattle.iom_history.proofs.Stepped.{are_beside, follows_idle, follows_request, none_idle, none_request, origin_idle, origin_request}
 use Rattle.iom_history.proofs.history.History.step.Goals as goal
+
+pub returns-in-None-clause-none : goal.returns-in-None-clause-none
+returns-in-None-clause-none c =
+    none_idle c.args.platform.now c.args.step.now (sym c.in-None.ensures.request) _ refl
 
 pub returns-in-None-clause-follows : goal.returns-in-None-clause-follows
 returns-in-None-clause-follows c = λ start steps numbers h.
@@ -13,6 +17,11 @@ returns-in-None-clause-follows c = λ start steps numbers h.
 pub returns-in-None-clause-origin : goal.returns-in-None-clause-origin
 returns-in-None-clause-origin c = λ start steps numbers h.
     origin_idle c.args.self.now c.args.platform.now start steps numbers h c.args.step.now c.args.number (sym c.in-None.ensures.request)
+
+pub returns-in-Some-clause-none : goal.returns-in-Some-clause-none
+returns-in-Some-clause-none c =
+    none_request c.args.platform.now c.args.step.now c.in-Some.request (sym c.in-Some.ensures.request) c.access.result.answer
+    c.access.ensures.answer c.access.result.origin _ c.access.ensures.origin
 
 pub returns-in-Some-clause-follows : goal.returns-in-Some-clause-follows
 returns-in-Some-clause-follows c = λ start steps numbers h.

@@ -1,0 +1,63 @@
+-- What is told of the steps of a platform while they are carried out: which steps filled what its caches hold, and why each of the last
+-- went as it did.
+use Rattle.std.specs.Prelude.{ℕ, suc, ◌≡◌, ◌++◌, List, length, replicate, take, slice_get, Option, Some, None, IfSome}
+use Rattle.circular_buffer.specs.Buffer.{keep_last}
+use Rattle.iom_core.specs.State.{State}
+use Rattle.iom_core.specs.Run.{end_of}
+use Rattle.iom_core.specs.Table.{request_of_step}
+use Rattle.iom_core.specs.Warrants.{IsUncached, moment, request_at}
+use Rattle.iom_core.specs.declared.access.Request.{Request}
+use Rattle.iom_core.specs.declared.step.Step.{Step}
+use Rattle.iom_reasons.specs.Stale.{Fits, stale_way}
+use Rattle.iom_reasons.specs.declared.way.Way.{Way}
+use Rattle.iom_history.specs.Following.{ComesFrom, Follows, Notes, number_of}
+use Rattle.iom_account.specs.declared.reason.Reason.{Reason}
+
+-- the way that the tables say of an access that is stale, before the step that makes it; None: it isn't, or there is none
+abbrev pub stale_in : State → Option Request → Option Way
+stale_in state None = None
+stale_in state (Some request) = stale_way state.machine request
+
+-- the way that is told is one that the tables may say
+abbrev pub ReasonFits : Reason → Type 0
+ReasonFits reason = IfSome reason.stale Fits
+
+-- what is told of a step of its own number that this platform carries out, but for where its translation comes from: that is told by the
+-- steps before it too
+pub record IsReasonOf (state : State) (step : Step) (own : ℕ) (reason : Reason) : Type 0 where
+  pub number : reason.number ≡ own
+  pub request : reason.request ≡ request_of_step state step
+  pub stale : reason.stale ≡ stale_in state (request_of_step state step)
+
+-- what is told of step n, the last of these
+pub record IsReason (start : State) (steps : List Step) (numbers : List ℕ) (n : ℕ) (reason : Reason) : Type 0 where
+  pub number : reason.number ≡ number_of numbers n
+  pub request : reason.request ≡ request_at start steps n
+  pub origin : IsUncached start → ComesFrom start steps numbers n reason.origin
+  pub stale : reason.stale ≡ stale_in (moment start steps n) (request_at start steps n)
+
+-- Of all these steps something is told, of each as it was carried out; the last 32 are kept.
+pub record Tells (start : State) (steps : List Step) (numbers : List ℕ) (told : List Reason) : Type 0 where
+  pub all : List Reason
+  pub many : length all ≡ length steps
+  pub each : (n : ℕ) (reason : Reason) → slice_get all n ≡ Some reason →
+      IsReason start (take (suc n) steps) (take (suc n) numbers) n reason
+  pub kept : told ≡ keep_last 32 all
+
+-- what is kept beside a platform: which steps filled its caches, and what is told of the last steps
+pub record Account : Type 0 where
+  pub history : Notes
+  pub told : List Reason
+
+-- It goes along with the platform: since the start these steps were carried out, with these numbers.
+pub record Accounts (account : Account) (platform start : State) (steps : List Step) (numbers : List ℕ) : Type 0 where
+  pub reached : platform ≡ end_of start steps
+  pub numbered : length numbers ≡ length steps
+  pub follows : IsUncached start → Follows account.history platform start steps numbers
+  pub tells : Tells start steps numbers account.told
+
+-- It went along with these steps of one number.
+abbrev pub GoesAlong : Account → State → List Step → ℕ → Account → State → Type 0
+GoesAlong before state more number after left =
+    (start : State) (steps : List Step) (numbers : List ℕ) → Accounts before state start steps numbers →
+    Accounts after left start (steps ++ more) (numbers ++ replicate (length more) number)

@@ -1,0 +1,135 @@
+//! What is told of the steps of a platform.
+
+ghost use Rattle.std.specs.Prelude.{◌≡◌, IfSome};
+ghost use Rattle.iom_core.specs.Table.{request_of_step};
+ghost use Rattle.iom_reasons.specs.Stale.{Fits};
+ghost use Rattle.iom_account.specs.Account.{stale_in};
+
+use crate::kept::Kept;
+use crate::reason::Reason;
+use iom_core::{Answer, Platform, Step};
+use iom_history::{History, Taken};
+use iom_reasons::{Way, stale};
+use std::marker::Model;
+
+/// Which steps filled what the caches of a platform hold, and why each of its last 32 steps went as it did. A step is told by the number
+/// that the caller gave it. No call takes memory.
+#[derive(Drop)]
+pub struct Account {
+    history: History,
+    told: Kept,
+}
+
+impl Model for Account {
+    ghost use Rattle.std.specs.List.{All};
+    ghost use Rattle.iom_account.specs.Account.{Account, ReasonFits};
+
+    ghost Value = { Account };
+
+    ghost view = { λ a. record { history = a.history; told = a.told } };
+
+    ghost invariant = { λ a. All ReasonFits a.told };
+}
+
+impl Account {
+    ghost use Rattle.std.specs.Prelude.{◌≡◌, ◌++◌, [], ◌∷◌, IfSome, IsSomeAnd, slice_get};
+    ghost use Rattle.std.specs.Option.{option_copied};
+    ghost use Rattle.circular_buffer.specs.Buffer.{keep_last, last_item};
+    ghost use Rattle.iom_core.specs.Table.{next};
+    ghost use Rattle.iom_account.specs.Account.{Accounts, GoesAlong, IsReasonOf, ReasonFits};
+
+    /// An account that begins at this platform, of no step yet. Where translations come from is told if both caches hold nothing now.
+    #[tactic(auto, using(crate::proofs::Fitting::none_told))]
+    pub fn new(platform: &Platform) -> Account
+        ensures begins { Accounts result platform.now platform.now [] [] }
+        ensures empty { result.told ≡ [] }
+    {
+        Account {
+            history: History::new(platform),
+            told: Kept::new(),
+        }
+    }
+
+    /// An equal account, which goes its own way from here.
+    #[tactic(auto, using(crate::proofs::Fitting::as_told))]
+    pub fn copied(&self) -> Account
+        ensures { result ≡ self.now }
+    {
+        Account {
+            history: self.history.copied(),
+            told: self.told.copied(),
+        }
+    }
+
+    /// Which steps filled what the caches hold.
+    pub fn history(&self) -> &History
+        ensures { result.now ≡ self.now.history }
+    {
+        &self.history
+    }
+
+    /// Why step `i` of the last 32, any number, went as it did; the oldest is 0. None where there are so many steps or fewer. The way that
+    /// it tells is one that the tables may say.
+    #[tactic(auto, using(crate::proofs::Fitting::fits_at))]
+    pub fn reason(&self, i: u64) -> Option<&Reason>
+        ensures reason { option_copied result ≡ slice_get self.now.told i }
+        ensures fits { IfSome (option_copied result) ReasonFits }
+    {
+        self.told.get(i as usize)
+    }
+
+    /// Why the last step went as it did; None where there was none. The way that it tells is one that the tables may say.
+    #[tactic(auto, using(crate::proofs::Fitting::fits_last))]
+    pub fn newest(&self) -> Option<&Reason>
+        ensures reason { option_copied result ≡ last_item self.now.told }
+        ensures fits { IfSome (option_copied result) ReasonFits }
+    {
+        self.told.newest()
+    }
+
+    /// Carries out the next step on the platform, which has the caller's `number`, and keeps what is told of it. Of 32 steps the oldest
+    /// leaves.
+    pub fn step(&mut self, platform: &mut Platform, step: &Step, number: u64) -> Answer
+        ensures answer { result ≡ (next platform.old step.now).answer }
+        ensures state { platform.new ≡ (next platform.old step.now).state }
+        ensures newest { IsSomeAnd (last_item self.new.told) (IsReasonOf platform.old step.now number) }
+
+        // It goes along with the platform's steps: from a start whose caches hold nothing it tells of each what explains it.
+        ensures along { GoesAlong self.old platform.old (step.now ∷ []) number self.new platform.new }
+    {
+        let stale = stale_before(platform, step);
+        let Taken {
+            answer,
+            request,
+            origin,
+        } = self.history.step(platform, step, number);
+        self.keep(Reason {
+            number,
+            request,
+            origin,
+            stale,
+        });
+        answer
+    }
+
+    // Keeps what is told of a step.
+    #[tactic(auto, using(crate::proofs::Fitting::fits_kept))]
+    fn keep(&mut self, reason: Reason)
+        requires { ReasonFits reason }
+        ensures { self.new ≡ record {
+          history = self.old.history;
+          told = keep_last 32 (self.old.told ++ reason ∷ []);
+        } }
+    {
+        self.told.keep(reason);
+    }
+}
+
+// The way that the tables say of the access that a step makes, where it is stale.
+fn stale_before(platform: &Platform, step: &Step) -> Option<Way>
+    ensures told { result ≡ stale_in platform.now (request_of_step platform.now step.now) }
+    ensures fits { IfSome result Fits }
+{
+    let request = platform.request_of(step)?;
+    stale(platform, &request)
+}

@@ -1,0 +1,110 @@
+ghost use Rattle.std.specs.Prelude.{◌≡◌, ◌==◌, ◌≤◌, if◌then◌else◌};
+
+use crate::reason::Reason;
+use arrayvec::ArrayVec;
+use std::marker::Model;
+
+/// How many reasons are kept.
+const MOST: usize = 32;
+
+/// The last 32 reasons, the oldest first. They stand in a ring, so that none is moved where there are 32 and one more is kept.
+#[derive(Drop)]
+pub struct Kept {
+    ring: ArrayVec<Reason, 32>,
+    // How many of the newest stand before the others.
+    newer: usize,
+}
+
+impl Model for Kept {
+    ghost use Rattle.std.specs.Prelude.{◌≡◌, ◌≤◌, ◌++◌, drop, length, take, List};
+    ghost use Rattle.iom_account.specs.declared.reason.Reason.{Reason};
+
+    ghost Value = { List Reason };
+
+    ghost view = { λ kept. drop kept.newer kept.ring.items ++ take kept.newer kept.ring.items };
+
+    ghost invariant = { λ kept. (kept.newer ≤ length kept.ring.items) × (length kept.ring.items ≤ 32) };
+}
+
+impl Kept {
+    ghost use Rattle.std.specs.Prelude.{◌≡◌, ◌++◌, [], ◌∷◌, slice_get};
+    ghost use Rattle.std.specs.Option.{option_copied};
+    ghost use Rattle.circular_buffer.specs.Buffer.{keep_last, last_item};
+
+    /// None yet.
+    pub fn new() -> Kept
+        ensures { result ≡ [] }
+    {
+        Kept {
+            ring: ArrayVec::new(),
+            newer: 0,
+        }
+    }
+
+    /// The same reasons, in a ring of their own.
+    pub fn copied(&self) -> Kept
+        ensures { result ≡ self.now }
+    {
+        Kept {
+            ring: equal(&self.ring),
+            newer: self.newer,
+        }
+    }
+
+    /// The one at place `i`, any number; the oldest is at place 0. None where there are so many or fewer.
+    #[tactic(auto, using(crate::proofs::Ring::turned_front, crate::proofs::Ring::turned_back))]
+    pub fn get(&self, i: usize) -> Option<&Reason>
+        ensures { option_copied result ≡ slice_get self.now i }
+    {
+        let older = self.ring.len() - self.newer;
+        if i < older {
+            self.ring.as_slice().get(self.newer + i)
+        } else {
+            self.ring.as_slice()[..self.newer].get(i - older)
+        }
+    }
+
+    /// The newest one.
+    #[tactic(auto, using(crate::proofs::Ring::turned_last, crate::proofs::Ring::turned_whole))]
+    pub fn newest(&self) -> Option<&Reason>
+        ensures { option_copied result ≡ last_item self.now }
+    {
+        if self.newer > 0 {
+            self.ring.as_slice().get(self.newer - 1)
+        } else {
+            self.ring.as_slice().last()
+        }
+    }
+
+    /// Keeps one more. Of 32 the oldest leaves.
+    #[tactic(auto, using(crate::proofs::Ring::turned_on, crate::proofs::Ring::grown))]
+    pub fn keep(&mut self, reason: Reason)
+        ensures { self.new ≡ keep_last 32 (self.old ++ reason ∷ []) }
+    {
+        if self.ring.is_full() {
+            let oldest = oldest_place(self.newer);
+            self.ring.as_mut_slice()[oldest] = reason;
+            self.newer = oldest + 1;
+        } else {
+            self.ring.insert(self.newer, reason);
+            self.newer += 1;
+        }
+    }
+}
+
+// The place of the oldest one of 32, so many of which are newer and stand before the others.
+fn oldest_place(newer: usize) -> usize
+    requires { newer ≤ 32 }
+    ensures { result ≡ (if newer == 32 then 0 else newer) }
+{
+    if newer == MOST { 0 } else { newer }
+}
+
+// The same reasons, each at its place.
+fn equal(ring: &ArrayVec<Reason, 32>) -> ArrayVec<Reason, 32>
+    ensures { result.items ≡ ring.now.items }
+{
+    let mut same = ArrayVec::new();
+    let _fits = same.try_extend_from_slice(ring.as_slice());
+    same
+}

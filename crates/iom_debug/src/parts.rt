@@ -1,0 +1,284 @@
+//! The text of a part of a walk.
+
+ghost use Rattle.std.specs.Prelude.{◌≡◌, ◌+◌, ◌++◌, ◌<◌, ◌≤◌, ◌^◌, [], ◌∷◌, codes, length};
+ghost use Rattle.iom_bits.specs.Causes.{cause_number};
+ghost use Rattle.iom_text.specs.Texts.{numeral};
+ghost use Rattle.iom_items.specs.Lines.{line_of, operand, pte_text};
+ghost use Rattle.iom_items.specs.declared.item.Item.TheVariants as item;
+ghost use Rattle.iom_tool.specs.Debugger.{item_text};
+ghost use Rattle.iom_debug.specs.Walks.{end_text, first_text, got_text, in_text, met_text, mode_number, part_text, row_text, second_text, wide_text};
+ghost use Rattle.iom_debug.specs.Ways.{address_text};
+
+use crate::ways::address_by_tables;
+use iom_bits::{Cause, field};
+use iom_core::{Denial, Platform, Request};
+use iom_ddt::Met;
+use iom_items::{Item, item_line};
+use iom_mem::Ram;
+use iom_reasons::{Part, Way, Wide};
+use iom_regs::Mode;
+use iom_text::decimal;
+use iom_tool::Draft;
+use iom_walk::{Got, PathEntry, Ruling};
+
+/// Puts one part of the walk of a request as the tables stand now in place of what a draft holds: at most 320 bytes, without a line
+/// end. The device id is below 2^24.
+pub fn put_part(out: &mut Draft, platform: &Platform, request: &Request, part: &Part)
+    requires { request.now.did < 2 ^ 24 }
+    ensures text { out.new ≡ part_text platform.now.machine request.now part.now }
+    ensures short { length out.new ≤ 320 }
+{
+    out.clear();
+    match part {
+        Part::Ddtp { mode, root } => push_ddtp(out, *mode, *root),
+        Part::Directory(met) => push_met(out, platform.ram(), met),
+        Part::Wide(what) => push_wide(out, *what),
+        Part::First { entry, addr } => push_first(out, entry, *addr),
+        Part::Second { guest, entry } => push_second(out, *guest, entry),
+        Part::End(way) => push_end(out, way, address_by_tables(platform, request)),
+    }
+}
+
+// Appends a blank, a key, `=` and a number in hex.
+#[inline(always)]
+fn push_operand(out: &mut Draft, key: &[u8], value: u64)
+    requires { length out.old + length key.now + 20 < 320 }
+    ensures text { out.new ≡ out.old ++ operand key.now value }
+    ensures room { length out.new ≤ length out.old + length key.now + 20 }
+{
+    out.append(b" ");
+    out.append(key);
+    out.append(b"=");
+    out.append_hexed(value);
+}
+
+// Appends ddtp: its mode and its PPN.
+fn push_ddtp(out: &mut Draft, mode: Mode, root: u64)
+    requires { length out.old ≡ 0 }
+    ensures text { out.new ≡ out.old ++ codes "ddtp" ++ operand (codes "mode") (mode_number mode) ++ operand (codes "root") root }
+    ensures short { length out.new ≤ 320 }
+{
+    let number = match mode {
+        Mode::Off => 0,
+        Mode::Bare => 1,
+        Mode::Levels(levels) => u64::from(levels) + 1,
+    };
+    out.append(b"ddtp");
+    push_operand(out, b"mode", number);
+    push_operand(out, b"root", root);
+}
+
+// Appends a blank and the line of an item, or that a byte of it is outside memory.
+fn push_item(out: &mut Draft, ram: &Ram, kind: Item, addr: u64)
+    requires { length out.old ≤ 63 }
+    ensures text { out.new ≡ out.old ++ codes " " ++ item_text ram.now kind addr }
+    ensures short { length out.new ≤ 320 }
+{
+    out.append(b" ");
+    match item_line(ram, kind, addr) {
+        Some(line) => out.append(line.as_slice()),
+        None => out.append(b"outside"),
+    }
+}
+
+// Appends an item of the directory.
+#[tactic(auto, unfolding(crate::specs::Walks::met_text))]
+fn push_met(out: &mut Draft, ram: &Ram, met: &Met)
+    requires { length out.old ≡ 0 }
+    ensures text { out.new ≡ out.old ++ met_text ram.now met.now }
+    ensures short { length out.new ≤ 320 }
+{
+    match met {
+        Met::Entry { place, .. } => {
+            out.append(b"dir");
+            push_operand(out, b"at", *place);
+            push_item(out, ram, Item::Dir, *place);
+        }
+        Met::Leaf { place, .. } => {
+            out.append(b"context");
+            push_operand(out, b"at", *place);
+            push_item(out, ram, Item::Context, *place);
+        }
+    }
+}
+
+// Appends what is too wide for the directory or for a stage.
+#[tactic(auto, unfolding(crate::specs::Walks::wide_text))]
+fn push_wide(out: &mut Draft, what: Wide)
+    requires { length out.old ≡ 0 }
+    ensures text { out.new ≡ out.old ++ wide_text what }
+    ensures short { length out.new ≤ 320 }
+{
+    match what {
+        Wide::Directory { did } => push_too_wide(out, b"dir", b"did", u64::from(did)),
+        Wide::First { iova } => push_too_wide(out, b"first", b"iova", iova),
+        Wide::Second { guest } => push_too_wide(out, b"second", b"guest", guest),
+    }
+}
+
+// Appends a table, and an id or an address that is too wide for it.
+fn push_too_wide(out: &mut Draft, table: &[u8], name: &[u8], value: u64)
+    requires empty { length out.old ≡ 0 }
+    requires table { length table.now ≤ 10 }
+    requires name { length name.now ≤ 10 }
+    ensures text { out.new ≡ out.old ++ table.now ++ operand name.now value ++ codes " width" }
+    ensures short { length out.new ≤ 320 }
+{
+    out.append(table);
+    push_operand(out, name, value);
+    out.append(b" width");
+}
+
+// Appends an entry of a page table by its PPN and its flags.
+fn push_entry(out: &mut Draft, ppn: u64, flags: u64)
+    requires { length out.old ≤ 128 }
+    ensures text { out.new ≡ out.old ++ pte_text (record { ppn = ppn; flags = flags }) }
+    ensures room { length out.new ≤ length out.old + 60 }
+{
+    out.append(b"pte");
+    push_operand(out, b"ppn", ppn);
+    push_operand(out, b"flags", flags);
+}
+
+// Appends the line of an entry of a page table.
+fn push_pte(out: &mut Draft, word: u64)
+    requires { length out.old ≤ 128 }
+    ensures text { out.new ≡ out.old ++ line_of item.Pte (word ∷ []) }
+    ensures room { length out.new ≤ length out.old + 60 }
+{
+    if field(word, 54, 10) == 0 {
+        push_entry(out, field(word, 10, 44), field(word, 0, 10));
+    } else {
+        out.append(b"u64 ");
+        out.append_hexed(word);
+    }
+}
+
+// Appends what was read of an entry.
+#[tactic(auto, unfolding(crate::specs::Walks::got_text))]
+fn push_got(out: &mut Draft, got: Got)
+    requires { length out.old ≤ 127 }
+    ensures text { out.new ≡ out.old ++ got_text got }
+    ensures room { length out.new ≤ length out.old + 61 }
+{
+    if let Got::Word(word) = got {
+        out.append(b" ");
+        push_pte(out, word);
+    }
+}
+
+// Appends the row that decides.
+#[tactic(auto, unfolding(crate::specs::Walks::row_text))]
+fn push_row(out: &mut Draft, ruling: Ruling)
+    requires { length out.old ≤ 300 }
+    ensures text { out.new ≡ out.old ++ row_text ruling }
+    ensures short { length out.new ≤ 320 }
+{
+    match ruling {
+        Ruling::Outside => out.append(b" outside memory"),
+        Ruling::Guest => out.append(b" guest fault"),
+        Ruling::Invalid => out.append(b" V=0"),
+        Ruling::WriteOnly => out.append(b" R=0 W=1"),
+        Ruling::Reserved => out.append(b" reserved bits"),
+        Ruling::ReservedInPointer => out.append(b" reserved in pointer"),
+        Ruling::LastLevel => out.append(b" last level"),
+        Ruling::Pointer => out.append(b" pointer"),
+        Ruling::Misaligned => out.append(b" misaligned"),
+        Ruling::NotUser => out.append(b" U"),
+        Ruling::NotReadable => out.append(b" R"),
+        Ruling::NotWritable => out.append(b" W"),
+        Ruling::NotAccessed => out.append(b" A"),
+        Ruling::NotDirty => out.append(b" D"),
+        Ruling::Leaf => out.append(b" leaf"),
+    }
+}
+
+// Appends where an entry of the first stage was read.
+fn push_in(out: &mut Draft, addr: Option<u64>)
+    requires { length out.old ≤ 100 }
+    ensures text { out.new ≡ out.old ++ in_text addr }
+    ensures room { length out.new ≤ length out.old + 22 }
+{
+    match addr {
+        Some(addr) => push_operand(out, b"in", addr),
+        None => out.append(b" in=-"),
+    }
+}
+
+// Appends an entry of the first stage.
+#[tactic(auto, unfolding(crate::specs::Walks::first_text))]
+fn push_first(out: &mut Draft, entry: &PathEntry, addr: Option<u64>)
+    requires { length out.old ≡ 0 }
+    ensures text { out.new ≡ out.old ++ first_text entry.now addr }
+    ensures short { length out.new ≤ 320 }
+{
+    out.append(b"first");
+    push_operand(out, b"level", u64::from(entry.level));
+    push_operand(out, b"at", entry.place);
+    push_in(out, addr);
+    push_got(out, entry.got);
+    push_row(out, entry.ruling);
+}
+
+// Appends an entry of the second stage.
+#[tactic(auto, unfolding(crate::specs::Walks::second_text))]
+fn push_second(out: &mut Draft, guest: u64, entry: &PathEntry)
+    requires { length out.old ≡ 0 }
+    ensures text { out.new ≡ out.old ++ second_text guest entry.now }
+    ensures short { length out.new ≤ 320 }
+{
+    out.append(b"second");
+    push_operand(out, b"of", guest);
+    push_operand(out, b"level", u64::from(entry.level));
+    push_operand(out, b"at", entry.place);
+    push_got(out, entry.got);
+    push_row(out, entry.ruling);
+}
+
+// Appends the cause of a denial.
+fn push_denied(out: &mut Draft, cause: Cause)
+    requires { length out.old ≤ 128 }
+    ensures text { out.new ≡ out.old ++ codes "denied " ++ numeral 10 (cause_number cause) }
+    ensures room { length out.new ≤ length out.old + 27 }
+{
+    out.append(b"denied ");
+    out.append(decimal(u64::from(cause.number())).as_slice());
+}
+
+// Appends an address, or the cause of a denial.
+fn push_address(out: &mut Draft, address: Result<u64, Denial>)
+    requires { length out.old ≤ 128 }
+    ensures text { out.new ≡ out.old ++ address_text address }
+    ensures room { length out.new ≤ length out.old + 27 }
+{
+    match address {
+        Ok(addr) => {
+            out.append(b"addr=");
+            out.append_hexed(addr);
+        }
+        Err(denial) => push_denied(out, denial.cause),
+    }
+}
+
+// Appends the end of a walk.
+#[tactic(auto, unfolding(crate::specs::Walks::end_text))]
+fn push_end(out: &mut Draft, way: &Way, address: Result<u64, Denial>)
+    requires { length out.old ≡ 0 }
+    ensures text { out.new ≡ out.old ++ end_text way.now address }
+    ensures short { length out.new ≤ 320 }
+{
+    match way {
+        Way::Register => out.append(b"register "),
+        Way::Context(_) => out.append(b"context "),
+        Way::Walked(_, hit) => {
+            out.append(b"frame=");
+            out.append_hexed(hit.frame);
+            out.append(b" ");
+        }
+        Way::Denied(_) => {}
+    }
+    push_address(out, address);
+    if let Way::Denied(denial) = way {
+        push_operand(out, b"iotval2", denial.iotval2);
+    }
+}

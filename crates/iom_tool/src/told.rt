@@ -1,0 +1,30 @@
+//! What steps answered, told outside a script.
+
+ghost use Rattle.std.specs.Prelude.{◌≡◌, ◌≤◌, length, Some};
+ghost use Rattle.iom_tool.specs.Texts.{entry_text, text_of};
+
+use crate::draft::Draft;
+use crate::session::Reply;
+use crate::text::{push_answer, push_entry};
+use crate::trace::Entry;
+use iom_core::Answer;
+
+/// Puts a step of a trace and its answer in place of what a draft holds, as the question `trace` answers them: at most 320 bytes.
+pub fn put_entry(out: &mut Draft, entry: &Entry)
+    ensures { out.new ≡ entry_text (Some entry.now) }
+{
+    out.clear();
+    push_entry(out, Some(entry));
+}
+
+/// The text of an answer, as a script answers it: at most 128 bytes.
+pub fn answer_text(answer: &Answer) -> Reply
+    ensures text { result.items ≡ text_of answer.now }
+    ensures short { length result.items ≤ 128 }
+{
+    let mut draft = Draft::new();
+    push_answer(&mut draft, answer);
+    let mut reply = Reply::new();
+    let _fits = reply.try_extend_from_slice(draft.as_slice());
+    reply
+}
