@@ -8,7 +8,7 @@ use Rattle.iom_cache.specs.declared.key.Key.{Key}
 use Rattle.iom_cache.specs.Buckets.{bucket_of, compared, count_in, from_key, is_in}
 use Rattle.iom_cache.specs.Index.{AreApart, Leads, hit_of, is_in_at, position}
 use Rattle.iom_cache.specs.Keys.{same_key}
-use Rattle.iom_cache.specs.Places.{find}
+use Rattle.iom_cache.specs.Places.{find, place_of}
 use Rattle.iom_cache.proofs.Chains.{Led, led_to, none_below}
 use Rattle.iom_cache.proofs.Same.{same_key_exact}
 
@@ -74,6 +74,7 @@ hit_is key entry hit is =
 -- what is found at a place
 pub record FoundAt (key : Key) (all places : List (Option (Key × Hit))) (at : ℕ) (hit : Hit) : Type 0 where
   pub found : find (same_key key) places ≡ Some hit
+  pub place : place_of (same_key key) places ≡ at
   pub from : from_key key all places ≡ drop at places
 
 pub found_at : (key : Key) (all places : List (Option (Key × Hit))) (at : ℕ) (hit : Hit) → AreApart places → hit_of key (get_or places at None) ≡ Some hit →
@@ -81,10 +82,11 @@ pub found_at : (key : Key) (all places : List (Option (Key × Hit))) (at : ℕ) 
 found_at key all [] at hit apart is = absurd (cc)
 found_at key all (None ∷ places) zero hit apart is = absurd (cc)
 found_at key all (None ∷ places) (suc at) hit apart is =
-    let f = found_at key all places at hit apart is in record { found = f.found; from = f.from }
+    let f = found_at key all places at hit apart is in record { found = f.found; place = ap suc f.place; from = f.from }
 found_at key all (Some entry ∷ places) zero hit apart is =
     let h = hit_is key entry hit is in record {
       found = rw h.0 (ap (λ (x : Hit). Some x) h.1);
+      place = rw h.0 refl;
       from = rw h.0 refl;
     }
 found_at key all (Some entry ∷ places) (suc at) hit apart is =
@@ -97,7 +99,11 @@ found_at key all (Some entry ∷ places) (suc at) hit apart is =
           let some = f.found in absurd (cc)
       | false ↦ λ e. e
     ] in
-    let differs = by_test (same_key key entry.0) refl in record { found = rw differs f.found; from = rw differs f.from }
+    let differs = by_test (same_key key entry.0) refl in record {
+      found = rw differs f.found;
+      place = rw differs (ap suc f.place);
+      from = rw differs f.from;
+    }
 
 -- a place without the key is passed
 pub passed_at : (key : Key) (places : List (Option (Key × Hit))) (at : ℕ) → at < length places → hit_of key (get_or places at None) ≡ None →
@@ -123,6 +129,18 @@ from_none key all (Some entry ∷ places) none =
     let by_test : (b : Bool) → Goal b = λ b. elim b as Goal [
       | true ↦ λ e. absurd (cc)
       | false ↦ λ e. from_none key all places e
+    ] in by_test (same_key key entry.0) none
+
+-- where none has the key
+pub nowhere : (key : Key) (places : List (Option (Key × Hit))) → find (same_key key) places ≡ None → place_of (same_key key) places ≡ length places
+nowhere key [] none = refl
+nowhere key (None ∷ places) none = ap suc (nowhere key places none)
+nowhere key (Some entry ∷ places) none =
+    let Goal : Bool → Type 0 = λ b. (if b then Some entry.1 else find (same_key key) places) ≡ None →
+    (if b then 0 else suc (place_of (same_key key) places)) ≡ suc (length places) in
+    let by_test : (b : Bool) → Goal b = λ b. elim b as Goal [
+      | true ↦ λ e. absurd (cc)
+      | false ↦ λ e. ap suc (nowhere key places e)
     ] in by_test (same_key key entry.0) none
 
 -- where the walk stands: it leads on below `limit`, and of the places from there on it has counted the bucket's and found none
@@ -180,16 +198,17 @@ module _ (links : List ℕ) (first : ℕ) (key : Key) (places : List (Option (Ke
 
   -- it is
   pub walked_found : (hit : Hit) → AreApart places → at < limit → hit_of key (get_or places at None) ≡ Some hit →
-      (Some hit ≡ find (same_key key) places) × (suc count ≡ compared key places)
+      (at ≡ place_of (same_key key) places) × (Some hit ≡ find (same_key key) places) × (suc count ≡ compared key places)
   walked_found hit apart low is =
       let f = found_at key places places at hit apart is in
-      (sym f.found, (walked_next low).so_far ∙ sym (ap (count_in (bucket_of key)) f.from))
+      (sym f.place, sym f.found, (walked_next low).so_far ∙ sym (ap (count_in (bucket_of key)) f.from))
 
   -- the bucket ends
-  pub walked_out : limit ≤ at → (None ≡ find (same_key key) places) × (count ≡ compared key places)
+  pub walked_out : limit ≤ at → (length places ≡ place_of (same_key key) places) × (None ≡ find (same_key key) places) × (count ≡ compared key places)
   walked_out far =
       let below = none_below links first (bucket_of key) places slot limit h.leads far in
       let none : find (same_key key) places ≡ None = gap_found key places 0 limit (omega arith) h.inside (λ j from low. below j low) ∙ h.none in (
+        sym (nowhere key places none),
         sym none,
         h.so_far ∙ sym (gap_counted key places 0 limit (omega arith) h.inside (λ j from low. below j low))
             ∙ sym (ap (count_in (bucket_of key)) (from_none key places places none)),

@@ -1,6 +1,6 @@
 -- A cache is a list of places, oldest first; None is an empty place. RISC-V IOMMU Architecture 1.0, "Caching in-memory data
 -- structures", leaves the number of entries and their replacement to the implementation; this is the model's.
-use Rattle.std.specs.Prelude.{ℕ, ◌++◌, ◌==◌, Bool, List, [], ◌∷◌, length, drop, map, Contains, Option, Some, None, Result, Ok, Err, if◌then◌else◌}
+use Rattle.std.specs.Prelude.{ℕ, suc, ◌++◌, ◌==◌, Bool, List, [], ◌∷◌, length, drop, map, Contains, Option, Some, None, Result, Ok, Err, if◌then◌else◌}
 use Rattle.iom_cache.specs.declared.place.Place.{Place}
 use Rattle.iom_cache.specs.declared.place.Place.TheVariants.{Beyond, Empty, Live}
 
@@ -10,7 +10,13 @@ find is_key [] = None
 find is_key (None ∷ places) = find is_key places
 find is_key (Some entry ∷ places) = if is_key entry.0 then Some entry.1 else find is_key places
 
--- the same, by what the list has: the key and the value found stand in a live place; nothing found, and no live place has the key
+-- the index of the live place with the key; as many as there are places where none has it
+abbrev pub place_of : {K V : Type 0} → (K → Bool) → List (Option (K × V)) → ℕ
+place_of is_key [] = 0
+place_of is_key (None ∷ places) = suc (place_of is_key places)
+place_of is_key (Some entry ∷ places) = if is_key entry.0 then 0 else suc (place_of is_key places)
+
+-- the same as `find`, by what the list has: the key and the value found stand in a live place; nothing found, and no live place has the key
 abbrev pub IsHeld : {K V : Type 0} → K → Option V → List (Option (K × V)) → Type 0
 IsHeld {K} {V} key None places = (value : V) → ¬ Contains places (Some (key, value))
 IsHeld key (Some value) places = Contains places (Some (key, value))

@@ -45,7 +45,7 @@ impl TransCache {
     ghost use Rattle.iom_cache.specs.Buckets.{compared};
     ghost use Rattle.iom_cache.specs.Index.{hit_of};
     ghost use Rattle.iom_nested.specs.Nested.{HitFits};
-    ghost use Rattle.iom_cache.specs.Places.{find, IsHeld, filled_by, emptied_by, place_in, EachLive, IfLive};
+    ghost use Rattle.iom_cache.specs.Places.{find, place_of, IsHeld, filled_by, emptied_by, place_in, EachLive, IfLive};
     ghost use Rattle.iom_cache.specs.Entries.{HoldsHit};
     ghost use Rattle.iom_cache.specs.Keys.{same_key};
     ghost use Rattle.iom_cache.specs.Drops.{drops_page};
@@ -116,10 +116,28 @@ impl TransCache {
         self.hit_at(at, key)
     }
 
+    /// The place that is live with this key, counted from the oldest, 0; as many as there are places where none is.
+    pub fn place_of(&self, key: &Key) -> usize
+        ensures { result ≡ place_of (same_key key.now) self.now }
+    {
+        self.search(key).0
+    }
+
     /// The same as `find`, and how many keys of its bucket were compared for it.
     pub fn find_counted(&self, key: &Key) -> (Option<Hit>, u32)
         ensures found { result.0 ≡ find (same_key key.now) self.now }
         ensures count { result.1 ≡ compared key.now self.now }
+    {
+        let (_, hit, count) = self.search(key);
+        (hit, count)
+    }
+
+    // The place that is live with a key, what it says, and how many keys of its bucket were compared for it.
+    #[inline(always)]
+    fn search(&self, key: &Key) -> (usize, Option<Hit>, u32)
+        ensures place { result.0 ≡ place_of (same_key key.now) self.now }
+        ensures found { result.1 ≡ find (same_key key.now) self.now }
+        ensures count { result.2 ≡ compared key.now self.now }
     {
         let mut slot = self.index.newest(bucket_of(key));
         let mut limit = self.places.len();
@@ -128,11 +146,11 @@ impl TransCache {
             limit = self.index.position(slot);
             count += 1;
             if let Some(hit) = self.hit_at(limit, key) {
-                return (Some(hit), count);
+                return (limit, Some(hit), count);
             }
             slot = self.index.older(slot);
         }
-        (None, count)
+        (self.places.len(), None, count)
     }
 
     // The hit at a place that there is, where that has the key.

@@ -1,9 +1,9 @@
 -- What stands beside a live place.
 use Rattle.std.proofs.Common.{◌≡◌, ◌∙◌, ◌<◌, ℕ, zero, suc, List, [], ◌∷◌, get_or, Bool, true, false, Option, Some, None, if◌then◌else◌, refl, ap, subst, arith}
 use Rattle.iom_cache.specs.Origins.{stamped_by}
-use Rattle.iom_cache.specs.Places.{find}
+use Rattle.iom_cache.specs.Places.{find, place_of}
 use Rattle.iom_cache.proofs.Stamped.{Stamped}
-use Rattle.iom_history.specs.Beside.{beside, noted_at, place_of}
+use Rattle.iom_history.specs.Beside.{beside, noted_at}
 
 -- something is found: it stands in a live place, and something is said of it and of what stands beside it
 pub beside_found : {K V : Type 0} → (test : K → Bool) (P : K × V → ℕ → Type 0) (ps : List (Option (K × V))) (ss : List ℕ) (n : ℕ) (value : V) →

@@ -1,9 +1,9 @@
 -- The search for a place, from one to the next.
 use Rattle.std.proofs.Common.{◌≡◌, ◌∙◌, ◌+◌, ◌<◌, ◌≤◌, ℕ, zero, suc, List, [], ◌∷◌, length, drop, replicate, take, Bool, true, false, Option, Some, None, if◌then◌else◌, refl, sym, ap, subst, arith}
 use Rattle.std.specs.Prelude.{slice_get}
-use Rattle.iom_cache.specs.Places.{place_in}
+use Rattle.iom_cache.specs.Places.{place_in, place_of}
 use Rattle.iom_cache.specs.declared.place.Place.{Place}
-use Rattle.iom_history.specs.Beside.{ends_at, place_of}
+use Rattle.iom_history.specs.Beside.{ends_at}
 
 ends : {K V : Type 0} → (test : K → Bool) (ps : List (Option (K × V))) (i : ℕ) → ends_at test (place_in (slice_get ps i)) ≡ true →
     place_of test (drop i ps) ≡ 0

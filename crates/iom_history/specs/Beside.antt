@@ -1,7 +1,7 @@
 -- Numbers beside the places of a cache: what each fill notes of its step.
-use Rattle.std.specs.Prelude.{ℕ, zero, suc, Bool, true, false, List, [], ◌∷◌, get_or, min, Option, Some, None, slice_get, if◌then◌else◌}
+use Rattle.std.specs.Prelude.{ℕ, zero, suc, Bool, true, false, List, get_or, min, Option, slice_get}
 use Rattle.iom_cache.specs.Origins.{stamped_by}
-use Rattle.iom_cache.specs.Places.{place_in}
+use Rattle.iom_cache.specs.Places.{place_in, place_of}
 use Rattle.iom_cache.specs.declared.place.Place.{Place}
 use Rattle.iom_cache.specs.declared.place.Place.TheVariants.{Beyond, Empty, Live}
 
@@ -10,13 +10,7 @@ abbrev pub noted_at : {X : Type 0} → ℕ → (ℕ → Option X) → (ℕ → �
 noted_at room filled note first zero = first
 noted_at room filled note first (suc k) = stamped_by room (note k) (filled k) (noted_at room filled note first k)
 
--- the index of the live place with the key; as many as there are places where none has it
-abbrev pub place_of : {K V : Type 0} → (K → Bool) → List (Option (K × V)) → ℕ
-place_of is_key [] = 0
-place_of is_key (None ∷ places) = suc (place_of is_key places)
-place_of is_key (Some entry ∷ places) = if is_key entry.0 then 0 else suc (place_of is_key places)
-
--- the search for it ends at such a place
+-- the search for the live place with a key ends at such a place
 abbrev pub ends_at : {K V : Type 0} → (K → Bool) → Place K V → Bool
 ends_at is_key Beyond = true
 ends_at is_key Empty = false

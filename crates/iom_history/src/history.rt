@@ -12,8 +12,7 @@ ghost use Rattle.iom_history.specs.Following.{AreBeside, ComesFrom, ContextFrom,
 
 use crate::Origin;
 use crate::notes::{
-    context_place, count_contexts, count_pages, equal, next_context, next_page, note, page_place,
-    zeros,
+    context_place, count_contexts, count_pages, equal, next_context, next_page, note, zeros,
 };
 use arrayvec::ArrayVec;
 use iom_cache::{Key, Place, key_of};
@@ -260,7 +259,7 @@ impl History {
             return Origin::Context { context: current };
         }
         let key = key_of(&context, request.did, request.iova, request.kind);
-        let place = page_place(platform.trans(), &key);
+        let place = platform.trans().place_of(&key);
         Origin::Walked {
             context: number_at(self.bases.as_slice(), place, number),
             walk: number_at(self.walks.as_slice(), place, number),

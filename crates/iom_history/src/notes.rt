@@ -1,9 +1,9 @@
 //! The places of both caches, and the numbers beside them.
 
 ghost use Rattle.std.specs.Prelude.{◌≡◌, ◌↔◌, ◌<◌, ◌≤◌, ◌++◌, [], ◌∷◌, IsTrue, false, length, replicate};
-ghost use Rattle.iom_cache.specs.Keys.{same_did, same_key};
-ghost use Rattle.iom_cache.specs.Places.{made_room};
-ghost use Rattle.iom_history.specs.Beside.{ends_at, next_place, place_of};
+ghost use Rattle.iom_cache.specs.Keys.{same_did};
+ghost use Rattle.iom_cache.specs.Places.{made_room, place_of};
+ghost use Rattle.iom_history.specs.Beside.{ends_at, next_place};
 
 use arrayvec::ArrayVec;
 use iom_cache::{ContextCache, Key, Place, TransCache};
@@ -72,29 +72,6 @@ fn ends_at_context(place: &Place<u32, Context>, did: u32) -> bool
         Place::Beyond => true,
         Place::Empty => false,
         Place::Live(own, _) => did == *own,
-    }
-}
-
-/// Which place of a translation cache is live with a key; as many as there are where none is.
-pub fn page_place(cache: &TransCache, key: &Key) -> usize
-    ensures { result ≡ place_of (same_key key.now) cache.now }
-{
-    for i in 0..PAGES {
-        if ends_at_page(&cache.place(i as u64), key) {
-            return i;
-        }
-    }
-    PAGES
-}
-
-// Whether the search for a key ends at a place.
-fn ends_at_page(place: &Place<Key, Hit>, key: &Key) -> bool
-    ensures { result ≡ ends_at (same_key key.now) place.now }
-{
-    match place {
-        Place::Beyond => true,
-        Place::Empty => false,
-        Place::Live(own, _) => key == own,
     }
 }
 

@@ -1,5 +1,5 @@
 use Rattle.iom_cache.proofs.Counted.{IsWalked}
-use Rattle.iom_cache.proofs.translations.TransCache.find_counted.Given as goal
+use Rattle.iom_cache.proofs.translations.TransCache.search.Given as goal
 
 -- the walk along the key's bucket
 abbrev pub invariant-loop-limit : goal.invariant-loop-limit
