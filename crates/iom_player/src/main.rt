@@ -2,40 +2,43 @@
 //! is built sooner.
 #![tactic(auto)]
 
-use fault::Fault;
+use iom_image::{LoadFault, built_in};
+use iom_play::play;
 use iom_streams::{READ_BLOCK, Shared, Tied, WRITE_BLOCK};
 use iom_tool::RunFault;
 use std::alloc::Global;
 use std::cell::RefCell;
 use std::env;
+use std::fmt::Display;
 use std::io::{BufReader, BufWriter, Read, Write};
 use std::process::ExitCode;
 use std::rt::Env;
 
-mod fault;
+/// The status to end with where the program was started with words.
+const BAD_WORDS: u8 = 2;
 
-// Plays the script that a reader gives.
-fn play<R: Read, W: Write>(alloc: Global, reader: &mut R, writer: &mut W) -> Result<(), Fault> {
-    iom_tool::play(alloc, &iom_image::built_in(), reader, writer)?.ended?;
-    Ok(())
-}
-
-// Plays the script of an input. Its answers are written by blocks, but before it waits for input.
-fn played(alloc: Global, input: impl Read + Drop, output: impl Write + Drop) -> Result<(), Fault> {
-    let writer = BufWriter::with_capacity(alloc, WRITE_BLOCK, output).map_err(
-        |_| Fault::OutOfMemory,
-    )?;
+// Plays the script of an input, and says how it ended. Its answers are written by blocks, but before it waits for input.
+fn played(
+    alloc: Global,
+    input: impl Read + Drop,
+    output: impl Write + Drop,
+) -> Result<Result<(), RunFault>, LoadFault> {
+    let Ok(writer) = BufWriter::with_capacity(alloc, WRITE_BLOCK, output) else {
+        return Err(LoadFault::OutOfMemory);
+    };
     let output = RefCell::new(writer);
     let output = &output;
     let tied = Tied { input, output };
-    let mut reader = BufReader::with_capacity(alloc, READ_BLOCK, tied).map_err(
-        |_| Fault::OutOfMemory,
-    )?;
+    let Ok(mut reader) = BufReader::with_capacity(alloc, READ_BLOCK, tied) else {
+        return Err(LoadFault::OutOfMemory);
+    };
     let mut writer = Shared { output };
-    let ended = play(alloc, &mut reader, &mut writer);
+    let played = play(alloc, &built_in(), &mut reader, &mut writer);
     // The answers before a fault are written too.
-    writer.flush().map_err(|_| RunFault::Write)?;
-    ended
+    if writer.flush().is_err() {
+        return Ok(Err(RunFault::Write));
+    }
+    Ok(played?.ended)
 }
 
 // Whether the program was started with its name alone.
@@ -46,18 +49,21 @@ fn is_without_words(rt: &(impl Env + Alloc<A = Global>)) -> bool {
     }
 }
 
+// Writes why the program ends.
+fn tell(rt: &impl Eprint, fault: impl Display + Drop) {
+    let _ = rt.eprintln(format_args!("iom_player: {fault}"));
+}
+
 // Plays what stands on standard input, or tells why it does not.
 fn main(rt: HostRuntime) -> ExitCode {
-    let ended = if is_without_words(&rt) {
-        played(rt.alloc(), rt.stdin(), rt.stdout())
-    } else {
-        Err(Fault::BadWords)
-    };
-    match ended {
-        Ok(()) => ExitCode::SUCCESS,
-        Err(fault) => {
-            let _ = rt.eprintln(format_args!("iom_player: {fault}"));
-            ExitCode::from(fault.status())
-        }
+    if !is_without_words(&rt) {
+        tell(&rt, "no word is taken; rviommu takes words");
+        return ExitCode::from(BAD_WORDS);
     }
+    match played(rt.alloc(), rt.stdin(), rt.stdout()) {
+        Ok(Ok(())) => return ExitCode::SUCCESS,
+        Ok(Err(fault)) => tell(&rt, fault),
+        Err(fault) => tell(&rt, fault),
+    }
+    ExitCode::FAILURE
 }

@@ -18,7 +18,7 @@ mod steps;
 fn written(alloc: Global, image: &[u8], script: &[u8]) -> anyhow::Result<Vec<u8>> {
     let mut reader = script;
     let mut writer = Vec::new(alloc);
-    iom_tool::play(alloc, image, &mut reader, &mut writer)?.ended?;
+    iom_play::play(alloc, image, &mut reader, &mut writer)?.ended?;
     Ok(writer)
 }
 

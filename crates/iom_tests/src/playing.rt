@@ -2,7 +2,7 @@
 
 use iom_asm::{Item, LoadFault, assemble, built_in};
 use iom_core::Platform;
-use iom_tool::play;
+use iom_play::play;
 use std::alloc::Global;
 use std::test::Fail;
 

@@ -11,7 +11,8 @@ use iom_blk::Blk;
 use iom_cache::{ContextCache, Place, TransCache};
 use iom_core::{Answer, Platform, Step};
 use iom_mem::Ram;
-use iom_tool::{Trace, play};
+use iom_play::play;
+use iom_tool::Trace;
 use std::alloc::{AllocError, Global};
 use std::test::Fail;
 

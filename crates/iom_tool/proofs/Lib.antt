@@ -6,4 +6,3 @@ pub mod Values
 pub mod Outputs
 pub mod Feeding
 pub mod Runs
-pub mod Plays

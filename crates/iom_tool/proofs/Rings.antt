@@ -1,9 +1,9 @@
 -- A list that is kept in a ring of 33 places.
-use Rattle.std.proofs.Common.{◌≡◌, ◌+◌, ◌-◌, ◌<◌, ◌≤◌, ◌==◌, ◌||◌, ◌++◌, ℕ, zero, suc, List, [], ◌∷◌, Bool, true, false, Option, Some, None, length, take, drop, sym, ◌∙◌, ap, refl, inl, inr, arith, append_assoc, append-nil, length-append, length-drop, if◌then◌else◌}
+use Rattle.std.proofs.Common.{◌≡◌, ◌+◌, ◌-◌, ◌<◌, ◌≤◌, ◌==◌, ◌||◌, ◌++◌, ℕ, zero, suc, List, [], ◌∷◌, Bool, true, false, None, length, take, drop, sym, ◌∙◌, ap, refl, inl, inr, arith, append_assoc, append-nil, length-append, length-drop, if◌then◌else◌}
 use Rattle.std.specs.Prelude.{slice_get, slice_set}
 use Rattle.std.proofs.lemmas.Bool.{cases_lt, eqb-true, eqb-false}
 use Rattle.std.proofs.lemmas.Option.{slice_get_past}
-use Rattle.std.proofs.lemmas.List.{take_all, drop_all, drop-drop, drop-append-le, length-take, length-take-le}
+use Rattle.std.proofs.lemmas.List.{take_all, drop_all, drop-drop, drop-append-le, length-take}
 use Rattle.circular_buffer.specs.Buffer.{keep_last}
 use Rattle.iom_tool.specs.Ring.{kept_around}
 

@@ -1,5 +1,5 @@
 -- Questions, which are no steps, and the texts of their answers.
-use Rattle.std.specs.Prelude.{ℕ, ◌++◌, Bool, List, codes, Option, Some, None, slice_get, if◌then◌else◌}
+use Rattle.std.specs.Prelude.{ℕ, ◌++◌, List, codes, Option, Some, None, slice_get}
 use Rattle.std.specs.Option.{unwrap_or}
 use Rattle.iom_bits.specs.Bits.{flag}
 use Rattle.iom_bits.specs.declared.causes.Kind.{Kind}

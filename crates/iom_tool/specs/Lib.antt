@@ -7,4 +7,3 @@ pub mod Console
 pub mod Debugger
 pub mod Output
 pub mod Running
-pub mod Playing

@@ -4,7 +4,7 @@ ghost use Rattle.std.specs.Prelude.{◌≡◌, ◌+◌, ◌*◌, slice_index, �
 ghost use Rattle.hex.specs.Hex.{encode_lower, lower_digits};
 ghost use Rattle.iom_text.specs.Texts.{hexed, numeral};
 
-use iom_text::put_hex;
+use iom_text::{put_decimal, put_hex};
 use std::marker::Model;
 
 /// Room for any answer, 320 bytes. To empty it writes nothing but its length.
@@ -91,6 +91,17 @@ impl Draft {
         ensures room { length self.new ≤ length self.old + 16 }
     {
         let count = put_hex(&mut self.bytes[self.len..self.len + 16], number);
+        self.len += count;
+    }
+
+    /// Appends a number as decimal digits, at most 20 bytes.
+    #[inline(always)]
+    pub fn append_decimal(&mut self, number: u64)
+        requires { length self.old + 20 < 320 }
+        ensures text { self.new ≡ self.old ++ numeral 10 number }
+        ensures room { length self.new ≤ length self.old + 20 }
+    {
+        let count = put_decimal(&mut self.bytes[self.len..self.len + 20], number);
         self.len += count;
     }
 

@@ -4,7 +4,6 @@
 pub use draft::Draft;
 pub use fault::RunFault;
 pub use feeder::Feeder;
-pub use playing::{Played, play};
 pub use reading::step_of;
 pub use rest::Rest;
 pub use running::run;
@@ -19,7 +18,6 @@ mod draft;
 mod fault;
 mod feeder;
 mod operands;
-mod playing;
 mod reading;
 mod rest;
 mod running;

@@ -1,9 +1,9 @@
-use Rattle.std.proofs.Common.{◌≡◌, ◌∙◌, ◌<◌, ◌+◌, ap, sym, arith, length, Some, List}
+use Rattle.std.proofs.Common.{◌∙◌, ◌<◌, ap, sym, arith, length, Some, List}
 use Rattle.std.specs.Prelude.{slice_get}
 use Rattle.std.proofs.lemmas.Option.{slice_get-get_or}
 use Rattle.iom_tool.specs.declared.trace.Entry.{Entry}
 use Rattle.iom_tool.specs.Ring.{kept_around}
-use Rattle.iom_tool.proofs.Rings.{none_around, none_before, some_around, some_before}
+use Rattle.iom_tool.proofs.Rings.{some_before}
 use Rattle.iom_tool.proofs.trace.Trace.entry.Goals as goal
 
 pub returns : goal.returns

@@ -1,4 +1,5 @@
 //! The main theorem: what holds of an image and of a script from the state that it starts.
+#![tactic(auto)]
 
 ghost use Rattle.std.specs.Prelude.{◌≡◌, ◌≢◌, Ok, Err, IsOk, IfErr, IfOk};
 ghost use Rattle.iom_image.specs.Image.{Image};
@@ -6,13 +7,11 @@ ghost use Rattle.iom_image.specs.Loading.{state_from};
 ghost use Rattle.iom_image.specs.Reading.{image_of};
 ghost use Rattle.iom_image.specs.declared.fault.LoadFault.TheVariants as fault;
 ghost use Rattle.iom_tool.specs.Console.{console};
-ghost use Rattle.iom_tool.specs.Playing.{Plays};
+ghost use Rattle.iom_play.specs.Playing.{Plays};
 
-use crate::fault::RunFault;
-use crate::running::run;
-use crate::trace::Trace;
 use iom_core::Platform;
 use iom_image::{LoadFault, load};
+use iom_tool::{RunFault, Trace, run};
 use std::alloc::Global;
 use std::io::{Read, Write};
 

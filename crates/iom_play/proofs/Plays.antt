@@ -12,7 +12,7 @@ use Rattle.iom_tool.specs.declared.fault.RunFault.{RunFault}
 use Rattle.iom_tool.specs.declared.fault.RunFault.TheVariants as fault
 use Rattle.iom_tool.specs.declared.trace.Entry.{Entry}
 use Rattle.iom_tool.specs.Console.{Console, console}
-use Rattle.iom_tool.specs.Playing.{Plays, steps_done}
+use Rattle.iom_play.specs.Playing.{Plays, steps_done}
 use Rattle.iom_tool.specs.Running.{Progress, progress, Ends}
 
 leaves : (unread left : Option (List ℕ)) (old new : Progress) (ended : Result (Unit {0}) RunFault) (run : Ends unread left old new ended) →
