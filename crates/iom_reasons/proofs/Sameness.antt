@@ -171,6 +171,14 @@ way_test true v w decides =
 way_test false v w decides =
     sym (false_from_ne_true _ (λ is. cc (decides.1 (same_way v w is))))
 
+-- two ways by one context differ where their hits do
+pub hits_differ : (b : Bool) (c : Context) (cached now : Hit) → (IsTrue b ↔ (cached ≡ now)) →
+    (if b then None else Some (way.Walked c now)) ≡ differing (way.Walked c cached) (way.Walked c now)
+hits_differ b c cached now decides =
+    let test : b ≡ is_same_way (way.Walked c cached) (way.Walked c now) =
+    way_test b (way.Walked c cached) (way.Walked c now) (λ is. ap (λ (h : Hit). way.Walked c h) (decides.0 is), λ same. decides.1 (cc same)) in
+    ap (λ (t : Bool). if t then None else Some (way.Walked c now)) test
+
 -- a place's answer by the tests, where these tell what the tables say
 pub standing_told : {K V T : Type 0} (IsSaid : K → V → Type 0) (is_said : K → V → Bool) (say : K → T) →
     ((key : K) (value : V) → IsTrue (is_said key value) ↔ IsSaid key value) → (at : Place K V) (answer : Standing T) →

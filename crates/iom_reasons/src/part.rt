@@ -23,7 +23,7 @@ pub enum Part {
 
 /// A device id that is too wide for the directory ("Process to locate the Device-context"), or an address that is too wide for a stage
 /// ("Sv39", "Sv48" and "Guest Physical Address Translation" of RISC-V Privileged Architecture).
-#[derive(Clone, Copy)]
+#[derive(Clone, Copy, PartialEq)]
 pub enum Wide {
     /// A device id, below 2^24, with bits above those that the directory's levels take.
     Directory { did: u32 },

@@ -6,6 +6,7 @@ ghost use Rattle.iom_nested.specs.Nested.{translation};
 ghost use Rattle.iom_cache.specs.Places.{look};
 ghost use Rattle.iom_core.specs.Access.{context_look, led, led_by_context, led_by_page};
 ghost use Rattle.iom_reasons.specs.Stale.{Fits, IsStale, by_tables, differing, stale_way, told, uncached};
+ghost use Rattle.iom_reasons.specs.declared.way.Way.TheVariants as way;
 
 use crate::Way;
 use crate::way::is_same;
@@ -14,7 +15,7 @@ use iom_cache::key_of;
 use iom_core::{Denial, Platform, Request};
 use iom_ddt::{Context, is_too_wide, locate};
 use iom_mem::Ram;
-use iom_nested::translate;
+use iom_nested::{Hit, translate};
 use iom_regs::Mode;
 
 /// What the tables say now of a request whose way is another, since a cache has it otherwise; None where the request isn't
@@ -97,10 +98,29 @@ fn stale_by_context(platform: &Platform, request: &Request, context: &Context) -
     }
     let key = key_of(context, request.did, request.iova, request.kind);
     let hit = platform.trans().find(&key)?;
-    differing(
-        &Way::Walked(*context, hit),
-        way_by_walk(platform.ram(), request, context),
-    )
+    match translate(platform.ram(), context, request.iova, request.kind) {
+        Ok(now) => differing_hit(context, &hit, &now),
+        Err(fault) => Some(Way::Denied(Denial::translating(context, fault))),
+    }
+}
+
+// The way by a context to this hit, where it is another than one that is cached.
+fn differing_hit(context: &Context, cached: &Hit, now: &Hit) -> Option<Way>
+    requires { Fits (way.Walked context.now now.now) }
+    ensures told { result ≡ differing (way.Walked context.now cached.now) (way.Walked context.now now.now) }
+    ensures fits { IfSome result Fits }
+{
+    if is_same_hit(cached, now) {
+        None
+    } else {
+        Some(Way::Walked(*context, *now))
+    }
+}
+
+fn is_same_hit(hit: &Hit, other: &Hit) -> bool
+    ensures { IsTrue result ↔ (hit.now ≡ other.now) }
+{
+    hit == other
 }
 
 // What the tables say, where it is another way than this one.
