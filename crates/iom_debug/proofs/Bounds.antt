@@ -1,5 +1,10 @@
 -- Bounds of what is told.
-use Rattle.std.proofs.Common.{◌<◌, ◌^◌, arith}
+use Rattle.std.proofs.Common.{◌≡◌, ◌<◌, ◌^◌, ℕ, zero, suc, List, [], ◌∷◌, Option, sym, subst, arith}
+use Rattle.std.specs.Prelude.{IfSome, slice_get}
+use Rattle.std.specs.List.{All, AllByRecursion}
+use Rattle.std.proofs.lemmas.List.Elements.{recursion_from_All}
+use Rattle.iom_reasons.specs.Bounds.{PartFits}
+use Rattle.iom_reasons.specs.declared.part.Part.{Part}
 use Rattle.iom_regs.specs.Table.{Registers}
 use Rattle.iom_regs.specs.Views.{queue_of}
 use Rattle.iom_regs.specs.declared.views.Which.{Which}
@@ -8,3 +13,13 @@ use Rattle.iom_regs.specs.declared.views.Which.TheVariants.{Commands, Faults}
 pub base_small : (r : Registers) (which : Which) → (queue_of r which).base < 2 ^ 44
 base_small r Commands = omega arith
 base_small r Faults = omega arith
+
+-- what holds of all parts holds of the one at a place
+at_place : (parts : List Part) (i : ℕ) → AllByRecursion PartFits parts → IfSome (slice_get parts i) PartFits
+at_place [] i all = tt
+at_place (part ∷ more) zero all = all.0
+at_place (part ∷ more) (suc i) all = at_place more i all.1
+
+pub part_fits : (parts : List Part) (i : ℕ) (found : Option Part) → found ≡ slice_get parts i → All PartFits parts → IfSome found PartFits
+part_fits parts i found is all =
+    subst (λ (p : Option Part). IfSome p PartFits) (sym is) (at_place parts i (recursion_from_All PartFits parts all))

@@ -5,3 +5,4 @@ pub mod Bounds
 pub mod Newest
 pub mod Remaining
 pub mod Summing
+pub mod Alike

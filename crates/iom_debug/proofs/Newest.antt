@@ -1,14 +1,12 @@
 -- Where the tables led the access of the last step.
-use Rattle.std.proofs.Common.{◌≡◌, ◌∙◌, ℕ, Option, Some, None, Result, refl, sym, ap}
+use Rattle.std.proofs.Common.{◌≡◌, ◌∙◌, ℕ, Option, Some, None, Result, refl, ap}
 use Rattle.std.specs.Prelude.{IsSomeAnd}
 use Rattle.std.specs.Option.{option_and_then}
-use Rattle.circular_buffer.specs.Buffer.{last_item}
 use Rattle.iom_core.specs.State.{State}
 use Rattle.iom_core.specs.Table.{request_of_step}
 use Rattle.iom_core.specs.declared.access.Denial.{Denial}
 use Rattle.iom_core.specs.declared.access.Request.{Request}
 use Rattle.iom_core.specs.declared.step.Step.{Step}
-use Rattle.iom_reasons.specs.declared.way.Way.{Way}
 use Rattle.iom_account.specs.Account.{IsReasonOf, stale_in as way_in}
 use Rattle.iom_account.specs.declared.reason.Reason.{Reason}
 use Rattle.iom_debug.specs.Reasons.{address_by, stale_in, stale_of}

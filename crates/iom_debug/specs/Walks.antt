@@ -24,7 +24,7 @@ use Rattle.iom_reasons.specs.declared.way.Way.TheVariants as way
 use Rattle.iom_items.specs.Lines.{line_of, operand}
 use Rattle.iom_items.specs.declared.item.Item.TheVariants as item
 use Rattle.iom_tool.specs.Debugger.{item_text}
-use Rattle.iom_debug.specs.Ways.{address_by_tables, address_text}
+use Rattle.iom_debug.specs.Ways.{address_of, address_text}
 
 -- "Device-directory-table pointer": iommu_mode is 0 Off, 1 Bare, 2 to 4 for one to three levels
 abbrev pub mode_number : Mode → ℕ
@@ -98,7 +98,16 @@ part_text m request (part.Directory met) = met_text m.memory met
 part_text m request (part.Wide what) = wide_text what
 part_text m request (part.First entry addr) = first_text entry addr
 part_text m request (part.Second guest entry) = second_text guest entry
-part_text m request (part.End way) = end_text way (address_by_tables m request)
+part_text m request (part.End way) = end_text way (address_of way request.iova)
+
+-- it isn't the end of its walk
+abbrev pub IsBeforeEnd : Part → Type 0
+IsBeforeEnd (part.Ddtp mode root) = Unit {0}
+IsBeforeEnd (part.Directory met) = Unit {0}
+IsBeforeEnd (part.Wide what) = Unit {0}
+IsBeforeEnd (part.First entry addr) = Unit {0}
+IsBeforeEnd (part.Second guest entry) = Unit {0}
+IsBeforeEnd (part.End way) = ⊥
 
 -- part i of the walk of a request
 abbrev pub some_part_text : Machine → Request → Option Part → List ℕ

@@ -27,9 +27,6 @@ address_of (way.Context context) iova = Ok iova
 address_of (way.Walked context hit) iova = Ok (hit.frame * 4096 + iova % 4096)
 address_of (way.Denied denial) iova = Err denial
 
-abbrev pub address_by_tables : Machine → Request → Result ℕ Denial
-address_by_tables m request = address_of (by_tables m request) request.iova
-
 -- where the tables lead a request that is stale; None: it isn't
 abbrev pub stale_address : Machine → Request → Option (Result ℕ Denial)
 stale_address m request = option_map (λ way. address_of way request.iova) (stale_way m request)

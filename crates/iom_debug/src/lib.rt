@@ -4,7 +4,7 @@
 pub use debugger::{Debugger, repeated};
 pub use iom_account::Reason;
 pub use iom_tool::Reply;
-pub use parts::put_part;
+pub use parts::{is_told_alike, put_part};
 pub use reasons::Reasons;
 pub use summary::{Outcome, Summary};
 pub use taking::counted;

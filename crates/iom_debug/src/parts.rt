@@ -1,15 +1,19 @@
 //! The text of a part of a walk.
 
-ghost use Rattle.std.specs.Prelude.{◌≡◌, ◌+◌, ◌++◌, ◌<◌, ◌≤◌, ◌^◌, [], ◌∷◌, codes, length};
+ghost use Rattle.std.specs.Prelude.{◌≡◌, ◌↔◌, ◌+◌, ◌++◌, ◌<◌, ◌≤◌, ◌^◌, [], ◌∷◌, IsTrue, codes, length};
 ghost use Rattle.iom_bits.specs.Causes.{cause_number};
 ghost use Rattle.iom_text.specs.Texts.{numeral};
 ghost use Rattle.iom_items.specs.Lines.{line_of, operand, pte_text};
 ghost use Rattle.iom_items.specs.declared.item.Item.TheVariants as item;
+ghost use Rattle.iom_core.specs.State.{Machine};
+ghost use Rattle.iom_core.specs.declared.access.Request.{Request};
+ghost use Rattle.iom_reasons.specs.Bounds.{PartFits};
+ghost use Rattle.iom_reasons.specs.Fetches.{IsRead};
 ghost use Rattle.iom_tool.specs.Debugger.{item_text};
-ghost use Rattle.iom_debug.specs.Walks.{end_text, first_text, got_text, in_text, met_text, mode_number, part_text, row_text, second_text, wide_text};
+ghost use Rattle.iom_debug.specs.Walks.{IsBeforeEnd, end_text, first_text, got_text, in_text, met_text, mode_number, part_text, row_text, second_text, wide_text};
 ghost use Rattle.iom_debug.specs.Ways.{address_text};
 
-use crate::ways::address_by_tables;
+use crate::ways::address_of;
 use iom_bits::{Cause, field};
 use iom_core::{Denial, Platform, Request};
 use iom_ddt::Met;
@@ -22,9 +26,9 @@ use iom_tool::Draft;
 use iom_walk::{Got, PathEntry, Ruling};
 
 /// Puts one part of the walk of a request as the tables stand now in place of what a draft holds: at most 320 bytes, without a line
-/// end. The device id is below 2^24.
+/// end. Its numbers are such as the tables may say, as those of each part of `parts`.
 pub fn put_part(out: &mut Draft, platform: &Platform, request: &Request, part: &Part)
-    requires { request.now.did < 2 ^ 24 }
+    requires { PartFits part.now }
     ensures text { out.new ≡ part_text platform.now.machine request.now part.now }
     ensures short { length out.new ≤ 320 }
 {
@@ -35,7 +39,49 @@ pub fn put_part(out: &mut Draft, platform: &Platform, request: &Request, part: &
         Part::Wide(what) => push_wide(out, *what),
         Part::First { entry, addr } => push_first(out, entry, *addr),
         Part::Second { guest, entry } => push_second(out, *guest, entry),
-        Part::End(way) => push_end(out, way, address_by_tables(platform, request)),
+        Part::End(way) => push_end(out, way, address_of(way, request.iova)),
+    }
+}
+
+/// Whether two parts are equal, and neither is the end of a walk. Then they are told alike, whatever their walks are: the text of an end
+/// has its request's address too.
+pub fn is_told_alike(part: &Part, other: &Part) -> bool
+    ensures same { IsTrue result ↔ IsBeforeEnd part.now × (part.now ≡ other.now) }
+    ensures alike { IsTrue result → (now before : Machine) (request asked : Request) → IsRead now.memory part.now → IsRead before.memory other.now →
+        part_text now request part.now ≡ part_text before asked other.now }
+{
+    is_same(part, other)
+}
+
+// Whether two parts are equal, and neither is an end.
+fn is_same(part: &Part, other: &Part) -> bool
+    ensures { IsTrue result ↔ IsBeforeEnd part.now × (part.now ≡ other.now) }
+{
+    match (part, other) {
+        (
+            Part::Ddtp { mode, root },
+            Part::Ddtp {
+                mode: its,
+                root: other,
+            },
+        ) => mode == its && root == other,
+        (Part::Directory(met), Part::Directory(other)) => met == other,
+        (Part::Wide(what), Part::Wide(other)) => what == other,
+        (
+            Part::First { entry, addr },
+            Part::First {
+                entry: other,
+                addr: its,
+            },
+        ) => entry == other && addr == its,
+        (
+            Part::Second { guest, entry },
+            Part::Second {
+                guest: its,
+                entry: other,
+            },
+        ) => guest == its && entry == other,
+        _ => false,
     }
 }
 

@@ -1,12 +1,14 @@
 //! The parts of a walk, told.
 
-ghost use Rattle.std.specs.Prelude.{◌≡◌, ◌<◌, ◌^◌};
+ghost use Rattle.std.specs.Prelude.{◌≡◌, ◌<◌, ◌^◌, All, IfSome, slice_get};
+ghost use Rattle.std.specs.Option.{option_copied};
+ghost use Rattle.iom_reasons.specs.Bounds.{PartFits};
 ghost use Rattle.iom_debug.specs.Walks.{part_text, walk_text};
 
 use crate::parts::put_part;
 use crate::text::said;
 use iom_core::{Platform, Request};
-use iom_reasons::{Part, parts};
+use iom_reasons::{Part, Parts, parts};
 use iom_tool::{Draft, Reply};
 
 /// Part `i` of the walk of a request as the tables stand now, the first 0; `none` past the last one.
@@ -16,15 +18,25 @@ pub fn walk_line(platform: &Platform, request: &Request, i: u64) -> Reply
     ensures { result.items ≡ walk_text platform.now.machine request.now i }
 {
     let parts = parts(platform, request);
-    match parts.as_slice().get(i as usize) {
+    match part_at(&parts, i as usize) {
         Some(part) => part_line(platform, request, part),
         None => said(b"none"),
     }
 }
 
+// The part at a place.
+#[tactic(auto, using(crate::proofs::Bounds::part_fits))]
+fn part_at(parts: &Parts, i: usize) -> Option<&Part>
+    requires { All PartFits parts.now.items }
+    ensures part { option_copied result ≡ slice_get parts.now.items i }
+    ensures fits { IfSome (option_copied result) PartFits }
+{
+    parts.as_slice().get(i)
+}
+
 // One part of the walk of a request as the tables stand now.
 fn part_line(platform: &Platform, request: &Request, part: &Part) -> Reply
-    requires { request.now.did < 2 ^ 24 }
+    requires { PartFits part.now }
     ensures { result.items ≡ part_text platform.now.machine request.now part.now }
 {
     let mut draft = Draft::new();

@@ -2,11 +2,11 @@
 
 ghost use Rattle.std.specs.Prelude.{◌≡◌, ◌+◌, ◌<◌, ◌≤◌, ◌^◌, ◌++◌, length};
 ghost use Rattle.iom_reasons.specs.Stale.{Fits};
-ghost use Rattle.iom_debug.specs.Ways.{address_by_tables, address_of, address_text, stale_address, stale_text};
+ghost use Rattle.iom_debug.specs.Ways.{address_of, address_text, stale_address, stale_text};
 
 use crate::text::{push_cause, push_hexed, push_text, said};
 use iom_core::{Denial, Platform, Request};
-use iom_reasons::{Way, stale, way_by_tables};
+use iom_reasons::{Way, stale};
 use iom_tool::Reply;
 
 /// The physical address that a way leads an IOVA to, or its denial.
@@ -21,15 +21,7 @@ pub fn address_of(way: &Way, iova: u64) -> Result<u64, Denial>
     }
 }
 
-/// The physical address that the tables lead a request to, or their denial.
-pub fn address_by_tables(platform: &Platform, request: &Request) -> Result<u64, Denial>
-    requires { request.now.did < 2 ^ 24 }
-    ensures { result ≡ address_by_tables platform.now.machine request.now }
-{
-    address_of(&way_by_tables(platform, request), request.iova)
-}
-
-/// Where the tables lead a request that is stale, as `address_by_tables` tells it; None where it isn't stale.
+/// Where the tables lead a request that is stale, a physical address or a denial; None where it isn't stale.
 pub fn stale_address(platform: &Platform, request: &Request) -> Option<Result<u64, Denial>>
     requires { request.now.did < 2 ^ 24 }
     ensures { result ≡ stale_address platform.now.machine request.now }

@@ -1,15 +1,12 @@
 //! What is known of an access before it is made.
 
-ghost use Rattle.std.specs.Prelude.{◌<◌, ◌^◌};
+ghost use Rattle.std.specs.Prelude.{◌+◌, ◌≤◌, length};
 
-use crate::text::Text;
 use iom_blk::{Phase, Want};
-use iom_core::{Denial, Platform, Request, Step};
-use iom_debug::put_part;
+use iom_core::{Denial, Platform, Step};
 use iom_history::Origin;
-use iom_reasons::{Found, Parts, put_parts};
+use iom_reasons::Found;
 use iom_tool::Draft;
-use std::alloc::AllocError;
 
 /// What a block device asks of the IOMMU.
 #[derive(Clone, Copy)]
@@ -24,33 +21,58 @@ pub struct Asked {
 
 impl Asked {
     /// Appends it as a line.
-    pub fn push(&self, out: &mut Text) -> Result<(), AllocError> {
-        out.push(b"    asks: ")?;
-        out.push(phase_text(self.phase))?;
-        if let Phase::Descriptor(index) = self.phase {
-            out.push_decimal(b" ", u64::from(index))?;
-        }
+    pub fn push(&self, out: &mut Draft)
+        requires { length out.old ≤ 64 }
+        ensures room { length out.new ≤ 200 }
+    {
+        out.append(b"    asks: ");
+        push_phase(out, self.phase);
         let kind: &[u8] = if self.is_write { b", write" } else { b", read" };
-        out.push(kind)?;
-        out.push_hexed(b" did=", u64::from(self.did))?;
-        out.push_hexed(b" iova=", self.iova)?;
-        out.push_hexed(b" len=", self.len)?;
-        out.push(b"\n")
+        out.append(kind);
+        push_hexed(out, b" did=", u64::from(self.did));
+        push_hexed(out, b" iova=", self.iova);
+        push_hexed(out, b" len=", self.len);
+        out.push(b'\n');
     }
 }
 
-// What an access of a block device is for.
-fn phase_text(phase: Phase) -> &'static [u8] {
+// Appends a name, of at most 40 bytes, and a number in decimal.
+#[inline(always)]
+fn push_decimal(out: &mut Draft, name: &[u8], number: u64)
+    requires name { length name.now ≤ 40 }
+    requires room { length out.old ≤ 250 }
+    ensures { length out.new ≤ length out.old + length name.now + 20 }
+{
+    out.append(name);
+    out.append_decimal(number);
+}
+
+// Appends a name, of at most 40 bytes, and a number in hex after `0x`.
+#[inline(always)]
+fn push_hexed(out: &mut Draft, name: &[u8], number: u64)
+    requires name { length name.now ≤ 40 }
+    requires room { length out.old ≤ 250 }
+    ensures { length out.new ≤ length out.old + length name.now + 18 }
+{
+    out.append(name);
+    out.append_hexed(number);
+}
+
+// Appends what an access of a block device is for.
+fn push_phase(out: &mut Draft, phase: Phase)
+    requires { length out.old ≤ 80 }
+    ensures { length out.new ≤ length out.old + 32 }
+{
     match phase {
-        Phase::Index => b"available index",
-        Phase::Ring => b"available ring",
-        Phase::Descriptor(_) => b"descriptor",
-        Phase::Header => b"header",
-        Phase::Data(_) => b"data",
-        Phase::Status => b"status",
-        Phase::UsedId => b"used id",
-        Phase::UsedLen => b"used length",
-        Phase::UsedIdx => b"used index",
+        Phase::Index => out.append(b"available index"),
+        Phase::Ring => out.append(b"available ring"),
+        Phase::Descriptor(index) => push_decimal(out, b"descriptor ", u64::from(index)),
+        Phase::Header => out.append(b"header"),
+        Phase::Data(_) => out.append(b"data"),
+        Phase::Status => out.append(b"status"),
+        Phase::UsedId => out.append(b"used id"),
+        Phase::UsedLen => out.append(b"used length"),
+        Phase::UsedIdx => out.append(b"used index"),
     }
 }
 
@@ -74,25 +96,6 @@ pub fn asked_by(platform: &Platform, step: &Step) -> Option<Asked> {
     })
 }
 
-/// Appends the parts of the walk of a request, a line each. They are put into a list first, and each into a draft, in place of what
-/// these hold. Its device id is below 2^24. The fault is want of memory.
-pub fn push_walk(
-    out: &mut Text,
-    parts: &mut Parts,
-    draft: &mut Draft,
-    platform: &Platform,
-    request: &Request,
-) -> Result<(), AllocError>
-    requires { request.now.did < 2 ^ 24 }
-{
-    put_parts(parts, platform, request);
-    for part in parts.as_slice() {
-        put_part(draft, platform, request, part);
-        out.push_line(b"    walk: ", draft.as_slice())?;
-    }
-    Ok(())
-}
-
 /// What an access found in the caches, and which lines had filled it. None of one that was denied before it came to the caches, and
 /// of one that ddtp led alone.
 #[derive(Clone, Copy)]
@@ -112,40 +115,50 @@ impl Caches {
     }
 
     /// Appends it as a line.
-    pub fn push(&self, out: &mut Text) -> Result<(), AllocError> {
-        out.push(b"    caches: ")?;
-        self.push_context(out)?;
+    pub fn push(&self, out: &mut Draft)
+        requires { length out.old ≤ 200 }
+        ensures room { length out.new ≤ 300 }
+    {
+        out.append(b"    caches: ");
+        self.push_context(out);
         match self.origin {
             Some(Origin::Walked { walk, .. }) if self.found.page => {
-                out.push_decimal(b", page of line ", walk)?;
+                push_decimal(out, b", page of line ", walk);
             }
             Some(Origin::Context { .. }) => {}
-            _ => out.push(b", no page")?,
+            _ => out.append(b", no page"),
         }
-        out.push(b"\n")
+        out.push(b'\n');
     }
 
     // Appends what was found of its context.
-    fn push_context(&self, out: &mut Text) -> Result<(), AllocError> {
+    fn push_context(&self, out: &mut Draft)
+        requires { length out.old ≤ 212 }
+        ensures { length out.new ≤ length out.old + 36 }
+    {
         if !self.found.context {
-            return out.push(b"no context");
+            out.append(b"no context");
+            return;
         }
         match self.origin {
             Some(Origin::Context { context: line } | Origin::Walked { current: line, .. }) => {
-                out.push_decimal(b"context of line ", line)
+                push_decimal(out, b"context of line ", line);
             }
-            _ => out.push(b"a context"),
+            _ => out.append(b"a context"),
         }
     }
 }
 
 /// Appends why an access was let through, as a line.
-pub fn push_warrant(out: &mut Text, origin: Option<Origin>) -> Result<(), AllocError> {
-    out.push(b"    warrant: ")?;
+pub fn push_warrant(out: &mut Draft, origin: Option<Origin>)
+    requires { length out.old ≤ 64 }
+    ensures room { length out.new ≤ 180 }
+{
+    out.append(b"    warrant: ");
     match origin {
-        None => out.push(b"none, it is denied")?,
-        Some(Origin::Register) => out.push(b"register")?,
-        Some(Origin::Context { context }) => out.push_decimal(b"context ", context)?,
+        None => out.append(b"none, it is denied"),
+        Some(Origin::Register) => out.append(b"register"),
+        Some(Origin::Context { context }) => push_decimal(out, b"context ", context),
         Some(
             Origin::Walked {
                 context,
@@ -153,23 +166,26 @@ pub fn push_warrant(out: &mut Text, origin: Option<Origin>) -> Result<(), AllocE
                 current,
             },
         ) => {
-            out.push_decimal(b"walked context=", context)?;
-            out.push_decimal(b" walk=", walk)?;
-            out.push_decimal(b" current=", current)?;
+            push_decimal(out, b"walked context=", context);
+            push_decimal(out, b" walk=", walk);
+            push_decimal(out, b" current=", current);
         }
     }
-    out.push(b"\n")
+    out.push(b'\n');
 }
 
 /// Appends what the tables said of an access that was stale, as a line; nothing of another.
-pub fn push_stale(out: &mut Text, stale: Option<Result<u64, Denial>>) -> Result<(), AllocError> {
+pub fn push_stale(out: &mut Draft, stale: Option<Result<u64, Denial>>)
+    requires { length out.old ≤ 180 }
+    ensures room { length out.new ≤ 300 }
+{
     match stale {
-        None => return Ok(()),
-        Some(Ok(addr)) => out.push_hexed(b"    stale: the tables now say addr=", addr)?,
+        None => return,
+        Some(Ok(addr)) => push_hexed(out, b"    stale: the tables now say addr=", addr),
         Some(Err(denial)) => {
             let cause = u64::from(denial.cause.number());
-            out.push_decimal(b"    stale: the tables now say denied ", cause)?;
+            push_decimal(out, b"    stale: the tables now say denied ", cause);
         }
     }
-    out.push(b"\n")
+    out.push(b'\n');
 }

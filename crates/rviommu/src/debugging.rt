@@ -2,7 +2,7 @@
 
 use crate::checking::{Answered, Tally};
 use crate::fault::Fault;
-use crate::lines::{Lines, MOST_LINES};
+use crate::lines::{Lines, TOO_MANY};
 use crate::progress::Progress;
 use iom_debug::{Debugger, Reasons, Reply};
 use iom_tool::{RunFault, Trace};
@@ -58,9 +58,9 @@ fn carried_out<R: BufRead, W: Write>(
     writer: &mut W,
     progress: &mut Progress<'_, impl Clock + Eprint + Files>,
 ) -> Result<(), Fault<'static>> {
-    for number in 1..=MOST_LINES {
-        let Some(line) = lines.next_line()? else {
-            return Ok(());
+    for number in 1..=TOO_MANY {
+        let Some(line) = lines.next_line(number)? else {
+            break;
         };
         let reply = debugger.line(number, line);
         let tables = telling.tables_of(debugger);
@@ -78,10 +78,7 @@ fn carried_out<R: BufRead, W: Write>(
         }
         progress.reach(lines.taken());
     }
-    match lines.next_line()? {
-        Some(_) => Err(Fault::Run(RunFault::TooLong)),
-        None => Ok(()),
-    }
+    Ok(())
 }
 
 /// Carries out the script that a reader gives on an image, and tells of its lines what is to be told. The faults are those of `run`,

@@ -1,15 +1,16 @@
 //! Scripts whose lines are told with the reasons of their accesses.
 
-use crate::access::{Asked, Caches, asked_by, push_stale, push_walk, push_warrant};
+use crate::access::{Asked, Caches, asked_by, push_stale, push_warrant};
 use crate::checking::before_comment;
 use crate::fault::Fault;
-use crate::lines::{Lines, MOST_LINES};
+use crate::lines::{Lines, TOO_MANY};
 use crate::progress::Progress;
 use crate::summary::tell;
 use crate::text::Text;
+use crate::walk::{WALK_ROOM, Walk};
 use iom_core::{Answer, Denial, Step};
 use iom_debug::{Debugger, Outcome, Reason, Reasons, Reply, Summary, counted, repeated};
-use iom_reasons::{Found, Parts, found_by};
+use iom_reasons::{Found, found_by};
 use iom_tool::{Draft, Entry, RunFault, Trace, answer_text, put_entry, step_of};
 use std::alloc::{AllocError, Global};
 use std::fs::Files;
@@ -18,9 +19,6 @@ use std::time::Clock;
 
 /// How many steps a trace keeps at most.
 const MOST_STEPS: u64 = 32;
-
-/// How many bytes the lines of a walk take: 29 parts at most, each a text of at most 320 bytes behind a word, and a line end.
-const WALK_ROOM: usize = 29 * 331;
 
 /// How many bytes are told of a step at once: its walk, and few lines more.
 const TEXT_ROOM: usize = WALK_ROOM + 1024;
@@ -31,9 +29,8 @@ struct Account<'w, W> {
     writer: &'w mut W,
     // What is told of a step, or of a line that is none.
     text: Text,
-    // The lines of the walk of the access that is made, and its parts.
-    walk: Text,
-    parts: Parts,
+    // The last walk that was told.
+    walk: Walk,
     // One text of either.
     draft: Draft,
     summary: Summary,
@@ -80,19 +77,13 @@ impl<W: Write> Account<'_, W> {
         debugger: &Debugger<'_>,
         step: &Step,
     ) -> Result<Option<Before>, Fault<'static>> {
-        self.walk.clear();
         let Some(request) = debugger.platform.request_of(step) else {
             return Ok(None);
         };
         let found = found_by(debugger.platform, &request);
         if !found.is_whole {
-            push_walk(
-                &mut self.walk,
-                &mut self.parts,
-                &mut self.draft,
-                debugger.platform,
-                &request,
-            )?;
+            self.walk
+                .tell(debugger.platform, &request, &mut self.draft)?;
         }
         let asked = asked_by(debugger.platform, step);
         Ok(Some(Before { found, asked }))
@@ -121,7 +112,7 @@ impl<W: Write> Account<'_, W> {
     // Tells a step and its answer.
     fn tell_step(&mut self, number: u64, entry: &Entry) -> Result<(), AllocError> {
         put_entry(&mut self.draft, entry);
-        self.text.push_decimal(b"", number)?;
+        self.text.push_decimal(number)?;
         self.text.push_line(b": ", self.draft.as_slice())
     }
 
@@ -133,15 +124,21 @@ impl<W: Write> Account<'_, W> {
         stale: Option<Result<u64, Denial>>,
         denied: Option<u16>,
     ) -> Result<(), AllocError> {
+        self.draft.clear();
         if let Some(asked) = before.asked {
-            asked.push(&mut self.text)?;
+            asked.push(&mut self.draft);
         }
         if let Some(caches) = Caches::new(before.found, reason.origin, denied) {
-            caches.push(&mut self.text)?;
+            caches.push(&mut self.draft);
         }
-        self.text.push(self.walk.as_slice())?;
-        push_warrant(&mut self.text, reason.origin)?;
-        push_stale(&mut self.text, stale)?;
+        self.text.push(self.draft.as_slice())?;
+        if !before.found.is_whole {
+            self.text.push(self.walk.as_slice())?;
+        }
+        self.draft.clear();
+        push_warrant(&mut self.draft, reason.origin);
+        push_stale(&mut self.draft, stale);
+        self.text.push(self.draft.as_slice())?;
         self.summary.count(&Outcome {
             number: reason.number,
             denied,
@@ -201,7 +198,7 @@ impl<W: Write> Account<'_, W> {
         if reply.is_empty() {
             return Ok(());
         }
-        self.text.push_decimal(b"", number)?;
+        self.text.push_decimal(number)?;
         self.text.push(b": ")?;
         self.text.push_escaped(before_comment(line))?;
         self.text.push(b" -> ")?;
@@ -219,17 +216,14 @@ fn carried_out<R: BufRead, W: Write>(
     account: &mut Account<'_, W>,
     progress: &mut Progress<'_, impl Clock + Eprint + Files>,
 ) -> Result<(), Fault<'static>> {
-    for number in 1..=MOST_LINES {
-        let Some(line) = lines.next_line()? else {
-            return Ok(());
+    for number in 1..=TOO_MANY {
+        let Some(line) = lines.next_line(number)? else {
+            break;
         };
         account.line(debugger, number, line)?;
         progress.reach(lines.taken());
     }
-    match lines.next_line()? {
-        Some(_) => Err(Fault::Run(RunFault::TooLong)),
-        None => Ok(()),
-    }
+    Ok(())
 }
 
 /// Carries out the script that a reader gives on an image, tells each line and the reasons of its accesses, and at the end how they
@@ -244,7 +238,7 @@ pub fn explain<R: BufRead, W: Write>(
     let mut platform = iom_asm::load(alloc, image)?;
     let mut trace = Trace::new(alloc)?;
     let text = Text::with_room(alloc, TEXT_ROOM)?;
-    let walk = Text::with_room(alloc, WALK_ROOM)?;
+    let walk = Walk::new(alloc)?;
     let summary = Summary::new(alloc);
     let mut reasons = Reasons::new(&platform);
     let mut debugger = Debugger::new(&mut platform, &mut trace, &mut reasons);
@@ -253,7 +247,6 @@ pub fn explain<R: BufRead, W: Write>(
         writer,
         text,
         walk,
-        parts: Parts::new(),
         draft: Draft::new(),
         summary,
     };

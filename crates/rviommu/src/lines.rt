@@ -6,7 +6,10 @@ use std::alloc::Global;
 use std::io::{BufRead, Error, ErrorKind, Read, Take};
 
 /// The most lines of a script.
-pub const MOST_LINES: u64 = 1 << 20;
+const MOST_LINES: u64 = 1 << 20;
+
+/// The number of the first line that a script may not have.
+pub const TOO_MANY: u64 = MOST_LINES + 1;
 
 /// The most bytes of a script.
 const MOST_BYTES: u64 = 1 << 26;
@@ -44,9 +47,9 @@ impl<R: BufRead> Lines<R> {
         (MOST_BYTES + 1).saturating_sub(self.reader.limit())
     }
 
-    /// The next line without its line end, of a longer one its first 513 bytes; None at the end. The faults are those of `run`, and
-    /// `OutOfMemory`.
-    pub fn next_line(&mut self) -> Result<Option<&[u8]>, Fault<'static>> {
+    /// The next line, which has this number, from 1 on, without its line end, of a longer one its first 513 bytes; None at the end. The
+    /// faults are those of `run`, `TooLong` of a line that a script may not have among them, and `OutOfMemory`.
+    pub fn next_line(&mut self, number: u64) -> Result<Option<&[u8]>, Fault<'static>> {
         self.line.clear();
         let mut kept = self.reader.by_ref().take(KEPT_BYTES);
         kept.read_until(b'\n', &mut self.line).map_err(fault_of)?;
@@ -60,6 +63,9 @@ impl<R: BufRead> Lines<R> {
         let line = self.line.as_slice();
         if line.is_empty() {
             return Ok(None);
+        }
+        if number > MOST_LINES {
+            return Err(Fault::Run(RunFault::TooLong));
         }
         Ok(Some(line.strip_suffix(b"\n").unwrap_or(line)))
     }

@@ -29,6 +29,7 @@ mod lines;
 mod progress;
 mod summary;
 mod text;
+mod walk;
 
 // What the program reads and writes.
 #[derive(Drop)]
@@ -49,7 +50,7 @@ fn play<'a, R: BufRead, W: Write>(
     progress: &mut Progress<'_, impl Clock + Eprint + Files>,
 ) -> Result<(), Fault<'a>> {
     match how {
-        How::Run => Ok(iom_tool::play(alloc, image, reader, writer)?.ended?),
+        How::Run => Ok(iom_play::play(alloc, image, reader, writer)?.ended?),
         How::Explain => explain(alloc, image, reader, writer, progress),
         How::Debug => carry_out(alloc, image, Telling::Answers, reader, writer, progress),
         How::Check { is_stale_told } => {

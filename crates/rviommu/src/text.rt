@@ -1,6 +1,6 @@
 //! Text that is put together before it is written.
 
-use iom_text::{put_decimal, put_hex};
+use iom_text::put_decimal;
 use std::alloc::{AllocError, Global};
 
 /// A text that grows. The fault of what appends to it is want of memory.
@@ -22,9 +22,19 @@ impl Text {
         self.bytes.as_slice()
     }
 
+    /// How many bytes there are.
+    pub fn len(&self) -> usize {
+        self.bytes.len()
+    }
+
     /// Empties it.
     pub fn clear(&mut self) {
         self.bytes.clear();
+    }
+
+    /// Cuts off what is behind so many bytes.
+    pub fn truncate(&mut self, len: usize) {
+        self.bytes.truncate(len);
     }
 
     /// Appends bytes.
@@ -33,20 +43,10 @@ impl Text {
         self.bytes.extend_from_slice(bytes)
     }
 
-    /// Appends a name, and a number in decimal.
-    pub fn push_decimal(&mut self, name: &[u8], number: u64) -> Result<(), AllocError> {
+    /// Appends a number in decimal.
+    pub fn push_decimal(&mut self, number: u64) -> Result<(), AllocError> {
         let mut digits = [0; 20];
         let count = put_decimal(&mut digits, number);
-        self.push(name)?;
-        self.push(&digits[..count])
-    }
-
-    /// Appends a name, and a number in hex after `0x`.
-    pub fn push_hexed(&mut self, name: &[u8], number: u64) -> Result<(), AllocError> {
-        let mut digits = [0; 16];
-        let count = put_hex(&mut digits, number);
-        self.push(name)?;
-        self.push(b"0x")?;
         self.push(&digits[..count])
     }
 

@@ -1,4 +1,4 @@
-use Rattle.std.proofs.Common.{◌≡◌, [], ◌∷◌, sym, subst}
+use Rattle.std.proofs.Common.{◌≡◌, [], ◌∷◌, subst}
 use Rattle.iom_account.specs.Account.{Account, GoesAlong}
 use Rattle.iom_debug.proofs.reasons.Reasons.step.Goals as goal
 

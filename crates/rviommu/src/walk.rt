@@ -1,0 +1,119 @@
+//! The walk of an access, told.
+
+ghost use Rattle.std.specs.Prelude.{◌<◌, ◌^◌, All};
+ghost use Rattle.iom_reasons.specs.Bounds.{PartFits};
+
+use crate::text::Text;
+use arrayvec::ArrayVec;
+use iom_core::{Platform, Request};
+use iom_debug::{is_told_alike, put_part};
+use iom_reasons::{Part, Parts, put_parts};
+use iom_tool::Draft;
+use std::alloc::{AllocError, Global};
+
+/// How many bytes the lines of a walk take: 29 parts at most, each a text of at most 320 bytes behind a word, and a line end.
+pub const WALK_ROOM: usize = 29 * 331;
+
+/// The lines of the last walk that was told, one for each part. Walks begin alike most times, and so do their lines: of the next walk
+/// only those from the first part on that is another are told anew.
+#[derive(Drop)]
+pub struct Walk {
+    told: Told,
+    // The parts of the last walk and of the next one, or, if these changed places, the other way round.
+    parts: Parts,
+    others: Parts,
+    is_other: bool,
+}
+
+// The lines of a walk.
+#[derive(Drop)]
+struct Told {
+    lines: Text,
+    // Where each of them ends.
+    ends: ArrayVec<usize, 29>,
+}
+
+impl Walk {
+    /// No walk yet.
+    pub fn new(alloc: Global) -> Result<Walk, AllocError> {
+        Ok(Walk {
+            told: Told {
+                lines: Text::with_room(alloc, WALK_ROOM)?,
+                ends: ArrayVec::new(),
+            },
+            parts: Parts::new(),
+            others: Parts::new(),
+            is_other: false,
+        })
+    }
+
+    /// The lines, each with its line end.
+    pub fn as_slice(&self) -> &[u8] {
+        self.told.lines.as_slice()
+    }
+
+    /// Tells the walk of a request as the tables stand now, each part in a draft first, in place of what that holds. The device id is
+    /// below 2^24. The fault is want of memory.
+    pub fn tell(
+        &mut self,
+        platform: &Platform,
+        request: &Request,
+        draft: &mut Draft,
+    ) -> Result<(), AllocError>
+        requires { request.now.did < 2 ^ 24 }
+    {
+        if self.is_other {
+            put_parts(&mut self.parts, platform, request);
+            let (last, next) = (&self.others, &self.parts);
+            self.told.tell(platform, request, draft, last, next)?;
+        } else {
+            put_parts(&mut self.others, platform, request);
+            let (last, next) = (&self.parts, &self.others);
+            self.told.tell(platform, request, draft, last, next)?;
+        }
+        self.is_other = !self.is_other;
+        Ok(())
+    }
+}
+
+impl Told {
+    // Tells the next walk, by its parts and those of the last one.
+    fn tell(
+        &mut self,
+        platform: &Platform,
+        request: &Request,
+        draft: &mut Draft,
+        last: &Parts,
+        next: &Parts,
+    ) -> Result<(), AllocError>
+        requires { All PartFits next.now.items }
+    {
+        let kept = alike(last.as_slice(), next.as_slice()).min(self.ends.len());
+        self.ends.truncate(kept);
+        self.lines.truncate(self.ends.last().copied().unwrap_or(0));
+        for at in kept..next.len() {
+            put_part_at(draft, platform, request, next, at);
+            self.lines.push_line(b"    walk: ", draft.as_slice())?;
+            let _fits = self.ends.try_push(self.lines.len());
+        }
+        Ok(())
+    }
+}
+
+// Puts the part at a place in place of what a draft holds.
+#[tactic(auto, using(iom_debug::proofs::Bounds::part_fits))]
+fn put_part_at(out: &mut Draft, platform: &Platform, request: &Request, parts: &Parts, at: usize)
+    requires { All PartFits parts.now.items }
+{
+    if let Some(part) = parts.as_slice().get(at) {
+        put_part(out, platform, request, part);
+    }
+}
+
+// How many of the first parts of two walks are told alike.
+fn alike(parts: &[Part], others: &[Part]) -> usize {
+    let pairs = parts.iter().zip(others);
+    pairs
+        .take_while(|(part, other)| is_told_alike(part, other))
+        .count()
+}
