@@ -23,7 +23,11 @@ LIST = os.path.join(TOP, "crates.txt")
 TREES = os.path.join(TOP, "out", "build")
 BYTES_A_JOB = 2 << 30
 # A way to the top is long where it has this part of the longest one's bytes.
-LONG = 0.75
+LONG = 0.9
+# What a check does before its first function takes as long as that of so many bytes.
+BYTES_OF_A_START = 50_000
+# One that is shorter by no more bytes than these is begun beside the long ones, with one job.
+NEAR = 120_000
 
 
 def stands_on():
@@ -49,8 +53,8 @@ def below(crates, top):
 
 
 def size(name):
-    """Bytes of the crate's sources, definitions and proofs: about what its check takes."""
-    total = 0
+    """Bytes of the crate's sources, definitions and proofs, and those of a start: about what its check takes."""
+    total = BYTES_OF_A_START
     for kind in ("src", "specs", "proofs"):
         for folder, _, files in os.walk(os.path.join(CRATES, name, kind)):
             total += sum(os.path.getsize(os.path.join(folder, it)) for it in files)
@@ -151,14 +155,18 @@ class Build:
             self.changed.notify()
 
     def words(self, name):
-        """The command that builds the crate. Those with a long way to the top have the processors first, and share them."""
+        """The command that builds the crate. Those with a long way to the top have the processors first, and share them; those with a
+        short one wait for what is left."""
         is_program = os.path.isfile(os.path.join(CRATES, name, "src", "main.rt"))
         words = ["rt", "run" if is_program else "lib"]
-        others = [self.ways[it] for it in [*self.running, *self.next_ones()]]
-        first = [way for way in others if way >= LONG * max(others)]
-        if self.ways[name] not in first:
-            return ["nice", *words, "--jobs", "1"]
-        return [*words, "--jobs", str(max(1, at_once() // len(first)))]
+        now = {it: self.ways[it] for it in [*self.running, *self.next_ones(), name]}
+        longest = max(now.values())
+        first = [it for it in now if now[it] >= LONG * longest]
+        near = [it for it in now if it not in first and now[it] >= longest - NEAR]
+        if name in first:
+            return [*words, "--jobs", str(max(1, (at_once() - len(near)) // len(first)))]
+        wait = [] if name in near else ["nice"]
+        return [*wait, *words, "--jobs", "1"]
 
     def tell(self, text):
         print(f"build: {len(self.ready)} of {len(self.crates)}: {text}", file=sys.stderr, flush=True)
