@@ -10,6 +10,7 @@
 #   make fuzz OTHER=FILE      cases made to harm, beside another program; MINUTES=1 and SEED=1 where they aren't given
 #   make peer                 the program beside QEMU's IOMMU (QEMU 10), 5,000 cases; CASES=5000 and SEED=1 where they aren't given
 #   make library              the C library, its header and pkg-config file into c/out; the Python module takes it from there
+#   make page                 the page that shows the model in a browser, into web/out; it proves a copy of the crates (web/build.py)
 #   make install PREFIX=..    copy the program to PREFIX/bin, /usr/local/bin where PREFIX is not given, with its man page and
 #                             completions for bash and zsh, and the C library to PREFIX/lib and PREFIX/include
 #   make dist, make deb       pack both into dist/, as an archive or as a Debian package
@@ -27,7 +28,7 @@ sources = $(shell find crates -name out -prune -o -type f \( -name '*.rt' -o -na
 has_rt = command -v rt >/dev/null || { echo "rt, the command of the Rattle kit, is not on the path" >&2; exit 1; }
 has_python = command -v python3 >/dev/null || { echo "python3 is not on the path" >&2; exit 1; }
 
-.PHONY: run build test rows cost bench fuzz peer library install dist deb
+.PHONY: run build test rows cost bench fuzz peer library page install dist deb
 
 $(program): crates.txt $(sources)
 	@$(has_rt)
@@ -63,6 +64,7 @@ test:
 	c/build.py
 	tests/c_library.py $(program)
 	tests/package.py $(program)
+	@if command -v chromium >/dev/null && test -f web/out/index.html; then set -x; tests/page.py $(program); fi
 
 rows:
 	@$(has_rt)
@@ -90,6 +92,11 @@ library:
 	@$(has_rt)
 	@$(has_python)
 	c/build.py
+
+page:
+	@$(has_rt)
+	@$(has_python)
+	web/build.py
 
 install: $(program) $(library)
 	install -d $(DESTDIR)$(PREFIX)/bin

@@ -1,6 +1,8 @@
 #!/usr/bin/env -S python3 -B
 """package.py dist|deb [PROGRAM [PREFIX]]    Packs the built program and the C library into dist/, as an archive or as a Debian package.
 
+Where the page is built (web/out), it is packed too.
+
 Two packings of one commit with one program and library are equal byte for byte: each file has the date of the version in CHANGELOG.md,
 one owner and fixed rights, and the order is by name. Prints the file that was written. PROGRAM is the built program,
 crates/rviommu/out/rviommu where it is not given; PREFIX is where c/build.py made the library, c/out where it is not given.
@@ -103,6 +105,15 @@ def library(prefix, top, lib):
     return {top + path: data for path, data in files.items()}
 
 
+def page():
+    """The files of the page, by their names, where it is built."""
+    folder = os.path.join(TOP, "web", "out")
+    if not os.path.isfile(os.path.join(folder, "index.html")):
+        return {}
+    names = sorted(name for name in os.listdir(folder) if name.endswith((".html", ".css", ".js")))
+    return {f"page/{name}": read(f"web/out/{name}") for name in names}
+
+
 def archived(names, date):
     """A tar archive of these files: (path, bytes, rights) each."""
     made = io.BytesIO()
@@ -156,6 +167,7 @@ def dist(program, prefix):
         "c/README.md": read("c/README.md"),
         **examples(),
         **examples("c"),
+        **page(),
         **library(prefix, "", "lib"),
     }
     top = f"rviommu-{version}-linux-x86_64"
@@ -182,6 +194,7 @@ def installed(program, prefix, version, date):
         f"{doc}/copyright": COPYRIGHT.encode(),
         f"{doc}/c/README.md": read("c/README.md"),
         **{f"{doc}/{path}": data for path, data in (examples() | examples("c")).items()},
+        **{f"usr/share/rviommu/{path}": data for path, data in page().items()},
         **library(prefix, "usr/", "lib/x86_64-linux-gnu"),
     }
 

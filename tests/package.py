@@ -1,6 +1,8 @@
 #!/usr/bin/env -S python3 -B
 """package.py PROGRAM    Packs the built program and the C library, installs each package into an empty root, uses it from there, and removes it.
 
+Where the page is built, it is looked for in both packages.
+
 Prints one line a check, and 'package: N passed, M failed' at the end. The status is 1 where a check failed.
 """
 import filecmp
@@ -84,6 +86,28 @@ def archive_is_used(program):
         for name in ("README.md", "CHANGELOG.md", "completions/_rviommu", "completions/rviommu.bash"):
             if not os.path.isfile(os.path.join(top, name)):
                 raise Failure(f"the archive has no {name}")
+
+
+def has_page(folder):
+    """The page stands in a folder as it was built."""
+    made = os.path.join(TOP, "web", "out")
+    if not os.path.isfile(os.path.join(made, "index.html")):
+        raise Skip("the page isn't built ('make page')")
+    wanted = sorted(name for name in os.listdir(made) if not name.endswith(".png"))
+    if files_of(folder) != wanted or not all(filecmp.cmp(os.path.join(made, it), os.path.join(folder, it), shallow=False) for it in wanted):
+        raise Failure("the page is not that of web/out")
+
+
+def page_is_packed(program):
+    with tempfile.TemporaryDirectory() as root:
+        with tarfile.open(pack("dist", program)) as archive:
+            archive.extractall(root)
+        (top,) = os.listdir(root)
+        has_page(os.path.join(root, top, "page"))
+    needs("dpkg-deb")
+    with tempfile.TemporaryDirectory() as root:
+        run(["dpkg-deb", "--extract", pack("deb", program), root])
+        has_page(os.path.join(root, "usr/share/rviommu/page"))
 
 
 def serves_c(root):
@@ -177,6 +201,7 @@ CHECKS = [
     ("the archive's program, examples, man page and C library are used", archive_is_used),
     ("the Debian package is packed alike twice", lambda program: (needs("dpkg-deb"), is_packed_alike("deb", program))),
     ("the Debian package is installed into an empty root, with completions, used and removed", package_is_installed_and_removed),
+    ("the page is in both packages as it was built", page_is_packed),
     ("lintian finds no error in the Debian package", lintian_has_no_errors),
 ]
 

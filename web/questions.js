@@ -1,0 +1,196 @@
+"use strict";
+
+// What the page asks of the model at a line, and what it makes of the answers. Nothing here touches the page.
+
+const CONTEXT_PLACES = 16;
+const PAGE_PLACES = 64;
+const LAST_STEPS = 32;
+const WALK_PARTS = 30;
+const DEVICES = 8;
+const SHOWN_ITEMS = 16;
+// Of how many accesses it is found out which place they filled.
+const TRACKED = 400;
+
+// The modes of a context's stages by their numbers.
+const FIRST_MODES = { 0: "Bare", 8: "Sv39", 9: "Sv48" };
+const SECOND_MODES = { 0: "Bare", 8: "Sv39x4", 9: "Sv48x4" };
+
+/** The words of a line, without its comment. */
+function wordsOf(line) {
+  return line.replace(/#.*/s, "").split(/[ \t\r]+/).filter(Boolean);
+}
+
+function range(count, text) {
+  return Array.from({ length: count }, (_, i) => text(i));
+}
+
+const CONTEXT_QUESTIONS = range(CONTEXT_PLACES, (i) => `place context ${i}`);
+const PAGE_QUESTIONS = range(PAGE_PLACES, (i) => `place page ${i}`);
+
+/** Appends lines, and questions behind them; answers where these stand. */
+function append(played, lines, questions) {
+  lines.forEach((line) => played.push(line));
+  questions.forEach((question) => played.push(question));
+  return played.length - questions.length;
+}
+
+/** The answer that a line's comment wants, as of `cmd # => idle`; undefined where it wants none. */
+function wantedOf(line) {
+  return /^[^#]*#[ \t\r]*=>[ \t\r]*(.*?)[ \t\r]*$/s.exec(line)?.[1];
+}
+
+/** Whether a line may be an access of a device, which can fill the caches. */
+function mayFill(line) {
+  const [first, second] = wordsOf(line);
+  return first === "dma" || (first === "dev" && (second === "step" || second === "run"));
+}
+
+/** A script on an image, and what is asked of it. */
+class Script {
+  constructor(model, image, text) {
+    this.model = model;
+    this.image = image;
+    this.lines = text.split("\n");
+    if (this.lines[this.lines.length - 1] === "") {
+      this.lines.pop();
+    }
+    this.answers = model.play(image, this.lines);
+    // The start, and each line that isn't blank.
+    this.stops = [0, ...this.answers.flatMap((answer, i) => (answer ? [i + 1] : []))];
+    this.accesses = this.lines.flatMap((line, i) => (mayFill(line) ? [i + 1] : []));
+    this.tracked = { from: 0, to: 0, fills: [] };
+  }
+
+  /** The number of the last stop up to a line. */
+  stopOf(line) {
+    return this.stops.findLastIndex((stop) => stop <= line);
+  }
+
+  /** The answers to questions after the first `count` lines, by question. */
+  ask(count, questions) {
+    const answers = this.model.play(this.image, [...this.lines.slice(0, count), ...questions]);
+    return new Map(questions.map((question, i) => [question, answers[count + i]]));
+  }
+
+  /** The lines that filled the places of both caches, as they are after the first `count` lines; 0: one that isn't known any more. */
+  fillers(count) {
+    const last = this.accesses.findLastIndex((line) => line <= count);
+    if (last < 0) {
+      return { contexts: [], pages: [] };
+    }
+    if (last < this.tracked.from || last >= this.tracked.to) {
+      this.track(last);
+    }
+    return this.tracked.fills[last - this.tracked.from];
+  }
+
+  /** Finds out what the accesses up to this one, and those after it as far as it pays, filled. */
+  track(last) {
+    const from = this.accesses.length <= TRACKED ? 0 : Math.max(0, last + 1 - TRACKED);
+    const some = this.accesses.slice(from, from + TRACKED);
+    const places = [...CONTEXT_QUESTIONS, ...PAGE_QUESTIONS];
+    const played = [];
+    const asked = [];
+    let done = 0;
+    for (const line of some) {
+      const before = append(played, this.lines.slice(done, line - 1), places);
+      const after = append(played, [this.lines[line - 1]], places);
+      asked.push([before, after]);
+      done = line;
+    }
+    const answers = this.model.play(this.image, played);
+    let contexts = [];
+    let pages = [];
+    const at = (start, first, many) => answers.slice(start + first, start + first + many).filter((it) => it !== "none");
+    const fills = asked.map(([before, after], i) => {
+      contexts = filledBy(at(before, 0, CONTEXT_PLACES), at(after, 0, CONTEXT_PLACES), contexts, some[i]);
+      pages = filledBy(at(before, CONTEXT_PLACES, PAGE_PLACES), at(after, CONTEXT_PLACES, PAGE_PLACES), pages, some[i]);
+      return { contexts, pages };
+    });
+    this.tracked = { from, to: from + some.length, fills };
+  }
+
+  /** What is known after the first `count` lines: the caches, the queues, the devices and why the last line went so. */
+  state(count) {
+    const questions = [
+      "queue cmd",
+      "queue fault",
+      ...CONTEXT_QUESTIONS,
+      ...range(CONTEXT_PLACES, (i) => `stale context ${i}`),
+      ...PAGE_QUESTIONS,
+      ...range(PAGE_PLACES, (i) => `stale page ${i}`),
+      ...range(DEVICES, (i) => `dev show ${i}`),
+      ...range(LAST_STEPS, (i) => `why ${i}`),
+    ];
+    const told = this.ask(count, questions);
+    const items = [...itemQuestions("cmd", 16, told), ...itemQuestions("fault", 32, told)];
+    for (const [question, answer] of items.length ? this.ask(count, items.map((it) => it.question)) : []) {
+      told.set(question, answer);
+    }
+    return { told, commands: items.filter((it) => it.kind === "cmd"), faults: items.filter((it) => it.kind === "fault"), fillers: this.fillers(count) };
+  }
+
+  /** The access that a line makes, by the state before it; null where it makes none. */
+  access(line) {
+    const words = wordsOf(this.lines[line - 1] ?? "");
+    if (words[0] === "dma" && words.length === 5) {
+      return { kind: words[1], did: words[2], iova: words[3] };
+    }
+    if (words[0] === "dev" && (words[1] === "step" || words[1] === "run") && words.length > 2) {
+      const question = `dev show ${words[2]}`;
+      const found = /^did=(\S+) .*next=(read|write) iova=(\S+)/.exec(this.ask(line - 1, [question]).get(question));
+      return found && { kind: found[2], did: found[1], iova: found[3] };
+    }
+    return null;
+  }
+
+  /** The parts of the walk of an access as the tables stood before a line, by question; none where the line asks for none. */
+  walk(line, access) {
+    const of = `${access.kind} ${access.did} ${access.iova}`;
+    const told = this.ask(line - 1, [`stale ${of}`, ...range(WALK_PARTS, (i) => `walk ${of} ${i}`)]);
+    for (const [question, answer] of told) {
+      if (answer === "none" || answer === "bad") {
+        told.delete(question);
+      }
+    }
+    return told;
+  }
+
+  /** Memory after the first `count` lines: 64 bytes from each of these addresses, by question. */
+  memory(count, from, pieces) {
+    return this.ask(count, range(pieces, (i) => `dump 0x${(from + BigInt(64 * i)).toString(16)} 64`));
+  }
+}
+
+/** Which lines filled what a cache holds after an access of a line, from what it held before it and which lines had filled that. */
+function filledBy(before, after, fillers, line) {
+  let left = 0;
+  const fits = (gone) => before.every((place, i) => i < gone || after[i - gone] === place);
+  while (!fits(left)) {
+    left += 1;
+  }
+  const kept = before.slice(left).map((_, i) => fillers[i + left] ?? 0);
+  return [...kept, ...after.slice(kept.length).map(() => line)];
+}
+
+/** The operands of a text by name. */
+function operandsOf(text) {
+  return Object.fromEntries([...text.matchAll(/([\w-]+)=(\S+)/g)].map(([, key, value]) => [key, value]));
+}
+
+/** The questions for a queue's items: those that wait, and some before them. */
+function itemQuestions(kind, size, told) {
+  const view = operandsOf(told.get(`queue ${kind}`));
+  const [entries, head, tail] = [view.entries, view.head, view.tail].map(Number);
+  if (!entries || view.base === "0x0") {
+    return [];
+  }
+  const waiting = (tail - head + entries) % entries;
+  const many = Math.min(entries, SHOWN_ITEMS);
+  const behind = Math.max(0, Math.min(many - waiting, head));
+  return range(Math.min(many, behind + waiting), (i) => {
+    const index = (head - behind + i + entries) % entries;
+    const question = `show ${kind} 0x${(BigInt(view.base) + BigInt(size * index)).toString(16)}`;
+    return { kind, index, question, waits: i >= behind };
+  });
+}
