@@ -1,15 +1,10 @@
 //! What is told of the steps of a platform.
 
-ghost use Rattle.std.specs.Prelude.{◌≡◌, IfSome};
-ghost use Rattle.iom_core.specs.Table.{request_of_step};
-ghost use Rattle.iom_reasons.specs.Stale.{Fits};
-ghost use Rattle.iom_account.specs.Account.{stale_in};
-
 use crate::kept::Kept;
+use crate::known::{Known, known_before};
 use crate::reason::Reason;
 use iom_core::{Answer, Platform, Step};
-use iom_history::{History, Taken};
-use iom_reasons::{Way, stale};
+use iom_history::History;
 use std::marker::Model;
 
 /// Which steps filled what the caches of a platform hold, and why each of its last 32 steps went as it did. A step is told by the number
@@ -36,7 +31,7 @@ impl Account {
     ghost use Rattle.std.specs.Option.{option_copied};
     ghost use Rattle.circular_buffer.specs.Buffer.{keep_last, last_item};
     ghost use Rattle.iom_core.specs.Table.{next};
-    ghost use Rattle.iom_account.specs.Account.{Accounts, GoesAlong, IsReasonOf, ReasonFits};
+    ghost use Rattle.iom_account.specs.Account.{Accounts, GoesAlong, IsKnown, IsReasonOf, ReasonFits};
 
     /// An account that begins at this platform, of no step yet. Where translations come from is told if both caches hold nothing now.
     #[tactic(auto, using(crate::proofs::Fitting::none_told))]
@@ -97,19 +92,36 @@ impl Account {
         // It goes along with the platform's steps: from a start whose caches hold nothing it tells of each what explains it.
         ensures along { GoesAlong self.old platform.old (step.now ∷ []) number self.new platform.new }
     {
-        let stale = stale_before(platform, step);
-        let Taken {
-            answer,
-            request,
-            origin,
-        } = self.history.step(platform, step, number);
+        let known = known_before(platform, step);
+        let mut answer = Answer::Done;
+        self.step_known(platform, step, &known, number, &mut answer);
+        answer
+    }
+
+    /// The same of a step of which this is known, with its answer put in place of what `answer` holds.
+    pub fn step_known(
+        &mut self,
+        platform: &mut Platform,
+        step: &Step,
+        known: &Known,
+        number: u64,
+        answer: &mut Answer,
+    )
+        requires known { IsKnown platform.old step.now known.now }
+        ensures answer { answer.new ≡ (next platform.old step.now).answer }
+        ensures state { platform.new ≡ (next platform.old step.now).state }
+        ensures newest { IsSomeAnd (last_item self.new.told) (IsReasonOf platform.old step.now number) }
+        ensures along { GoesAlong self.old platform.old (step.now ∷ []) number self.new platform.new }
+    {
+        let origin = self
+            .history
+            .step_into(platform, step, known.request, number, answer);
         self.keep(Reason {
             number,
-            request,
+            request: known.request,
             origin,
-            stale,
+            stale: known.stale,
         });
-        answer
     }
 
     // Keeps what is told of a step.
@@ -123,13 +135,4 @@ impl Account {
     {
         self.told.keep(reason);
     }
-}
-
-// The way that the tables say of the access that a step makes, where it is stale.
-fn stale_before(platform: &Platform, step: &Step) -> Option<Way>
-    ensures told { result ≡ stale_in platform.now (request_of_step platform.now step.now) }
-    ensures fits { IfSome result Fits }
-{
-    let request = platform.request_of(step)?;
-    stale(platform, &request)
 }

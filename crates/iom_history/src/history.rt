@@ -110,13 +110,43 @@ impl History {
             Follows self.old platform.old start steps numbers →
             ComesFrom start (steps ++ step.now ∷ []) (numbers ++ number ∷ []) (length steps) result.origin }
     {
-        match platform.request_of(step) {
-            None => Taken {
-                answer: platform.step(step),
-                request: None,
-                origin: None,
-            },
-            Some(request) => self.access(platform, step, request, number),
+        let request = platform.request_of(step);
+        let mut answer = Answer::Done;
+        let origin = self.step_into(platform, step, request, number, &mut answer);
+        Taken {
+            answer,
+            request,
+            origin,
+        }
+    }
+
+    /// Carries out the next step as `step` does, where it is known what it asks of the IOMMU, and puts its answer in place of what
+    /// `answer` holds. The origin comes back.
+    pub fn step_into(
+        &mut self,
+        platform: &mut Platform,
+        step: &Step,
+        request: Option<Request>,
+        number: u64,
+        answer: &mut Answer,
+    ) -> Option<Origin>
+        requires asked { request ≡ request_of_step platform.old step.now }
+        ensures answer { answer.new ≡ (next platform.old step.now).answer }
+        ensures state { platform.new ≡ (next platform.old step.now).state }
+        ensures none { (result ≡ None) ↔ IsNoAccess platform.old (request_of_step platform.old step.now) }
+        ensures follows { (start : State) (steps : List Step) (numbers : List ℕ) →
+            Follows self.old platform.old start steps numbers →
+            Follows self.new platform.new start (steps ++ step.now ∷ []) (numbers ++ number ∷ []) }
+        ensures origin { (start : State) (steps : List Step) (numbers : List ℕ) →
+            Follows self.old platform.old start steps numbers →
+            ComesFrom start (steps ++ step.now ∷ []) (numbers ++ number ∷ []) (length steps) result }
+    {
+        match request {
+            None => {
+                take(platform, step, answer);
+                None
+            }
+            Some(request) => self.access(platform, step, request, number, answer),
         }
     }
 
@@ -168,27 +198,21 @@ impl History {
         step: &Step,
         request: Request,
         number: u64,
-    ) -> Taken
+        answer: &mut Answer,
+    ) -> Option<Origin>
         requires asked { request_of_step platform.old step.now ≡ Some request }
-        ensures answer { result.answer ≡ (next platform.old step.now).answer }
+        ensures answer { answer.new ≡ (next platform.old step.now).answer }
         ensures state { platform.new ≡ (next platform.old step.now).state }
-        ensures request { result.request ≡ Some request }
         ensures noted { AreBeside self.old platform.old →
             self.new ≡ noted platform.old platform.new (Some request) number self.old }
-        ensures origin { result.origin ≡ (if is_denial result.answer then None else
+        ensures origin { result ≡ (if is_denial answer.new then None else
             Some (origin_by self.new platform.new request number (leading_context platform.new.machine request.did))) }
     {
-        let answer = self.carry_out(platform, step, request, number);
-        let origin = if is_denial(&answer) {
-            None
-        } else {
-            Some(self.origin(platform, &request, number))
-        };
-        Taken {
-            answer,
-            request: Some(request),
-            origin,
+        self.carry_out(platform, step, request, number, answer);
+        if is_denial(answer) {
+            return None;
         }
+        Some(self.origin(platform, &request, number))
     }
 
     // Carries out a step that makes this request, and notes what it fills: a place that is the newest after it and wasn't
@@ -199,19 +223,19 @@ impl History {
         step: &Step,
         request: Request,
         number: u64,
-    ) -> Answer
+        answer: &mut Answer,
+    )
         requires asked { request_of_step platform.old step.now ≡ Some request }
-        ensures answer { result ≡ (next platform.old step.now).answer }
+        ensures answer { answer.new ≡ (next platform.old step.now).answer }
         ensures state { platform.new ≡ (next platform.old step.now).state }
         ensures noted { AreBeside self.old platform.old →
             self.new ≡ noted platform.old platform.new (Some request) number self.old }
     {
         let context = next_context(platform.contexts(), self.contexts.len());
         let page = next_page(platform.trans(), self.walks.len());
-        let answer = platform.step(step);
+        take(platform, step, answer);
         self.note_context(platform, &context, number);
         self.note_walk(platform, &page, request.did, number);
-        answer
     }
 
     // Notes a context that a step filled, by what was at the next place before it.
@@ -274,6 +298,14 @@ impl History {
         let place = context_place(platform.contexts(), did);
         number_at(self.contexts.as_slice(), place, number)
     }
+}
+
+// Carries out a step.
+fn take(platform: &mut Platform, step: &Step, answer: &mut Answer)
+    ensures answer { answer.new ≡ (next platform.old step.now).answer }
+    ensures state { platform.new ≡ (next platform.old step.now).state }
+{
+    platform.step_into(step, answer);
 }
 
 // The number beside a place; `number` where there is none.

@@ -1,10 +1,12 @@
 -- The translation by both stages of a context: RISC-V IOMMU Architecture 1.0, "Process to translate an IOVA"; RISC-V
 -- Privileged Architecture 1.12, "Two-Stage Address Translation".
-use Rattle.std.specs.Prelude.{ℕ, ◌+◌, ◌*◌, ◌/◌, ◌%◌, ◌^◌, ◌<◌, false, Option, Some, None, Result, Ok, Err}
+use Rattle.std.specs.Prelude.{ℕ, ◌+◌, ◌*◌, ◌/◌, ◌%◌, ◌^◌, ◌<◌, false, List, [], Option, Some, None, Result, Ok, Err}
 use Rattle.iom_bits.specs.declared.causes.Kind.{Kind}
 use Rattle.iom_mem.specs.Memory.{Memory}
 use Rattle.iom_ddt.specs.declared.context.Context.{Context}
 use Rattle.iom_walk.specs.Outcome.{outcome_of}
+use Rattle.iom_walk.specs.Told.{path_told}
+use Rattle.iom_walk.specs.declared.listing.PathEntry.{PathEntry}
 use Rattle.iom_walk.specs.declared.shape.Shape.{Shape}
 use Rattle.iom_walk.specs.declared.outcome.Outcome.{Outcome}
 use Rattle.iom_walk.specs.declared.outcome.Outcome.TheVariants as outcome
@@ -21,6 +23,18 @@ reached_by iova (outcome.Leaf leaf) =
 reached_by iova outcome.Outside = Err EntryOutside
 reached_by iova (outcome.Guest place) = Err (SecondForEntry place)
 reached_by iova outcome.Fault = Err FirstStage
+
+-- the bounds of a leaf of the first stage
+abbrev pub LeafReaches : Outcome → Type 0
+LeafReaches (outcome.Leaf leaf) = (leaf.frame < 2 ^ 44) × (leaf.level < 4)
+LeafReaches outcome.Outside = Unit {0}
+LeafReaches (outcome.Guest place) = Unit {0}
+LeafReaches outcome.Fault = Unit {0}
+
+-- the entries that the first stage meets; none where it is Bare
+abbrev pub first_path : Memory → Context → ℕ → Kind → Option Shape → List PathEntry
+first_path memory context iova kind None = []
+first_path memory context iova kind (Some shape) = path_told (table_got memory context) shape context.ppn iova kind
 
 -- a Bare first stage leads to the IOVA itself
 abbrev pub first_stage : Memory → Context → ℕ → Kind → Option Shape → Result Reached Failure

@@ -4,7 +4,10 @@
 
 pub use physical::Physical;
 pub use second::{Second, second_shape};
-pub use translation::{Fault, Hit, Reached, first_shape, first_stage, one_hit_a_page, translate};
+pub use translation::{
+    Fault, Hit, Reached, first_shape, first_stage, first_stage_listed, one_hit_a_page,
+    second_stage, translate,
+};
 
 mod physical;
 mod second;

@@ -1,8 +1,9 @@
-ghost use Rattle.std.specs.Prelude.{◌≡◌, ◌≢◌, ◌<◌, ◌^◌, false, None, IfOk};
+ghost use Rattle.std.specs.Prelude.{◌≡◌, ◌≢◌, ◌<◌, ◌≤◌, ◌^◌, [], false, None, IfOk};
+ghost use Rattle.arrayvec.specs.ArrayVec.{array_vec_len};
 ghost use Rattle.iom_ddt.specs.Contexts.{is_bare, IsWellFormed};
 ghost use Rattle.iom_nested.specs.Stages.{first_shape_of, second_shape_of};
 ghost use Rattle.iom_nested.specs.Faults.{fault_of, EntryOutside};
-ghost use Rattle.iom_nested.specs.Nested.{HitFits, first_stage, second_stage, told_of, translation};
+ghost use Rattle.iom_nested.specs.Nested.{HitFits, LeafReaches, first_path, first_stage, reached_by, second_stage, told_of, translation};
 ghost use Rattle.iom_nested.specs.Pages.{OneHitAPage};
 
 use crate::physical::Physical;
@@ -10,7 +11,7 @@ use crate::second::{Second, second_shape};
 use iom_bits::{Cause, Kind};
 use iom_ddt::Context;
 use iom_mem::Ram;
-use iom_walk::{Outcome, Shape, walk};
+use iom_walk::{Outcome, PathEntries, Shape, walk, walk_listed};
 
 /// Where a page of IOVAs leads: what an entry of the translation cache, the IOTLB, says.
 #[derive(Clone, Copy, Debug, PartialEq)]
@@ -80,16 +81,63 @@ pub fn first_stage(ram: &Ram, context: &Context, iova: u64, kind: Kind) -> Resul
         (λ reached. (first_shape_of context.now ≢ None → reached.addr < 2 ^ 56) × (reached.level < 4)) }
 {
     let Some(shape) = first_shape(context) else {
-        return Ok(Reached {
-            addr: iova,
-            level: 0,
-            global: false,
-        });
+        return Ok(unmoved(iova));
     };
     let outcome = match second_shape(context) {
         Some(_) => walk(&Second::new(ram, context), shape, context.ppn, iova, kind),
         None => walk(&Physical { ram }, shape, context.ppn, iova, kind),
     };
+    reached_by(outcome, iova, kind)
+}
+
+/// Leads an IOVA by the first stage as `first_stage` does, and puts the entries that it meets into `met`, an empty list, each with the row
+/// that decides of it. There is none where that stage is Bare, nor of an IOVA that is too wide for it.
+pub fn first_stage_listed(
+    met: &mut PathEntries,
+    ram: &Ram,
+    context: &Context,
+    iova: u64,
+    kind: Kind,
+) -> Result<Reached, Fault>
+    requires well_formed { IsWellFormed context.now }
+    requires empty { met.old.items ≡ [] }
+    ensures entries { met.new.items ≡ first_path ram.now context.now iova kind (first_shape_of context.now) }
+    ensures few { array_vec_len met.new ≤ 4 }
+    ensures reached { result
+        ≡ told_of kind (first_stage ram.now context.now iova kind (first_shape_of context.now)) }
+    ensures fits { IfOk result
+        (λ reached. (first_shape_of context.now ≢ None → reached.addr < 2 ^ 56) × (reached.level < 4)) }
+{
+    let Some(shape) = first_shape(context) else {
+        return Ok(unmoved(iova));
+    };
+    let (root, bare) = (context.ppn, Physical { ram });
+    let outcome = match second_shape(context) {
+        Some(_) => walk_listed(met, &Second::new(ram, context), shape, root, iova, kind),
+        None => walk_listed(met, &bare, shape, root, iova, kind),
+    };
+    reached_by(outcome, iova, kind)
+}
+
+// Where a Bare first stage leads an IOVA.
+#[inline(always)]
+fn unmoved(iova: u64) -> Reached
+    ensures { result ≡ record { addr = iova; level = 0; global = false } }
+{
+    Reached {
+        addr: iova,
+        level: 0,
+        global: false,
+    }
+}
+
+// Where the first stage leads an IOVA whose walk ends so.
+#[inline(always)]
+fn reached_by(outcome: Outcome, iova: u64, kind: Kind) -> Result<Reached, Fault>
+    requires { LeafReaches outcome }
+    ensures reached { result ≡ told_of kind (reached_by iova outcome) }
+    ensures fits { IfOk result (λ reached. (reached.addr < 2 ^ 56) × (reached.level < 4)) }
+{
     match outcome {
         Outcome::Leaf(leaf) => Ok(Reached {
             addr: leaf.frame * 4096 + iova % 4096,
@@ -108,8 +156,14 @@ pub fn first_stage(ram: &Ram, context: &Context, iova: u64, kind: Kind) -> Resul
     }
 }
 
-// Where the second stage of a context leads what the first one reached; a Bare one leads to the same address.
-fn second_stage(ram: &Ram, context: &Context, reached: Reached, kind: Kind) -> Result<Hit, Fault>
+/// Where the second stage of a context leads what its first one reached, as `translate` does it, with the same faults; a Bare one leads to
+/// the same address, which is below 2^56 then.
+pub fn second_stage(
+    ram: &Ram,
+    context: &Context,
+    reached: Reached,
+    kind: Kind,
+) -> Result<Hit, Fault>
     requires well_formed { IsWellFormed context.now }
     requires level { reached.level < 4 }
     requires inside { second_shape_of context.now ≡ None → reached.addr < 2 ^ 56 }

@@ -1,5 +1,5 @@
 -- What the ways of a machine with empty caches are, and that a way is known by what is told of it.
-use Rattle.std.proofs.Common.{◌≡◌, ◌∙◌, ℕ, true, false, None, Some, Ok, Err, if◌then◌else◌, refl, sym, ap}
+use Rattle.std.proofs.Common.{◌≡◌, ◌∙◌, ℕ, Bool, true, false, None, Some, Ok, Err, if◌then◌else◌, refl, sym, ap}
 use Rattle.iom_bits.specs.declared.causes.Cause.{Cause}
 use Rattle.iom_regs.specs.Views.{mode_of}
 use Rattle.iom_ddt.specs.Directory.{is_too_wide, levels_of, located}
@@ -7,9 +7,10 @@ use Rattle.iom_ddt.specs.declared.context.Context.{Context}
 use Rattle.iom_cache.specs.Keys.{same_did}
 use Rattle.iom_cache.specs.Places.{Look, find, look}
 use Rattle.iom_core.specs.State.{Machine}
-use Rattle.iom_core.specs.Access.{context_look, led_by_context}
+use Rattle.iom_core.specs.Access.{context_look, led_by_context, live_context}
 use Rattle.iom_core.specs.declared.access.Request.{Request}
 use Rattle.iom_core.proofs.NewContext.{apart}
+use Rattle.iom_core.proofs.Wide.{too_wide_located}
 use Rattle.iom_core.specs.Access as access
 use Rattle.iom_reasons.specs.Stale.{differing, told, uncached}
 use Rattle.iom_reasons.specs.declared.way.Way.{Way}
@@ -74,6 +75,17 @@ looked_live m did context live is found same = elim (is_too_wide (levels_of (mod
       | true ↦ rw is refl
       | false ↦ rw (found, same) refl
     ]
+
+-- where the directory has a context the id isn't too wide, and so the cache is looked at
+pub live_there : (m : Machine) (did : ℕ) (context : Context) → located m.memory m.registers did ≡ Ok context →
+    live_context m did ≡ find (same_did did) m.contexts
+live_there m did context is =
+    let Goal : Bool → Type 0 = λ wide. is_too_wide (levels_of (mode_of m.registers)) did ≡ wide →
+    (if wide then None else find (same_did did) m.contexts) ≡ find (same_did did) m.contexts in
+    let by_width : (wide : Bool) → Goal wide = λ wide. elim wide as Goal [
+      | true ↦ λ is_wide. let other = sym is ∙ too_wide_located m.memory m.registers did is_wide in absurd (cc)
+      | false ↦ λ narrow. refl
+    ] in by_width (is_too_wide (levels_of (mode_of m.registers)) did) refl
 
 -- the way with what is cached, by a context that leads the device
 by_used : (m : Machine) (request : Request) (context : Context) → (context_look m request.did).used ≡ Ok context →

@@ -23,8 +23,8 @@ pub struct Found {
     pub is_whole: bool,
 }
 
-// What a request finds that the caches aren't looked at for, or that has nothing there.
-const NOTHING: Found = Found {
+/// What a request finds that the caches aren't looked at for, or that has nothing there.
+pub(crate) const NOTHING: Found = Found {
     context: false,
     page: false,
     is_whole: false,
@@ -43,9 +43,9 @@ pub fn found_by(platform: &Platform, request: &Request) -> Found
     }
 }
 
-// The same under a directory.
+/// The same under a directory.
 #[tactic(auto, using(iom_core::proofs::Wide::too_wide_located))]
-fn found_under(platform: &Platform, request: &Request) -> Found
+pub(crate) fn found_under(platform: &Platform, request: &Request) -> Found
     requires directory { 1 ≤ levels_of (mode_of platform.now.machine.registers) }
     requires width { request.now.did < 2 ^ 24 }
     ensures { result ≡ found_under platform.now.machine request.now (live_context platform.now.machine request.now.did)

@@ -1,29 +1,33 @@
 //! The parts of a walk.
 
-ghost use Rattle.std.specs.Prelude.{◌≡◌, ◌++◌, ◌+◌, ◌<◌, ◌≤◌, ◌^◌, ◌-◌, [], ◌∷◌, map, flat_map, slice_get, All, Any, Some};
+ghost use Rattle.std.specs.Prelude.{◌≡◌, ◌++◌, ◌+◌, ◌<◌, ◌≤◌, ◌^◌, ◌-◌, map, flat_map, slice_get, All, Any, IfOk, None, Ok, Result, Some, ◌≢◌};
 ghost use Rattle.arrayvec.specs.ArrayVec.{array_vec_len};
 ghost use Rattle.iom_regs.specs.Views.{mode_of};
 ghost use Rattle.iom_ddt.specs.Contexts.{IsWellFormed};
 ghost use Rattle.iom_ddt.specs.Directory.{levels_of, located, path_of};
-ghost use Rattle.iom_nested.specs.Nested.{first_stage};
+ghost use Rattle.iom_bits.specs.declared.causes.Kind.TheVariants.{Read};
+ghost use Rattle.iom_core.specs.Access.{context_look, led_by_context};
+ghost use Rattle.iom_nested.specs.Faults.{Failure};
+ghost use Rattle.iom_nested.specs.Nested.{first_stage, told_of};
+ghost use Rattle.iom_nested.specs.declared.translation.Reached.{Reached};
 ghost use Rattle.iom_nested.specs.Stages.{first_shape_of};
 ghost use Rattle.iom_reasons.specs.Parts.{access_parts, directory_parts, entry_parts, first_parts, parts_by, parts_of, read_at, second_parts, stage_parts};
 ghost use Rattle.iom_reasons.specs.Bounds.{PartFits};
 ghost use Rattle.iom_reasons.specs.Fetches.{IsRead};
 ghost use Rattle.iom_reasons.specs.Passing.{IsGranted, Passes, Refuses};
 ghost use Rattle.iom_reasons.specs.declared.part.Part.TheVariants as part;
-ghost use Rattle.iom_reasons.specs.Stale.{Fits, by_tables};
+ghost use Rattle.iom_reasons.specs.Stale.{Fits, by_tables, told, uncached};
 
-use crate::staleness::way_by_tables;
-use crate::{Part, Wide};
+use crate::staleness::way_by_reached;
+use crate::{Part, Way, Wide};
 use arrayvec::ArrayVec;
-use iom_bits::Kind;
-use iom_core::{Platform, Request};
+use iom_bits::{Cause, Kind};
+use iom_core::{Denial, Platform, Request};
 use iom_ddt::{Context, is_too_wide, locate};
 use iom_mem::Ram;
-use iom_nested::{Physical, Second, first_shape, first_stage, second_shape};
+use iom_nested::{Fault, Physical, Reached, first_shape, first_stage_listed, second_shape};
 use iom_regs::Mode;
-use iom_walk::{Outcome, PathEntries, PathEntry, walk};
+use iom_walk::{Outcome, PathEntries, walk_listed};
 
 /// The parts of a walk, in order: at most ddtp, three of the directory, four entries of the first stage and five times four of the
 /// second, and the end.
@@ -72,33 +76,30 @@ pub fn put_parts(out: &mut Parts, platform: &Platform, request: &Request)
     let root = registers.root();
     out.clear();
     out.push(Part::Ddtp { mode, root });
-    push_walk(out, platform, request);
-    push_end(out, platform, request);
+    let way = push_walk(out, platform, request);
+    out.push(Part::End(way));
 }
 
-// What is behind ddtp, where its mode has a directory.
-fn push_walk(out: &mut Parts, platform: &Platform, request: &Request)
+// What is behind ddtp, where its mode has a directory, and the way that the request is led.
+#[tactic(auto, unfolding(iom_core::specs::Access::led))]
+fn push_walk(out: &mut Parts, platform: &Platform, request: &Request) -> Way
     requires width { request.now.did < 2 ^ 24 }
     requires room { array_vec_len out.old ≤ 1 }
     ensures items { out.new.items ≡ out.old.items
         ++ parts_by (mode_of platform.now.machine.registers) platform.now.machine request.now }
     ensures len { array_vec_len out.new ≤ array_vec_len out.old + 27 }
     ensures fits { All PartFits (parts_by (mode_of platform.now.machine.registers) platform.now.machine request.now) }
+    ensures way { result ≡ by_tables platform.now.machine request.now }
+    ensures led { Fits result }
 {
-    if let Mode::Levels(_) = platform.registers().mode() {
-        push_directory(out, platform, request.did);
-        push_located(out, platform, request);
+    match platform.registers().mode() {
+        Mode::Off => Way::Denied(Denial::plain(Cause::Off)),
+        Mode::Bare => Way::Register,
+        Mode::Levels(_) => {
+            push_directory(out, platform, request.did);
+            push_located(out, platform, request)
+        }
     }
-}
-
-// The way that the request is led.
-fn push_end(out: &mut Parts, platform: &Platform, request: &Request)
-    requires width { request.now.did < 2 ^ 24 }
-    requires room { array_vec_len out.old ≤ 28 }
-    ensures items { out.new.items ≡ out.old.items ++ part.End (by_tables platform.now.machine request.now) ∷ [] }
-    ensures fits { Fits (by_tables platform.now.machine request.now) }
-{
-    out.push(Part::End(way_by_tables(platform, request)));
 }
 
 // The items of the directory, or a device id that is too wide for it.
@@ -130,8 +131,9 @@ fn push_items(out: &mut Parts, platform: &Platform, did: u32)
     }
 }
 
-// Both stages of the context that the directory has for the request.
-fn push_located(out: &mut Parts, platform: &Platform, request: &Request)
+// Both stages of the context that the directory has for the request, and the way that it is led.
+#[tactic(auto, using(crate::proofs::Ways::looked_uncached, iom_core::proofs::NewContext::apart))]
+fn push_located(out: &mut Parts, platform: &Platform, request: &Request) -> Way
     requires directory { 1 ≤ levels_of (mode_of platform.now.machine.registers) }
     requires width { request.now.did < 2 ^ 24 }
     requires room { array_vec_len out.old ≤ 5 }
@@ -140,34 +142,65 @@ fn push_located(out: &mut Parts, platform: &Platform, request: &Request)
     ensures len { array_vec_len out.new ≤ array_vec_len out.old + 24 }
     ensures fits { All PartFits (stage_parts platform.now.machine.memory request.now.iova request.now.kind
         (located platform.now.machine.memory platform.now.machine.registers request.now.did)) }
+    ensures way { result ≡ told (led_by_context (uncached platform.now.machine) request.now
+        (context_look (uncached platform.now.machine) request.now.did).filled
+        (context_look (uncached platform.now.machine) request.now.did).used).way }
+    ensures led { Fits result }
 {
-    let ram = platform.ram();
-    if let Ok(context) = locate(ram, platform.registers(), request.did) {
-        push_first(out, ram, &context, request.iova, request.kind);
-        push_access(out, ram, &context, request.iova, request.kind);
+    match locate(platform.ram(), platform.registers(), request.did) {
+        Ok(context) => push_stages(out, platform, request, &context),
+        Err(why) => Way::Denied(Denial::plain(why)),
     }
 }
 
-// The first stage, entry by entry, or an IOVA that is too wide for it.
+// Both stages of a context, and the way by it.
+#[tactic(auto, unfolding(iom_core::specs::Access::page_look))]
+fn push_stages(out: &mut Parts, platform: &Platform, request: &Request, context: &Context) -> Way
+    requires well_formed { IsWellFormed context.now }
+    requires room { array_vec_len out.old ≤ 5 }
+    ensures items { out.new.items ≡ out.old.items
+        ++ stage_parts platform.now.machine.memory request.now.iova request.now.kind (Ok context.now) }
+    ensures len { array_vec_len out.new ≤ array_vec_len out.old + 24 }
+    ensures fits { All PartFits (stage_parts platform.now.machine.memory request.now.iova request.now.kind (Ok context.now)) }
+    ensures way { result ≡ told (led_by_context (uncached platform.now.machine) request.now None (Ok context.now)).way }
+    ensures led { Fits result }
+{
+    let ram = platform.ram();
+    let reached = push_first(out, ram, context, request.iova, request.kind);
+    push_access(out, ram, context, reached, request.kind);
+    if context.is_bare() {
+        Way::Context(*context)
+    } else {
+        way_by_reached(ram, request, context, reached)
+    }
+}
+
+// The first stage, entry by entry, or an IOVA that is too wide for it, and where it leads.
 #[tactic(auto, unfolding(crate::specs::Parts::first_parts))]
-fn push_first(out: &mut Parts, ram: &Ram, context: &Context, iova: u64, kind: Kind)
+fn push_first(
+    out: &mut Parts,
+    ram: &Ram,
+    context: &Context,
+    iova: u64,
+    kind: Kind,
+) -> Result<Reached, Fault>
     requires well_formed { IsWellFormed context.now }
     requires room { array_vec_len out.old ≤ 9 }
     ensures items { out.new.items ≡ out.old.items ++ first_parts ram.now context.now iova kind }
     ensures len { array_vec_len out.new ≤ array_vec_len out.old + 20 }
+    ensures reached { result
+        ≡ told_of kind (first_stage ram.now context.now iova kind (first_shape_of context.now)) }
+    ensures fits { IfOk result
+        (λ reached. (first_shape_of context.now ≢ None → reached.addr < 2 ^ 56) × (reached.level < 4)) }
 {
-    let Some(shape) = first_shape(context) else {
-        return;
-    };
-    if !shape.covers(iova) {
-        out.push(Part::Wide(Wide::First { iova }));
-        return;
+    let mut entries = PathEntries::new();
+    let reached = first_stage_listed(&mut entries, ram, context, iova, kind);
+    match first_shape(context) {
+        None => {}
+        Some(shape) if shape.covers(iova) => push_entries(out, ram, context, &entries),
+        Some(_) => out.push(Part::Wide(Wide::First { iova })),
     }
-    let entries = match second_shape(context) {
-        Some(_) => iom_walk::path(&Second::new(ram, context), shape, context.ppn, iova, kind),
-        None => iom_walk::path(&Physical { ram }, shape, context.ppn, iova, kind),
-    };
-    push_entries(out, ram, context, &entries);
+    reached
 }
 
 // Entries of the first stage, each behind those of the second.
@@ -179,47 +212,60 @@ fn push_entries(out: &mut Parts, ram: &Ram, context: &Context, entries: &PathEnt
     ensures len { array_vec_len out.new ≤ array_vec_len out.old + 20 }
 {
     for entry in entries.iter() {
-        let addr = read_at(ram, context, entry.place);
-        let first = Part::First {
-            entry: *entry,
-            addr,
-        };
-        push_second(out, ram, context, entry.place, Kind::Read);
-        out.push(first);
+        let addr = push_second(out, ram, context, entry.place, Kind::Read);
+        let entry = *entry;
+        out.push(Part::First { entry, addr });
     }
 }
 
 // The second stage for the access itself, where the first one leads its IOVA.
-fn push_access(out: &mut Parts, ram: &Ram, context: &Context, iova: u64, kind: Kind)
+fn push_access(
+    out: &mut Parts,
+    ram: &Ram,
+    context: &Context,
+    reached: Result<Reached, Fault>,
+    kind: Kind,
+)
     requires well_formed { IsWellFormed context.now }
     requires room { array_vec_len out.old ≤ 25 }
-    ensures items { out.new.items ≡ out.old.items
-        ++ access_parts ram.now context.now kind (first_stage ram.now context.now iova kind (first_shape_of context.now)) }
+    ensures items { (found : Result Reached Failure) → reached ≡ told_of kind found →
+        out.new.items ≡ out.old.items ++ access_parts ram.now context.now kind found }
     ensures len { array_vec_len out.new ≤ array_vec_len out.old + 4 }
 {
-    if let Ok(reached) = first_stage(ram, context, iova, kind) {
-        push_second(out, ram, context, reached.addr, kind);
+    if let Ok(reached) = reached {
+        let _addr = push_second(out, ram, context, reached.addr, kind);
     }
 }
 
-// The second stage from a guest-physical address on, entry by entry, or that address where it is too wide for it.
-#[tactic(auto, unfolding(crate::specs::Parts::second_parts))]
-fn push_second(out: &mut Parts, ram: &Ram, context: &Context, guest: u64, kind: Kind)
+// The second stage from a guest-physical address on, entry by entry, or that address where it is too wide for it; and where it leads.
+#[tactic(auto, unfolding(crate::specs::Parts::second_parts, crate::specs::Parts::read_at, iom_walk::specs::Outcome::outcome_of))]
+fn push_second(out: &mut Parts, ram: &Ram, context: &Context, guest: u64, kind: Kind) -> Option<u64>
     requires well_formed { IsWellFormed context.now }
     requires room { array_vec_len out.old ≤ 25 }
     ensures items { out.new.items ≡ out.old.items ++ second_parts ram.now context.now kind guest }
     ensures len { array_vec_len out.new ≤ array_vec_len out.old + 4 }
+    ensures addr { kind ≡ Read → result ≡ read_at ram.now context.now guest }
 {
-    match second_shape(context) {
-        Some(shape) if shape.covers(guest) => {
-            push_path(
-                out,
-                &iom_walk::path(&Physical { ram }, shape, context.gppn, guest, kind),
-                guest,
-            );
-        }
-        Some(_) => out.push(Part::Wide(Wide::Second { guest })),
-        None => {}
+    let Some(shape) = second_shape(context) else {
+        return Some(guest);
+    };
+    if !shape.covers(guest) {
+        out.push(Part::Wide(Wide::Second { guest }));
+        return None;
+    }
+    let mut entries = PathEntries::new();
+    let outcome = walk_listed(
+        &mut entries,
+        &Physical { ram },
+        shape,
+        context.gppn,
+        guest,
+        kind,
+    );
+    push_path(out, &entries, guest);
+    match outcome {
+        Outcome::Leaf(leaf) => Some(leaf.frame * 4096 + guest % 4096),
+        Outcome::Outside | Outcome::Guest(_) | Outcome::Fault => None,
     }
 }
 
@@ -232,20 +278,5 @@ fn push_path(out: &mut Parts, entries: &PathEntries, guest: u64)
 {
     for met in entries.iter() {
         out.push(Part::Second { guest, entry: *met });
-    }
-}
-
-// The physical address that an entry of the first stage is read at.
-#[tactic(auto, unfolding(crate::specs::Parts::read_at))]
-fn read_at(ram: &Ram, context: &Context, place: u64) -> Option<u64>
-    requires { IsWellFormed context.now }
-    ensures { result ≡ read_at ram.now context.now place }
-{
-    let Some(shape) = second_shape(context) else {
-        return Some(place);
-    };
-    match walk(&Physical { ram }, shape, context.gppn, place, Kind::Read) {
-        Outcome::Leaf(leaf) => Some(leaf.frame * 4096 + place % 4096),
-        Outcome::Outside | Outcome::Guest(_) | Outcome::Fault => None,
     }
 }

@@ -13,7 +13,7 @@ use Rattle.iom_walk.specs.declared.source.Got.{Got}
 use Rattle.iom_walk.specs.Path.{Entry, entry_at, next_table, path_from, path_of, verdict_on}
 use Rattle.iom_walk.specs.Shape.{index_of, levels}
 use Rattle.iom_walk.specs.Told.{told}
-use Rattle.iom_walk.specs.Verdict.{is_pointer, ppn, ruling_of, verdict_of}
+use Rattle.iom_walk.specs.Verdict.{consequence, is_pointer, ppn, ruling_of, verdict_of, word_of}
 use Rattle.iom_walk.proofs.Entries.{pointer_for_each, pointer_word}
 
 -- what is told of what is left
@@ -108,3 +108,9 @@ turns at shape address kind table level index got ruling word next front items w
     ∙ ap (λ n. front ++ told kind entry ∷ rest at shape address kind n (level - 1)) table_is
     ∙ ap (λ more. front ++ more) (sym (goes_on at shape address kind table (level - 1) pointer))
     ∙ ap (λ n. front ++ rest at shape address kind table n) (sym more) ∙ left
+
+-- what an entry says by the row that decides of it
+pub verdict_is : (kind : Kind) (level : ℕ) (got : Got) (ruling : Ruling) (said : Verdict) → said ≡ consequence ruling (word_of got) →
+    ruling ≡ ruling_of kind level got → said ≡ verdict_of kind level got
+unfolding verdict_of
+verdict_is kind level got ruling said is ruled = is ∙ ap (λ (r : Ruling). consequence r (word_of got)) ruled

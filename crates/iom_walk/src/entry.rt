@@ -177,7 +177,13 @@ pub fn judge(got: Got, level: u8, kind: Kind) -> Verdict
     requires { level < 4 }
     ensures { result ≡ verdict_of kind level got }
 {
-    let ruling = judged_by(got, level, kind);
+    verdict_by(judged_by(got, level, kind), got)
+}
+
+/// The same by the row that decides.
+pub fn verdict_by(ruling: Ruling, got: Got) -> Verdict
+    ensures { result ≡ consequence ruling (word_of got) }
+{
     let word = match got {
         Got::Word(word) => word,
         Got::Outside | Got::Guest => 0,

@@ -3,7 +3,7 @@
 #![tactic(auto)]
 
 pub use entry::{Ruling, Verdict};
-pub use listing::{PathEntries, PathEntry, path};
+pub use listing::{PathEntries, PathEntry, path, walk_listed};
 pub use outcome::{Leaf, Outcome};
 pub use shape::Shape;
 pub use source::{Got, Words};

@@ -1,16 +1,18 @@
 //! The path of a walk, entry by entry.
 
-ghost use Rattle.std.specs.Prelude.{◌≡◌, ◌<◌, ◌≤◌, ◌^◌, map};
+ghost use Rattle.std.specs.Prelude.{◌≡◌, ◌<◌, ◌≤◌, ◌^◌, [], map};
 ghost use Rattle.arrayvec.specs.ArrayVec.{array_vec_len};
+ghost use Rattle.iom_walk.specs.Outcome.{LeafFits, outcome_of, verdict_on_path};
 ghost use Rattle.iom_walk.specs.Path.{path_of};
 ghost use Rattle.iom_walk.specs.Shape.{levels};
 ghost use Rattle.iom_walk.specs.Told.{path_told, told};
 
-use crate::entry::{Ruling, Verdict, judge, judged_by, ppn_of};
+use crate::entry::{GLOBAL, Ruling, Verdict, judged_by, ppn_of, verdict_by};
+use crate::outcome::{Outcome, leaf_of};
 use crate::shape::Shape;
 use crate::source::{Got, Words};
 use arrayvec::ArrayVec;
-use iom_bits::Kind;
+use iom_bits::{Kind, has_bit};
 
 /// A page-table entry (PTE) that a walk meets.
 #[derive(Clone, Copy, Debug, PartialEq)]
@@ -41,40 +43,79 @@ pub type PathEntries = ArrayVec<PathEntry, 4>;
 
 /// The entries that `walk` meets, each with the row that decides of it; none where `addr` is wider than the shape allows. The
 /// arguments are those of `walk`: `addr` is an IOVA or a guest-physical address, and `root` a PPN below 2^44.
-#[tactic(auto, unfolding(crate::specs::Told::path_told))]
 pub fn path<W: Words>(words: &W, shape: Shape, root: u64, addr: u64, kind: Kind) -> PathEntries
     requires { root < 2 ^ 44 }
     ensures path { result.items ≡ path_told (W.at words.now) shape root addr kind }
     ensures levels { array_vec_len result ≤ levels shape }
 {
+    let mut met = PathEntries::new();
+    let _end = walk_listed(&mut met, words, shape, root, addr, kind);
+    met
+}
+
+/// Walks as `walk` does, with the same end, and puts the entries that it meets into `met`, an empty list: those of `path`.
+#[inline(always)]
+#[tactic(auto, unfolding(crate::specs::Told::path_told, crate::specs::Outcome::outcome_of))]
+pub fn walk_listed<W: Words>(
+    met: &mut PathEntries,
+    words: &W,
+    shape: Shape,
+    root: u64,
+    addr: u64,
+    kind: Kind,
+) -> Outcome
+    requires root { root < 2 ^ 44 }
+    requires empty { met.old.items ≡ [] }
+    ensures path { met.new.items ≡ path_told (W.at words.now) shape root addr kind }
+    ensures levels { array_vec_len met.new ≤ levels shape }
+    ensures outcome { result ≡ outcome_of (W.at words.now) shape root addr kind }
+    ensures leaf { LeafFits shape result }
+{
     if shape.covers(addr) {
-        listed(words, shape, root, addr, kind)
+        listed(met, words, shape, root, addr, kind)
     } else {
-        PathEntries::new()
+        Outcome::Fault
     }
 }
 
-// The path of an address that is no wider than its shape allows.
-fn listed<W: Words>(words: &W, shape: Shape, root: u64, addr: u64, kind: Kind) -> PathEntries
-    requires { root < 2 ^ 44 }
-    ensures path { result.items ≡ map (told kind) (path_of (W.at words.now) shape root addr) }
-    ensures levels { array_vec_len result ≤ levels shape }
+// The walk of an address that is no wider than its shape allows.
+fn listed<W: Words>(
+    met: &mut PathEntries,
+    words: &W,
+    shape: Shape,
+    root: u64,
+    addr: u64,
+    kind: Kind,
+) -> Outcome
+    requires root { root < 2 ^ 44 }
+    requires empty { met.old.items ≡ [] }
+    ensures path { met.new.items ≡ map (told kind) (path_of (W.at words.now) shape root addr) }
+    ensures levels { array_vec_len met.new ≤ levels shape }
+    ensures outcome { result ≡ verdict_on_path kind addr (path_of (W.at words.now) shape root addr) }
+    ensures leaf { LeafFits shape result }
 {
-    let mut met = PathEntries::new();
     let mut table = root;
+    let mut global = false;
     for level in (0..shape.levels()).rev() {
         let place = table * 4096 + shape.index(addr, level) * 8;
         let got = words.word(place);
+        let ruling = judged_by(got, level, kind);
         met.push(PathEntry {
             place,
             level,
             got,
-            ruling: judged_by(got, level, kind),
+            ruling,
         });
-        let Verdict::Pointer(word) = judge(got, level, kind) else {
-            return met;
-        };
-        table = ppn_of(word);
+        match verdict_by(ruling, got) {
+            Verdict::Outside => return Outcome::Outside,
+            Verdict::Guest => return Outcome::Guest(place),
+            Verdict::Fault => return Outcome::Fault,
+            Verdict::Leaf(word) => return Outcome::Leaf(leaf_of(word, addr, level, global)),
+            Verdict::Pointer(word) => {
+                global |= has_bit(word, GLOBAL);
+                table = ppn_of(word);
+            }
+        }
     }
-    met
+    Outcome::Fault
 }

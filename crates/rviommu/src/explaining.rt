@@ -9,8 +9,10 @@ use crate::summary::tell;
 use crate::text::Text;
 use crate::walk::{WALK_ROOM, Walk};
 use iom_core::{Answer, Denial, Step};
-use iom_debug::{Debugger, Outcome, Reason, Reasons, Reply, Summary, counted, repeated};
-use iom_reasons::{Found, found_by};
+use iom_debug::{
+    Debugger, Outcome, Reason, Reasons, Reply, Summary, counted, known_before, repeated,
+};
+use iom_reasons::Found;
 use iom_tool::{Draft, Entry, RunFault, Trace, answer_text, put_entry, step_of};
 use std::alloc::{AllocError, Global};
 use std::fs::Files;
@@ -34,13 +36,6 @@ struct Account<'w, W> {
     // One text of either.
     draft: Draft,
     summary: Summary,
-}
-
-/// What is known of an access before it is made.
-#[derive(Clone, Copy)]
-struct Before {
-    found: Found,
-    asked: Option<Asked>,
 }
 
 // The last step of a trace, and its answer.
@@ -71,22 +66,20 @@ fn told(trace: &Trace, taken: u64) -> Reply {
 }
 
 impl<W: Write> Account<'_, W> {
-    // Looks at the access that a step is about to make, if it makes one.
+    // Tells the walk of the access that a step is about to make, where the caches don't lead it alone.
     fn look(
         &mut self,
         debugger: &Debugger<'_>,
         step: &Step,
-    ) -> Result<Option<Before>, Fault<'static>> {
-        let Some(request) = debugger.platform.request_of(step) else {
-            return Ok(None);
-        };
-        let found = found_by(debugger.platform, &request);
-        if !found.is_whole {
+        found: Found,
+    ) -> Result<(), Fault<'static>> {
+        if !found.is_whole
+            && let Some(request) = debugger.platform.request_of(step)
+        {
             self.walk
                 .tell(debugger.platform, &request, &mut self.draft)?;
         }
-        let asked = asked_by(debugger.platform, step);
-        Ok(Some(Before { found, asked }))
+        Ok(())
     }
 
     // Takes a step, tells it and its reason, and answers whether it was done.
@@ -96,13 +89,17 @@ impl<W: Write> Account<'_, W> {
         number: u64,
         step: Step,
     ) -> Result<bool, Fault<'static>> {
-        let before = self.look(debugger, &step)?;
-        let is_done = debugger.take(number, step);
+        let known = known_before(debugger.platform, &step);
+        self.look(debugger, &step, known.found)?;
+        let asked = asked_by(debugger.platform, &step);
+        let is_done = debugger.take_known(number, step, &known);
         if let Some(entry) = newest(debugger.trace) {
             self.tell_step(number, entry)?;
-            if let (Some(before), Some(reason)) = (before, debugger.reasons.newest()) {
+            if let Some(reason) = debugger.reasons.newest()
+                && reason.request.is_some()
+            {
                 let stale = debugger.reasons.newest_stale();
-                self.tell(&before, reason, stale, denial(&entry.answer))?;
+                self.tell(known.found, asked, reason, stale, denial(&entry.answer))?;
             }
             self.write()?;
         }
@@ -119,20 +116,21 @@ impl<W: Write> Account<'_, W> {
     // Tells the reason of an access: where the tables led it, if it was stale, and the cause that it was denied for, if it was.
     fn tell(
         &mut self,
-        before: &Before,
+        found: Found,
+        asked: Option<Asked>,
         reason: &Reason,
         stale: Option<Result<u64, Denial>>,
         denied: Option<u16>,
     ) -> Result<(), AllocError> {
         self.draft.clear();
-        if let Some(asked) = before.asked {
+        if let Some(asked) = asked {
             asked.push(&mut self.draft);
         }
-        if let Some(caches) = Caches::new(before.found, reason.origin, denied) {
+        if let Some(caches) = Caches::new(found, reason.origin, denied) {
             caches.push(&mut self.draft);
         }
         self.text.push(self.draft.as_slice())?;
-        if !before.found.is_whole {
+        if !found.is_whole {
             self.text.push(self.walk.as_slice())?;
         }
         self.draft.clear();
@@ -142,7 +140,7 @@ impl<W: Write> Account<'_, W> {
         self.summary.count(&Outcome {
             number: reason.number,
             denied,
-            is_cached: before.found.is_whole,
+            is_cached: found.is_whole,
             is_stale: stale.is_some(),
         })
     }

@@ -5,7 +5,6 @@ use Rattle.iom_ddt.specs.Directory.{located}
 use Rattle.iom_ddt.specs.declared.context.Context.{Context}
 use Rattle.iom_reasons.specs.Bounds.{PartFits}
 use Rattle.iom_reasons.specs.Parts.{stage_parts}
-use Rattle.iom_reasons.proofs.Bounds.{stages_fit}
 use Rattle.iom_reasons.proofs.listing.push_located.Goals as goal
 
 pub returns-in-Ok-clause-fits : goal.returns-in-Ok-clause-fits
@@ -14,4 +13,4 @@ returns-in-Ok-clause-fits c =
     let request = c.args.request.now in
     let found : Ok c.in-Ok.context ≡ located m.memory m.registers request.did = search rules in
     subst (λ (r : Result Context Cause). All PartFits (stage_parts m.memory request.iova request.kind r)) found
-    (stages_fit m.memory request.iova request.kind (Ok c.in-Ok.context) c.in-Ok.ensures.sound (search rules))
+    c.push_stages.ensures.fits

@@ -1,6 +1,6 @@
 use Rattle.std.proofs.Common.{◌≡◌, ◌↔◌, IsTrue, Bool, subst}
 use Rattle.iom_reasons.proofs.Sameness.{hits_differ}
-use Rattle.iom_reasons.proofs.staleness.differing_hit.Goals as goal
+use Rattle.iom_reasons.proofs.seeing.differing_hit.Goals as goal
 
 pub returns-then-is_same_hit-clause-told : goal.returns-then-is_same_hit-clause-told
 returns-then-is_same_hit-clause-told c =

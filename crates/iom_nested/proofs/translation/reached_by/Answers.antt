@@ -1,6 +1,6 @@
 use Rattle.std.proofs.lemmas.Grind.{common_steps}
 use Rattle.std.proofs.Common.{rules, arith}
-use Rattle.iom_nested.proofs.translation.first_stage.Goals as goal
+use Rattle.iom_nested.proofs.translation.reached_by.Goals as goal
 
 pub returns-in-Guest-clause-reached : goal.returns-in-Guest-clause-reached
 returns-in-Guest-clause-reached c = grind (arith, common_steps)
