@@ -65,16 +65,18 @@ def _():
     want("their order", order, sorted(set(order), reverse=True))
 
 
-@check("README names the kit that is on the path, once")
+@check("README names the kit that is on the path, and one logic")
 def _():
-    named = re.findall(r"rattle-kit-\S+ logic [0-9a-f]+", text_of("README.md"))
-    want("how often README names a kit", len(named), 1)
+    readme = text_of("README.md")
+    logics = re.findall(r"\blogic ([0-9a-f]{16})\b", readme)
+    want("how often README names a logic", len(logics), 1)
+    named = [f"{kit} logic {logics[0]}" for kit in re.findall(r"\brattle-kit-\w+", readme)]
     if not shutil.which("rt"):
         raise Skip("there is no rt on the path")
     ended = subprocess.run(["rt", "--version"], stdout=subprocess.PIPE, check=False, timeout=RUN_SECONDS)
     seen = ended.stdout.decode().strip()
-    if seen != named[0]:
-        raise Failure(f"the proofs were made with {named[0]}, which README names, and rt on the path is of {seen}")
+    if seen not in named:
+        raise Failure(f"the proofs were made with {' and '.join(named)}, which README names, and rt on the path is of {seen}")
 
 
 # README.
