@@ -1,7 +1,7 @@
 # Short names over the toolchain's commands.
 #
-#   make run < FILE           run a script on standard input, on the built-in image; what runs it (iom_player) is built first where
-#                             it is not current, crates side by side
+#   make run < FILE           run a script on standard input, on the built-in image; what runs it (iom_player) is proved and built
+#                             first where it is not current, on all cores
 #   make build                build the program where it is not current, likewise
 #   make test                 every proof from nothing, the edits that must be refused, every test
 #   make rows                 plays the scripts of crates/iom_rows/data, and prints each answer that is not the expected one

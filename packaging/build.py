@@ -1,21 +1,27 @@
 #!/usr/bin/env -S python3 -B
-"""build.py [CRATE]    Builds a crate, the program rviommu where none is named, and the crates that it stands on, side by side.
+"""build.py [CRATE]    Builds a program or a static library, rviommu where none is named, with the crates that it stands on.
 
-Each crate is proved as it is built, and one that is current costs a few seconds. As many crates are built at a time as the
-machine has processors and memory for. Progress is told on standard error; standard output stays empty.
-The status is 1 where a crate could not be built.
+All is proved as it is built, and what is current costs a few seconds. Progress is told on standard error; standard output stays empty.
+The status is 1 where something could not be built.
 
-rt locks a crate and all that it stands on for as long as it works on it. So each crate is built in a tree of its own, in
-the folder out/ at the top: its sources and those below it as hard links, with what was built of these. What is built there is
-then moved into the crate's own folder out/.
+Where the libraries of the crates below haven't been built, the crate and all below it are proved and built as one crate (whole.py): the
+toolchain's libraries are read once, and nothing waits for a crate below. Where they have, as after checks of single crates,
+what isn't current is built crate by crate, as many at a time as the machine has processors and memory for.
+
+rt locks a crate and all that it stands on for as long as it works on it. So each is built in a tree of its own, in the
+folder out/ at the top: the whole crate, or a crate's sources and those below it as hard links, with what was built of these.
+What is built there is then moved into the crate's own folder out/.
 """
 import fcntl
 import os
+import re
 import shutil
 import subprocess
 import sys
 import threading
 import time
+
+import whole
 
 TOP = os.path.normpath(os.path.join(os.path.dirname(os.path.abspath(__file__)), os.pardir))
 CRATES = os.path.join(TOP, "crates")
@@ -30,15 +36,26 @@ BYTES_OF_A_START = 50_000
 NEAR = 120_000
 
 
-def stands_on():
-    """The crates of crates.txt, each with those of them that it stands on."""
+def listed():
+    """The crates of crates.txt, each with the words behind its name and the libraries that it uses."""
     found = {}
     with open(LIST, encoding="utf-8") as lines:
         for line in lines:
-            name, colon, rest = line.partition("#")[0].partition(":")
+            names, colon, uses = line.partition("#")[0].partition(":")
             if colon:
-                found[name.split()[0]] = rest.split()
-    return {name: [it for it in rest if it in found] for name, rest in found.items()}
+                name, *words = names.split()
+                found[name] = (words, uses.split())
+    return found
+
+
+def stands_on():
+    """The crates of crates.txt, each with those of them that it stands on."""
+    found = listed()
+    return {name: [it for it in uses if it in found] for name, (_, uses) in found.items()}
+
+
+def is_program(name):
+    return os.path.isfile(os.path.join(CRATES, name, "src", "main.rt"))
 
 
 def below(crates, top):
@@ -87,40 +104,46 @@ def at_once():
 
 
 class Tree:
-    """A copy of a crate and of those below it, in which no other rt works."""
+    """A tree in which no other rt works: `write` puts the sources there, and what is built of them is kept in another folder."""
 
-    def __init__(self, name, others):
+    def __init__(self, name, kept, write):
         self.top = os.path.join(TREES, name)
         self.folder = os.path.join(self.top, "crates", name)
         self.made = os.path.join(self.folder, "out")
-        self.kept = os.path.join(CRATES, name, "out")
+        self.kept = kept
         # A build that was killed may have left its work.
         if os.path.isdir(self.made) and not os.path.isdir(self.kept):
+            os.makedirs(os.path.dirname(self.kept), exist_ok=True)
             os.rename(self.made, self.kept)
         shutil.rmtree(self.top, ignore_errors=True)
-        for it in [name, *others]:
-            self.link(it, "", shutil.ignore_patterns("out"))
-        for it in others:
-            self.link(it, os.path.join("out", "rlib"), None)
-        self.list_crates([name, *others])
+        write(self.top)
         if os.path.isdir(self.kept):
             os.rename(self.kept, self.made)
 
-    def link(self, name, part, ignored):
-        """Links a crate's files at or below the part."""
-        source, target = (os.path.join(it, name, part) for it in (CRATES, os.path.join(self.top, "crates")))
-        shutil.copytree(source, target, ignore=ignored, copy_function=os.link, dirs_exist_ok=True)
-
-    def list_crates(self, names):
-        with open(LIST, encoding="utf-8") as whole, open(os.path.join(self.top, "crates.txt"), "w", encoding="utf-8") as own:
-            own.writelines(line for line in whole if line.replace(":", " ").split(None, 1)[:1] in [[it] for it in names])
-
     def close(self):
-        """What was built is the crate's own now."""
+        """What was built is kept now."""
         if os.path.isdir(self.made):
             shutil.rmtree(self.kept, ignore_errors=True)
+            os.makedirs(os.path.dirname(self.kept), exist_ok=True)
             os.rename(self.made, self.kept)
         shutil.rmtree(self.top, ignore_errors=True)
+
+
+def link(folder, name, part, ignored):
+    """Links a crate's files at or below the part into a tree."""
+    source, target = (os.path.join(it, name, part) for it in (CRATES, os.path.join(folder, "crates")))
+    shutil.copytree(source, target, ignore=ignored, copy_function=os.link, dirs_exist_ok=True)
+
+
+def link_all(folder, name, others):
+    """Links a crate's sources and those below it into a tree, with what was built of these."""
+    for it in [name, *others]:
+        link(folder, it, "", shutil.ignore_patterns("out"))
+    for it in others:
+        link(folder, it, os.path.join("out", "rlib"), None)
+    names = [name, *others]
+    with open(LIST, encoding="utf-8") as all_crates, open(os.path.join(folder, "crates.txt"), "w", encoding="utf-8") as own:
+        own.writelines(line for line in all_crates if line.replace(":", " ").split(None, 1)[:1] in [[it] for it in names])
 
 
 class Build:
@@ -139,7 +162,7 @@ class Build:
     def build_one(self, name, words):
         how = {"stdin": subprocess.DEVNULL, "stdout": subprocess.PIPE, "stderr": subprocess.STDOUT}
         try:
-            tree = Tree(name, self.below[name])
+            tree = Tree(name, os.path.join(CRATES, name, "out"), lambda folder: link_all(folder, name, self.below[name]))
             done = subprocess.run(words, cwd=tree.folder, check=False, **how)
             tree.close()
             fault = done.stdout.decode(errors="replace") if done.returncode else None
@@ -157,8 +180,7 @@ class Build:
     def words(self, name):
         """The command that builds the crate. Those with a long way to the top have the processors first, and share them; those with a
         short one wait for what is left."""
-        is_program = os.path.isfile(os.path.join(CRATES, name, "src", "main.rt"))
-        words = ["rt", "run" if is_program else "lib"]
+        words = ["rt", "run" if is_program(name) else "lib"]
         now = {it: self.ways[it] for it in [*self.running, *self.next_ones(), name]}
         longest = max(now.values())
         first = [it for it in now if now[it] >= LONG * longest]
@@ -206,13 +228,65 @@ class Build:
         return 1 if self.failed else 0
 
 
+class WholeBuild:
+    """What is built as one crate."""
+
+    def __init__(self, top):
+        self.top = top
+        self.started = time.monotonic()
+
+    def write(self, folder):
+        crates = listed()
+        uses = {name: uses for name, (_, uses) in crates.items()}
+        whole.Whole(self.top, uses, CRATES).write(folder, crates[self.top][0])
+
+    def tell(self, done, of):
+        passed = time.monotonic() - self.started
+        left = f", about {max(1, round(passed * (of - done) / done / 60))} minutes left" if done else ""
+        print(f"build: {self.top}: {done} of {of} functions{left}", file=sys.stderr, flush=True)
+
+    def ran(self, folder):
+        """Runs rt in the whole crate's folder; returns whether it succeeded, and what it wrote."""
+        words = ["rt", "run" if is_program(self.top) else "lib", "--jobs", str(at_once())]
+        how = {"stdin": subprocess.DEVNULL, "stdout": subprocess.PIPE, "stderr": subprocess.STDOUT}
+        lines = []
+        with subprocess.Popen(words, cwd=folder, encoding="utf-8", errors="replace", **how) as rt:
+            for line in rt.stdout:
+                lines.append(line)
+                told = re.match(r"so far: (\d+) of (\d+) functions", line)
+                if told:
+                    self.tell(int(told[1]), int(told[2]))
+        return rt.returncode == 0, "".join(lines)
+
+    def run(self):
+        own = os.path.join(CRATES, self.top, "out")
+        tree = Tree(self.top, os.path.join(own, "whole"), self.write)
+        is_built, text = self.ran(tree.folder)
+        tree.close()
+        if not is_built:
+            print(f"{text}\nbuild: {self.top} could not be built", file=sys.stderr)
+            return 1
+        made = self.top if is_program(self.top) else f"lib{self.top}.a"
+        shutil.copy2(os.path.join(tree.kept, made), os.path.join(own, f"{made}.new"))
+        os.replace(os.path.join(own, f"{made}.new"), os.path.join(own, made))
+        print(f"build: {self.top} ({time.monotonic() - self.started:.0f} s)", file=sys.stderr)
+        return 0
+
+
+def are_built(names):
+    """Whether each of these crates has a library that was built of it, perhaps of older sources."""
+    return all(os.path.isdir(os.path.join(CRATES, it, "out", "rlib", f"{it}.rlib")) for it in names)
+
+
 def main():
     top = sys.argv[1] if len(sys.argv) > 1 else "rviommu"
-    if len(sys.argv) > 2 or top not in stands_on():
+    crates = stands_on()
+    if len(sys.argv) > 2 or top not in crates:
         sys.exit(__doc__)
     with open(LIST, encoding="utf-8") as alone:
         fcntl.flock(alone, fcntl.LOCK_EX)
-        sys.exit(Build(top).run())
+        has_libraries = are_built(it for it in below(crates, top) if it != top)
+        sys.exit((Build if has_libraries else WholeBuild)(top).run())
 
 
 if __name__ == "__main__":

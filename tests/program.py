@@ -15,6 +15,7 @@ import time
 import tty
 
 from checks import *  # noqa: F403
+import program_building  # noqa: F401
 import program_checking  # noqa: F401
 import program_claims  # noqa: F401
 import program_completions  # noqa: F401

@@ -1,0 +1,101 @@
+"""A crate of the repository and all that it stands on, as one crate of the same name.
+
+The crates below become its modules. Code, definitions, contracts and proofs are those of the crates; what differs are the paths by which
+they name one another:
+
+    crates/iom_bits/src/lib.rt, src/causes.rt       src/iom_bits.rt, src/iom_bits/causes.rt
+    crates/iom_bits/specs/Bits.antt                 specs/iom_bits/Bits.antt
+    crates/iom_bits/proofs/Fields.antt              proofs/iom_bits/Fields.antt
+    iom_bits::Kind, and crate::causes in iom_bits   crate::iom_bits::Kind, crate::iom_bits::causes
+    iom_bits::specs::Bits                           crate::specs::iom_bits::Bits
+    Rattle.iom_bits.specs.Bits                      Rattle.NAME.specs.iom_bits.Bits
+    Rattle.iom_bits.specs.declared.causes           Rattle.NAME.specs.declared.iom_bits.causes
+
+A module of a crate's root is public in the whole one, since definitions of other crates name its types.
+"""
+import os
+import re
+
+PARTS = ("src", "specs", "proofs")
+TACTICS = "#![tactic(auto)]\n"
+
+
+def texts(folder):
+    """The code, definitions and proofs of a crate, by their paths in its folder."""
+    for part in PARTS:
+        for at, _, files in os.walk(os.path.join(folder, part)):
+            for it in files:
+                if it.endswith((".rt", ".antt")):
+                    path = os.path.join(at, it)
+                    with open(path, encoding="utf-8") as file:
+                        yield os.path.relpath(path, folder), file.read()
+
+
+class Whole:
+    """The whole crate: `uses` has each crate of the repository with what it stands on, the libraries of the toolchain among them."""
+
+    def __init__(self, top, uses, crates):
+        self.top, self.crates = top, crates
+        wanted, to_do = set(), [top]
+        while to_do:
+            name = to_do.pop()
+            if name in uses and name not in wanted:
+                wanted.add(name)
+                to_do += uses[name]
+        self.below = [it for it in uses if it in wanted and it != top]
+        self.libraries = sorted({it for name in wanted for it in uses[name] if it not in uses})
+        self.names = "|".join(sorted(self.below, key=len, reverse=True))
+
+    def definitions(self, text):
+        """A text that names definitions and proofs, as the whole crate names them."""
+        text = re.sub(rf"\bRattle\.({self.names})\.specs\.(declared|contracts)\b", rf"Rattle.{self.top}.specs.\2.\1", text)
+        return re.sub(rf"\bRattle\.({self.names})\.(specs|proofs)\b", rf"Rattle.{self.top}.\2.\1", text)
+
+    def code(self, text, name):
+        """A text of the crate `name`, with the paths of the whole crate."""
+
+        def path(found):
+            crate = name if found[1] == "crate" else found[1]
+            return found[0] if crate == self.top else f"crate::{found[2] or ''}{crate}::"
+
+        return re.sub(rf"(?<![\w:])(crate|{self.names})::(specs::|proofs::)?", path, text)
+
+    def root(self, text):
+        """The root of a crate below, as a module."""
+        return re.sub(r"^mod (\w+);", r"pub mod \1;", text.replace(TACTICS, ""), flags=re.MULTILINE)
+
+    def own_root(self, text):
+        """The root of the top crate, which declares the others."""
+        head, mark, rest = text.partition(TACTICS)
+        return head + mark + "\n" + "".join(f"pub mod {it};\n" for it in self.below) + rest
+
+    def files(self):
+        """The texts of the whole crate, by their paths in its folder."""
+        found = {}
+        for name in [*self.below, self.top]:
+            for path, text in texts(os.path.join(self.crates, name)):
+                part, _, rest = path.partition("/")
+                text = self.definitions(text)
+                if part == "src":
+                    text = self.code(text, name)
+                if name == self.top:
+                    found[path] = self.own_root(text) if rest in ("main.rt", "lib.rt") else text
+                elif rest == "lib.rt":
+                    found[f"src/{name}.rt"] = self.root(text)
+                elif rest == "Lib.antt":
+                    found[f"{part}/{name}.antt"] = text
+                else:
+                    found[f"{part}/{name}/{rest}"] = text
+        lines = "".join(f"pub mod {it}\n" for it in self.below if f"specs/{it}.antt" in found)
+        found["specs/Lib.antt"] = found.get("specs/Lib.antt", "") + lines
+        return found
+
+    def write(self, folder, words):
+        """Writes the whole crate into a folder, with a list of crates that has it alone: its name and `words`."""
+        for path, text in self.files().items():
+            path = os.path.join(folder, "crates", self.top, path)
+            os.makedirs(os.path.dirname(path), exist_ok=True)
+            with open(path, "w", encoding="utf-8") as file:
+                file.write(text)
+        with open(os.path.join(folder, "crates.txt"), "w", encoding="utf-8") as file:
+            file.write(f"{' '.join([self.top, *words])}: {' '.join(self.libraries)}\n")
