@@ -2,7 +2,8 @@
 """explain.py PROGRAM    Lines per second of `explain` beside those of a run, on 300,000 device reads in 24 and in 176 pages.
 
 The reads are those of the scripts of bench.py, behind the lines that set the IOMMU up: one stage and both, with 24 pages (all found in the
-translation cache once it is warm) and with 176 (most of them not). The script is standard input and a file standard output. Each runs nine
+translation cache once it is warm) and with 176 (most of them not). The script is standard input and a file standard output. The seconds are
+those of the processor, the system's among them, so that waiting for the disk, which a file of 175 MB may bring, doesn't count. Each runs nine
 times, in turn; the ratio is the median over the turns of their speeds, explain's to the run's. The status is 1 where a run fails, or explain
 doesn't tell each line.
 """
@@ -11,7 +12,6 @@ import statistics
 import subprocess
 import sys
 import tempfile
-import time
 
 READS, TIMES, SEED = 300_000, 9, 1
 SCRIPTS = [("one stage, 24 pages", 1, 24), ("one stage, 176 pages", 1, 176), ("both stages, 24 pages", 2, 24), ("both stages, 176 pages", 2, 176)]
@@ -30,10 +30,12 @@ def write_script(path, stages, pages):
 
 
 def timed(words, script, output):
+    """The processor seconds of a run."""
     with open(script, "rb") as given, open(output, "wb") as out:
-        start = time.perf_counter()
-        subprocess.run(words, stdin=given, stdout=out, check=True)
-        return time.perf_counter() - start
+        _, status, used = os.wait4(subprocess.Popen(words, stdin=given, stdout=out).pid, 0)
+    if status:
+        sys.exit(f"{' '.join(words)} failed")
+    return used.ru_utime + used.ru_stime
 
 
 def measured(program, room, name, stages, pages):

@@ -1,3 +1,4 @@
+ghost use Rattle.std.specs.Prelude.{◌<◌, ◌^◌, IfSome};
 ghost use Rattle.iom_account.specs.Account.{IsKnown};
 
 use iom_core::{Platform, Request, Step};
@@ -14,9 +15,10 @@ pub struct Known {
     pub stale: Option<Way>,
 }
 
-/// What is known of a step that is about to be carried out.
+/// What is known of a step that is about to be carried out. The device id of a request is below 2^24.
 pub fn known_before(platform: &Platform, step: &Step) -> Known
-    ensures { IsKnown platform.now step.now result }
+    ensures known { IsKnown platform.now step.now result }
+    ensures width { IfSome result.request (λ request. request.did < 2 ^ 24) }
 {
     let Some(request) = platform.request_of(step) else {
         return Known {

@@ -24,10 +24,10 @@ use iom_virtq::Access;
 /// What a device asks of the IOMMU: an untranslated request (RISC-V IOMMU Architecture 1.0, "Process to translate an IOVA").
 #[derive(Clone, Copy)]
 pub struct Request {
-    /// The device's id, below 2^24.
-    pub did: u32,
     /// The IOVA of its first byte, any of 64 bits.
     pub iova: u64,
+    /// The device's id, below 2^24.
+    pub did: u32,
     /// Whether it reads or writes.
     pub kind: Kind,
 }

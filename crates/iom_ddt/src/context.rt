@@ -6,25 +6,25 @@ ghost use Rattle.std.specs.Prelude.{◌≡◌, ◌↔◌, IsTrue};
 /// each field fits the bits that are named at it.
 #[derive(Clone, Copy, Debug, PartialEq)]
 pub struct Context {
-    /// tc.DTF: page faults and access faults of the device make no record.
-    pub dtf: bool,
-    /// tc bits 31:24, for custom use. They change nothing.
-    pub custom: u8,
-    /// iohgatp.MODE, the second stage: 0 Bare, 8 Sv39x4, 9 Sv48x4.
-    pub gmode: u8,
     /// iohgatp.PPN, 44 bits: the second stage's root table, its physical address divided by 4096.
     pub gppn: u64,
-    /// iohgatp.GSCID, 16 bits: the guest's soft-context id.
-    pub gscid: u16,
-    /// Bit 0 of ta. It is kept and changes nothing.
-    pub tav: bool,
-    /// ta.PSCID, 20 bits: the process's soft-context id.
-    pub pscid: u32,
-    /// fsc.MODE, the first stage: 0 Bare, 8 Sv39, 9 Sv48.
-    pub mode: u8,
     /// fsc.PPN, 44 bits: the first stage's root table, its address divided by 4096; guest-physical under a second
     /// stage, else physical.
     pub ppn: u64,
+    /// ta.PSCID, 20 bits: the process's soft-context id.
+    pub pscid: u32,
+    /// iohgatp.GSCID, 16 bits: the guest's soft-context id.
+    pub gscid: u16,
+    /// iohgatp.MODE, the second stage: 0 Bare, 8 Sv39x4, 9 Sv48x4.
+    pub gmode: u8,
+    /// fsc.MODE, the first stage: 0 Bare, 8 Sv39, 9 Sv48.
+    pub mode: u8,
+    /// tc bits 31:24, for custom use. They change nothing.
+    pub custom: u8,
+    /// tc.DTF: page faults and access faults of the device make no record.
+    pub dtf: bool,
+    /// Bit 0 of ta. It is kept and changes nothing.
+    pub tav: bool,
 }
 
 impl Context {

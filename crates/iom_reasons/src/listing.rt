@@ -147,9 +147,9 @@ fn push_located(out: &mut Parts, platform: &Platform, request: &Request) -> Way
         (context_look (uncached platform.now.machine) request.now.did).used).way }
     ensures led { Fits result }
 {
-    match locate(platform.ram(), platform.registers(), request.did) {
-        Ok(context) => push_stages(out, platform, request, &context),
-        Err(why) => Way::Denied(Denial::plain(why)),
+    match &locate(platform.ram(), platform.registers(), request.did) {
+        Ok(context) => push_stages(out, platform, request, context),
+        Err(why) => Way::Denied(Denial::plain(*why)),
     }
 }
 

@@ -28,14 +28,6 @@ pub struct Seen {
     pub stale: Option<Way>,
 }
 
-// A context of a device that the directory has.
-#[derive(Clone, Copy)]
-struct Current {
-    context: Context,
-    // Whether the context cache has it too; else that has none of the device.
-    is_cached: bool,
-}
-
 /// What a request finds in the caches now, and what the tables say of it where it is stale, as `found_by` and `stale` tell it, at once. The
 /// device id is below 2^24, the IOVA any.
 #[tactic(auto, unfolding(crate::specs::Found::found_in, crate::specs::Stale::stale_way, iom_core::specs::Access::led, crate::specs::Stale::is_same_way))]
@@ -69,10 +61,13 @@ fn seen_by_directory(platform: &Platform, request: &Request) -> Seen
         (context_look (uncached platform.now.machine) request.now.did).used).way) }
     ensures fits { IfSome result.stale Fits }
 {
-    match current_context(platform, request.did) {
-        Some(current) => seen_by_context(platform, request, &current.context, current.is_cached),
-        None => seen_apart(platform, request),
+    let located = locate(platform.ram(), platform.registers(), request.did);
+    if let Ok(context) = &located
+        && let Some(is_cached) = is_cached(platform, request.did, context)
+    {
+        return seen_by_context(platform, request, context, is_cached);
     }
+    seen_apart(platform, request)
 }
 
 // The same where the directory has no context, or the cache another one.
@@ -96,29 +91,18 @@ fn seen_apart(platform: &Platform, request: &Request) -> Seen
     }
 }
 
-// The context of a device in the directory, where the context cache has none of it or this one.
+// Whether the context cache has this context of a device, which is the one that the directory has; None where it has another one of it.
 #[tactic(auto, using(crate::proofs::Ways::looked_new, crate::proofs::Ways::looked_live, crate::proofs::Ways::live_there))]
-fn current_context(platform: &Platform, did: u32) -> Option<Current>
+fn is_cached(platform: &Platform, did: u32, context: &Context) -> Option<bool>
     requires directory { 1 ≤ levels_of (mode_of platform.now.machine.registers) }
-    requires width { did < 2 ^ 24 }
-    ensures located { IfSome result (λ current. located platform.now.machine.memory platform.now.machine.registers did ≡ Ok current.context) }
-    ensures looked { IfSome result (λ current. (context_look platform.now.machine did).used ≡ Ok current.context) }
-    ensures live { IfSome result (λ current. live_context platform.now.machine did
-        ≡ (if current.is_cached then Some current.context else None)) }
-    ensures well_formed { IfSome result (λ current. IsWellFormed current.context) }
+    requires located { located platform.now.machine.memory platform.now.machine.registers did ≡ Ok context.now }
+    ensures looked { IfSome result (λ is_cached. (context_look platform.now.machine did).used ≡ Ok context.now) }
+    ensures live { IfSome result (λ is_cached. live_context platform.now.machine did
+        ≡ (if is_cached then Some context.now else None)) }
 {
-    let Ok(context) = locate(platform.ram(), platform.registers(), did) else {
-        return None;
-    };
     match platform.contexts().find(did) {
-        None => Some(Current {
-            context,
-            is_cached: false,
-        }),
-        Some(live) if live == context => Some(Current {
-            context,
-            is_cached: true,
-        }),
+        None => Some(false),
+        Some(live) if live == *context => Some(true),
         Some(_) => None,
     }
 }

@@ -19,10 +19,10 @@ use iom_bits::{Kind, has_bit};
 pub struct PathEntry {
     /// Its address in the walk's source of words: physical, or guest-physical where the source is a guest's memory.
     pub place: u64,
-    /// The level of its table, 0 to 3.
-    pub level: u8,
     /// What was read there.
     pub got: Got,
+    /// The level of its table, 0 to 3.
+    pub level: u8,
     /// The row of the table of entries that decides of it.
     pub ruling: Ruling,
 }

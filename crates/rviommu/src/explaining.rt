@@ -1,5 +1,7 @@
 //! Scripts whose lines are told with the reasons of their accesses.
 
+ghost use Rattle.std.specs.Prelude.{◌<◌, ◌^◌, IfSome};
+
 use crate::access::{Asked, Caches, asked_by, push_stale, push_warrant};
 use crate::checking::before_comment;
 use crate::fault::Fault;
@@ -10,7 +12,7 @@ use crate::text::Text;
 use crate::walk::{WALK_ROOM, Walk};
 use iom_core::{Answer, Denial, Step};
 use iom_debug::{
-    Debugger, Outcome, Reason, Reasons, Reply, Summary, counted, known_before, repeated,
+    Debugger, Known, Outcome, Reason, Reasons, Reply, Summary, counted, known_before, repeated,
 };
 use iom_reasons::Found;
 use iom_tool::{Draft, Entry, RunFault, Trace, answer_text, put_entry, step_of};
@@ -67,17 +69,13 @@ fn told(trace: &Trace, taken: u64) -> Reply {
 
 impl<W: Write> Account<'_, W> {
     // Tells the walk of the access that a step is about to make, where the caches don't lead it alone.
-    fn look(
-        &mut self,
-        debugger: &Debugger<'_>,
-        step: &Step,
-        found: Found,
-    ) -> Result<(), Fault<'static>> {
-        if !found.is_whole
-            && let Some(request) = debugger.platform.request_of(step)
+    fn look(&mut self, debugger: &Debugger<'_>, known: &Known) -> Result<(), Fault<'static>>
+        requires { IfSome known.now.request (λ request. request.did < 2 ^ 24) }
+    {
+        if !known.found.is_whole
+            && let Some(request) = &known.request
         {
-            self.walk
-                .tell(debugger.platform, &request, &mut self.draft)?;
+            self.walk.tell(debugger.platform, request, &mut self.draft)?;
         }
         Ok(())
     }
@@ -90,7 +88,7 @@ impl<W: Write> Account<'_, W> {
         step: Step,
     ) -> Result<bool, Fault<'static>> {
         let known = known_before(debugger.platform, &step);
-        self.look(debugger, &step, known.found)?;
+        self.look(debugger, &known)?;
         let asked = asked_by(debugger.platform, &step);
         let is_done = debugger.take_known(number, step, &known);
         if let Some(entry) = newest(debugger.trace) {
@@ -109,8 +107,8 @@ impl<W: Write> Account<'_, W> {
     // Tells a step and its answer.
     fn tell_step(&mut self, number: u64, entry: &Entry) -> Result<(), AllocError> {
         put_entry(&mut self.draft, entry);
-        self.text.push_decimal(number)?;
-        self.text.push_line(b": ", self.draft.as_slice())
+        self.text.push_number(number)?;
+        self.text.push_line(self.draft.as_slice())
     }
 
     // Tells the reason of an access: where the tables led it, if it was stale, and the cause that it was denied for, if it was.
@@ -178,7 +176,7 @@ impl<W: Write> Account<'_, W> {
         Ok(Reply::new())
     }
 
-    // Carries out a line, and tells it: a step with its reason, and a line of many steps behind them.
+    // Carries out a line, and tells it: a step with its reason.
     fn line(
         &mut self,
         debugger: &mut Debugger<'_>,
@@ -189,6 +187,18 @@ impl<W: Write> Account<'_, W> {
             self.take(debugger, number, step)?;
             return Ok(());
         }
+        self.other_line(debugger, number, line)
+    }
+
+    // Carries out a line that is no step by itself, and tells it behind the steps that it takes. It stands apart, since its answers take room
+    // that is cleared.
+    #[inline(never)]
+    fn other_line(
+        &mut self,
+        debugger: &mut Debugger<'_>,
+        number: u64,
+        line: &[u8],
+    ) -> Result<(), Fault<'static>> {
         let reply = match repeated(line) {
             Some((_, most)) => self.take_all(debugger, number, line, most)?,
             None => debugger.line(number, line),
@@ -196,8 +206,7 @@ impl<W: Write> Account<'_, W> {
         if reply.is_empty() {
             return Ok(());
         }
-        self.text.push_decimal(number)?;
-        self.text.push(b": ")?;
+        self.text.push_number(number)?;
         self.text.push_escaped(before_comment(line))?;
         self.text.push(b" -> ")?;
         self.text.push_escaped(reply.as_slice())?;

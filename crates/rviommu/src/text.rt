@@ -43,18 +43,21 @@ impl Text {
         self.bytes.extend_from_slice(bytes)
     }
 
-    /// Appends a number in decimal.
-    pub fn push_decimal(&mut self, number: u64) -> Result<(), AllocError> {
-        let mut digits = [0; 20];
-        let count = put_decimal(&mut digits, number);
-        self.push(&digits[..count])
+    /// Appends a number in decimal, as that of the line which is told behind it.
+    pub fn push_number(&mut self, number: u64) -> Result<(), AllocError> {
+        let mut digits = [0; 22];
+        let count = put_decimal(&mut digits[..20], number);
+        digits[count] = b':';
+        digits[count + 1] = b' ';
+        self.push(&digits[..count + 2])
     }
 
-    /// Appends a name, a text and a line end.
-    pub fn push_line(&mut self, name: &[u8], text: &[u8]) -> Result<(), AllocError> {
-        self.push(name)?;
+    /// Appends a text and a line end.
+    #[inline(always)]
+    pub fn push_line(&mut self, text: &[u8]) -> Result<(), AllocError> {
         self.push(text)?;
-        self.push(b"\n")
+        self.bytes.push(b'\n')?;
+        Ok(())
     }
 
     /// Appends bytes, those that aren't printable escaped.

@@ -93,7 +93,8 @@ impl Told {
         self.lines.truncate(self.ends.last().copied().unwrap_or(0));
         for at in kept..next.len() {
             put_part_at(draft, platform, request, next, at);
-            self.lines.push_line(b"    walk: ", draft.as_slice())?;
+            self.lines.push(b"    walk: ")?;
+            self.lines.push_line(draft.as_slice())?;
             let _fits = self.ends.try_push(self.lines.len());
         }
         Ok(())
