@@ -9,7 +9,7 @@ TOP = os.path.normpath(os.path.join(EXAMPLES, os.pardir))
 DOCUMENTS = ["README.md", "CHANGELOG.md", *(f"docs/{name}" for name in sorted(os.listdir(os.path.join(TOP, "docs"))))]
 SUFFIXES = (".rt", ".antt", ".py", ".sh", ".md", ".edit", ".script", ".answers", ".asm", ".txt", ".h", ".1")
 # Folders that each crate may have, and what a build makes.
-OF_EACH = {"src/", "specs/", "proofs/", "must-fail/", "data/", "out/", "proofs/Lib.antt", "dist/", "c/out", "out/build", "web/out", "web/out/index.html", "crates/rviommu/out/rviommu"}
+OF_EACH = {"src/", "specs/", "proofs/", "must-fail/", "data/", "out/", "proofs/Lib.antt", "dist/", "c/out", "out/build", "out/whole", "web/out", "web/out/index.html", "crates/rviommu/out/rviommu"}
 WORDS = {"asm", "run", "check", "debug", "list", "upgrade", "bad"}
 
 
