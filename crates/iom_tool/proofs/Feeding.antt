@@ -453,3 +453,36 @@ pub bytes_left : (start now : Progress) (kept : List ℕ) (lines bytes : ℕ) (t
 bytes_left start now kept lines bytes text piece front left h split some full =
     ends_within start now text (text ++ front) piece front left [] refl (split ∙ ap (λ l. front ++ l) (sym (append-nil left)))
     (too_many start now kept lines bytes (text ++ front) left h some (inl full))
+
+-- the same counts and the same line, said otherwise
+pub fed_as : (start now : Progress) (kept kept' : List ℕ) (lines lines' bytes : ℕ) (text : List ℕ) → kept ≡ kept' → lines ≡ lines' →
+    Fed start now kept' lines' bytes text → Fed start now kept lines bytes text
+fed_as start now kept kept' lines lines' bytes text same count h = record {
+  answered = h.answered;
+  keeps = same ∙ h.keeps;
+  counts_lines = count ∙ h.counts_lines;
+  counts_bytes = h.counts_bytes;
+  within = h.within;
+}
+
+-- how much of a piece the bytes left allow
+pub part_fits : (text piece : List ℕ) (count room bytes : ℕ) → count ≡ min (length piece) room → room ≡ 2 ^ 26 - bytes →
+    bytes ≡ length text → length text ≤ 2 ^ 26 → length text + length (take count piece) ≤ 2 ^ 26
+part_fits text piece count room bytes is left counts short = omega (arith, length-take count piece)
+
+pub part_left : (piece : List ℕ) (count : ℕ) → length (take count piece) < length piece → 0 < length (drop count piece)
+part_left piece count less = omega (arith, length-drop count piece, length-take count piece)
+
+pub part_fills : (text piece : List ℕ) (count room bytes : ℕ) → count ≡ min (length piece) room → room ≡ 2 ^ 26 - bytes →
+    bytes ≡ length text → length text ≤ 2 ^ 26 → length (take count piece) < length piece → length (text ++ take count piece) ≡ 2 ^ 26
+part_fills text piece count room bytes is left counts short less = omega (arith, length-append text (take count piece), length-take count piece)
+
+pub part_whole : (piece : List ℕ) (count : ℕ) → length piece ≤ length (take count piece) → take count piece ≡ piece
+part_whole piece count all = take_all count piece (omega (arith, length-take count piece))
+
+pub bytes_now : (text piece front : List ℕ) (now bytes : ℕ) → front ≡ piece → now ≡ bytes + length front → bytes ≡ length text →
+    now ≡ length (text ++ piece)
+bytes_now text piece front now bytes whole is counts = omega (arith, length-append text piece, ap length whole)
+
+pub past_end : (at end lines most : ℕ) → end ≤ at → at < end → lines < most
+past_end at end lines most past inside = omega arith

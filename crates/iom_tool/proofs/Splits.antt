@@ -1,7 +1,7 @@
 -- The lines of a text that grows.
-use Rattle.std.proofs.Common.{◌≡◌, ◌==◌, ◌||◌, ◌+◌, zero, suc, ◌-◌, ◌<◌, ◌≤◌, ◌++◌, ℕ, List, [], ◌∷◌, Bool, true, false, not, cond, nat_lt, Some, None, length, take, drop, get_or, ◌∙◌, sym, ap, subst, refl, arith, append_assoc, append-nil, length-drop, inl, inr}
+use Rattle.std.proofs.Common.{◌≡◌, ◌==◌, ◌||◌, ◌+◌, zero, suc, ◌-◌, ◌^◌, ◌<◌, ◌≤◌, ◌++◌, ℕ, List, [], ◌∷◌, Bool, true, false, not, cond, nat_lt, Some, None, length, take, drop, get_or, ◌∙◌, sym, ap, subst, refl, arith, append_assoc, append-nil, length-append, length-drop, inl, inr}
 use Rattle.std.specs.List.{slice_split, onto_first, list_any, position, position_or_len, prefix_len}
-use Rattle.std.proofs.lemmas.List.{take_more, take-append-drop, length-take}
+use Rattle.std.proofs.lemmas.List.{take_more, take_rest, take-append-drop, length-take}
 use Rattle.std.proofs.Math.Seq.{take-add}
 use Rattle.std.proofs.lemmas.Bool.{eqb-true, cases_lt, or_parts}
 use Rattle.std.proofs.lemmas.List.Quantifiers.{position-Some}
@@ -214,3 +214,15 @@ cut_at piece from at within found =
       inside = inside;
       fits = omega (arith, inside, ap length same, length-take at (drop from piece));
     }
+
+-- the same as a loop over the lines finds it
+pub cut_found : (piece : List ℕ) (from at : ℕ) → from ≤ length piece →
+    Some at ≡ position (λ c. c == 10) (take (length piece - from) (drop from piece)) → Cut piece from at
+cut_found piece from at within found = cut_at piece from at within (rw take_rest at (sym found))
+
+pub cut_some : (piece : List ℕ) (from at : ℕ) → Cut piece from at → 0 < length (drop from piece)
+cut_some piece from at cut = omega (arith, cut.inside, length-drop from piece)
+
+pub cut_room : (text piece : List ℕ) (from at : ℕ) → Cut piece from at → length text + length piece ≤ 2 ^ 26 →
+    length (text ++ take from piece) + length (take (from + at - from) (drop from piece)) < 2 ^ 26
+cut_room text piece from at cut short = omega (arith, length-append text (take from piece), length-take from piece, cut.fits)

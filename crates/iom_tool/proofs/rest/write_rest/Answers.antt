@@ -1,5 +1,6 @@
-use Rattle.std.proofs.Common.{is_none, ◌∙◌, ap}
+use Rattle.std.proofs.Common.{is_none, ◌∙◌, ap, arith}
 use Rattle.iom_tool.proofs.Feeding.{wrote_more}
+use Rattle.std.proofs.lemmas.Grind.{common_steps}
 use Rattle.iom_tool.proofs.rest.write_rest.Goals as goal
 
 pub loop-rest-preserved : goal.loop-rest-preserved
@@ -8,3 +9,6 @@ loop-rest-preserved g c = record {
   can = c.write.ensures.failed ∙ ap is_none c.in-Some.is;
   same_writer = c.write.ensures.same_writer ∙ c.loop-rest.invariant.same_writer;
 }
+
+pub returns-clause-ok : goal.returns-clause-ok
+returns-clause-ok g c = grind (arith, common_steps)

@@ -1,10 +1,10 @@
-use Rattle.std.proofs.Common.{◌++◌, sym, ap}
+use Rattle.std.proofs.Common.{◌++◌, ◌∙◌, sym, ap}
 use Rattle.std.proofs.lemmas.Result.{err_from_is_err_and}
 use Rattle.iom_tool.specs.Console.{console}
 use Rattle.iom_tool.specs.Output.{open_line}
 use Rattle.iom_tool.specs.Running.{progress}
 use Rattle.iom_tool.specs.Script.{line_of}
-use Rattle.iom_tool.proofs.Feeding.{unbegun, kept_line, kept_grows, line_answered, line_ends, line_fails, none_kept}
+use Rattle.iom_tool.proofs.Feeding.{unbegun, fed_as, kept_line, kept_grows, line_answered, line_ends, line_fails, none_kept}
 use Rattle.iom_tool.proofs.rest.Rest.line_done.Goals as goal
 
 pub returns-then-is_empty-clause-fed : goal.returns-then-is_empty-clause-fed
@@ -33,8 +33,8 @@ returns-in_err-answer_kept-clause-fed g c start text h short =
 
 pub returns-clause-fed : goal.returns-clause-fed
 returns-clause-fed g c start text h short =
-    rw (c.clear.ensures, c.in_ok-answer_kept.ensures.lines, c.keep.ensures.lines) (
-    line_ends start (progress (g.W.Write.contents c.args.writer.now.inner.now) (console c.args.platform.now c.args.trace.now))
+    fed_as _ _ _ _ _ _ _ _ c.clear.ensures (c.in_ok-answer_kept.ensures.lines ∙ c.keep.ensures.lines)
+    (line_ends start (progress (g.W.Write.contents c.args.writer.now.inner.now) (console c.args.platform.now c.args.trace.now))
     c.args.self.now.line.items c.keep.new.self.line.items c.args.self.now.lines text c.args.part.now
     (console c.answer_kept.new.platform c.answer_kept.new.trace) (g.W.Write.contents c.answer_kept.new.writer.inner.now)
     h c.requires.one short c.requires.few

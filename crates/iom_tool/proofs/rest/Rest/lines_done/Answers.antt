@@ -1,7 +1,7 @@
-use Rattle.std.proofs.Common.{◌+◌, ◌-◌, ◌<◌, ◌^◌, ◌++◌, [], ◌∷◌, length, take, drop, refl, sym, ◌∙◌, ap, arith, append-nil, length-append, length-drop}
-use Rattle.std.proofs.lemmas.List.{take_rest, take-append-drop, length-take}
+use Rattle.std.proofs.Common.{◌+◌, ◌-◌, ◌<◌, ◌^◌, ◌++◌, [], ◌∷◌, length, take, drop, refl, sym, ◌∙◌, ap, append-nil}
+use Rattle.std.proofs.lemmas.List.{take_rest, take-append-drop}
 use Rattle.std.proofs.lemmas.Result.{err_from_is_err_and}
-use Rattle.iom_tool.proofs.Splits.{cut_at, none_at, Cut}
+use Rattle.iom_tool.proofs.Splits.{cut_found, cut_some, cut_room, none_at, Cut}
 use Rattle.iom_tool.proofs.Feeding.{too_many, all_lines, ends_within, fault_of_line, more_done}
 use Rattle.iom_tool.proofs.rest.Rest.lines_done.Goals as goal
 
@@ -9,25 +9,25 @@ pub returns-then-self-ge-MOST_LINES-clause-fed : goal.returns-then-self-ge-MOST_
 returns-then-self-ge-MOST_LINES-clause-fed g c start text h short =
     let part = c.args.part.now in
     let from = c.loop-at.from in
-    let cut : Cut part from c.in-Some.at = cut_at part from c.in-Some.at c.loop-at.invariant.inside (rw take_rest at (sym c.in-Some.ensures)) in
+    let cut : Cut part from c.in-Some.at = cut_found part from c.in-Some.at c.loop-at.invariant.inside c.in-Some.ensures in
     let fed = c.loop-at.invariant.fed start text h short in
     ends_within _ _ _ _ part (take from part) (drop from part) [] refl
     (sym (take-append-drop from part) ∙ ap (λ l. take from part ++ l) (sym (append-nil (drop from part))))
-    (too_many _ _ _ _ _ _ (drop from part) fed (omega (arith, cut.inside, length-drop from part)) (all_lines _ _ _ _ _ _ fed c.if-self-ge-MOST_LINES.true))
+    (too_many _ _ _ _ _ _ (drop from part) fed (cut_some part from c.in-Some.at cut) (all_lines _ _ _ _ _ _ fed c.if-self-ge-MOST_LINES.true))
 
 pub line_done-requires-clause-one : goal.line_done-requires-clause-one
 line_done-requires-clause-one g c =
     let cut : Cut c.args.part.now c.loop-at.from c.in-Some.at =
-    cut_at c.args.part.now c.loop-at.from c.in-Some.at c.loop-at.invariant.inside (rw take_rest at (sym c.in-Some.ensures)) in
+    cut_found c.args.part.now c.loop-at.from c.in-Some.at c.loop-at.invariant.inside c.in-Some.ensures in
     cut.none
 
 pub returns-in_err-line_done-clause-fed : goal.returns-in_err-line_done-clause-fed
 returns-in_err-line_done-clause-fed g c start text h short =
     let part = c.args.part.now in
     let from = c.loop-at.from in
-    let cut : Cut part from c.in-Some.at = cut_at part from c.in-Some.at c.loop-at.invariant.inside (rw take_rest at (sym c.in-Some.ensures)) in
+    let cut : Cut part from c.in-Some.at = cut_found part from c.in-Some.at c.loop-at.invariant.inside c.in-Some.ensures in
     let fed = c.loop-at.invariant.fed start text h short in
-    let room : length (text ++ take from part) + length (take (from + c.in-Some.at - from) (drop from part)) < 2 ^ 26 = omega (arith, length-append text (take from part), length-take from part, cut.fits) in
+    let room : length (text ++ take from part) + length (take (from + c.in-Some.at - from) (drop from part)) < 2 ^ 26 = cut_room text part from c.in-Some.at cut short in
     let p = err_from_is_err_and c.from_residual.result c.from_residual.ensures.1 in
     rw (p.1, p.2) (
     fault_of_line _ _ c.line_done.new.self.line.items c.line_done.new.self.line.items c.line_done.new.self.lines c.line_done.new.self.lines
@@ -38,12 +38,12 @@ pub loop-at-preserved : goal.loop-at-preserved
 loop-at-preserved g c =
     let part = c.args.part.now in
     let from = c.loop-at.from in
-    let cut : Cut part from c.in-Some.at = cut_at part from c.in-Some.at c.loop-at.invariant.inside (rw take_rest at (sym c.in-Some.ensures)) in
+    let cut : Cut part from c.in-Some.at = cut_found part from c.in-Some.at c.loop-at.invariant.inside c.in-Some.ensures in
     record {
       inside = cut.inside;
       fed = λ start text h short.
           let fed = c.loop-at.invariant.fed start text h short in
-          let room : length (text ++ take from part) + length (take (from + c.in-Some.at - from) (drop from part)) < 2 ^ 26 = omega (arith, length-append text (take from part), length-take from part, cut.fits) in
+          let room : length (text ++ take from part) + length (take (from + c.in-Some.at - from) (drop from part)) < 2 ^ 26 = cut_room text part from c.in-Some.at cut short in
           more_done _ _ _ _ text (take from part) (take (from + c.in-Some.at - from) (drop from part) ++ 10 ∷ []) _ cut.front
           (c.in_ok-line_done.ensures.fed start (text ++ take from part) fed room);
       bytes = c.in_ok-line_done.ensures.bytes ∙ c.loop-at.invariant.bytes;
