@@ -3,6 +3,7 @@ import glob
 import os
 import pty
 import re
+import time
 
 from checks import (
     ANSWER, ASK, EXAMPLES, MOST_IN_LINE, MOST_LINES, READ_FAILED, TOO_LONG, WELL, WRITE_FAILED, Skip, Talk, check, folder, put, run, want, want_words)
@@ -158,19 +159,21 @@ LONG = b"reg write ddtp 0x20000402\n" + b"walk read 5 0x40201abc 3\n" * (MOST_LI
 
 
 def told_on_terminal(word, given, **how):
-    """What is told on standard error where that is a terminal, and what is written, while a word plays a script on the image of MAPPED."""
+    """What is told on standard error where that is a terminal, what is written, and the seconds, while a word plays a script on the image of MAPPED."""
     ours, theirs = pty.openpty()
     try:
         with folder() as here:
             image = os.path.join(here, "image")
             want_words(["asm", put(here, "source", MAPPED), image], b"")
+            start = time.monotonic()
             status, out, _ = run([word, image], given, stderr=theirs, **how)
+            seconds = time.monotonic() - start
         want("status", status, 0)
         os.write(theirs, b"|")
         told = b""
         while not told.endswith(b"|"):
             told += os.read(ours, 1 << 16)
-        return told[:-1], out
+        return told[:-1], out, seconds
     finally:
         os.close(ours)
         os.close(theirs)
@@ -180,7 +183,10 @@ def told_on_terminal(word, given, **how):
 def _():
     written = {}
     for word in ("debug", "check", "explain"):
-        told, written[word] = told_on_terminal(word, LONG)
+        told, written[word], seconds = told_on_terminal(word, LONG)
+        # Of a script that ends within a second nothing is told: a fast machine has played this one then.
+        if not told and seconds < 1.5:
+            continue
         want(f"whether {word} tells it: {told[-60:]!r}", bool(re.fullmatch(rb"(\r%b: \d+ %%)+\r +\r" % word.encode(), told)), True)
         shares = [int(it) for it in re.findall(rb": (\d+) %", told)]
         want(f"what {word} tells", shares, sorted({it for it in shares if it <= 100}))
@@ -191,8 +197,8 @@ def _():
 
 @check("debug: nothing of it is told of a short script, or at a pipe")
 def _():
-    want("what is told of a short script", told_on_terminal("debug", ASK + b"\n"), (b"", ANSWER))
-    want("what is told of an empty script", told_on_terminal("debug", b""), (b"", b""))
+    want("what is told of a short script", told_on_terminal("debug", ASK + b"\n")[:2], (b"", ANSWER))
+    want("what is told of an empty script", told_on_terminal("debug", b"")[:2], (b"", b""))
     want("what is told at a pipe", told_on_terminal("debug", LONG, at_pipe=True)[0], b"")
 
 
