@@ -1,0 +1,4 @@
+pub mod Words
+pub mod Script
+pub mod Operands
+pub mod Texts
