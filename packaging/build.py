@@ -5,8 +5,9 @@ All is proved as it is built, and what is current costs a few seconds. Progress 
 The status is 1 where something could not be built.
 
 Where the libraries of the crates below haven't been built, the crate and all below it are proved and built as one crate (whole.py): the
-toolchain's libraries are read once, and nothing waits for a crate below. Where they have, as after checks of single crates,
-what isn't current is built crate by crate, as many at a time as the machine has processors and memory for.
+toolchain's libraries are read once, and nothing waits for a crate below. Those that the gate builds don't count, since rt would build them
+again. Where they have, as after checks of single crates, what isn't current is built crate by crate, as many at a time as the
+machine has processors and memory for.
 
 rt locks a crate and all that it stands on for as long as it works on it. So each is built in a tree of its own, in the
 folder out/ at the top: the whole crate, or a crate's sources and those below it as hard links, with what was built of these.
@@ -274,8 +275,9 @@ class WholeBuild:
 
 
 def are_built(names):
-    """Whether each of these crates has a library that was built of it, perhaps of older sources."""
-    return all(os.path.isdir(os.path.join(CRATES, it, "out", "rlib", f"{it}.rlib")) for it in names)
+    """Whether `rt lib` built a library of each of these crates, perhaps of older sources. Those of `rt ci` lack this stamp, and rt
+    builds them again."""
+    return all(os.path.isfile(os.path.join(CRATES, it, "out", "rlib", "stamp")) for it in names)
 
 
 def main():
