@@ -235,7 +235,7 @@ NUMBERS = [
     ("docs/PROMISES.md", "keeps the last 32", "crates/iom_tool/src/trace.rt", "MOST_ENTRIES: usize = 32;"),
     ("docs/PROMISES.md", "beyond 2^20 lines or 2^26 bytes", "crates/iom_tool/specs/Running.antt", "(length text ≡ 2 ^ 26) ⊎ (length (ended_lines text) ≡ 2 ^ 20)"),
     ("docs/PROMISES.md", "answers the 32 bytes of the image of 1 MiB", "crates/iom_image/src/image.rt", "pub fn built_in() -> [u8; 32]"),
-    ("docs/CONTRIBUTING.md", "the 320 bytes of a `Reply`", "crates/iom_lines/src/draft.rt", "bytes: [u8; 320],"),
+    ("docs/CONTRIBUTING.md", "the 320 bytes of a `Reply`", "crates/iom_tool/src/draft.rt", "bytes: [u8; 320],"),
     ("README.md", "each with about 2 GB of memory", "packaging/build.py", "BYTES_A_JOB = 2 << 30"),
     ("README.md", "glibc 2.36 or later", "packaging/package.py", "Depends: libc6 (>= 2.36)"),
     ("README.md", "A file that the program reads has at most 2^30 bytes", "crates/rviommu/src/files.rt", "MOST_BYTES: u64 = 1 << 30;"),

@@ -3,7 +3,7 @@ use Rattle.std.specs.Prelude.{ℕ, ◌+◌, ◌++◌, List, [], ◌∷◌, lengt
 use Rattle.std.specs.Option.{unwrap_or}
 use Rattle.iom_tool.specs.Console.{console}
 use Rattle.iom_tool.specs.Output.{reply}
-use Rattle.iom_lines.specs.Script.{line_of}
+use Rattle.iom_tool.specs.Script.{line_of}
 use Rattle.iom_c.specs.declared.owned.Owned.{Owned}
 
 -- a buffer that begins with these bytes, and has those that stood behind their places

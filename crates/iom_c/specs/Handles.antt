@@ -10,7 +10,7 @@ use Rattle.iom_core.specs.Table.{next}
 use Rattle.iom_core.specs.declared.step.Step.{Step}
 use Rattle.iom_account.specs.Account.{Accounts, GoesAlong}
 use Rattle.iom_tool.specs.Console.{traced}
-use Rattle.iom_lines.specs.Script.{Asks, Bad, Blank, Does, Line}
+use Rattle.iom_tool.specs.Script.{Asks, Bad, Blank, Does, Line}
 use Rattle.iom_c.specs.contracts.owned.Owned.{the_row}
 use Rattle.iom_c.specs.declared.owned.Owned.{Owned}
 

@@ -5,12 +5,12 @@ use Rattle.std.specs.List.{list_any}
 use Rattle.std.proofs.lemmas.Slice.Eq.{bytes_eq-Decides}
 use Rattle.iom_core.specs.declared.step.Step.{Step}
 use Rattle.iom_text.specs.Words.{words_of}
-use Rattle.iom_lines.specs.Script.{Line, Blank, Bad, Does, Asks, line_by, line_of, meaning, step_in, step_of, question_of}
+use Rattle.iom_tool.specs.Script.{Line, Blank, Bad, Does, Asks, line_by, line_of, meaning, step_in, step_of, question_of}
 use Rattle.iom_tool.specs.Output.{steps_in}
 use Rattle.iom_core.specs.State.{State}
 use Rattle.iom_account.specs.Account.{Account, GoesAlong}
 use Rattle.iom_debug.specs.Output.{debug_steps, debug_steps_of}
-use Rattle.iom_lines.specs.Script as run
+use Rattle.iom_tool.specs.Script as run
 use Rattle.iom_debug.specs.Script.{DebugLine, Plain, debug_line_of, form_by, form_in, form_of, or_form, reg, reg_read, reg_write, dev, dev_read, dev_write, dev_show, dev_run, cmd, put}
 
 same_word : (word name : List ℕ) → bytes_eq word name ≡ true → word ≡ name

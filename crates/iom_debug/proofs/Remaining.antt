@@ -6,7 +6,7 @@ use Rattle.iom_core.specs.Run.{end_of}
 use Rattle.iom_core.specs.declared.step.Step.{Step}
 use Rattle.iom_core.specs.declared.step.Step.TheVariants as step
 use Rattle.iom_account.proofs.Telling.{along_more, along_none}
-use Rattle.iom_lines.specs.declared.entry.Entry.{Entry}
+use Rattle.iom_tool.specs.declared.trace.Entry.{Entry}
 use Rattle.iom_tool.specs.Console.{trace_after}
 use Rattle.iom_debug.specs.Reasons.{GoesAlong, Reasons, last_stale}
 use Rattle.iom_debug.specs.Script.{stores_at}

@@ -2,7 +2,7 @@
 use Rattle.std.specs.Prelude.{◌+◌, ◌*◌, ◌^◌, ◌<◌, ◌≤◌, length}
 use Rattle.iom_core.specs.declared.step.Step.{Step}
 use Rattle.iom_core.specs.declared.step.Step.TheVariants as step
-use Rattle.iom_lines.specs.Script.{Does}
+use Rattle.iom_tool.specs.Script.{Does}
 use Rattle.iom_debug.specs.Script.{DebugLine, Plain, Inquires, Again, Stores, stores_at}
 use Rattle.iom_debug.specs.declared.form.Inquiry.{Inquiry}
 use Rattle.iom_debug.specs.declared.form.Inquiry.TheVariants as inquiry

@@ -5,9 +5,9 @@ use Rattle.iom_core.specs.State.{State}
 use Rattle.iom_core.specs.declared.step.Step.{Step}
 use Rattle.iom_tool.specs.Console.{Console, console_after}
 use Rattle.iom_tool.specs.Output.{reply, steps_in, steps_of}
-use Rattle.iom_lines.specs.Script.{line_of}
+use Rattle.iom_tool.specs.Script.{line_of}
 use Rattle.iom_debug.specs.Script.{DebugLine, Plain, Inquires, Again, Stores, debug_line_of}
-use Rattle.iom_lines.specs.Texts.{text_of}
+use Rattle.iom_tool.specs.Texts.{text_of}
 use Rattle.iom_debug.specs.Taking.{last_answer, run_text, taken}
 use Rattle.iom_debug.specs.Answers.{inquired}
 use Rattle.iom_account.specs.declared.reason.Reason.{Reason}

@@ -11,7 +11,7 @@ use Rattle.iom_core.specs.declared.step.Step.{Step}
 use Rattle.iom_core.specs.declared.step.Step.TheVariants as step
 use Rattle.iom_items.specs.Forms.{where_so, words_for}
 use Rattle.iom_items.specs.Operands.{◌>>=◌}
-use Rattle.iom_lines.specs.Script.{Line, Blank, Bad, Does, Asks, line_of}
+use Rattle.iom_tool.specs.Script.{Line, Blank, Bad, Does, Asks, line_of}
 use Rattle.iom_debug.specs.Names.{register_named, mmio_named}
 use Rattle.iom_debug.specs.declared.form.Inquiry.{Inquiry}
 use Rattle.iom_debug.specs.declared.form.Inquiry.TheVariants as inquiry

@@ -7,8 +7,8 @@ use Rattle.iom_core.specs.declared.step.Step.{Step}
 use Rattle.iom_core.specs.declared.step.Answer.{Answer}
 use Rattle.iom_core.specs.declared.step.Answer.TheVariants as answer
 use Rattle.iom_tool.specs.Console.{traced}
-use Rattle.iom_lines.specs.Texts.{text_of}
-use Rattle.iom_lines.specs.declared.entry.Entry.{Entry}
+use Rattle.iom_tool.specs.Texts.{text_of}
+use Rattle.iom_tool.specs.declared.trace.Entry.{Entry}
 use Rattle.iom_debug.specs.Reasons.{GoesAlong, Reasons, later, stale_in}
 
 -- what the lines of `debug` drive: a platform, the trace of its last steps, and what is told beside them

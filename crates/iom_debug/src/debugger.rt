@@ -3,7 +3,7 @@ ghost use Rattle.std.specs.Option.{unwrap_or};
 ghost use Rattle.iom_account.specs.Account.{IsKnown};
 ghost use Rattle.iom_core.specs.Run.{end_of};
 ghost use Rattle.iom_core.specs.Table.{next};
-ghost use Rattle.iom_lines.specs.Script.{Bad, line_of};
+ghost use Rattle.iom_tool.specs.Script.{Bad, line_of};
 ghost use Rattle.iom_tool.specs.Console.{console, trace_after};
 ghost use Rattle.iom_tool.specs.Output.{reply, steps_of};
 ghost use Rattle.iom_debug.specs.Reasons.{GoesAlong, last_stale, stale_only};

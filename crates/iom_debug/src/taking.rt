@@ -6,7 +6,7 @@ ghost use Rattle.iom_core.specs.Run.{end_of};
 ghost use Rattle.iom_core.specs.Table.{next};
 ghost use Rattle.iom_text.specs.Texts.{hexed};
 ghost use Rattle.iom_tool.specs.Console.{trace_after};
-ghost use Rattle.iom_lines.specs.Texts.{text_of};
+ghost use Rattle.iom_tool.specs.Texts.{text_of};
 ghost use Rattle.iom_debug.specs.Forms.{step_by};
 ghost use Rattle.iom_debug.specs.Reasons.{GoesAlong, last_stale};
 ghost use Rattle.iom_debug.specs.Script.{stores_at};

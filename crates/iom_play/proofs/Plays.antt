@@ -10,7 +10,7 @@ use Rattle.iom_image.specs.Reading.{image_of, mapped}
 use Rattle.iom_image.proofs.Found.{read_as}
 use Rattle.iom_tool.specs.declared.fault.RunFault.{RunFault}
 use Rattle.iom_tool.specs.declared.fault.RunFault.TheVariants as fault
-use Rattle.iom_lines.specs.declared.entry.Entry.{Entry}
+use Rattle.iom_tool.specs.declared.trace.Entry.{Entry}
 use Rattle.iom_tool.specs.Console.{Console, console}
 use Rattle.iom_play.specs.Playing.{Plays, steps_done}
 use Rattle.iom_tool.specs.Running.{Progress, progress, Ends}

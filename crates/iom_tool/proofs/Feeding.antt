@@ -6,7 +6,7 @@ use Rattle.std.proofs.KnownBytes.{Appends-nil, Appends-trans, Appends-kept}
 use Rattle.std.proofs.lemmas.Bool.{cases_lt, eqb-true}
 use Rattle.std.proofs.lemmas.List.{take_all, take_rest, take-append-drop, take-append-le, length-take, nil_from_length}
 use Rattle.std.proofs.Math.Seq.{take-append-add}
-use Rattle.iom_lines.specs.Script.{line_of}
+use Rattle.iom_tool.specs.Script.{line_of}
 use Rattle.iom_tool.specs.Console.{Console, console_after}
 use Rattle.iom_tool.specs.Output.{reply, steps_in, steps_of, printed, after, output_to, output_of, ended_lines, open_line, last_line, lines_of}
 use Rattle.iom_tool.specs.Running.{Progress, progress, IsWithinLimits, Answered, HalfAnswered, WritesFront, Fed, IsAtLimit, EndsInPiece, FailsInPiece, LinesDone, AfterPiece, AfterLines, AfterEnd}

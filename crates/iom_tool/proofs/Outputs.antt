@@ -7,7 +7,7 @@ use Rattle.std.proofs.lemmas.List.{take_all, length-take-le}
 use Rattle.std.proofs.lemmas.List.Concat.{flat_map-append}
 use Rattle.iom_core.specs.Table.{next}
 use Rattle.iom_core.specs.declared.step.Step.{Step}
-use Rattle.iom_lines.specs.Script.{line_of}
+use Rattle.iom_tool.specs.Script.{line_of}
 use Rattle.iom_tool.specs.Console.{Console, console, console_after, traced}
 use Rattle.iom_tool.specs.Output.{steps_of, printed, after, output_to, output_of}
 

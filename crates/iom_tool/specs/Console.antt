@@ -6,7 +6,7 @@ use Rattle.iom_core.specs.Table.{next}
 use Rattle.iom_core.specs.Run.{end_of}
 use Rattle.iom_core.specs.declared.step.Step.{Step}
 use Rattle.iom_core.specs.declared.step.Answer.{Answer}
-use Rattle.iom_lines.specs.declared.entry.Entry.{Entry}
+use Rattle.iom_tool.specs.declared.trace.Entry.{Entry}
 
 pub record Console : Type 0 where
   pub state : State

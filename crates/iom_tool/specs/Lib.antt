@@ -1,3 +1,7 @@
+pub mod Words
+pub mod Script
+pub mod Operands
+pub mod Texts
 pub mod Ring
 pub mod Console
 pub mod Debugger

@@ -4,9 +4,9 @@ use Rattle.std.specs.List.{slice_split, flat_map}
 use Rattle.iom_core.specs.Table.{next}
 use Rattle.iom_core.specs.declared.step.Step.{Step}
 use Rattle.iom_tool.specs.Console.{Console, console_after}
-use Rattle.iom_lines.specs.Script.{Line, Blank, Bad, Does, Asks, line_of}
+use Rattle.iom_tool.specs.Script.{Line, Blank, Bad, Does, Asks, line_of}
 use Rattle.iom_tool.specs.Debugger.{answer_in}
-use Rattle.iom_lines.specs.Texts.{text_of}
+use Rattle.iom_tool.specs.Texts.{text_of}
 
 -- what is answered to a line; None: nothing
 abbrev pub reply : Console → Line → Option (List ℕ)

@@ -3,13 +3,15 @@ ghost use Rattle.iom_text.specs.Texts.{hexed};
 ghost use Rattle.iom_tool.specs.Console.{console};
 ghost use Rattle.iom_tool.specs.Debugger.{answer_in, context_place_text, id_text, item_text, kind_text, named, page_text, place_text};
 
+use crate::draft::Draft;
+use crate::script::Question;
+use crate::text::{push_entry, push_hexed, push_text};
 use crate::trace::Trace;
 use iom_bits::Kind;
 use iom_cache::{Key, Place};
 use iom_core::Platform;
 use iom_ddt::Context;
 use iom_items::{Item, context_line, item_line};
-use iom_lines::{Draft, Question, push_entry, push_hexed, push_text};
 use iom_mem::Ram;
 use iom_nested::Hit;
 

@@ -1,24 +1,29 @@
 //! The script: lines in, answer lines out.
 #![tactic(auto)]
 
+pub use draft::Draft;
 pub use fault::RunFault;
 pub use feeder::Feeder;
-pub use iom_lines::{Draft, Entry};
 pub use reading::step_of;
 pub use rest::Rest;
 pub use running::run;
 pub use session::{Reply, Session};
 pub use told::{answer_text, put_entry};
-pub use trace::Trace;
+pub use trace::{Entry, Trace};
 
 mod answering;
+mod data;
 mod debugger;
+mod draft;
 mod fault;
 mod feeder;
+mod operands;
 mod reading;
 mod rest;
 mod running;
+mod script;
 mod session;
+mod text;
 mod told;
 mod trace;
 mod watched;

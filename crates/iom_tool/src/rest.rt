@@ -6,12 +6,12 @@ ghost use Rattle.iom_tool.specs.Output.{steps_of, output_to};
 ghost use Rattle.iom_tool.specs.Running.{Progress, progress, WritesFront, Fed, AfterLines, AfterPiece, AfterEnd, is_write};
 
 use crate::answering::{answer_to, cut_line};
+use crate::draft::Draft;
 use crate::fault::RunFault;
 use crate::trace::Trace;
 use crate::watched::WatchedWriter;
 use arrayvec::ArrayVec;
 use iom_core::Platform;
-use iom_lines::Draft;
 use iom_text::line_end;
 use std::io::Write;
 

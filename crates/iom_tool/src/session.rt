@@ -1,15 +1,15 @@
 ghost use Rattle.std.specs.Prelude.{◌≡◌, [], length};
 ghost use Rattle.std.specs.Option.{unwrap_or};
 ghost use Rattle.iom_core.specs.Run.{end_of};
-ghost use Rattle.iom_lines.specs.Script.{line_of};
+ghost use Rattle.iom_tool.specs.Script.{line_of};
 ghost use Rattle.iom_tool.specs.Console.{console, trace_after};
 ghost use Rattle.iom_tool.specs.Output.{reply, steps_of};
 
 use crate::answering::{answer_to, cut_line};
+use crate::draft::Draft;
 use crate::trace::Trace;
 use arrayvec::ArrayVec;
 use iom_core::Platform;
-use iom_lines::Draft;
 
 /// The text of one answer, at most 320 bytes, without a line end.
 pub type Reply = ArrayVec<u8, 320>;

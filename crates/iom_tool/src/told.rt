@@ -1,11 +1,13 @@
 //! What steps answered, told outside a script.
 
 ghost use Rattle.std.specs.Prelude.{◌≡◌, ◌≤◌, length, Some};
-ghost use Rattle.iom_lines.specs.Texts.{entry_text, text_of};
+ghost use Rattle.iom_tool.specs.Texts.{entry_text, text_of};
 
+use crate::draft::Draft;
 use crate::session::Reply;
+use crate::text::{push_answer, push_entry};
+use crate::trace::Entry;
 use iom_core::Answer;
-use iom_lines::{Draft, Entry, push_answer, push_entry};
 
 /// Puts a step of a trace and its answer in place of what a draft holds, as the question `trace` answers them: at most 320 bytes.
 pub fn put_entry(out: &mut Draft, entry: &Entry)

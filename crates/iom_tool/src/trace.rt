@@ -1,11 +1,13 @@
 ghost use Rattle.std.specs.Prelude.{◌≡◌, ◌==◌, ◌+◌, ◌++◌, ◌||◌, ◌<◌, ◌≤◌, Some, None, true, false, length, IfOk, if◌then◌else◌};
 ghost use Rattle.iom_core.specs.Table.{next};
 ghost use Rattle.iom_text.specs.Words.{words_of};
-ghost use Rattle.iom_lines.specs.Script.{step_of};
-ghost use Rattle.iom_lines.specs.Texts.{text_of};
+ghost use Rattle.iom_tool.specs.Script.{step_of};
+ghost use Rattle.iom_tool.specs.Texts.{text_of};
 
+use crate::draft::Draft;
+use crate::script::put_step_of;
+use crate::text::push_answer;
 use iom_core::{Answer, Platform, Step};
-use iom_lines::{Draft, Entry, push_answer, put_step_of};
 use std::alloc::{AllocError, Global};
 use std::marker::Model;
 
@@ -14,6 +16,15 @@ const MOST_ENTRIES: usize = 32;
 
 /// How many places there are: one of them is spare.
 const PLACES: usize = 33;
+
+/// A step that was carried out, and its answer.
+#[derive(Drop)]
+pub struct Entry {
+    /// The step.
+    pub step: Step,
+    /// What it answered.
+    pub answer: Answer,
+}
 
 /// The last 32 steps that a script's lines were, with their answers; the oldest first.
 #[derive(Drop)]
@@ -27,7 +38,7 @@ pub struct Trace {
 
 impl Model for Trace {
     ghost use Rattle.std.specs.Prelude.{◌≡◌, ◌<◌, List, length};
-    ghost use Rattle.iom_lines.specs.declared.entry.Entry.{Entry};
+    ghost use Rattle.iom_tool.specs.declared.trace.Entry.{Entry};
     ghost use Rattle.iom_tool.specs.Ring.{kept_around};
 
     ghost Value = { List Entry };
@@ -43,8 +54,8 @@ impl Trace {
     ghost use Rattle.iom_core.specs.Table.{next};
     ghost use Rattle.iom_core.specs.declared.step.Step.{Step};
     ghost use Rattle.iom_text.specs.Words.{words_of};
-    ghost use Rattle.iom_lines.specs.Script.{step_of};
-    ghost use Rattle.iom_lines.specs.Texts.{text_of};
+    ghost use Rattle.iom_tool.specs.Script.{step_of};
+    ghost use Rattle.iom_tool.specs.Texts.{text_of};
     ghost use Rattle.iom_tool.specs.Console.{traced};
 
     /// A trace with no step yet. It takes the memory of all steps, and no other call takes any. The fault is a refused allocation.

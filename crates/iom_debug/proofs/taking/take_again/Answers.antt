@@ -1,6 +1,6 @@
 use Rattle.std.proofs.Common.{◌≡◌, ◌∙◌, ◌+◌, ◌-◌, ◌++◌, codes, length, replicate, ap, true, false, arith}
 use Rattle.iom_text.specs.Texts.{hexed}
-use Rattle.iom_lines.specs.Texts.{text_of}
+use Rattle.iom_tool.specs.Texts.{text_of}
 use Rattle.iom_core.specs.Table.{next}
 use Rattle.iom_debug.specs.Forms.{step_by}
 use Rattle.iom_debug.specs.Taking.{count_text, is_done, taken}

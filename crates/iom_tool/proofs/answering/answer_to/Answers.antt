@@ -2,9 +2,9 @@ use Rattle.std.proofs.Common.{◌≡◌, ◌==◌, ◌≤◌, ℕ, List, [], ◌
 use Rattle.std.specs.List.{list_any}
 use Rattle.iom_text.specs.Words.{words_of}
 use Rattle.iom_core.specs.Run.{end_of}
-use Rattle.iom_lines.specs.declared.script.Question.{Question}
+use Rattle.iom_tool.specs.declared.script.Question.{Question}
 use Rattle.iom_tool.specs.Console.{trace_after}
-use Rattle.iom_lines.specs.Script.{line_by, line_of, meaning, question_of, step_of}
+use Rattle.iom_tool.specs.Script.{line_by, line_of, meaning, question_of, step_of}
 use Rattle.iom_tool.specs.Output.{steps_in, steps_of}
 use Rattle.iom_tool.proofs.answering.answer_to.Goals as goal
 

@@ -2,7 +2,7 @@ use Rattle.std.proofs.Common.{◌≡◌, ◌==◌, ℕ, List, true, codes, lengt
 use Rattle.std.proofs.lemmas.Bool.{or_right}
 use Rattle.std.specs.List.{list_any}
 use Rattle.iom_text.specs.Words.{words_of}
-use Rattle.iom_lines.specs.Script.{Bad, line_of, meaning, question_of, step_of}
+use Rattle.iom_tool.specs.Script.{Bad, line_of, meaning, question_of, step_of}
 use Rattle.iom_tool.proofs.answering.cut_line.Goals as goal
 
 -- what stands in place of a text with a line end is bad

@@ -1,5 +1,5 @@
 use Rattle.std.proofs.Common.{rules}
-use Rattle.iom_lines.specs.Script.{line_of, meaning}
+use Rattle.iom_tool.specs.Script.{line_of, meaning}
 use Rattle.iom_tool.proofs.reading.step_in.Goals as goal
 
 pub returns-in_err-verb : goal.returns-in_err-verb

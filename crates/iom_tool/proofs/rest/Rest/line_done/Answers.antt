@@ -3,7 +3,7 @@ use Rattle.std.proofs.lemmas.Result.{err_from_is_err_and}
 use Rattle.iom_tool.specs.Console.{console}
 use Rattle.iom_tool.specs.Output.{open_line}
 use Rattle.iom_tool.specs.Running.{progress}
-use Rattle.iom_lines.specs.Script.{line_of}
+use Rattle.iom_tool.specs.Script.{line_of}
 use Rattle.iom_tool.proofs.Feeding.{unbegun, fed_as, kept_line, kept_grows, line_answered, line_ends, line_fails, none_kept}
 use Rattle.iom_tool.proofs.rest.Rest.line_done.Goals as goal
 

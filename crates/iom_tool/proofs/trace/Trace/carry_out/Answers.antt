@@ -2,9 +2,9 @@ use Rattle.std.proofs.Common.{◌∙◌, ◌==◌, ◌++◌, [], ◌∷◌, List
 use Rattle.std.specs.Prelude.{slice_set}
 use Rattle.circular_buffer.specs.Buffer.{keep_last}
 use Rattle.iom_core.specs.declared.step.Answer.{Answer}
-use Rattle.iom_lines.specs.declared.entry.Entry.{Entry}
+use Rattle.iom_tool.specs.declared.trace.Entry.{Entry}
 use Rattle.iom_tool.specs.Ring.{kept_around}
-use Rattle.iom_lines.specs.Texts.{text_of}
+use Rattle.iom_tool.specs.Texts.{text_of}
 use Rattle.iom_tool.specs.Console.{traced}
 use Rattle.iom_tool.proofs.Rings.{moved}
 use Rattle.iom_tool.proofs.trace.Trace.carry_out.Goals as goal

@@ -2,7 +2,7 @@ use Rattle.std.proofs.Common.{◌∙◌, ◌+◌, inl, inr, ◌<◌, ap, sym, ar
 use Rattle.std.specs.Prelude.{slice_get}
 use Rattle.std.proofs.lemmas.Bool.{cases_lt}
 use Rattle.std.proofs.lemmas.Option.{slice_get-get_or}
-use Rattle.iom_lines.specs.declared.entry.Entry.{Entry}
+use Rattle.iom_tool.specs.declared.trace.Entry.{Entry}
 use Rattle.iom_tool.specs.Ring.{kept_around}
 use Rattle.iom_tool.proofs.Rings.{none_around, none_before, some_around, some_before}
 use Rattle.iom_tool.proofs.trace.Trace.entry.Goals as goal

@@ -1,7 +1,7 @@
 use Rattle.std.proofs.Common.{◌∙◌, ◌==◌, ◌++◌, [], ◌∷◌, List, ap, refl}
 use Rattle.std.specs.Prelude.{slice_set}
 use Rattle.circular_buffer.specs.Buffer.{keep_last}
-use Rattle.iom_lines.specs.declared.entry.Entry.{Entry}
+use Rattle.iom_tool.specs.declared.trace.Entry.{Entry}
 use Rattle.iom_tool.specs.Ring.{kept_around}
 use Rattle.iom_tool.proofs.Rings.{moved}
 use Rattle.iom_tool.proofs.trace.Trace.keep.Goals as goal

@@ -1,3 +1,0 @@
-pub mod Forms
-pub mod Pairs
-pub mod Values

@@ -1,4 +1,0 @@
-pub mod Words
-pub mod Script
-pub mod Operands
-pub mod Texts
