@@ -34,11 +34,12 @@ impl Platform {
         ensures state { self.new ≡ (dev_written self.old dev (slice_get self.old.devices dev) off size value).state }
     {
         let n = dev as usize;
-        if n >= self.devices.len() {
-            return Answer::NoDevice;
+        if n < self.devices.len() {
+            let (_, device) = &mut self.devices[n];
+            written(device, off, size, value)
+        } else {
+            Answer::NoDevice
         }
-        let (_, device) = &mut self.devices[n];
-        written(device, off, size, value)
     }
 
     /// What a step of block device `dev` answers: `Done` for an access that was granted, `Idle` where it had none to make,

@@ -11,7 +11,7 @@ use iom_mem::Ram;
 use iom_regs::Regs;
 
 /// What is met from ddtp to a device's context. `place` is its physical address.
-#[derive(Clone, Copy, Debug, PartialEq)]
+#[derive(Clone, Copy, PartialEq)]
 pub enum Met {
     /// A non-leaf DDT entry, 8 bytes, that points to a further table; None where a byte of it is outside memory.
     Entry { place: u64, word: Option<u64> },

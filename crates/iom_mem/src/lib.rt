@@ -210,11 +210,7 @@ impl Ram {
         ensures { result ≡ words_at self.now addr N }
     {
         let mut words = [0; N];
-        if self.words(addr, &mut words) {
-            Some(words)
-        } else {
-            None
-        }
+        self.words(addr, &mut words).then_some(words)
     }
 
     /// All of memory as words: word i is the one at physical address `base + 8 * i`.

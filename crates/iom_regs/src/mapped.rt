@@ -20,6 +20,9 @@ const CAPABLE: u64 = 0x38_1006_0610;
 // fctl: interrupts by wire.
 const BY_WIRE: u64 = 2;
 
+// The highest iommu_mode that ddtp takes: a device directory of three levels.
+const HIGHEST_MODE: u64 = 4;
+
 /// The register file before the rule of pending interrupts: `settle` follows each change.
 #[derive(Clone, Copy)]
 pub struct MappedRegisters {
@@ -170,7 +173,7 @@ impl MappedRegisters {
     fn set_ddtp(&mut self, value: u64)
         ensures { self.new ≡ written Ddtp value self.old }
     {
-        if field(value, 0, 4) <= 4 {
+        if field(value, 0, 4) <= HIGHEST_MODE {
             self.ddtp = field(value, 0, 4) + (field(value, 10, 44) << 10);
         }
     }

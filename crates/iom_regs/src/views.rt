@@ -34,7 +34,7 @@ pub struct Queue {
 }
 
 /// What stops the command queue ("Command-queue CSR (cqcsr)").
-#[derive(Clone, Copy, Debug, PartialEq)]
+#[derive(Clone, Copy)]
 pub struct CommandErrors {
     /// cqmf: a command could not be read, or a fence's store not be done.
     pub memory_fault: bool,
@@ -43,7 +43,7 @@ pub struct CommandErrors {
 }
 
 /// What stops the fault queue ("Fault queue CSR (fqcsr)").
-#[derive(Clone, Copy, Debug, PartialEq)]
+#[derive(Clone, Copy)]
 pub struct FaultErrors {
     /// fqmf: a record could not be stored.
     pub memory_fault: bool,

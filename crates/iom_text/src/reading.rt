@@ -127,8 +127,11 @@ fn digit_in(radix: u64, c: u8) -> Option<u64>
     if value < radix { Some(value) } else { None }
 }
 
-// The number that digits of a radix write up to the end of their word, and what follows that. So many as 16 write one below 2^64,
-// and need no test of it.
+/// So many digits of any radix write a number below 2^64.
+const SURE_DIGITS: usize = 16;
+
+// The number that digits of a radix write up to the end of their word, and what follows that. Of so many as are sure it needs no test
+// that it is below 2^64.
 #[inline(always)]
 fn take_digits(radix: u64, text: &[u8]) -> Option<(u64, &[u8])>
     requires least { 2 ≤ radix }
@@ -167,7 +170,7 @@ fn cut_at(radix: u64, text: &[u8], value: u64, at: usize) -> Option<(u64, &[u8])
         ≡ number_in radix (take (position_or_len is_end text.now) text.now) }
     ensures rest { IfSome result (λ cut. cut.1.now ≡ drop (position_or_len is_end text.now) text.now) }
 {
-    if at <= 16 {
+    if at <= SURE_DIGITS {
         return Some((value, &text[at..]));
     }
     let value = long_number(radix, text)?;

@@ -293,7 +293,7 @@ impl Rest {
         ensures flushed { OnOk result (writer.new.flushed ≡ true) }
         ensures same_writer { writer.new.inner.ghost_name ≡ writer.old.inner.ghost_name }
     {
-        if self.line.is_empty() {
+        if self.line.as_slice().is_empty() {
             return flush(writer);
         }
         self.answer_kept(platform, trace, writer)?;

@@ -42,7 +42,7 @@ pub enum Verdict {
 }
 
 /// The row of the table of entries that decides of an entry. But for the first two, `Pointer` and `Leaf` each is a page fault.
-#[derive(Clone, Copy, Debug, PartialEq)]
+#[derive(Clone, Copy, PartialEq)]
 pub enum Ruling {
     /// The entry lies outside memory.
     Outside,

@@ -15,7 +15,7 @@ use arrayvec::ArrayVec;
 use iom_bits::{Kind, has_bit};
 
 /// A page-table entry (PTE) that a walk meets.
-#[derive(Clone, Copy, Debug, PartialEq)]
+#[derive(Clone, Copy, PartialEq)]
 pub struct PathEntry {
     /// Its address in the walk's source of words: physical, or guest-physical where the source is a guest's memory.
     pub place: u64,

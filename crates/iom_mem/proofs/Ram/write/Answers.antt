@@ -1,4 +1,4 @@
-use Rattle.std.proofs.Common.{subst, sym, arith}
+use Rattle.std.proofs.Common.{subst, sym, arith, rules}
 use Rattle.std.proofs.lemmas.Grind.{common_steps}
 use Rattle.iom_mem.specs.Memory.{ReplacesBytes}
 use Rattle.iom_mem.proofs.Putting.{put_replaces}
@@ -12,3 +12,6 @@ pub returns-in-Some-clause-replaces : goal.returns-in-Some-clause-replaces
 returns-in-Some-clause-replaces c =
     subst (λ m. ReplacesBytes c.args.self.now c.args.addr c.args.bytes.now m) (sym (returns-in-Some-clause-written c))
     (put_replaces c.args.self.now c.args.addr c.in-Some.at c.args.bytes.now c.in-Some.ensures.place.0 c.in-Some.ensures.place.1)
+
+pub returns-in-None-clause-unchanged : goal.returns-in-None-clause-unchanged
+returns-in-None-clause-unchanged c = search rules

@@ -9,3 +9,11 @@ returns-then-is_served c = search rules
 pub returns-else-is_served : goal.returns-else-is_served
 unfolding status_of
 returns-else-is_served c = search rules
+
+pub returns-else-kind-eq-FLUSH : goal.returns-else-kind-eq-FLUSH
+unfolding status_of
+returns-else-kind-eq-FLUSH c = search rules
+
+pub returns-then-has_bit : goal.returns-then-has_bit
+unfolding status_of
+returns-then-has_bit c = search rules

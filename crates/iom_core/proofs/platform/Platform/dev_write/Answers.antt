@@ -16,8 +16,8 @@ invariant_of-self c =
     let there : slice_get devices c.args.dev ≡ Some own = slice_get-get_or devices c.args.dev own inside ∙ ap (λ (o : ℕ × Device). Some o) (sym c.index_mut.ensures.value) in
     fits_set devices c.args.dev (own.0, c.written.new.device) c.self.invariant (fits_at devices c.args.dev own c.self.invariant there)
 
-pub returns-clause-answer : goal.returns-clause-answer
-returns-clause-answer c =
+pub returns-then-n-len-clause-answer : goal.returns-then-n-len-clause-answer
+returns-then-n-len-clause-answer c =
     let devices = c.self.inside.devices.items in
     let own = c.index_mut.result.now in
     let inside : c.args.dev < length devices = grind (arith, common_steps) in
@@ -25,8 +25,8 @@ returns-clause-answer c =
     subst (λ (s : State). c.written.result ≡ (dev_written s c.args.dev (slice_get s.devices c.args.dev) c.args.off c.args.size c.args.value).answer)
     c.self.view_is (rw there c.written.ensures.answer)
 
-pub returns-clause-state : goal.returns-clause-state
-returns-clause-state c =
+pub returns-then-n-len-clause-state : goal.returns-then-n-len-clause-state
+returns-then-n-len-clause-state c =
     let devices = c.self.inside.devices.items in
     let own = c.index_mut.result.now in
     let inside : c.args.dev < length devices = grind (arith, common_steps) in

@@ -1,4 +1,4 @@
-use Rattle.std.proofs.Common.{sym, ap, subst, ◌∙◌, arith}
+use Rattle.std.proofs.Common.{sym, ap, subst, ◌∙◌, arith, rules}
 use Rattle.std.proofs.lemmas.Grind.{common_steps}
 use Rattle.iom_regs.specs.Controls.{IsCqcsr, IsFqcsr}
 use Rattle.iom_regs.specs.Table.{Registers}
@@ -21,3 +21,6 @@ returns-clause-fqcsr c = λ at.
     (sym (ap (λ (r : Registers). r.fqcsr) (returns-clause-written c)
     ∙ fqcsr_written c.args.self.now c.args.off c.args.size c.args.value (sym c.is_legal.ensures ∙ c.if-not-is_legal.false) at))
     (fqcsr_bits c.args.self.now.fqcsr c.args.value)
+
+pub invariant_of-self : goal.invariant_of-self
+invariant_of-self c = search rules

@@ -25,3 +25,7 @@ returns-else-addr-len-clause-room c = search rules
 pub returns-else-addr-len-clause-fits : goal.returns-else-addr-len-clause-fits
 unfolding refusal_of
 returns-else-addr-len-clause-fits c = search rules
+
+pub returns-then-self-clause-refusal : goal.returns-then-self-clause-refusal
+unfolding refusal_of
+returns-then-self-clause-refusal c = search rules

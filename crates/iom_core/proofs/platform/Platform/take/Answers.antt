@@ -1,0 +1,11 @@
+use Rattle.std.proofs.Common.{rules}
+use Rattle.iom_core.specs.Table.{next, asked}
+use Rattle.iom_core.proofs.platform.Platform.take.Goals as goal
+
+pub returns-in-Device-clause-answer : goal.returns-in-Device-clause-answer
+unfolding next asked
+returns-in-Device-clause-answer c = search rules
+
+pub returns-in-Device-clause-state : goal.returns-in-Device-clause-state
+unfolding next asked
+returns-in-Device-clause-state c = search rules
