@@ -127,11 +127,11 @@ fn digit_in(radix: u64, c: u8) -> Option<u64>
     if value < radix { Some(value) } else { None }
 }
 
-/// So many digits of any radix write a number below 2^64.
+// So many digits of a radix up to 16 write a number below 2^64.
 const SURE_DIGITS: usize = 16;
 
-// The number that digits of a radix write up to the end of their word, and what follows that. Of so many as are sure it needs no test
-// that it is below 2^64.
+// The number that digits of a radix write up to the end of their word, and what follows that. Up to `SURE_DIGITS` digits
+// need no test that it is below 2^64.
 #[inline(always)]
 fn take_digits(radix: u64, text: &[u8]) -> Option<(u64, &[u8])>
     requires least { 2 ≤ radix }
