@@ -2,7 +2,7 @@ ghost use Rattle.std.specs.Prelude.{◌≡◌};
 
 /// What an access does: the kind of its transaction, TTYP of a fault record (RISC-V IOMMU Architecture 1.0, "Fault/Event-Queue
 /// (FQ)").
-#[derive(Clone, Copy, Debug, PartialEq)]
+#[derive(Clone, Copy, PartialEq)]
 pub enum Kind {
     /// It reads memory: TTYP 2, an untranslated read.
     Read,
@@ -11,7 +11,7 @@ pub enum Kind {
 }
 
 /// Why a device's access is denied (RISC-V IOMMU Architecture 1.0, "Fault/Event-Queue", CAUSE).
-#[derive(Clone, Copy, Debug, PartialEq)]
+#[derive(Clone, Copy, PartialEq)]
 pub enum Cause {
     /// Read or write access fault, 5 or 7: an entry of a page table of either stage lies outside memory.
     Access(Kind),

@@ -4,7 +4,7 @@ use iom_bits::Cause;
 use iom_virtq::ChainFault;
 
 /// Why a device broke: the error from which it can't recover, so that it set DEVICE_NEEDS_RESET (VIRTIO 1.2, "Device Status Field").
-#[derive(Clone, Copy, PartialEq)]
+#[derive(Clone, Copy)]
 pub enum Broken {
     /// The idx of the available ring is ahead of the requests that were taken by more than the queue size ("The Virtqueue
     /// Available Ring").

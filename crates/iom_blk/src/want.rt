@@ -31,7 +31,7 @@ impl Want {
 }
 
 /// What a step of a device was.
-#[derive(Clone, Copy, Debug, PartialEq)]
+#[derive(Clone, Copy, PartialEq)]
 pub enum Moved {
     /// There was nothing to do.
     Idle,

@@ -5,7 +5,7 @@ use iom_bits::Kind;
 use iom_ddt::Context;
 
 /// What a translation is found by in the translation cache, the IOTLB ("Caching in-memory data structures").
-#[derive(Clone, Copy, Debug, PartialEq)]
+#[derive(Clone, Copy, PartialEq)]
 pub struct Key {
     /// The device id, 24 bits.
     pub did: u32,

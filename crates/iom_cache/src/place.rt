@@ -1,5 +1,5 @@
 /// What stands at a place of a cache: of the IOTLB or of the DDTC.
-#[derive(Clone, Copy, Debug, PartialEq)]
+#[derive(Clone, Copy, PartialEq)]
 pub enum Place<K, V> {
     /// It is beyond the last place.
     Beyond,

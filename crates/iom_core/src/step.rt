@@ -63,7 +63,7 @@ pub enum Step {
 }
 
 /// What a step answers.
-#[derive(Debug, Drop, PartialEq)]
+#[derive(Drop, PartialEq)]
 pub enum Answer {
     /// The number that was read, the lowest byte first.
     Value(u64),

@@ -1,5 +1,5 @@
 /// Where the translation comes from that a device's access used, as numbers of steps: moment k is the state before step k.
-#[derive(Clone, Copy, Debug, PartialEq)]
+#[derive(Clone, Copy, PartialEq)]
 pub enum Warrant {
     /// ddtp's mode was Bare: the physical address was the IOVA.
     Register,

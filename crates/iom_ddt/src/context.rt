@@ -4,7 +4,7 @@ ghost use Rattle.std.specs.Prelude.{◌≡◌, ◌↔◌, IsTrue};
 ///
 /// It is well formed where `gmode` and `mode` are 0, 8 or 9, `gppn` is a multiple of 4 unless `gmode` is 0, and
 /// each field fits the bits that are named at it.
-#[derive(Clone, Copy, Debug, PartialEq)]
+#[derive(Clone, Copy, PartialEq)]
 pub struct Context {
     /// iohgatp.PPN, 44 bits: the second stage's root table, its physical address divided by 4096.
     pub gppn: u64,

@@ -1,7 +1,8 @@
 //! The fields of an image, read from the front.
 
-ghost use Rattle.std.specs.Prelude.{◌≡◌, ◌+◌, ◌*◌, ◌≤◌, ◌<◌, ◌^◌, IfOk, length};
-ghost use Rattle.iom_image.specs.Image.{is_new_id, is_disk_size};
+ghost use Rattle.std.specs.Prelude.{◌≡◌, ◌+◌, ◌*◌, ◌≤◌, ◌<◌, ◌^◌, ◌||◌, IfOk, IfSome, bytes_eq, false, length, true};
+ghost use Rattle.std.specs.Option.{is_some};
+ghost use Rattle.iom_image.specs.Image.{is_new_id, is_disk_size, magic_of};
 ghost use Rattle.iom_image.specs.Reading.{Reads, part_at, number_at, head_at, chunk_at, flags_at, disk_at};
 
 use crate::fault::LoadFault;
@@ -78,6 +79,19 @@ fn u64_of(bytes: &[u8]) -> Result<(u64, &[u8]), LoadFault>
     Ok((number, rest))
 }
 
+// Whether disks have flags, as the first eight bytes of an image tell it; None where they are those of no image.
+fn flags_told(magic: &[u8]) -> Option<bool>
+    ensures known { is_some result ≡ (bytes_eq magic.now (magic_of false) || bytes_eq magic.now (magic_of true)) }
+    ensures flags { IfSome result (λ flags. flags ≡ bytes_eq magic.now (magic_of true)) }
+{
+    let flagged = magic == b"RVIOMMU2".as_slice();
+    if flagged || magic == b"RVIOMMU1".as_slice() {
+        Some(flagged)
+    } else {
+        None
+    }
+}
+
 /// The first 32 bytes of an image, and the bytes after them. The refusals are `Truncated`, `BadMagic`, `BadRam` and `BadDevice` for
 /// more than 8 disks.
 #[tactic(auto, unfolding(crate::specs::Reading::head_at))]
@@ -89,10 +103,9 @@ pub fn header_of(bytes: &[u8]) -> Result<(Header, &[u8]), LoadFault>
     ensures few { IfOk result (λ x. x.0.disks ≤ 8) }
 {
     let (magic, rest) = front(8, bytes)?;
-    let has_flags = magic == b"RVIOMMU2".as_slice();
-    if magic != b"RVIOMMU1".as_slice() && !has_flags {
+    let Some(has_flags) = flags_told(magic) else {
         return Err(LoadFault::BadMagic);
-    }
+    };
     let (base, rest) = u64_of(rest)?;
     let (size, rest) = u64_of(rest)?;
     let (chunks, rest) = u32_of(rest)?;

@@ -2,7 +2,7 @@ ghost use Rattle.std.specs.Prelude.{◌≡◌, ◌*◌};
 ghost use Rattle.iom_items.specs.Items.{item_named, words_in};
 
 /// What some words of memory are read as.
-#[derive(Clone, Copy, Debug, PartialEq)]
+#[derive(Clone, Copy, PartialEq)]
 pub enum Item {
     /// A command of the command queue, 16 bytes.
     Cmd,

@@ -65,7 +65,7 @@ pub fn covers(base: u64, end: u64, addr: u64, len: u64) -> bool
 
 /// One region of memory, of 4096 bytes to 64 MiB, below 2^56. Its addresses are physical, in bytes; what isn't in it is called
 /// outside.
-#[derive(Debug, Drop)]
+#[derive(Drop)]
 pub struct Ram {
     base: u64,
     words: Vec<u64>,

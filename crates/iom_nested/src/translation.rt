@@ -14,7 +14,7 @@ use iom_mem::Ram;
 use iom_walk::{Outcome, PathEntries, Shape, walk, walk_listed};
 
 /// Where a page of IOVAs leads: what an entry of the translation cache, the IOTLB, says.
-#[derive(Clone, Copy, Debug, PartialEq)]
+#[derive(Clone, Copy, PartialEq)]
 pub struct Hit {
     /// The PPN of the page's frame, 44 bits: its physical address divided by 4096.
     pub frame: u64,
@@ -25,7 +25,7 @@ pub struct Hit {
 }
 
 /// Why an IOVA leads nowhere.
-#[derive(Clone, Copy, Debug, PartialEq)]
+#[derive(Clone, Copy, PartialEq)]
 pub struct Fault {
     /// The cause for the fault record: 5, 7, 13, 15, 21 or 23 as a number.
     pub cause: Cause,
@@ -35,7 +35,7 @@ pub struct Fault {
 }
 
 /// Where the first stage leads an IOVA.
-#[derive(Clone, Copy, Debug, PartialEq)]
+#[derive(Clone, Copy)]
 pub struct Reached {
     /// The guest-physical address under a second stage, else the physical one; the IOVA itself where the first stage is
     /// Bare.

@@ -7,7 +7,7 @@ use iom_bits::{field, has_bit};
 
 /// A command of the command queue, 16 bytes in memory (RISC-V IOMMU Architecture 1.0, "Command-Queue (CQ)"). An operand whose valid
 /// bit is 0 is kept and means nothing.
-#[derive(Clone, Copy, Debug, PartialEq)]
+#[derive(Clone, Copy, PartialEq)]
 pub enum Command {
     /// IOTINVAL.VMA ("IOTINVAL"): drops first-stage translations.
     Vma {

@@ -10,7 +10,7 @@ use iom_regs::{Regs, Which};
 const COMMAND_SIZE: u64 = 16;
 
 /// What the command unit finds (RISC-V IOMMU Architecture 1.0, "Command-Queue (CQ)").
-#[derive(Clone, Copy, Debug, PartialEq)]
+#[derive(Clone, Copy, PartialEq)]
 pub enum Fetch {
     /// There is nothing to do: the queue is off, stopped by cqmf or cmd_ill, or empty.
     Idle,

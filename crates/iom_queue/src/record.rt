@@ -6,7 +6,7 @@ use crate::fields::{flag_at, operand};
 use iom_bits::{Cause, Kind, field, has_bit};
 
 /// A fault record, 32 bytes in memory (RISC-V IOMMU Architecture 1.0, "Fault/Event-Queue (FQ)").
-#[derive(Clone, Copy, Debug, PartialEq)]
+#[derive(Clone, Copy, PartialEq)]
 pub struct Record {
     /// CAUSE, 12 bits.
     pub cause: u16,

@@ -1,5 +1,5 @@
 /// What stands between a device and memory: ddtp.iommu_mode ("Device-directory-table pointer (ddtp)").
-#[derive(Clone, Copy, Debug, PartialEq)]
+#[derive(Clone, Copy, PartialEq)]
 pub enum Mode {
     /// Off, 0: all inbound transactions are disallowed.
     Off,
@@ -19,7 +19,7 @@ pub enum Which {
 }
 
 /// A queue as its registers tell it ("In-memory queue interface").
-#[derive(Clone, Copy, Debug, PartialEq)]
+#[derive(Clone, Copy, PartialEq)]
 pub struct Queue {
     /// Whether it is on: cqon or fqon.
     pub on: bool,

@@ -3,7 +3,7 @@
 use iom_bits::Cause;
 
 /// How a bus answers a device's access.
-#[derive(Clone, Copy, Debug, PartialEq)]
+#[derive(Clone, Copy)]
 pub enum Access {
     /// All bytes were read, or written.
     Ok,

@@ -13,7 +13,7 @@ pub enum Side {
 }
 
 /// What comes after a descriptor.
-#[derive(Clone, Copy, Debug, PartialEq)]
+#[derive(Clone, Copy, PartialEq)]
 pub enum More {
     /// The descriptor at this index, below the chain's limit.
     Next(u16),
@@ -22,7 +22,7 @@ pub enum More {
 }
 
 /// Why a descriptor can't be a chain's next part (VIRTIO 1.2, "The Virtqueue Descriptor Table").
-#[derive(Clone, Copy, Debug, PartialEq)]
+#[derive(Clone, Copy, PartialEq)]
 pub enum ChainFault {
     /// It is an indirect one, VIRTQ_DESC_F_INDIRECT, which was never offered.
     Indirect,

@@ -8,7 +8,7 @@ use crate::entry::{GLOBAL, pages_of, ppn_of};
 use iom_bits::has_bit;
 
 /// A mapping that a walk found.
-#[derive(Clone, Copy, Debug, PartialEq)]
+#[derive(Clone, Copy, PartialEq)]
 pub struct Leaf {
     /// The address that the walk's address stands for, divided by 4096; below 2^44. It is a physical address,
     /// or a guest-physical one where another stage follows.
@@ -21,7 +21,7 @@ pub struct Leaf {
 }
 
 /// How a walk ends.
-#[derive(Clone, Copy, Debug, PartialEq)]
+#[derive(Clone, Copy, PartialEq)]
 pub enum Outcome {
     /// The address is mapped.
     Leaf(Leaf),

@@ -4,7 +4,7 @@ ghost use Rattle.std.specs.Prelude.{◌≡◌, ℕ};
 ghost use Rattle.iom_walk.specs.declared.source.Got.{Got};
 
 /// What a source of words has at an address: what a fetch of a page-table entry comes back with.
-#[derive(Clone, Copy, Debug, PartialEq)]
+#[derive(Clone, Copy, PartialEq)]
 pub enum Got {
     /// The eight bytes there as a number, the lowest byte first.
     Word(u64),

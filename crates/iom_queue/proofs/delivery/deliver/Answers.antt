@@ -9,3 +9,11 @@ returns-then-is_full-clause-memory c = search rules
 pub returns-then-is_full-clause-unchanged : goal.returns-then-is_full-clause-unchanged
 unfolding delivered is_stored
 returns-then-is_full-clause-unchanged c = search rules
+
+pub returns-else-write-clause-registers : goal.returns-else-write-clause-registers
+unfolding delivered is_stored
+returns-else-write-clause-registers c = search rules
+
+pub returns-then-write-clause-registers : goal.returns-then-write-clause-registers
+unfolding delivered is_stored
+returns-then-write-clause-registers c = search rules

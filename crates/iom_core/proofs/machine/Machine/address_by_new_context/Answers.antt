@@ -1,4 +1,4 @@
-use Rattle.std.proofs.Common.{Some}
+use Rattle.std.proofs.Common.{Some, rules}
 use Rattle.iom_cache.specs.Entries.{HoldsContext}
 use Rattle.iom_cache.proofs.Live.{live_filled}
 use Rattle.iom_core.specs.State.{context_room}
@@ -10,3 +10,6 @@ invariant_of-self c = (
       (live_filled HoldsContext context_room (Some (c.args.request.now.did, c.in-Ok.context)) c.self-in-Ok.inside.contexts c.self-in-Ok.invariant.0 c.in-Ok.ensures.sound),
   c.self-in-Ok.invariant.1,
 )
+
+pub returns-in-Ok-clause-address : goal.returns-in-Ok-clause-address
+returns-in-Ok-clause-address c = search rules

@@ -1,7 +1,7 @@
-use Rattle.std.proofs.Common.{◌≡◌, ◌∙◌, ◌<◌, ℕ, length, Some, refl, sym, ap, subst, arith}
+use Rattle.std.proofs.Common.{◌≡◌, ◌∙◌, ◌<◌, ℕ, length, None, Some, refl, sym, ap, subst, arith}
 use Rattle.std.specs.Prelude.{slice_get}
 use Rattle.std.proofs.lemmas.Grind.{common_steps}
-use Rattle.std.proofs.lemmas.Option.{slice_get-get_or}
+use Rattle.std.proofs.lemmas.Option.{slice_get-get_or, slice_get_past}
 use Rattle.iom_blk.specs.Device.{Device}
 use Rattle.iom_core.specs.State.{State}
 use Rattle.iom_core.specs.Table.{dev_written}
@@ -32,3 +32,8 @@ returns-then-n-len-clause-state c =
     let inside : c.args.dev < length devices = grind (arith, common_steps) in
     let there : slice_get devices c.args.dev ≡ Some own = slice_get-get_or devices c.args.dev own inside ∙ ap (λ (o : ℕ × Device). Some o) (sym c.index_mut.ensures.value) in
     rw (sym c.self.view_is, there, c.written.ensures.left) refl
+
+pub returns-else-n-len-clause-answer : goal.returns-else-n-len-clause-answer
+returns-else-n-len-clause-answer c =
+    let past : slice_get c.self.inside.devices.items c.args.dev ≡ None = slice_get_past c.self.inside.devices.items c.args.dev (grind (arith, common_steps)) in
+    rw (sym c.self.view_is, past) refl
