@@ -53,7 +53,7 @@ pub struct Taken {
 }
 
 /// Which steps filled a place of the translation cache.
-#[derive(Clone, Copy, PartialEq)]
+#[derive(Clone, Copy, Debug, PartialEq)]
 pub struct Filled {
     /// The number of the step that had filled the context under which it walked.
     pub context: u64,

@@ -1,5 +1,5 @@
 /// Where the translation comes from that a device's access used, each step told by the number that its caller gave it.
-#[derive(Clone, Copy, PartialEq)]
+#[derive(Clone, Copy, Debug, PartialEq)]
 pub enum Origin {
     /// ddtp's mode was Bare: the physical address was the IOVA.
     Register,
