@@ -1,4 +1,5 @@
-use Rattle.std.proofs.Common.{arith}
+use Rattle.iom_image.specs.Reading.{image_of}
+use Rattle.std.proofs.Common.{arith, rules}
 use Rattle.iom_core.specs.State.{opening}
 use Rattle.iom_image.proofs.Filling.{image_built}
 use Rattle.iom_image.proofs.Started.{devices_started}
@@ -12,3 +13,7 @@ new-requires c =
 pub returns : goal.returns
 returns c =
     rw c.in_ok-new.ensures (image_built c.args.bytes.now _ _ _ _ _ c.in_ok-header.ensures.read (rw c.in_ok-ram.ensures.made at c.in_ok-rest.ensures) c.in_ok-devices.ensures c.requires)
+
+pub returns-in_err-devices : goal.returns-in_err-devices
+unfolding image_of
+returns-in_err-devices c = search rules
