@@ -10,7 +10,7 @@ mod broken;
 mod bytes;
 mod device;
 mod flags;
-mod offsets;
+pub mod offsets;
 mod phase;
 mod registers;
 mod request;

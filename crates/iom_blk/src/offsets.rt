@@ -9,6 +9,9 @@ pub const VERSION: u64 = 0x004;
 /// DeviceID.
 pub const DEVICE_ID: u64 = 0x008;
 
+/// VendorID.
+pub const VENDOR_ID: u64 = 0x00c;
+
 /// DeviceFeatures.
 pub const DEVICE_FEATURES: u64 = 0x010;
 
@@ -74,6 +77,9 @@ pub const SHM_BASE_LOW: u64 = 0x0b8;
 
 /// SHMBaseHigh.
 pub const SHM_BASE_HIGH: u64 = 0x0bc;
+
+/// ConfigGeneration.
+pub const CONFIG_GENERATION: u64 = 0x0fc;
 
 /// Where the configuration begins.
 pub const CONFIG: u64 = 0x100;

@@ -9,7 +9,6 @@ ghost use Rattle.iom_core.specs.declared.step.Step.TheVariants as step;
 ghost use Rattle.iom_core.specs.Warrants.{Explains, IsUncached, request_at, way_at};
 
 use crate::access::Request;
-use crate::machine::Machine;
 use crate::platform::device_request;
 use crate::{Answer, Platform, Step, Warrant};
 use iom_bits::Kind;
@@ -184,7 +183,18 @@ impl Platform {
         if is_denial(&self.step(step)) {
             return None;
         }
-        Some((request, self.machine.leading_context(request.did)))
+        Some((request, self.leading_context(request.did)))
+    }
+
+    /// The context by which an access of device `did` was led that was let through in the last step: that of its live place; None: ddtp
+    /// alone led it.
+    pub fn leading_context(&self, did: u32) -> Option<Context>
+        ensures { result ≡ leading_context self.now.machine did }
+    {
+        match self.machine.registers.mode() {
+            Mode::Bare => None,
+            _ => self.machine.contexts.find(did),
+        }
     }
 
     // Whether a live place has the entry.
@@ -198,19 +208,8 @@ impl Platform {
     }
 }
 
-impl Machine {
-    // The context by which a device that was let through was led; None: ddtp alone led it.
-    fn leading_context(&self, did: u32) -> Option<Context>
-        ensures { result ≡ leading_context self.now did }
-    {
-        match self.registers.mode() {
-            Mode::Bare => None,
-            _ => self.contexts.find(did),
-        }
-    }
-}
-
-fn is_denial(answer: &Answer) -> bool
+/// Whether an answer is a denial: `Denied`, with any cause.
+pub fn is_denial(answer: &Answer) -> bool
     ensures { result ≡ is_denial answer.now }
 {
     matches!(answer, Answer::Denied(_))

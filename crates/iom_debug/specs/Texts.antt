@@ -1,10 +1,10 @@
 -- The texts of answers.
 use Rattle.std.specs.Prelude.{ℕ, ◌+◌, ◌*◌, ◌++◌, nat_le, List, [], length, take, drop, codes, Option, Some, None, if◌then◌else◌}
 use Rattle.hex.specs.Hex.{encode_lower}
-use Rattle.iom_bits.specs.Bits.{flag, has_bit}
+use Rattle.iom_bits.specs.Bits.{flag}
 use Rattle.iom_text.specs.Texts.{hexed}
 use Rattle.iom_regs.specs.Table.{Registers}
-use Rattle.iom_regs.specs.Views.{queue_of}
+use Rattle.iom_regs.specs.Views.{command_errors_of, fault_errors_of, queue_of}
 use Rattle.iom_regs.specs.declared.views.Queue.{Queue}
 use Rattle.iom_regs.specs.declared.views.Which.{Which}
 use Rattle.iom_regs.specs.declared.views.Which.TheVariants.{Commands, Faults}
@@ -19,13 +19,15 @@ use Rattle.iom_blk.specs.declared.phase.Phase.TheVariants as phase
 use Rattle.iom_core.specs.State.{disk_of}
 use Rattle.iom_items.specs.Lines.{operand}
 
--- What stopped a queue. RISC-V IOMMU Architecture 1.0, "Command-queue CSR (cqcsr)": cmd_ill, bit 10, and cqmf, bit 8; "Fault queue CSR
--- (fqcsr)": fqof, bit 9, and fqmf, bit 8
+-- What stopped a queue. RISC-V IOMMU Architecture 1.0, "Command-queue CSR (cqcsr)": cmd_ill and cqmf; "Fault queue CSR (fqcsr)": fqof and
+-- fqmf
 unfoldable pub stop_text : Registers → Which → List ℕ
 stop_text r Commands =
-    if has_bit r.cqcsr 10 then codes "illegal" else if has_bit r.cqcsr 8 then codes "fault" else codes "none"
+    if (command_errors_of r).illegal then codes "illegal"
+    else if (command_errors_of r).memory_fault then codes "fault" else codes "none"
 stop_text r Faults =
-    if has_bit r.fqcsr 9 then codes "full" else if has_bit r.fqcsr 8 then codes "fault" else codes "none"
+    if (fault_errors_of r).overflow then codes "full"
+    else if (fault_errors_of r).memory_fault then codes "fault" else codes "none"
 
 -- a queue by its registers; its base is a physical address
 unfoldable pub view_text : Queue → List ℕ

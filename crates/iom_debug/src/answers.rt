@@ -17,7 +17,7 @@ use crate::standings::{context_standing_line, page_standing_line};
 use crate::text::{push_bytes, push_hexed, push_operand, push_text, said};
 use crate::walks::walk_line;
 use crate::ways::stale_line;
-use iom_bits::{flag, has_bit};
+use iom_bits::flag;
 use iom_blk::{Blk, Broken, Phase, Want};
 use iom_core::Platform;
 use iom_mem::Ram;
@@ -76,16 +76,26 @@ fn stop_text(registers: &Regs, which: Which) -> &'static [u8]
     ensures short { length result.now ≤ 7 }
 {
     match which {
-        Which::Commands => match registers.read(72, 4) {
-            Some(control) if has_bit(control, 10) => b"illegal",
-            Some(control) if has_bit(control, 8) => b"fault",
-            _ => b"none",
-        },
-        Which::Faults => match registers.read(76, 4) {
-            Some(control) if has_bit(control, 9) => b"full",
-            Some(control) if has_bit(control, 8) => b"fault",
-            _ => b"none",
-        },
+        Which::Commands => {
+            let errors = registers.command_errors();
+            if errors.illegal {
+                b"illegal"
+            } else if errors.memory_fault {
+                b"fault"
+            } else {
+                b"none"
+            }
+        }
+        Which::Faults => {
+            let errors = registers.fault_errors();
+            if errors.overflow {
+                b"full"
+            } else if errors.memory_fault {
+                b"fault"
+            } else {
+                b"none"
+            }
+        }
     }
 }
 

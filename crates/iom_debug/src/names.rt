@@ -3,6 +3,9 @@
 ghost use Rattle.std.specs.Prelude.{◌≡◌};
 ghost use Rattle.iom_debug.specs.Names.{register_named, device_register, queue_register, mmio_named};
 
+use iom_blk::offsets;
+use iom_regs::{CAPABILITIES, CQB, CQCSR, CQH, CQT, DDTP, FCTL, FQB, FQCSR, FQH, FQT, IPSR};
+
 /// The offset and the size, in bytes, of the register of the IOMMU with this name (RISC-V IOMMU Architecture 1.0, "Memory-mapped
 /// register interface"); None where this model has none.
 #[tactic(auto, unfolding(crate::specs::Names::register_named))]
@@ -10,29 +13,29 @@ pub fn register_named(name: &[u8]) -> Option<(u64, u64)>
     ensures { result ≡ register_named name.now }
 {
     if name == b"capabilities".as_slice() {
-        Some((0, 8))
+        Some((CAPABILITIES, 8))
     } else if name == b"fctl".as_slice() {
-        Some((8, 4))
+        Some((FCTL, 4))
     } else if name == b"ddtp".as_slice() {
-        Some((16, 8))
+        Some((DDTP, 8))
     } else if name == b"cqb".as_slice() {
-        Some((24, 8))
+        Some((CQB, 8))
     } else if name == b"cqh".as_slice() {
-        Some((32, 4))
+        Some((CQH, 4))
     } else if name == b"cqt".as_slice() {
-        Some((36, 4))
+        Some((CQT, 4))
     } else if name == b"fqb".as_slice() {
-        Some((40, 8))
+        Some((FQB, 8))
     } else if name == b"fqh".as_slice() {
-        Some((48, 4))
+        Some((FQH, 4))
     } else if name == b"fqt".as_slice() {
-        Some((52, 4))
+        Some((FQT, 4))
     } else if name == b"cqcsr".as_slice() {
-        Some((72, 4))
+        Some((CQCSR, 4))
     } else if name == b"fqcsr".as_slice() {
-        Some((76, 4))
+        Some((FQCSR, 4))
     } else if name == b"ipsr".as_slice() {
-        Some((84, 4))
+        Some((IPSR, 4))
     } else {
         None
     }
@@ -44,29 +47,29 @@ fn device_register(name: &[u8]) -> Option<u64>
     ensures { result ≡ device_register name.now }
 {
     if name == b"MagicValue".as_slice() {
-        Some(0x00)
+        Some(offsets::MAGIC_VALUE)
     } else if name == b"Version".as_slice() {
-        Some(0x04)
+        Some(offsets::VERSION)
     } else if name == b"DeviceID".as_slice() {
-        Some(0x08)
+        Some(offsets::DEVICE_ID)
     } else if name == b"VendorID".as_slice() {
-        Some(0x0c)
+        Some(offsets::VENDOR_ID)
     } else if name == b"DeviceFeatures".as_slice() {
-        Some(0x10)
+        Some(offsets::DEVICE_FEATURES)
     } else if name == b"DeviceFeaturesSel".as_slice() {
-        Some(0x14)
+        Some(offsets::DEVICE_FEATURES_SEL)
     } else if name == b"DriverFeatures".as_slice() {
-        Some(0x20)
+        Some(offsets::DRIVER_FEATURES)
     } else if name == b"DriverFeaturesSel".as_slice() {
-        Some(0x24)
+        Some(offsets::DRIVER_FEATURES_SEL)
     } else if name == b"InterruptStatus".as_slice() {
-        Some(0x60)
+        Some(offsets::INTERRUPT_STATUS)
     } else if name == b"InterruptACK".as_slice() {
-        Some(0x64)
+        Some(offsets::INTERRUPT_ACK)
     } else if name == b"Status".as_slice() {
-        Some(0x70)
+        Some(offsets::STATUS)
     } else if name == b"ConfigGeneration".as_slice() {
-        Some(0xfc)
+        Some(offsets::CONFIG_GENERATION)
     } else {
         None
     }
@@ -78,27 +81,27 @@ fn queue_register(name: &[u8]) -> Option<u64>
     ensures { result ≡ queue_register name.now }
 {
     if name == b"QueueSel".as_slice() {
-        Some(0x30)
+        Some(offsets::QUEUE_SEL)
     } else if name == b"QueueNumMax".as_slice() {
-        Some(0x34)
+        Some(offsets::QUEUE_NUM_MAX)
     } else if name == b"QueueNum".as_slice() {
-        Some(0x38)
+        Some(offsets::QUEUE_NUM)
     } else if name == b"QueueReady".as_slice() {
-        Some(0x44)
+        Some(offsets::QUEUE_READY)
     } else if name == b"QueueNotify".as_slice() {
-        Some(0x50)
+        Some(offsets::QUEUE_NOTIFY)
     } else if name == b"QueueDescLow".as_slice() {
-        Some(0x80)
+        Some(offsets::QUEUE_DESC_LOW)
     } else if name == b"QueueDescHigh".as_slice() {
-        Some(0x84)
+        Some(offsets::QUEUE_DESC_HIGH)
     } else if name == b"QueueDriverLow".as_slice() {
-        Some(0x90)
+        Some(offsets::QUEUE_DRIVER_LOW)
     } else if name == b"QueueDriverHigh".as_slice() {
-        Some(0x94)
+        Some(offsets::QUEUE_DRIVER_HIGH)
     } else if name == b"QueueDeviceLow".as_slice() {
-        Some(0xa0)
+        Some(offsets::QUEUE_DEVICE_LOW)
     } else if name == b"QueueDeviceHigh".as_slice() {
-        Some(0xa4)
+        Some(offsets::QUEUE_DEVICE_HIGH)
     } else {
         None
     }

@@ -16,10 +16,9 @@ use crate::notes::{
 };
 use arrayvec::ArrayVec;
 use iom_cache::{Key, Place, key_of};
-use iom_core::{Answer, Platform, Request, Step};
+use iom_core::{Answer, Platform, Request, Step, is_denial};
 use iom_ddt::Context;
 use iom_nested::Hit;
-use iom_regs::Mode;
 use std::marker::Model;
 
 /// Which steps filled what a platform's caches hold, each by the number that its caller gave it.
@@ -275,7 +274,7 @@ impl History {
         ensures { result ≡ origin_by self.now platform.now request.now number
             (leading_context platform.now.machine request.now.did) }
     {
-        let Some(context) = leading_context(platform, request.did) else {
+        let Some(context) = platform.leading_context(request.did) else {
             return Origin::Register;
         };
         let current = self.context_number(platform, request.did, number);
@@ -313,22 +312,6 @@ fn number_at(notes: &[u64], place: usize, number: u64) -> u64
     ensures { result ≡ get_or notes.now place number }
 {
     notes.get(place).copied().unwrap_or(number)
-}
-
-// The context by which a device that was let through was led; None: ddtp alone led it.
-fn leading_context(platform: &Platform, did: u32) -> Option<Context>
-    ensures { result ≡ leading_context platform.now.machine did }
-{
-    match platform.registers().mode() {
-        Mode::Bare => None,
-        _ => platform.contexts().find(did),
-    }
-}
-
-fn is_denial(answer: &Answer) -> bool
-    ensures { result ≡ is_denial answer.now }
-{
-    matches!(answer, Answer::Denied(_))
 }
 
 fn is_same_context(place: &Place<u32, Context>, other: &Place<u32, Context>) -> bool

@@ -21,8 +21,11 @@ pub const CQT: u64 = 36;
 /// fqb, 8 bytes.
 pub const FQB: u64 = 40;
 
-/// fqh, 4 bytes; fqt stands behind it.
+/// fqh, 4 bytes.
 pub const FQH: u64 = 48;
+
+/// fqt, 4 bytes.
+pub const FQT: u64 = 52;
 
 /// cqcsr, 4 bytes.
 pub const CQCSR: u64 = 72;

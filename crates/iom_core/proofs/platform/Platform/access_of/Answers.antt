@@ -2,7 +2,7 @@ use Rattle.std.proofs.Common.{◌≡◌, ◌∙◌, Option, false, true, ap, sub
 use Rattle.iom_ddt.specs.declared.context.Context.{Context}
 use Rattle.iom_core.specs.Access.{led}
 use Rattle.iom_core.specs.Histories.{IsLedBy, is_denial, leading_context}
-use Rattle.iom_core.specs.State.{Machine, State}
+use Rattle.iom_core.specs.State.{State}
 use Rattle.iom_core.specs.Table.{next}
 use Rattle.iom_core.proofs.Passed.{denied, passed}
 use Rattle.iom_core.proofs.platform.Platform.access_of.Goals as goal
@@ -18,9 +18,8 @@ returns c =
     let request = c.in_ok-request.request in
     let answered : is_denial (next c.args.self.now c.args.step.now).answer ≡ false =
     sym (ap is_denial c.step.ensures.answer) ∙ sym c.is_denial.ensures ∙ c.if-is_denial.false in
-    let left : c.self.inside.machine ≡ (next c.args.self.now c.args.step.now).state.machine = ap (λ (s : State). s.machine) (c.self.view_is ∙ c.step.ensures.state) in
     let by : c.leading_context.result ≡ leading_context (next c.args.self.now c.args.step.now).state.machine request.did =
-    c.leading_context.ensures ∙ ap (λ (m : Machine). leading_context m request.did) left in (
+    c.leading_context.ensures ∙ ap (λ (s : State). leading_context s.machine request.did) c.step.ensures.state in (
       sym c.in_ok-request.ensures.request,
       subst (λ (found : Option Context). IsLedBy (led c.args.self.now.machine request).way found) (sym by)
           (passed c.args.self.now c.args.step.now request (sym c.in_ok-request.ensures.request) answered),

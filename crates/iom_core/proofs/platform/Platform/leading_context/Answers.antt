@@ -1,5 +1,5 @@
 use Rattle.std.proofs.Common.{rules}
-use Rattle.iom_core.proofs.machine.Machine.leading_context.Goals as goal
+use Rattle.iom_core.proofs.platform.Platform.leading_context.Goals as goal
 
 pub returns-in-Bare : goal.returns-in-Bare
 returns-in-Bare c = search rules
