@@ -135,3 +135,28 @@ pub image_built : (bytes : List ℕ) (head : Head) (after : List ℕ) (memory : 
 unfolding image_of
 image_built bytes head after memory rest devices first full made ok =
     rw first (chunks_built head (chunks_at head.base head.size 0 head.chunks after) memory rest devices full made (rw first at ok))
+
+-- Such an image has no disk that is refused.
+disks_refused : (head : Head) (chunks : List Chunk) (read : Read (List Disk)) (fault : LoadFault) → joined [] read ≡ Err fault →
+    IsOk (ends head chunks read) → mapped state_from (ends head chunks read) ≡ Err fault
+disks_refused head chunks (Ok x) fault made ok = absurd cc
+disks_refused head chunks (Err other) fault made ok = absurd cc
+
+chunks_before_refused : (head : Head) (read : Read (List Chunk)) (memory : Memory) (rest : List ℕ) (fault : LoadFault) →
+    filled (zeroed head.base head.size) read ≡ Ok (memory, rest) → joined [] (disks_at head.has_flags [] head.disks rest) ≡ Err fault →
+    IsOk (read >>= λ chunks. ends head chunks.0 (disks_at head.has_flags [] head.disks chunks.1)) →
+    mapped state_from (read >>= λ chunks. ends head chunks.0 (disks_at head.has_flags [] head.disks chunks.1)) ≡ Err fault
+chunks_before_refused head (Ok x) memory rest fault full made ok =
+    let both = ok_is (with_chunks (zeroed head.base head.size) x.0, x.1) (memory, rest) full in
+    let left : x.1 ≡ rest = ap (λ (p : Memory × List ℕ). p.1) both in
+    disks_refused head x.0 (disks_at head.has_flags [] head.disks x.1) fault (rw left made) ok
+chunks_before_refused head (Err other) memory rest fault full made ok = absurd cc
+
+pub image_refused : (bytes : List ℕ) (head : Head) (after : List ℕ) (memory : Memory) (rest : List ℕ) (fault : LoadFault) →
+    head_at bytes ≡ Ok (head, after) →
+    filled (zeroed head.base head.size) (chunks_at head.base head.size 0 head.chunks after) ≡ Ok (memory, rest) →
+    joined [] (disks_at head.has_flags [] head.disks rest) ≡ Err fault → IsOk (image_of bytes) →
+    mapped state_from (image_of bytes) ≡ Err fault
+unfolding image_of
+image_refused bytes head after memory rest fault first full made ok =
+    rw first (chunks_before_refused head (chunks_at head.base head.size 0 head.chunks after) memory rest fault full made (rw first at ok))

@@ -36,25 +36,27 @@ pub record Head : Type 0 where
   pub chunks : ℕ
   pub disks : ℕ
 
+-- the head of an image of this version, from behind its first eight bytes on
+abbrev pub head_of : Bool → List ℕ → Read Head
+head_of has_flags bytes = do
+  base ← number_at 8 bytes
+  size ← number_at 8 base.1
+  chunks ← number_at 4 size.1
+  disks ← number_at 4 chunks.1
+  checked (is_paged base.0 && is_good_size base.0 size.0) BadRam (checked (nat_le disks.0 8) BadDevice
+      (Ok (record { has_flags = has_flags; base = base.0; size = size.0; chunks = chunks.0; disks = disks.0 }, disks.1)))
+
 unfoldable pub head_at : List ℕ → Read Head
 head_at bytes = do
   magic ← part_at 8 bytes
-  checked (bytes_eq magic.0 (magic_of false) || bytes_eq magic.0 (magic_of true)) BadMagic (do
-    base ← number_at 8 magic.1
-    size ← number_at 8 base.1
-    chunks ← number_at 4 size.1
-    disks ← number_at 4 chunks.1
-    checked (is_paged base.0 && is_good_size base.0 size.0) BadRam (checked (nat_le disks.0 8) BadDevice
-        (Ok (
-          record {
-            has_flags = bytes_eq magic.0 (magic_of true);
-            base = base.0;
-            size = size.0;
-            chunks = chunks.0;
-            disks = disks.0;
-          },
-          disks.1,
-        ))))
+  checked (bytes_eq magic.0 (magic_of false) || bytes_eq magic.0 (magic_of true)) BadMagic
+      (head_of (bytes_eq magic.0 (magic_of true)) magic.1)
+
+-- a chunk of this address with so many bytes, from the first of them on
+abbrev pub chunk_of : ℕ → ℕ → List ℕ → Read Chunk
+chunk_of addr len bytes = do
+  text ← part_at len bytes
+  Ok (record { addr = addr; bytes = text.0 }, text.1)
 
 -- a chunk of a memory that is not below `end`
 unfoldable pub chunk_at : ℕ → ℕ → ℕ → List ℕ → Read Chunk
@@ -62,9 +64,7 @@ chunk_at base size end bytes = do
   addr ← number_at 8 bytes
   checked (nat_le end addr.0) BadChunk (do
     len ← number_at 4 addr.1
-    checked (nat_lt 0 len.0 && covers base (base + size) addr.0 len.0) BadChunk (do
-      text ← part_at len.0 len.1
-      Ok (record { addr = addr.0; bytes = text.0 }, text.1)))
+    checked (nat_lt 0 len.0 && covers base (base + size) addr.0 len.0) BadChunk (chunk_of addr.0 len.0 len.1))
 
 unfoldable pub chunks_at : ℕ → ℕ → ℕ → ℕ → List ℕ → Read (List Chunk)
 chunks_at base size end zero bytes = Ok ([], bytes)
@@ -80,18 +80,22 @@ flags_at true bytes = do
   flags ← number_at 4 bytes
   checked (nat_le flags.0 1) BadDevice (Ok (flags.0 == 1, flags.1))
 
+-- a disk of this id with so many sectors, from its flags on
+abbrev pub disk_of : Bool → ℕ → ℕ → List ℕ → Read Disk
+disk_of has_flags id sectors bytes = do
+  read_only ← flags_at has_flags bytes
+  len ← number_at 4 read_only.1
+  checked (nat_le len.0 (sectors * 512)) BadDevice (do
+    text ← part_at len.0 len.1
+    Ok (record { id = id; sectors = sectors; read_only = read_only.0; bytes = text.0 }, text.1))
+
 -- a disk whose id is not among `ids`
 unfoldable pub disk_at : Bool → List ℕ → List ℕ → Read Disk
 disk_at has_flags ids bytes = do
   id ← number_at 4 bytes
   checked (is_new_id ids id.0) BadDevice (do
     sectors ← number_at 4 id.1
-    checked (is_disk_size sectors.0) BadDevice (do
-      read_only ← flags_at has_flags sectors.1
-      len ← number_at 4 read_only.1
-      checked (nat_le len.0 (sectors.0 * 512)) BadDevice (do
-        text ← part_at len.0 len.1
-        Ok (record { id = id.0; sectors = sectors.0; read_only = read_only.0; bytes = text.0 }, text.1))))
+    checked (is_disk_size sectors.0) BadDevice (disk_of has_flags id.0 sectors.0 sectors.1))
 
 unfoldable pub disks_at : Bool → List ℕ → ℕ → List ℕ → Read (List Disk)
 disks_at has_flags ids zero bytes = Ok ([], bytes)
@@ -118,6 +122,11 @@ image_of bytes = do
 abbrev pub Reads : {X Y : Type 0} → (X → Y) → Result X LoadFault → Result Y LoadFault → Type 0
 Reads view (Ok x) read = read ≡ Ok (view x)
 Reads view (Err fault) read = (read ≡ Err fault) × (fault ≢ OutOfMemory)
+
+-- the same of a function that reads the front: what `left` reads behind it is the value
+abbrev pub Begins : {X Y : Type 0} → (X → Result Y LoadFault) → Result X LoadFault → Result Y LoadFault → Type 0
+Begins left (Ok x) read = read ≡ left x
+Begins left (Err fault) read = (read ≡ Err fault) × (fault ≢ OutOfMemory)
 
 -- the same of a function that takes memory
 abbrev pub Gives : {X Y : Type 0} → (X → Y) → Result X LoadFault → Result Y LoadFault → Type 0

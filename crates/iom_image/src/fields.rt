@@ -1,9 +1,9 @@
 //! The fields of an image, read from the front.
 
-ghost use Rattle.std.specs.Prelude.{◌≡◌, ◌+◌, ◌*◌, ◌≤◌, ◌<◌, ◌^◌, ◌||◌, IfOk, IfSome, bytes_eq, false, length, true};
+ghost use Rattle.std.specs.Prelude.{◌≡◌, ◌+◌, ◌*◌, ◌≤◌, ◌<◌, ◌^◌, ◌||◌, Bool, IfOk, IfSome, bytes_eq, false, length, nat_le, true};
 ghost use Rattle.std.specs.Option.{is_some};
 ghost use Rattle.iom_image.specs.Image.{is_new_id, is_disk_size, magic_of};
-ghost use Rattle.iom_image.specs.Reading.{Reads, part_at, number_at, head_at, chunk_at, flags_at, disk_at};
+ghost use Rattle.iom_image.specs.Reading.{Begins, Reads, part_at, number_at, head_at, head_of, chunk_at, chunk_of, flags_at, disk_at, disk_of};
 
 use crate::fault::LoadFault;
 use iom_bits::{le_u32, le_u64};
@@ -92,6 +92,41 @@ fn flags_told(magic: &[u8]) -> Option<bool>
     }
 }
 
+// Whether an image may have so many disks.
+fn are_few(disks: u32) -> bool
+    ensures { result ≡ nat_le disks 8 }
+{
+    disks <= 8
+}
+
+// What stands in the first 32 bytes behind those that tell whether disks have flags, and the bytes after it.
+fn numbers_of(has_flags: bool, bytes: &[u8]) -> Result<(Header, &[u8]), LoadFault>
+    ensures read { Reads
+        (λ x. (record { has_flags = x.0.has_flags; base = x.0.base; size = x.0.size; chunks = x.0.chunks; disks = x.0.disks }, x.1.now))
+        result (head_of has_flags bytes.now) }
+    ensures end { IfOk result (λ x. x.0.base + x.0.size ≤ 2 ^ 56) }
+    ensures few { IfOk result (λ x. x.0.disks ≤ 8) }
+{
+    let (base, rest) = u64_of(bytes)?;
+    let (size, rest) = u64_of(rest)?;
+    let (chunks, rest) = u32_of(rest)?;
+    let (disks, rest) = u32_of(rest)?;
+    if !is_ram(base, size) {
+        return Err(LoadFault::BadRam);
+    }
+    if !are_few(disks) {
+        return Err(LoadFault::BadDevice);
+    }
+    let header = Header {
+        has_flags,
+        base,
+        size,
+        chunks,
+        disks,
+    };
+    Ok((header, rest))
+}
+
 /// The first 32 bytes of an image, and the bytes after them. The refusals are `Truncated`, `BadMagic`, `BadRam` and `BadDevice` for
 /// more than 8 disks.
 #[tactic(auto, unfolding(crate::specs::Reading::head_at))]
@@ -106,29 +141,35 @@ pub fn header_of(bytes: &[u8]) -> Result<(Header, &[u8]), LoadFault>
     let Some(has_flags) = flags_told(magic) else {
         return Err(LoadFault::BadMagic);
     };
-    let (base, rest) = u64_of(rest)?;
-    let (size, rest) = u64_of(rest)?;
-    let (chunks, rest) = u32_of(rest)?;
-    let (disks, rest) = u32_of(rest)?;
-    if !is_ram(base, size) {
-        return Err(LoadFault::BadRam);
+    numbers_of(has_flags, rest)
+}
+
+// The address and the length of a chunk, and the bytes after both.
+#[tactic(auto, unfolding(crate::specs::Reading::chunk_at))]
+fn span<'a>(
+    header: &Header,
+    end: u64,
+    bytes: &'a [u8],
+) -> Result<((u64, u32), &'a [u8]), LoadFault>
+    requires { header.now.base + header.now.size ≤ 2 ^ 56 }
+    ensures read { Begins (λ x. chunk_of x.0.0 x.0.1 x.1.now) result
+        (chunk_at header.now.base header.now.size end bytes.now) }
+    ensures above { IfOk result (λ x. header.now.base ≤ x.0.0) }
+    ensures below { IfOk result (λ x. x.0.0 + x.0.1 ≤ header.now.base + header.now.size) }
+{
+    let (addr, rest) = u64_of(bytes)?;
+    if addr < end {
+        return Err(LoadFault::BadChunk);
     }
-    if disks > 8 {
-        return Err(LoadFault::BadDevice);
+    let (len, rest) = u32_of(rest)?;
+    if len == 0 || !covers(header.base, header.base + header.size, addr, len as u64) {
+        return Err(LoadFault::BadChunk);
     }
-    let header = Header {
-        has_flags,
-        base,
-        size,
-        chunks,
-        disks,
-    };
-    Ok((header, rest))
+    Ok(((addr, len), rest))
 }
 
 /// A chunk of the memory that `header` tells, and the bytes after it. It isn't below physical address `end`. The refusals are
 /// `Truncated` and `BadChunk`.
-#[tactic(auto, unfolding(crate::specs::Reading::chunk_at))]
 pub fn chunk<'a>(
     header: &Header,
     end: u64,
@@ -142,14 +183,7 @@ pub fn chunk<'a>(
     ensures below { IfOk result
         (λ x. x.0.addr + length x.0.bytes.now ≤ header.now.base + header.now.size) }
 {
-    let (addr, rest) = u64_of(bytes)?;
-    if addr < end {
-        return Err(LoadFault::BadChunk);
-    }
-    let (len, rest) = u32_of(rest)?;
-    if len == 0 || !covers(header.base, header.base + header.size, addr, len as u64) {
-        return Err(LoadFault::BadChunk);
-    }
+    let ((addr, len), rest) = span(header, end, bytes)?;
     let (bytes, rest) = front(len as usize, rest)?;
     Ok((ChunkPart { addr, bytes }, rest))
 }
@@ -183,8 +217,26 @@ fn read_only(has_flags: bool, bytes: &[u8]) -> Result<(bool, &[u8]), LoadFault>
     Ok((flags == 1, rest))
 }
 
-/// A disk whose id is not among `ids`, with flags or without, and the bytes after it. The refusals are `Truncated` and `BadDevice`.
+// The id and the sectors of a disk whose id is not among `ids`, and the bytes after both.
 #[tactic(auto, unfolding(crate::specs::Reading::disk_at))]
+fn id_and_sectors<'a>(ids: &[u64], bytes: &'a [u8]) -> Result<((u32, u32), &'a [u8]), LoadFault>
+    ensures read { (has_flags : Bool) → Begins (λ x. disk_of has_flags x.0.0 x.0.1 x.1.now) result
+        (disk_at has_flags ids.now bytes.now) }
+    ensures some { IfOk result (λ x. 1 ≤ x.0.1) }
+    ensures most { IfOk result (λ x. x.0.1 ≤ 65536) }
+{
+    let (id, rest) = u32_of(bytes)?;
+    if !is_new_id(ids, id as u64) {
+        return Err(LoadFault::BadDevice);
+    }
+    let (sectors, rest) = u32_of(rest)?;
+    if !is_disk_size(sectors as u64) {
+        return Err(LoadFault::BadDevice);
+    }
+    Ok(((id, sectors), rest))
+}
+
+/// A disk whose id is not among `ids`, with flags or without, and the bytes after it. The refusals are `Truncated` and `BadDevice`.
 pub fn disk<'a>(
     has_flags: bool,
     ids: &[u64],
@@ -197,14 +249,7 @@ pub fn disk<'a>(
     ensures some { IfOk result (λ x. 1 ≤ x.0.sectors) }
     ensures most { IfOk result (λ x. x.0.sectors ≤ 65536) }
 {
-    let (id, rest) = u32_of(bytes)?;
-    if !is_new_id(ids, id as u64) {
-        return Err(LoadFault::BadDevice);
-    }
-    let (sectors, rest) = u32_of(rest)?;
-    if !is_disk_size(sectors as u64) {
-        return Err(LoadFault::BadDevice);
-    }
+    let ((id, sectors), rest) = id_and_sectors(ids, bytes)?;
     let (read_only, rest) = read_only(has_flags, rest)?;
     let (len, rest) = u32_of(rest)?;
     if len > sectors * 512 {

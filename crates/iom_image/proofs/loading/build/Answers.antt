@@ -1,7 +1,7 @@
-use Rattle.iom_image.specs.Reading.{image_of}
-use Rattle.std.proofs.Common.{arith, rules}
+use Rattle.std.proofs.Common.{arith}
+use Rattle.std.proofs.lemmas.Result.{err_from_is_err_and}
 use Rattle.iom_core.specs.State.{opening}
-use Rattle.iom_image.proofs.Filling.{image_built}
+use Rattle.iom_image.proofs.Filling.{image_built, image_refused}
 use Rattle.iom_image.proofs.Started.{devices_started}
 use Rattle.iom_image.proofs.loading.build.Goals as goal
 
@@ -15,5 +15,6 @@ returns c =
     rw c.in_ok-new.ensures (image_built c.args.bytes.now _ _ _ _ _ c.in_ok-header.ensures.read (rw c.in_ok-ram.ensures.made at c.in_ok-rest.ensures) c.in_ok-devices.ensures c.requires)
 
 pub returns-in_err-devices : goal.returns-in_err-devices
-unfolding image_of
-returns-in_err-devices c = search rules
+returns-in_err-devices c =
+    let p = err_from_is_err_and c.from_residual-in_err-devices.result c.from_residual-in_err-devices.ensures.1 in
+    rw (p.1, p.2) (λ other. image_refused c.args.bytes.now _ _ _ _ _ c.in_ok-header.ensures.read (rw c.in_ok-ram.ensures.made at c.in_ok-rest.ensures) (c.in_err-devices.ensures other) c.requires)
