@@ -146,11 +146,7 @@ pub fn header_of(bytes: &[u8]) -> Result<(Header, &[u8]), LoadFault>
 
 // The address and the length of a chunk, and the bytes after both.
 #[tactic(auto, unfolding(crate::specs::Reading::chunk_at))]
-fn span<'a>(
-    header: &Header,
-    end: u64,
-    bytes: &'a [u8],
-) -> Result<((u64, u32), &'a [u8]), LoadFault>
+fn span<'a>(header: &Header, end: u64, bytes: &'a [u8]) -> Result<((u64, u32), &'a [u8]), LoadFault>
     requires { header.now.base + header.now.size ≤ 2 ^ 56 }
     ensures read { Begins (λ x. chunk_of x.0.0 x.0.1 x.1.now) result
         (chunk_at header.now.base header.now.size end bytes.now) }
