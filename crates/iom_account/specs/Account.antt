@@ -11,7 +11,7 @@ use Rattle.iom_core.specs.declared.step.Step.{Step}
 use Rattle.iom_reasons.specs.Found.{finds, found_in}
 use Rattle.iom_reasons.specs.Stale.{Fits, stale_way}
 use Rattle.iom_reasons.specs.declared.finding.Found.{Found}
-use Rattle.iom_reasons.specs.declared.way.Way.{Way}
+use Rattle.iom_core.specs.declared.way.Way.{Way}
 use Rattle.iom_history.specs.Following.{ComesFrom, Follows, Notes, number_of}
 use Rattle.iom_account.specs.declared.known.Known.{Known}
 use Rattle.iom_account.specs.declared.reason.Reason.{Reason}

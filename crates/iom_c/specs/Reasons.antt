@@ -28,8 +28,8 @@ use Rattle.iom_reasons.specs.declared.part.Wide.{Wide}
 use Rattle.iom_reasons.specs.declared.part.Wide.TheVariants as wide
 use Rattle.iom_reasons.specs.declared.standing.Located.{Located}
 use Rattle.iom_reasons.specs.declared.standing.Located.TheVariants as located
-use Rattle.iom_reasons.specs.declared.way.Way.{Way}
-use Rattle.iom_reasons.specs.declared.way.Way.TheVariants as way
+use Rattle.iom_core.specs.declared.way.Way.{Way}
+use Rattle.iom_core.specs.declared.way.Way.TheVariants as way
 use Rattle.iom_c.specs.Looks.{context_of}
 use Rattle.iom_c.specs.declared.places.ContextPlace.{ContextPlace}
 use Rattle.iom_c.specs.declared.ways.LocatedContext.{LocatedContext}

@@ -1,7 +1,7 @@
 -- Why a step went as it did, and which step filled a place of a cache, as C is told.
 use Rattle.std.specs.Prelude.{ℕ, ◌≡◌, true, false, Option, Some, None}
 use Rattle.iom_core.specs.declared.access.Request.{Request}
-use Rattle.iom_reasons.specs.declared.way.Way.{Way}
+use Rattle.iom_core.specs.declared.way.Way.{Way}
 use Rattle.iom_history.specs.declared.history.Filled.{Filled}
 use Rattle.iom_history.specs.declared.origin.Origin.{Origin}
 use Rattle.iom_history.specs.declared.origin.Origin.TheVariants as origin

@@ -11,7 +11,8 @@ use Rattle.iom_cache.specs.Keys.{gscid_of, key_of}
 use Rattle.iom_cache.specs.Origins.{drops_at}
 use Rattle.iom_cache.specs.declared.key.Key.{Key}
 use Rattle.iom_core.specs.State.{State}
-use Rattle.iom_core.specs.Access.{Way, Led, request_key}
+use Rattle.iom_core.specs.Access.{Led, request_key}
+use Rattle.iom_core.specs.declared.way.Way.{Way}
 use Rattle.iom_core.specs.declared.access.Request.{Request}
 use Rattle.iom_core.specs.Warrants.{Explains, HasNone, IsAfter, IsDenied, IsExplained, IsFreshContext, IsFullInvalidation, IsUncached, IsUpToDate, IsWalkAfter, IsWalked, IsWarrant, executed_at, guest_on, is_gvma_of_all, is_iodir_of_all, is_vma_of_all, request_at, way_at, moment}
 use Rattle.iom_core.specs.declared.step.Step.{Step}

@@ -6,7 +6,8 @@ use Rattle.iom_cache.specs.Origins.{IsLast}
 use Rattle.iom_cache.specs.declared.key.Key.{Key}
 use Rattle.iom_cache.proofs.Origins.{IsLast-unique}
 use Rattle.iom_core.specs.State.{State}
-use Rattle.iom_core.specs.Access.{Led, Way, request_key}
+use Rattle.iom_core.specs.Access.{Led, request_key}
+use Rattle.iom_core.specs.declared.way.Way.{Way}
 use Rattle.iom_core.specs.declared.access.Request.{Request}
 use Rattle.iom_core.specs.Histories.{IsLedBy, fills_at}
 use Rattle.iom_core.specs.Warrants.{IsByContext, IsByRegister, IsUncached, IsWalked, moment, request_at, way_at}

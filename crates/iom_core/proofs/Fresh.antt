@@ -18,7 +18,8 @@ use Rattle.iom_core.specs.State.{State}
 use Rattle.iom_core.specs.Access.{context_look, page_look, led, request_key}
 use Rattle.iom_core.specs.declared.access.Request.{Request}
 use Rattle.iom_core.specs.Warrants.{IsFreshContext, IsUncached, IsWalked, context_filled, context_filled_at, executed_at, moment, page_filled, page_filled_at, request_at, way_at}
-use Rattle.iom_core.specs.Access.{Led, Walked}
+use Rattle.iom_core.specs.Access.{Led}
+use Rattle.iom_core.specs.declared.way.Way.TheVariants.{Walked}
 use Rattle.iom_core.specs.declared.step.Step.{Step}
 use Rattle.iom_core.proofs.Moments.{context_stamps, page_stamps, contexts_stamped, pages_stamped}
 use Rattle.iom_core.proofs.Ways.{FilledPage, context_used-cached, filled_context, filled_page, look_of_context}

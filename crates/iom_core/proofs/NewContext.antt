@@ -6,7 +6,8 @@ use Rattle.iom_core.specs.State.{Machine}
 use Rattle.iom_nested.specs.declared.translation.Fault.{Fault}
 use Rattle.iom_nested.specs.declared.translation.Hit.{Hit}
 use Rattle.iom_cache.specs.declared.key.Key.{Key}
-use Rattle.iom_core.specs.Access.{Led, ByContext, led_by_page, led_by_context, page_look}
+use Rattle.iom_core.specs.Access.{Led, led_by_page, led_by_context, page_look}
+use Rattle.iom_core.specs.declared.way.Way.TheVariants.{Context as ByContext}
 use Rattle.iom_core.specs.declared.access.Request.{Request}
 
 pub record Apart (new known : Led) (fill : Option (ℕ × Context)) : Type 0 where

@@ -19,7 +19,9 @@ use Rattle.iom_blk.specs.Device.{Device}
 use Rattle.iom_blk.specs.Phases.{asks, moved_of}
 use Rattle.iom_ddt.specs.Directory.{located}
 use Rattle.iom_core.specs.State.{Machine, State, context_room, page_room}
-use Rattle.iom_core.specs.Access.{Led, Way, ByRegister, ByContext, Walked, Denied, address_on, context_look, effect, effect_at, led, led_by_mode, outside, read_there, served}
+use Rattle.iom_core.specs.Access.{Led, address_on, context_look, effect, effect_at, led, led_by_mode, outside, read_there, served}
+use Rattle.iom_core.specs.declared.way.Way.{Way}
+use Rattle.iom_core.specs.declared.way.Way.TheVariants.{Register as ByRegister, Context as ByContext, Walked, Denied}
 use Rattle.iom_core.specs.Histories.{IsLedBy, IsNoAccess, context_by, fills_entry, holds, is_denial, leading_context}
 use Rattle.iom_core.specs.Reach.{address_in}
 use Rattle.iom_core.specs.Table.{Asking, answer_by_reply, answer_of, asked, asked_by, asking_for, device_step, executed, moving, next, probed, request_in, request_of_step}

@@ -17,7 +17,8 @@ use Rattle.iom_cache.specs.Places.{find, Look, look}
 use Rattle.iom_cache.specs.declared.key.Key.{Key}
 use Rattle.iom_cache.proofs.Origins.{look-unused}
 use Rattle.iom_core.specs.State.{Machine}
-use Rattle.iom_core.specs.Access.{ByRegister, ByContext, Walked, Denied, Led, context_look, led, led_by_context, led_by_mode, led_by_page, page_look, request_key, plain, refused, translating}
+use Rattle.iom_core.specs.Access.{Led, context_look, led, led_by_context, led_by_mode, led_by_page, page_look, request_key, plain, refused, translating}
+use Rattle.iom_core.specs.declared.way.Way.TheVariants.{Register as ByRegister, Context as ByContext, Walked, Denied}
 use Rattle.iom_core.specs.declared.access.Request.{Request}
 use Rattle.iom_core.proofs.Wide.{too_wide_located}
 

@@ -26,17 +26,11 @@ use Rattle.iom_virtq.specs.declared.access.Access.TheVariants as access
 use Rattle.iom_core.specs.State.{Machine, context_room, page_room}
 use Rattle.iom_core.specs.declared.access.Denial.{Denial}
 use Rattle.iom_core.specs.declared.access.Request.{Request}
+use Rattle.iom_core.specs.declared.way.Way.{Way}
+use Rattle.iom_core.specs.declared.way.Way.TheVariants.{Register as ByRegister, Context as ByContext, Walked, Denied}
 
--- the way that a request is led
-pub data Way : Type 0 where
-  -- by ddtp, whose mode is Bare: the address is the IOVA itself
-  ByRegister : Way
-  -- by the device's context, both of whose stages are Bare: so too
-  ByContext : Context → Way
-  -- by the stages of the device's context, which lead the page to a frame
-  Walked : Context → Hit → Way
-  -- nowhere
-  Denied : Denial → Way
+-- A request is led by ddtp, whose mode is Bare (ByRegister), or by its device's context, both of whose stages are Bare (ByContext): the
+-- address is the IOVA itself; by the stages of the context, which lead the page to a frame (Walked); or nowhere (Denied).
 
 -- the way, and what is filled in each cache
 pub record Led : Type 0 where

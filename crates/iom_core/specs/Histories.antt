@@ -8,7 +8,9 @@ use Rattle.iom_cache.specs.Keys.{same_key, same_did}
 use Rattle.iom_cache.specs.Origins.{fills}
 use Rattle.iom_cache.specs.Places.{find}
 use Rattle.iom_core.specs.State.{Machine, State}
-use Rattle.iom_core.specs.Access.{ByContext, ByRegister, Denied, Walked, Way, led}
+use Rattle.iom_core.specs.Access.{led}
+use Rattle.iom_core.specs.declared.way.Way.{Way}
+use Rattle.iom_core.specs.declared.way.Way.TheVariants.{Context as ByContext, Register as ByRegister, Denied, Walked}
 use Rattle.iom_core.specs.Warrants.{IsDenied, context_filled, moment, page_filled, request_at}
 use Rattle.iom_core.specs.declared.access.Request.{Request}
 use Rattle.iom_core.specs.declared.history.Entry.{Entry}

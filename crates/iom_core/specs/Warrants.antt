@@ -17,7 +17,9 @@ use Rattle.iom_cache.specs.Origins.{IsLast, fills, drops_at}
 use Rattle.iom_cache.specs.Places.{NoneLive}
 use Rattle.iom_cache.specs.declared.key.Key.{Key}
 use Rattle.iom_core.specs.State.{State}
-use Rattle.iom_core.specs.Access.{Way, ByRegister, ByContext, Walked, Denied, led, request_key}
+use Rattle.iom_core.specs.Access.{led, request_key}
+use Rattle.iom_core.specs.declared.way.Way.{Way}
+use Rattle.iom_core.specs.declared.way.Way.TheVariants.{Register as ByRegister, Context as ByContext, Walked, Denied}
 use Rattle.iom_core.specs.declared.access.Request.{Request}
 use Rattle.iom_core.specs.Table.{request_of_step, executed}
 use Rattle.iom_core.specs.Run.{end_of}

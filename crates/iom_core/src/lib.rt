@@ -8,6 +8,7 @@ pub use platform::Platform;
 pub use port::Port;
 pub use step::{Answer, Step};
 pub use warrant::Warrant;
+pub use way::Way;
 
 mod access;
 mod command;
@@ -20,3 +21,4 @@ mod platform;
 mod port;
 mod step;
 mod warrant;
+mod way;

@@ -8,7 +8,7 @@ use Rattle.iom_core.specs.Table.{next, request_of_step}
 use Rattle.iom_core.specs.declared.access.Denial.{Denial}
 use Rattle.iom_core.specs.declared.access.Request.{Request}
 use Rattle.iom_core.specs.declared.step.Step.{Step}
-use Rattle.iom_reasons.specs.declared.way.Way.{Way}
+use Rattle.iom_core.specs.declared.way.Way.{Way}
 use Rattle.iom_history.specs.declared.origin.Origin.{Origin}
 use Rattle.iom_history.specs.declared.origin.Origin.TheVariants as origin
 use Rattle.iom_account.specs.Account.{Account, GoesAlong as AccountGoesAlong}

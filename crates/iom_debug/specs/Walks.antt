@@ -19,8 +19,8 @@ use Rattle.iom_reasons.specs.declared.part.Part.{Part}
 use Rattle.iom_reasons.specs.declared.part.Part.TheVariants as part
 use Rattle.iom_reasons.specs.declared.part.Wide.{Wide}
 use Rattle.iom_reasons.specs.declared.part.Wide.TheVariants as wide
-use Rattle.iom_reasons.specs.declared.way.Way.{Way}
-use Rattle.iom_reasons.specs.declared.way.Way.TheVariants as way
+use Rattle.iom_core.specs.declared.way.Way.{Way}
+use Rattle.iom_core.specs.declared.way.Way.TheVariants as way
 use Rattle.iom_items.specs.Lines.{line_of, operand}
 use Rattle.iom_items.specs.declared.item.Item.TheVariants as item
 use Rattle.iom_tool.specs.Debugger.{item_text}

@@ -16,8 +16,8 @@ use Rattle.iom_reasons.specs.declared.standing.Located.{Located}
 use Rattle.iom_reasons.specs.declared.standing.Located.TheVariants as found
 use Rattle.iom_reasons.specs.declared.standing.Standing.{Standing}
 use Rattle.iom_reasons.specs.declared.standing.Standing.TheVariants as standing
-use Rattle.iom_reasons.specs.declared.way.Way.{Way}
-use Rattle.iom_reasons.specs.declared.way.Way.TheVariants as way
+use Rattle.iom_core.specs.declared.way.Way.{Way}
+use Rattle.iom_core.specs.declared.way.Way.TheVariants as way
 use Rattle.iom_items.specs.Lines.{context_text, operand}
 
 -- the physical address that a way leads an IOVA to, or its denial

@@ -3,7 +3,7 @@
 ghost use Rattle.std.specs.Prelude.{◌≡◌, ◌+◌, ◌++◌, ◌≤◌, codes, length};
 ghost use Rattle.iom_bits.specs.Causes.{cause_number};
 ghost use Rattle.iom_text.specs.Texts.{numeral};
-ghost use Rattle.iom_reasons.specs.declared.way.Way.TheVariants.{Walked};
+ghost use Rattle.iom_core.specs.declared.way.Way.TheVariants.{Walked};
 ghost use Rattle.iom_debug.specs.Ways.{found_text, id_operand, page_text, stale_context_text, stale_page_text};
 
 use crate::text::{push_cause, push_operand, push_text, said};

@@ -13,7 +13,9 @@ use Rattle.iom_cache.specs.Places.{Look, emptied_by, filled_by, find, made_room}
 use Rattle.iom_cache.specs.declared.key.Key.{Key}
 use Rattle.iom_cache.specs.declared.place.Place.{Place}
 use Rattle.iom_cache.proofs.Same.{same_did_exact, same_did_itself, same_key_exact, same_key_itself}
-use Rattle.iom_core.specs.Access.{Led, Walked, Way, context_look, led, page_look, request_key}
+use Rattle.iom_core.specs.Access.{Led, context_look, led, page_look, request_key}
+use Rattle.iom_core.specs.declared.way.Way.{Way}
+use Rattle.iom_core.specs.declared.way.Way.TheVariants.{Walked}
 use Rattle.iom_core.specs.State.{Machine, State, context_room, page_room}
 use Rattle.iom_core.specs.Table.{asked, executed, next, request_of_step}
 use Rattle.iom_core.specs.Warrants.{context_filled, page_filled}

@@ -3,7 +3,9 @@ use Rattle.std.proofs.Common.{◌≡◌, ◌∙◌, ◌++◌, ℕ, suc, List, []
 use Rattle.std.specs.Prelude.{◌↔◌}
 use Rattle.iom_cache.proofs.Stamped.{Stamped-length}
 use Rattle.iom_ddt.specs.declared.context.Context.{Context}
-use Rattle.iom_core.specs.Access.{ByContext, ByRegister, Denied, Walked, Way, led}
+use Rattle.iom_core.specs.Access.{led}
+use Rattle.iom_core.specs.declared.way.Way.{Way}
+use Rattle.iom_core.specs.declared.way.Way.TheVariants.{Context as ByContext, Register as ByRegister, Denied, Walked}
 use Rattle.iom_core.specs.Histories.{IsLedBy, IsNoAccess, is_denial, leading_context}
 use Rattle.iom_core.specs.State.{State}
 use Rattle.iom_core.specs.Table.{next, request_of_step}

@@ -16,7 +16,8 @@ use Rattle.iom_cache.specs.declared.key.Key.{Key}
 use Rattle.iom_cache.proofs.Origins.{IsLast-unique}
 use Rattle.iom_cache.proofs.Same.{same_did_exact, same_did_itself, same_key_exact, same_key_itself}
 use Rattle.iom_cache.proofs.Stamped.{Stamped}
-use Rattle.iom_core.specs.Access.{Walked, request_key}
+use Rattle.iom_core.specs.Access.{request_key}
+use Rattle.iom_core.specs.declared.way.Way.TheVariants.{Walked}
 use Rattle.iom_core.specs.Histories.{IsLedBy, context_by, fills_at, leading_context}
 use Rattle.iom_core.specs.State.{State, context_room, page_room}
 use Rattle.iom_core.specs.Table.{executed, next, request_of_step}

@@ -41,10 +41,11 @@ use Rattle.iom_nested.specs.declared.translation.Reached.{Reached}
 use Rattle.iom_cache.specs.Places.{look}
 use Rattle.iom_cache.specs.declared.key.Key.{Key}
 use Rattle.iom_core.specs.State.{Machine}
-use Rattle.iom_core.specs.Access.{ByContext, led, led_by_context, led_by_mode, led_by_page, page_look, request_key}
+use Rattle.iom_core.specs.Access.{led, led_by_context, led_by_mode, led_by_page, page_look, request_key}
+use Rattle.iom_core.specs.declared.way.Way.TheVariants.{Context as ByContext}
 use Rattle.iom_core.specs.declared.access.Request.{Request}
 use Rattle.iom_reasons.specs.Parts.{access_parts, directory_parts, entry_parts, first_by, first_parts, parts_by, parts_of, read_at, second_by, second_parts, stage_parts}
-use Rattle.iom_reasons.specs.Stale.{by_tables, told as way_of, uncached}
+use Rattle.iom_reasons.specs.Stale.{by_tables, uncached}
 use Rattle.iom_reasons.proofs.Ways.{looked_uncached}
 use Rattle.iom_reasons.specs.Passing.{IsGranted, IsNoFault, Lets, Passes}
 use Rattle.iom_reasons.specs.declared.part.Part.{Part}
@@ -330,13 +331,13 @@ translated_stages_pass memory context iova kind hit is = stages_pass memory cont
 -- by the way that is led
 page_passes : (m : Machine) (request : Request) (context : Context) (fill : Option (ℕ × Context)) (key : Key) (found : Result Hit Fault) →
     translation m.memory context request.iova request.kind ≡ found →
-    IsGranted (way_of (led_by_page context fill (look key None found).filled (look key None found).used).way) →
+    IsGranted ((led_by_page context fill (look key None found).filled (look key None found).used).way) →
     All Passes (stage_parts m.memory request.iova request.kind (Ok context))
 page_passes m request context fill key (Ok hit) is granted = translated_stages_pass m.memory context request.iova request.kind hit is
 page_passes m request context fill key (Err fault) is granted = absurd granted
 
 context_passes : (m : Machine) (request : Request) (context : Context) (fill : Option (ℕ × Context)) (bare : Bool) → is_bare context ≡ bare →
-    IsGranted (way_of (if bare then record { way = ByContext context; context = fill; page = None }
+    IsGranted ((if bare then record { way = ByContext context; context = fill; page = None }
     else led_by_page context fill (page_look (uncached m) request context).filled (page_look (uncached m) request context).used).way) →
     All Passes (stage_parts m.memory request.iova request.kind (Ok context))
 unfolding page_look
@@ -345,7 +346,7 @@ context_passes m request context fill false is granted =
     page_passes m request context fill (request_key request context) (translation m.memory context request.iova request.kind) refl granted
 
 found_passes : (m : Machine) (request : Request) (found : Result Context Cause) → located m.memory m.registers request.did ≡ found →
-    IsGranted (way_of (led_by_context (uncached m) request (look request.did None found).filled (look request.did None found).used).way) →
+    IsGranted ((led_by_context (uncached m) request (look request.did None found).filled (look request.did None found).used).way) →
     All Passes (directory_parts m request.did ++ stage_parts m.memory request.iova request.kind found)
 found_passes m request (Ok context) is granted =
     All-append Passes (directory_parts m request.did) (stage_parts m.memory request.iova request.kind (Ok context))
@@ -353,14 +354,14 @@ found_passes m request (Ok context) is granted =
     (context_passes m request context (Some (request.did, context)) (is_bare context) refl granted)
 found_passes m request (Err why) is granted = absurd granted
 
-mode_passes : (m : Machine) (request : Request) (own : Mode) → IsGranted (way_of (led_by_mode own (uncached m) request).way) →
+mode_passes : (m : Machine) (request : Request) (own : Mode) → IsGranted ((led_by_mode own (uncached m) request).way) →
     (own ≢ mode.Off) × All Passes (parts_by own m request)
 mode_passes m request mode.Off granted = absurd granted
 mode_passes m request mode.Bare granted = (λ is. cc, All-nil Passes)
 mode_passes m request (mode.Levels levels) granted = (
   λ is. cc,
   found_passes m request (located m.memory m.registers request.did) refl
-      (subst (λ l. IsGranted (way_of (led_by_context (uncached m) request l.filled l.used).way)) (looked_uncached m request.did) granted),
+      (subst (λ l. IsGranted ((led_by_context (uncached m) request l.filled l.used).way)) (looked_uncached m request.did) granted),
 )
 
 each_passes : (m : Machine) (request : Request) → IsGranted (by_tables m request) → All Passes (parts_of m request)

@@ -41,10 +41,11 @@ use Rattle.iom_nested.specs.declared.translation.Reached.{Reached}
 use Rattle.iom_cache.specs.Places.{look}
 use Rattle.iom_cache.specs.declared.key.Key.{Key}
 use Rattle.iom_core.specs.State.{Machine}
-use Rattle.iom_core.specs.Access.{ByContext, led, led_by_context, led_by_mode, led_by_page, page_look, request_key}
+use Rattle.iom_core.specs.Access.{led, led_by_context, led_by_mode, led_by_page, page_look, request_key}
+use Rattle.iom_core.specs.declared.way.Way.TheVariants.{Context as ByContext}
 use Rattle.iom_core.specs.declared.access.Request.{Request}
 use Rattle.iom_reasons.specs.Parts.{access_parts, by_width, directory_parts, entry_parts, first_by, first_parts, parts_by, parts_of, read_at, second_by, second_parts, stage_parts}
-use Rattle.iom_reasons.specs.Stale.{by_tables, told as way_of, uncached}
+use Rattle.iom_reasons.specs.Stale.{by_tables, uncached}
 use Rattle.iom_reasons.specs.Passing.{IsGranted, IsNoFault, Lets, Refuses}
 use Rattle.iom_reasons.specs.declared.part.Part.{Part}
 use Rattle.iom_reasons.specs.declared.part.Part.TheVariants as part
@@ -310,13 +311,13 @@ translated_stages_stop memory context iova kind fault is =
 -- by the way that is led
 page_refuses : (m : Machine) (request : Request) (context : Context) (fill : Option (ℕ × Context)) (key : Key) (found : Result Hit Fault) →
     translation m.memory context request.iova request.kind ≡ found →
-    (IsGranted (way_of (led_by_page context fill (look key None found).filled (look key None found).used).way) → ⊥) →
+    (IsGranted ((led_by_page context fill (look key None found).filled (look key None found).used).way) → ⊥) →
     Occurs Bars (stage_parts m.memory request.iova request.kind (Ok context))
 page_refuses m request context fill key (Ok hit) is denied = absurd (denied tt)
 page_refuses m request context fill key (Err fault) is denied = translated_stages_stop m.memory context request.iova request.kind fault is
 
 context_refuses : (m : Machine) (request : Request) (context : Context) (fill : Option (ℕ × Context)) (bare : Bool) →
-    (IsGranted (way_of (if bare then record { way = ByContext context; context = fill; page = None }
+    (IsGranted ((if bare then record { way = ByContext context; context = fill; page = None }
     else led_by_page context fill (page_look (uncached m) request context).filled (page_look (uncached m) request context).used).way) → ⊥) →
     Occurs Bars (stage_parts m.memory request.iova request.kind (Ok context))
 unfolding page_look
@@ -325,7 +326,7 @@ context_refuses m request context fill false denied =
     page_refuses m request context fill (request_key request context) (translation m.memory context request.iova request.kind) refl denied
 
 found_refuses : (m : Machine) (request : Request) (found : Result Context Cause) → located m.memory m.registers request.did ≡ found →
-    (IsGranted (way_of (led_by_context (uncached m) request (look request.did None found).filled (look request.did None found).used).way) → ⊥) →
+    (IsGranted ((led_by_context (uncached m) request (look request.did None found).filled (look request.did None found).used).way) → ⊥) →
     Occurs Bars (directory_parts m request.did ++ stage_parts m.memory request.iova request.kind found)
 found_refuses m request (Ok context) is denied =
     in_second Bars (directory_parts m request.did) (stage_parts m.memory request.iova request.kind (Ok context))
@@ -334,13 +335,13 @@ found_refuses m request (Err why) is denied =
     in_first Bars (directory_parts m request.did) (stage_parts m.memory request.iova request.kind (Err why))
     (directory_refuses m request.did why is)
 
-mode_refuses : (m : Machine) (request : Request) (own : Mode) → (IsGranted (way_of (led_by_mode own (uncached m) request).way) → ⊥) →
+mode_refuses : (m : Machine) (request : Request) (own : Mode) → (IsGranted ((led_by_mode own (uncached m) request).way) → ⊥) →
     (own ≡ mode.Off) ⊎ Occurs Bars (parts_by own m request)
 mode_refuses m request mode.Off denied = inl refl
 mode_refuses m request mode.Bare denied = absurd (denied tt)
 mode_refuses m request (mode.Levels levels) denied =
     inr (found_refuses m request (located m.memory m.registers request.did) refl
-    (subst (λ l. IsGranted (way_of (led_by_context (uncached m) request l.filled l.used).way) → ⊥) (looked_uncached m request.did) denied))
+    (subst (λ l. IsGranted ((led_by_context (uncached m) request l.filled l.used).way) → ⊥) (looked_uncached m request.did) denied))
 
 some_refuses : (m : Machine) (request : Request) → (IsGranted (by_tables m request) → ⊥) → Occurs Bars (parts_of m request)
 unfolding parts_of led

@@ -16,18 +16,16 @@ use Rattle.iom_cache.specs.declared.place.Place.{Place}
 use Rattle.iom_cache.specs.declared.place.Place.TheVariants as place
 use Rattle.iom_cache.proofs.Same.{same_key_exact, same_key_itself}
 use Rattle.iom_core.specs.State.{Machine}
-use Rattle.iom_core.specs.Access as access
 use Rattle.iom_core.specs.Access.{led, request_key}
 use Rattle.iom_core.specs.declared.access.Request.{Request}
-use Rattle.iom_reasons.specs.Stale.{IsStale, by_tables, differing, is_same_context, is_same_denial, is_same_hit, is_same_way, stale_way, told, uncached}
+use Rattle.iom_reasons.specs.Stale.{IsStale, by_tables, differing, is_same_context, is_same_denial, is_same_hit, is_same_way, stale_way, uncached}
 use Rattle.iom_reasons.specs.Standing.{IsContextNow, IsHitNow, IsStanding, found_now, is_context_now, is_found, is_hit_by, is_hit_now, request_of, standing_of}
 use Rattle.iom_reasons.specs.declared.standing.Located.{Located}
 use Rattle.iom_reasons.specs.declared.standing.Located.TheVariants as found
 use Rattle.iom_reasons.specs.declared.standing.Standing.{Standing}
 use Rattle.iom_reasons.specs.declared.standing.Standing.TheVariants as standing
-use Rattle.iom_reasons.specs.declared.way.Way.{Way}
-use Rattle.iom_reasons.specs.declared.way.Way.TheVariants as way
-use Rattle.iom_reasons.proofs.Ways.{told_apart}
+use Rattle.iom_core.specs.declared.way.Way.{Way}
+use Rattle.iom_core.specs.declared.way.Way.TheVariants as way
 
 split : (a b : Bool) → (a && b) ≡ true → (a ≡ true) × (b ≡ true)
 split true b is = (refl, is)
@@ -225,15 +223,15 @@ pub page_test : (m : Machine) (key : Key) (hit : Hit) → IsTrue (is_hit_now m k
 page_test m key hit = hit_test (by_tables m (request_of key)) (request_of key) key hit
 
 -- something is told where two ways differ
-differs : (now tables : access.Way) → IsTrue (is_some (differing (told now) (told tables))) ↔ (now ≢ tables)
+differs : (now tables : Way) → IsTrue (is_some (differing now tables)) ↔ (now ≢ tables)
 differs now tables = (
   λ is same.
-      let alike : is_same_way (told now) (told tables) ≡ true =
-      ap (λ (w : access.Way). is_same_way (told now) (told w)) (sym same) ∙ way_itself (told now) in
+      let alike : is_same_way now tables ≡ true =
+      ap (λ (w : Way). is_same_way now w) (sym same) ∙ way_itself now in
       absurd (cc (rw alike at is)),
   λ other.
-      let apart : is_same_way (told now) (told tables) ≡ false =
-      false_from_ne_true _ (λ is. other (told_apart now tables (same_way _ _ is))) in
+      let apart : is_same_way now tables ≡ false =
+      false_from_ne_true _ (λ is. other (same_way _ _ is)) in
       rw apart refl,
 )
 
@@ -255,4 +253,4 @@ pub stale_tables : (m : Machine) (request : Request) (found : Option Way) → fo
     IfSome found (λ way. way ≡ by_tables m request)
 unfolding stale_way
 stale_tables m request found is =
-    subst (λ (f : Option Way). IfSome f (λ way. way ≡ by_tables m request)) (sym is) (told_tables (told (led m request).way) (by_tables m request))
+    subst (λ (f : Option Way). IfSome f (λ way. way ≡ by_tables m request)) (sym is) (told_tables (led m request).way (by_tables m request))

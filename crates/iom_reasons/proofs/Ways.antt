@@ -1,4 +1,4 @@
--- What the ways of a machine with empty caches are, and that a way is known by what is told of it.
+-- What the ways of a machine with empty caches are.
 use Rattle.std.proofs.Common.{◌≡◌, ◌∙◌, ℕ, Bool, true, false, None, Some, Ok, Err, if◌then◌else◌, refl, sym, ap}
 use Rattle.iom_bits.specs.declared.causes.Cause.{Cause}
 use Rattle.iom_regs.specs.Views.{mode_of}
@@ -11,10 +11,8 @@ use Rattle.iom_core.specs.Access.{context_look, led_by_context, live_context}
 use Rattle.iom_core.specs.declared.access.Request.{Request}
 use Rattle.iom_core.proofs.NewContext.{apart}
 use Rattle.iom_core.proofs.Wide.{too_wide_located}
-use Rattle.iom_core.specs.Access as access
-use Rattle.iom_reasons.specs.Stale.{differing, told, uncached}
-use Rattle.iom_reasons.specs.declared.way.Way.{Way}
-use Rattle.iom_reasons.specs.declared.way.Way.TheVariants as way
+use Rattle.iom_reasons.specs.Stale.{differing, uncached}
+use Rattle.iom_core.specs.declared.way.Way.{Way}
 
 pub looked_uncached : (m : Machine) (did : ℕ) → context_look (uncached m) did ≡ look did None (located m.memory m.registers did)
 unfolding context_look
@@ -24,24 +22,8 @@ looked_uncached m did = elim (is_too_wide (levels_of (mode_of m.registers)) did)
       | false ↦ refl
     ]
 
--- the way that something is told of
-abbrev way_told : Way → access.Way
-way_told way.Register = access.ByRegister
-way_told (way.Context context) = access.ByContext context
-way_told (way.Walked context hit) = access.Walked context hit
-way_told (way.Denied denial) = access.Denied denial
-
-way_told_of : (w : access.Way) → way_told (told w) ≡ w
-way_told_of access.ByRegister = refl
-way_told_of (access.ByContext context) = refl
-way_told_of (access.Walked context hit) = refl
-way_told_of (access.Denied denial) = refl
-
-pub told_apart : (w v : access.Way) → told w ≡ told v → w ≡ v
-told_apart w v same = sym (way_told_of w) ∙ ap way_told same ∙ way_told_of v
-
 -- the way by the directory where nothing is cached, by what the directory has
-abbrev by_look : Machine → Request → Look ℕ Context Cause → access.Way
+abbrev by_look : Machine → Request → Look ℕ Context Cause → Way
 by_look m request l = (led_by_context m request l.filled l.used).way
 
 pub by_located : (m : Machine) (request : Request) (context : Context) → located m.memory m.registers request.did ≡ Ok context →
@@ -98,12 +80,12 @@ by_used m request context is =
 -- both ways by one context
 pub both_by_context : (m : Machine) (request : Request) (context : Context) → located m.memory m.registers request.did ≡ Ok context →
     (context_look m request.did).used ≡ Ok context →
-    differing (told (led_by_context m request None (Ok context)).way) (told (led_by_context (uncached m) request None (Ok context)).way)
+    differing (led_by_context m request None (Ok context)).way (led_by_context (uncached m) request None (Ok context)).way
     ≡ differing
-    (told (led_by_context m request (context_look m request.did).filled (context_look m request.did).used).way)
-    (told (led_by_context (uncached m) request (context_look (uncached m) request.did).filled (context_look (uncached m) request.did).used).way)
+    (led_by_context m request (context_look m request.did).filled (context_look m request.did).used).way
+    (led_by_context (uncached m) request (context_look (uncached m) request.did).filled (context_look (uncached m) request.did).used).way
 both_by_context m request context has is =
-    ap (λ way. differing (told way) (told (led_by_context (uncached m) request None (Ok context)).way)) (by_used m request context is)
+    ap (λ way. differing way (led_by_context (uncached m) request None (Ok context)).way) (by_used m request context is)
     ∙ ap
-    (λ way. differing (told (led_by_context m request (context_look m request.did).filled (context_look m request.did).used).way) (told way))
+    (λ way. differing (led_by_context m request (context_look m request.did).filled (context_look m request.did).used).way way)
     (by_located m request context has)

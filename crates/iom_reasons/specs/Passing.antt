@@ -17,8 +17,8 @@ use Rattle.iom_reasons.specs.declared.part.Part.{Part}
 use Rattle.iom_reasons.specs.declared.part.Part.TheVariants as part
 use Rattle.iom_reasons.specs.declared.part.Wide.{Wide}
 use Rattle.iom_reasons.specs.declared.part.Wide.TheVariants as wide
-use Rattle.iom_reasons.specs.declared.way.Way.{Way}
-use Rattle.iom_reasons.specs.declared.way.Way.TheVariants as way
+use Rattle.iom_core.specs.declared.way.Way.{Way}
+use Rattle.iom_core.specs.declared.way.Way.TheVariants as way
 
 abbrev pub IsGranted : Way → Type 0
 IsGranted way.Register = Unit {0}

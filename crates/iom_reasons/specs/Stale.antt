@@ -7,11 +7,10 @@ use Rattle.iom_nested.specs.Nested.{HitFits}
 use Rattle.iom_nested.specs.declared.translation.Hit.{Hit}
 use Rattle.iom_core.specs.State.{Machine}
 use Rattle.iom_core.specs.Access.{led}
-use Rattle.iom_core.specs.Access as access
 use Rattle.iom_core.specs.declared.access.Denial.{Denial}
 use Rattle.iom_core.specs.declared.access.Request.{Request}
-use Rattle.iom_reasons.specs.declared.way.Way.{Way}
-use Rattle.iom_reasons.specs.declared.way.Way.TheVariants as way
+use Rattle.iom_core.specs.declared.way.Way.{Way}
+use Rattle.iom_core.specs.declared.way.Way.TheVariants as way
 
 -- the same machine with both caches empty
 abbrev pub uncached : Machine → Machine
@@ -21,16 +20,9 @@ uncached m = record m { contexts = []; pages = [] }
 abbrev pub IsStale : Machine → Request → Type 0
 IsStale m request = (led m request).way ≢ (led (uncached m) request).way
 
--- a way as it is told
-abbrev pub told : access.Way → Way
-told access.ByRegister = way.Register
-told (access.ByContext context) = way.Context context
-told (access.Walked context hit) = way.Walked context hit
-told (access.Denied denial) = way.Denied denial
-
--- the way where nothing is cached, as it is told: what the tables say
+-- the way where nothing is cached: what the tables say
 abbrev pub by_tables : Machine → Request → Way
-by_tables m request = told (led (uncached m) request).way
+by_tables m request = (led (uncached m) request).way
 
 -- a hit that it leads by is one that the tables may say
 abbrev pub Fits : Way → Type 0
@@ -66,4 +58,4 @@ abbrev pub differing : Way → Way → Option Way
 differing now tables = if is_same_way now tables then None else Some tables
 
 unfoldable pub stale_way : Machine → Request → Option Way
-stale_way m request = differing (told (led m request).way) (by_tables m request)
+stale_way m request = differing (led m request).way (by_tables m request)

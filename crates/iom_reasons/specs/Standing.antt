@@ -20,8 +20,8 @@ use Rattle.iom_reasons.specs.declared.standing.Located.{Located}
 use Rattle.iom_reasons.specs.declared.standing.Located.TheVariants as found
 use Rattle.iom_reasons.specs.declared.standing.Standing.{Standing}
 use Rattle.iom_reasons.specs.declared.standing.Standing.TheVariants as standing
-use Rattle.iom_reasons.specs.declared.way.Way.{Way}
-use Rattle.iom_reasons.specs.declared.way.Way.TheVariants as way
+use Rattle.iom_core.specs.declared.way.Way.{Way}
+use Rattle.iom_core.specs.declared.way.Way.TheVariants as way
 
 -- the answer of a place, by whether the tables say of a key that it holds this value, and by what they say of the key
 abbrev pub IsStanding : {K V T : Type 0} → (K → V → Type 0) → (K → T) → Place K V → Standing T → Type 0

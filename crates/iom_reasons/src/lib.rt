@@ -3,13 +3,13 @@
 #![tactic(auto)]
 
 pub use finding::{Found, found_by};
+pub use iom_core::Way;
 pub use listing::{Parts, parts, put_parts};
 pub use part::{Part, Wide};
 pub use places::{stale_context, stale_page};
 pub use seeing::{Seen, seen_by};
 pub use staleness::{stale, way_by_tables, way_now};
 pub use standing::{Located, Standing};
-pub use way::Way;
 
 mod finding;
 mod listing;

@@ -16,7 +16,7 @@ ghost use Rattle.iom_reasons.specs.Bounds.{PartFits};
 ghost use Rattle.iom_reasons.specs.Fetches.{IsRead};
 ghost use Rattle.iom_reasons.specs.Passing.{IsGranted, Passes, Refuses};
 ghost use Rattle.iom_reasons.specs.declared.part.Part.TheVariants as part;
-ghost use Rattle.iom_reasons.specs.Stale.{Fits, by_tables, told, uncached};
+ghost use Rattle.iom_reasons.specs.Stale.{Fits, by_tables, uncached};
 
 use crate::staleness::way_by_reached;
 use crate::{Part, Way, Wide};
@@ -142,7 +142,7 @@ fn push_located(out: &mut Parts, platform: &Platform, request: &Request) -> Way
     ensures len { array_vec_len out.new ≤ array_vec_len out.old + 24 }
     ensures fits { All PartFits (stage_parts platform.now.machine.memory request.now.iova request.now.kind
         (located platform.now.machine.memory platform.now.machine.registers request.now.did)) }
-    ensures way { result ≡ told (led_by_context (uncached platform.now.machine) request.now
+    ensures way { result ≡ (led_by_context (uncached platform.now.machine) request.now
         (context_look (uncached platform.now.machine) request.now.did).filled
         (context_look (uncached platform.now.machine) request.now.did).used).way }
     ensures led { Fits result }
@@ -162,7 +162,7 @@ fn push_stages(out: &mut Parts, platform: &Platform, request: &Request, context:
         ++ stage_parts platform.now.machine.memory request.now.iova request.now.kind (Ok context.now) }
     ensures len { array_vec_len out.new ≤ array_vec_len out.old + 24 }
     ensures fits { All PartFits (stage_parts platform.now.machine.memory request.now.iova request.now.kind (Ok context.now)) }
-    ensures way { result ≡ told (led_by_context (uncached platform.now.machine) request.now None (Ok context.now)).way }
+    ensures way { result ≡ (led_by_context (uncached platform.now.machine) request.now None (Ok context.now)).way }
     ensures led { Fits result }
 {
     let ram = platform.ram();

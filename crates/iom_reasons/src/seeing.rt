@@ -5,8 +5,8 @@ ghost use Rattle.iom_ddt.specs.Contexts.{IsWellFormed, is_bare};
 ghost use Rattle.iom_nested.specs.Nested.{translation};
 ghost use Rattle.iom_core.specs.Access.{context_look, led_by_context, led_by_page, live_context};
 ghost use Rattle.iom_reasons.specs.Found.{found_in, found_under};
-ghost use Rattle.iom_reasons.specs.Stale.{Fits, differing, stale_way, told, uncached};
-ghost use Rattle.iom_reasons.specs.declared.way.Way.TheVariants as way;
+ghost use Rattle.iom_reasons.specs.Stale.{Fits, differing, stale_way, uncached};
+ghost use Rattle.iom_core.specs.declared.way.Way.TheVariants as way;
 
 use crate::Way;
 use crate::finding::{Found, NOTHING, found_under};
@@ -53,10 +53,10 @@ fn seen_by_directory(platform: &Platform, request: &Request) -> Seen
     requires width { request.now.did < 2 ^ 24 }
     ensures found { result.found ≡ found_under platform.now.machine request.now (live_context platform.now.machine request.now.did)
         (located platform.now.machine.memory platform.now.machine.registers request.now.did) }
-    ensures told { result.stale ≡ differing (told (led_by_context platform.now.machine request.now
+    ensures told { result.stale ≡ differing ((led_by_context platform.now.machine request.now
         (context_look platform.now.machine request.now.did).filled
         (context_look platform.now.machine request.now.did).used).way)
-        (told (led_by_context (uncached platform.now.machine) request.now
+        ((led_by_context (uncached platform.now.machine) request.now
         (context_look (uncached platform.now.machine) request.now.did).filled
         (context_look (uncached platform.now.machine) request.now.did).used).way) }
     ensures fits { IfSome result.stale Fits }
@@ -76,10 +76,10 @@ fn seen_apart(platform: &Platform, request: &Request) -> Seen
     requires width { request.now.did < 2 ^ 24 }
     ensures found { result.found ≡ found_under platform.now.machine request.now (live_context platform.now.machine request.now.did)
         (located platform.now.machine.memory platform.now.machine.registers request.now.did) }
-    ensures told { result.stale ≡ differing (told (led_by_context platform.now.machine request.now
+    ensures told { result.stale ≡ differing ((led_by_context platform.now.machine request.now
         (context_look platform.now.machine request.now.did).filled
         (context_look platform.now.machine request.now.did).used).way)
-        (told (led_by_context (uncached platform.now.machine) request.now
+        ((led_by_context (uncached platform.now.machine) request.now
         (context_look (uncached platform.now.machine) request.now.did).filled
         (context_look (uncached platform.now.machine) request.now.did).used).way) }
     ensures fits { IfSome result.stale Fits }
@@ -118,8 +118,8 @@ fn seen_by_context(
     requires { IsWellFormed context.now }
     ensures found { result.found ≡ found_under platform.now.machine request.now
         (if is_cached then Some context.now else None) (Ok context.now) }
-    ensures told { result.stale ≡ differing (told (led_by_context platform.now.machine request.now None (Ok context.now)).way)
-        (told (led_by_context (uncached platform.now.machine) request.now None (Ok context.now)).way) }
+    ensures told { result.stale ≡ differing ((led_by_context platform.now.machine request.now None (Ok context.now)).way)
+        ((led_by_context (uncached platform.now.machine) request.now None (Ok context.now)).way) }
     ensures fits { IfSome result.stale Fits }
 {
     if context.is_bare() {
@@ -158,7 +158,7 @@ fn stale_hit(ram: &Ram, request: &Request, context: &Context, cached: &Hit) -> O
     requires well_formed { IsWellFormed context.now }
     requires staged { is_bare context.now ≡ false }
     ensures told { result ≡ differing (way.Walked context.now cached.now)
-        (told (led_by_page context.now None None (translation ram.now context.now request.now.iova request.now.kind)).way) }
+        ((led_by_page context.now None None (translation ram.now context.now request.now.iova request.now.kind)).way) }
     ensures fits { IfSome result Fits }
 {
     match translate(ram, context, request.iova, request.kind) {

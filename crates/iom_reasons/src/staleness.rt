@@ -6,8 +6,8 @@ ghost use Rattle.iom_nested.specs.Nested.{HitFits, first_stage, told_of, transla
 ghost use Rattle.iom_nested.specs.Stages.{first_shape_of};
 ghost use Rattle.iom_cache.specs.Places.{look};
 ghost use Rattle.iom_core.specs.Access.{context_look, led, led_by_context, led_by_page};
-ghost use Rattle.iom_reasons.specs.Stale.{Fits, IsStale, by_tables, stale_way, told, uncached};
-ghost use Rattle.iom_reasons.specs.declared.way.Way.TheVariants as way;
+ghost use Rattle.iom_reasons.specs.Stale.{Fits, IsStale, by_tables, stale_way, uncached};
+ghost use Rattle.iom_core.specs.declared.way.Way.TheVariants as way;
 
 use crate::Way;
 use crate::seeing::seen_by;
@@ -37,7 +37,7 @@ pub fn stale(platform: &Platform, request: &Request) -> Option<Way>
 #[tactic(auto, unfolding(iom_core::specs::Access::led))]
 pub fn way_now(platform: &Platform, request: &Request) -> Way
     requires { request.now.did < 2 ^ 24 }
-    ensures { result ≡ told (led platform.now.machine request.now).way }
+    ensures { result ≡ (led platform.now.machine request.now).way }
 {
     match platform.registers().mode() {
         Mode::Off => Way::Denied(Denial::plain(Cause::Off)),
@@ -51,7 +51,7 @@ pub fn way_now(platform: &Platform, request: &Request) -> Way
 pub(crate) fn way_by_directory(platform: &Platform, request: &Request) -> Way
     requires directory { 1 ≤ levels_of (mode_of platform.now.machine.registers) }
     requires width { request.now.did < 2 ^ 24 }
-    ensures { result ≡ told (led_by_context platform.now.machine request.now
+    ensures { result ≡ (led_by_context platform.now.machine request.now
         (context_look platform.now.machine request.now.did).filled
         (context_look platform.now.machine request.now.did).used).way }
 {
@@ -71,7 +71,7 @@ pub(crate) fn way_by_directory(platform: &Platform, request: &Request) -> Way
 #[tactic(auto, unfolding(iom_core::specs::Access::page_look))]
 fn way_by_context(platform: &Platform, request: &Request, context: &Context) -> Way
     requires { IsWellFormed context.now }
-    ensures { result ≡ told (led_by_context platform.now.machine request.now None (Ok context.now)).way }
+    ensures { result ≡ (led_by_context platform.now.machine request.now None (Ok context.now)).way }
 {
     if context.is_bare() {
         return Way::Context(*context);
@@ -103,7 +103,7 @@ pub fn way_by_tables(platform: &Platform, request: &Request) -> Way
 pub(crate) fn way_by_new_directory(platform: &Platform, request: &Request) -> Way
     requires directory { 1 ≤ levels_of (mode_of platform.now.machine.registers) }
     requires width { request.now.did < 2 ^ 24 }
-    ensures way { result ≡ told (led_by_context (uncached platform.now.machine) request.now
+    ensures way { result ≡ (led_by_context (uncached platform.now.machine) request.now
         (context_look (uncached platform.now.machine) request.now.did).filled
         (context_look (uncached platform.now.machine) request.now.did).used).way }
     ensures fits { Fits result }
@@ -118,7 +118,7 @@ pub(crate) fn way_by_new_directory(platform: &Platform, request: &Request) -> Wa
 #[tactic(auto, unfolding(iom_core::specs::Access::page_look))]
 fn way_by_new_context(platform: &Platform, request: &Request, context: &Context) -> Way
     requires { IsWellFormed context.now }
-    ensures way { result ≡ told (led_by_context (uncached platform.now.machine) request.now None (Ok context.now)).way }
+    ensures way { result ≡ (led_by_context (uncached platform.now.machine) request.now None (Ok context.now)).way }
     ensures fits { Fits result }
 {
     if context.is_bare() {
@@ -132,7 +132,7 @@ fn way_by_new_context(platform: &Platform, request: &Request, context: &Context)
 fn way_by_walk(ram: &Ram, request: &Request, context: &Context) -> Way
     requires well_formed { IsWellFormed context.now }
     requires staged { is_bare context.now ≡ false }
-    ensures way { result ≡ told (led_by_page context.now None None
+    ensures way { result ≡ (led_by_page context.now None None
         (translation ram.now context.now request.now.iova request.now.kind)).way }
     ensures fits { Fits result }
 {
@@ -152,7 +152,7 @@ pub(crate) fn way_by_reached(
         (first_stage ram.now context.now request.now.iova request.now.kind (first_shape_of context.now)) }
     requires fits { IfOk reached
         (λ reached. (first_shape_of context.now ≢ None → reached.addr < 2 ^ 56) × (reached.level < 4)) }
-    ensures way { result ≡ told (led_by_page context.now None None
+    ensures way { result ≡ (led_by_page context.now None None
         (translation ram.now context.now request.now.iova request.now.kind)).way }
     ensures fits { Fits result }
 {
@@ -162,7 +162,7 @@ pub(crate) fn way_by_reached(
 // The way by a context to what its stages found.
 fn way_to(context: &Context, hit: Result<Hit, Fault>) -> Way
     requires { IfOk hit HitFits }
-    ensures way { result ≡ told (led_by_page context.now None None hit).way }
+    ensures way { result ≡ (led_by_page context.now None None hit).way }
     ensures fits { Fits result }
 {
     match hit {

@@ -1,22 +1,9 @@
 ghost use Rattle.std.specs.Prelude.{◌≡◌, ◌↔◌, IsTrue};
 ghost use Rattle.iom_reasons.specs.Stale.{is_same_way};
 
-use iom_core::Denial;
+use iom_core::{Denial, Way};
 use iom_ddt::Context;
 use iom_nested::Hit;
-
-/// The way that a request is led.
-#[derive(Clone, Copy)]
-pub enum Way {
-    /// By ddtp, whose mode is Bare: the physical address is the IOVA.
-    Register,
-    /// By this context of the device, both of whose stages are Bare: the physical address is the IOVA.
-    Context(Context),
-    /// By the stages of this context of the device, which lead the IOVA's page to this frame.
-    Walked(Context, Hit),
-    /// Nowhere.
-    Denied(Denial),
-}
 
 /// Whether two ways are one: both by the register, or by equal contexts and frames, or denied alike.
 pub fn is_same(way: &Way, other: &Way) -> bool
