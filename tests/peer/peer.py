@@ -17,12 +17,15 @@ import time
 from model import BASE, COMPARED, CQT, SIZE, Model, OtherDevice
 import directed
 from cases import random_case
-from qemu import DEVICE, IOMMU, PLACE, QEMU, Qemu, pattern
+from qemu import DEVICE, IOMMU, PLACE, QEMU, Qemu, ids_of, pattern
 
 HERE = os.path.dirname(os.path.abspath(__file__))
 BUSES = [0, 0x5C, 0x9AB3]
 WHOLE_EVERY = 50
+IDS = [ids_of(bus) for bus in BUSES]
 WRITES = [pattern(device) for device in range(5)]
+# How many differences of a case are told.
+MOST_TOLD = 3
 
 
 def table():
@@ -32,11 +35,16 @@ def table():
     return [name for row in rows for name in re.findall(r"`([^`]+)`", row)]
 
 
+def differing(rows):
+    """The rows whose answer is another than the wanted one, told; a row has its step, what was asked, the answer and the wanted one."""
+    return [f"step {number}: {asked!r} is {answer}, wanted {wanted}" for number, asked, answer, wanted in rows if answer != wanted][:MOST_TOLD]
+
+
 class Walk:
     """One model carried through a case: for each step what it says, and at the end the words of memory that were changed."""
 
-    def __init__(self, case, ids, others):
-        self.model, self.ids = Model(others), ids[case.bus]
+    def __init__(self, case, others):
+        self.model, self.ids = Model(others), IDS[case.bus]
         for address, word in case.words.items():
             self.model.put(address, word.to_bytes(8, "little"))
         for address, data in case.bytes.items():
@@ -88,15 +96,33 @@ class Walk:
         return steps + [("tail", tail)]
 
 
+def cut(case, names):
+    """The steps of a case, with commands resolved, up to one that reaches another device of QEMU's machine."""
+    own, peer = Walk(case, ()), Walk(case, names)
+    steps = []
+    for step in case.steps:
+        some = own.resolved(step)
+        try:
+            for one in some:
+                own.step(one)
+                peer.step(one)
+        except OtherDevice:
+            return steps
+        steps += some
+    return steps
+
+
 class Comparison:
+    """Of a program, which answers scripts, and a QEMU for each bus."""
+
     def __init__(self, program, qemus):
-        self.program, self.qemus, self.ids = program, qemus, [qemu.ids for qemu in qemus]
+        self.program, self.qemus = program, qemus
         self.accesses = 0
 
     def compare(self, case, names, is_whole=False):
         """Plays a case on both programs; returns what isn't explained, and the classes that were met."""
-        steps = self.cut(case, names)
-        own, peer = Walk(case, self.ids, ()), Walk(case, self.ids, names)
+        steps = cut(case, names)
+        own, peer = Walk(case, ()), Walk(case, names)
         script, qemu = Script(case), Session(self.qemus[case.bus], case)
         found = []
         for number, step in enumerate(steps):
@@ -117,27 +143,25 @@ class Comparison:
         self.accesses += sum(step[0] in ("read", "write") for step in steps)
         return found, own.model.met | peer.model.met
 
-    def cut(self, case, names):
-        """The steps of a case, with commands resolved, up to one that reaches another device of QEMU's machine."""
-        own, peer = Walk(case, self.ids, ()), Walk(case, self.ids, names)
-        steps = []
-        for step in case.steps:
-            some = own.resolved(step)
-            try:
-                for one in some:
-                    own.step(one)
-                    peer.step(one)
-            except OtherDevice:
-                return steps
-            steps += some
-        return steps
-
     @staticmethod
     def seen(walk, step, answer, count, records):
         """What of a step both models are compared in."""
         data = answer[1] if step[0] == "read" else answer if step[0] == "look" else None
         words = [bytes(walk.model.memory[it - BASE : it - BASE + 32]) for it in records]
         return data, words, walk.registers()
+
+
+class Program:
+    def __init__(self, path):
+        self.path = path
+
+    def answers(self, image, lines):
+        """What it answers to these lines on an image."""
+        with tempfile.NamedTemporaryFile() as file:
+            file.write(image)
+            file.flush()
+            script = "".join(f"{line}\n" for line in lines).encode()
+            return subprocess.run([self.path, "run", file.name], input=script, capture_output=True).stdout.decode().splitlines()
 
 
 class Script:
@@ -163,8 +187,7 @@ class Script:
             offset, size, value = step[1:] if step[0] == "reg" else (36, 4, step[1])
             self.line(number, f"reg write {offset} {size} {value:#x}", "done")
             for at in range(count + 1) if step[0] == "tail" else []:
-                stopped = at == count or at == count - 1 and walk.model.registers[72] & 0x500
-                self.line(number, "cmd", "idle" if at == count else ("done", "idle") if stopped else "done")
+                self.line(number, "cmd", "idle" if at == count else "done")
         elif step[0] == "look":
             self.line(number, f"reg read {step[1]} {step[2]}", "bad access" if answer is None else hex(answer))
         elif step[0] == "store":
@@ -183,31 +206,24 @@ class Script:
         for address in touched:
             self.word("the end", walk.model, address)
 
-    def run(self, program, lines):
-        with tempfile.NamedTemporaryFile() as image:
-            image.write(self.image)
-            image.flush()
-            ended = subprocess.run([program, "run", image.name], input="".join(f"{line}\n" for line in lines).encode(), capture_output=True)
-        return ended.stdout.decode().splitlines()
-
     def differences(self, program):
-        answers = self.run(program, self.lines)
+        answers = program.answers(self.image, self.lines)
         if len(answers) != len(self.wanted):
             return [f"{len(answers)} answers, wanted {len(self.wanted)}"]
-        rows = zip(self.numbers, self.lines, answers, self.wanted)
-        return [f"step {it}: {line!r} is {answer}, wanted {wanted}" for it, line, answer, wanted in rows if answer != wanted and answer not in wanted][:3]
+        return differing(zip(self.numbers, self.lines, answers, self.wanted))
 
     def whole(self, program, memory):
-        answers = self.run(program, self.lines + [f"load {BASE + at:#x} 8" for at in range(0, SIZE, 8)])[len(self.lines) :]
+        loads = [f"load {BASE + at:#x} 8" for at in range(0, SIZE, 8)]
+        answers = program.answers(self.image, self.lines + loads)[len(self.lines) :]
         words = struct.unpack(f"<{SIZE // 8}Q", memory)
-        return [hex(BASE + 8 * at) for at in range(SIZE // 8) if int(answers[at], 0) != words[at]][:3]
+        return [hex(BASE + 8 * at) for at in range(SIZE // 8) if answers[at] != hex(words[at])][:MOST_TOLD]
 
 
 class Session:
     """A case as commands of qtest, with the answers that QEMU's model gives."""
 
     def __init__(self, qemu, case):
-        self.qemu, self.found, self.reads = qemu, [], []
+        self.qemu, self.rows, self.reads = qemu, [], []
         chunks = {address: struct.pack("<Q", word) for address, word in case.words.items()}
         chunks.update(case.bytes)
         qemu.ask([f"write {address:#x} {len(data)} 0x{data.hex()}" for address, data in chunks.items()])
@@ -218,14 +234,11 @@ class Session:
 
     def flush(self):
         answers = self.qemu.ask([command for _, command, _ in self.asked])
-        for (number, command, wanted), answer in zip(self.asked, answers):
-            seen = int(answer, 0) if wanted is not None else None
-            if seen != wanted:
-                self.found.append(f"step {number}: {command!r} is {answer}, wanted {wanted:#x}")
+        self.rows += [(number, command, answer, wanted) for (number, command, wanted), answer in zip(self.asked, answers) if wanted is not None]
         self.asked = []
 
     def register(self, number, offset, size, wanted):
-        self.ask(number, f"read{'l' if size == 4 else 'q'} {IOMMU + offset:#x}", wanted)
+        self.ask(number, f"read{'l' if size == 4 else 'q'} {IOMMU + offset:#x}", f"{wanted:#018x}")
 
     def add(self, number, step, walk, answer, count, records):
         if step[0] in ("reg", "tail"):
@@ -247,7 +260,7 @@ class Session:
             self.bytes(number, walk.model, record, 32)
 
     def bytes(self, number, model, address, length):
-        self.ask(number, f"read {address:#x} {length}", int.from_bytes(model.memory[address - BASE : address - BASE + length], "big"))
+        self.ask(number, f"read {address:#x} {length}", f"0x{model.memory[address - BASE : address - BASE + length].hex()}")
 
     def end(self, walk, touched):
         for address in touched:
@@ -256,13 +269,13 @@ class Session:
         buffers = self.qemu.buffers(sorted({device for _, device, _, _ in self.reads}))
         for number, device, place, wanted in self.reads:
             seen = buffers[device][place * PLACE : place * PLACE + len(wanted)]
-            if seen != wanted:
-                self.found.append(f"step {number}: device {device} read {seen.hex()}, wanted {wanted.hex()}")
-        return self.found[:3]
+            self.rows.append((number, f"a read of device {device}", seen.hex(), wanted.hex()))
+        self.found = differing(self.rows)
+        return self.found
 
     def whole(self, memory):
         seen = bytes.fromhex(self.qemu.ask([f"read {BASE:#x} {SIZE:#x}"])[0][2:])
-        return [hex(BASE + at) for at in range(0, SIZE, 8) if seen[at : at + 8] != memory[at : at + 8]][:3]
+        return [hex(BASE + at) for at in range(0, SIZE, 8) if seen[at : at + 8] != memory[at : at + 8]][:MOST_TOLD]
 
     def settle(self, case, touched, is_whole):
         pages = {address >> 12 for address in [*touched, *case.words, *case.bytes]}
@@ -279,9 +292,9 @@ def wants():
     return f"{QEMU} has no {missing[0]}: version 10 or later is wanted" if missing else None
 
 
-def course(case, ids, others):
+def course(case, others):
     """What a model says of each step of a case, and the memory at its end; None behind a step that reaches another device."""
-    own, walk, said = Walk(case, ids, ()), Walk(case, ids, others), []
+    own, walk, said = Walk(case, ()), Walk(case, others), []
     try:
         for step in case.steps:
             for one in own.resolved(step):
@@ -292,10 +305,10 @@ def course(case, ids, others):
     return said, bytes(walk.model.memory)
 
 
-def tried_alone(case, names, name, ids):
+def tried_alone(case, names, name):
     """Whether a directed case shows its class, to its end: QEMU's model without it ends otherwise."""
-    whole = course(case, ids, names)
-    return None not in whole[0] and whole != course(case, ids, [it for it in names if it != name])
+    whole = course(case, names)
+    return None not in whole[0] and whole != course(case, [it for it in names if it != name])
 
 
 def main():
@@ -304,7 +317,7 @@ def main():
     missing = wants()
     if missing:
         sys.exit(f"peer.py: {missing}")
-    program, count = os.path.abspath(sys.argv[1]), int(sys.argv[2]) if len(sys.argv) > 2 else 5000
+    program, count = Program(os.path.abspath(sys.argv[1])), int(sys.argv[2]) if len(sys.argv) > 2 else 5000
     seed = sys.argv[3] if len(sys.argv) > 3 else "1"
     names, qemus, began = table(), [Qemu(bus) for bus in BUSES], time.monotonic()
     met, bad = {name: 0 for name in names}, 0
@@ -316,12 +329,12 @@ def main():
                 print(f"{name}: there is no directed case")
                 bad += 1
         for title, case, name in todo:
-            if not tried_alone(case, names, name, comparison.ids):
+            if not tried_alone(case, names, name):
                 print(f"{title}: doesn't show its class")
                 bad += 1
         todo += [(f"seed {seed}, case {number}", None, number) for number in range(count)]
         for title, case, number in todo:
-            case = case or random_case(seed, number, comparison.ids)
+            case = case or random_case(seed, number, IDS)
             found, classes = comparison.compare(case, names, isinstance(number, int) and number % WHOLE_EVERY == 0)
             for name in classes:
                 met[name] = met.get(name, 0) + 1

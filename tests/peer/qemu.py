@@ -21,6 +21,11 @@ PLACES = HALF // PLACE
 QUEUE, ROOM = BASE + SIZE - 0x2000, BASE + SIZE - 0x1000
 
 
+def ids_of(bus):
+    """The ids of the devices on a bus: it is bits 8 and above of each."""
+    return [bus << 8 | slot << 3 for slot in SLOTS]
+
+
 def pattern(device):
     """What a device writes, place after place: no two bytes of a place are as others at hand."""
     return bytes((at * 37 + at // 64 * 11 + device * 53 + 1) & 255 for at in range(HALF))
@@ -28,8 +33,7 @@ def pattern(device):
 
 class Qemu:
     def __init__(self, bus):
-        """Starts a QEMU whose devices' ids have the bits of `bus` from bit 8 on."""
-        self.ids = [bus << 8 | slot << 3 for slot in SLOTS]
+        """Starts a QEMU whose devices' ids are those of a bus."""
         ours, its = socket.socketpair()
         words = [QEMU, "-M", "virt", "-m", str(SIZE >> 20), "-nodefaults", "-display", "none", "-bios", "none"]
         # the hart sleeps, so the delay of an edu's transfer passes at once

@@ -1,5 +1,6 @@
 pub mod Breaking
 pub mod Device
+pub mod Layout
 pub mod Phases
 pub mod Registers
 pub mod Requests

@@ -1,5 +1,8 @@
 //! Where the registers stand, in bytes from the first on (VIRTIO 1.2, "MMIO Device Register Layout").
 
+ghost use Rattle.std.specs.Prelude.{◌≡◌};
+ghost use Rattle.iom_blk.specs.Layout.{offset_of, MagicValue, Version, DeviceID, VendorID, DeviceFeatures, DeviceFeaturesSel, DriverFeatures, DriverFeaturesSel, QueueSel, QueueNumMax, QueueNum, QueueReady, QueueNotify, InterruptStatus, InterruptACK, Status, QueueDescLow, QueueDescHigh, QueueDriverLow, QueueDriverHigh, QueueDeviceLow, QueueDeviceHigh, SHMLenLow, SHMLenHigh, SHMBaseLow, SHMBaseHigh, ConfigGeneration, Configuration};
+
 /// MagicValue.
 pub const MAGIC_VALUE: u64 = 0x000;
 
@@ -83,3 +86,35 @@ pub const CONFIG_GENERATION: u64 = 0x0fc;
 
 /// Where the configuration begins.
 pub const CONFIG: u64 = 0x100;
+
+/// The law of the offsets: each is its register's in the standard's table.
+pub fn register_layout()
+    ensures magic_value { MAGIC_VALUE ≡ offset_of MagicValue }
+    ensures version { VERSION ≡ offset_of Version }
+    ensures device_id { DEVICE_ID ≡ offset_of DeviceID }
+    ensures vendor_id { VENDOR_ID ≡ offset_of VendorID }
+    ensures device_features { DEVICE_FEATURES ≡ offset_of DeviceFeatures }
+    ensures device_features_sel { DEVICE_FEATURES_SEL ≡ offset_of DeviceFeaturesSel }
+    ensures driver_features { DRIVER_FEATURES ≡ offset_of DriverFeatures }
+    ensures driver_features_sel { DRIVER_FEATURES_SEL ≡ offset_of DriverFeaturesSel }
+    ensures queue_sel { QUEUE_SEL ≡ offset_of QueueSel }
+    ensures queue_num_max { QUEUE_NUM_MAX ≡ offset_of QueueNumMax }
+    ensures queue_num { QUEUE_NUM ≡ offset_of QueueNum }
+    ensures queue_ready { QUEUE_READY ≡ offset_of QueueReady }
+    ensures queue_notify { QUEUE_NOTIFY ≡ offset_of QueueNotify }
+    ensures interrupt_status { INTERRUPT_STATUS ≡ offset_of InterruptStatus }
+    ensures interrupt_ack { INTERRUPT_ACK ≡ offset_of InterruptACK }
+    ensures status { STATUS ≡ offset_of Status }
+    ensures queue_desc_low { QUEUE_DESC_LOW ≡ offset_of QueueDescLow }
+    ensures queue_desc_high { QUEUE_DESC_HIGH ≡ offset_of QueueDescHigh }
+    ensures queue_driver_low { QUEUE_DRIVER_LOW ≡ offset_of QueueDriverLow }
+    ensures queue_driver_high { QUEUE_DRIVER_HIGH ≡ offset_of QueueDriverHigh }
+    ensures queue_device_low { QUEUE_DEVICE_LOW ≡ offset_of QueueDeviceLow }
+    ensures queue_device_high { QUEUE_DEVICE_HIGH ≡ offset_of QueueDeviceHigh }
+    ensures shm_len_low { SHM_LEN_LOW ≡ offset_of SHMLenLow }
+    ensures shm_len_high { SHM_LEN_HIGH ≡ offset_of SHMLenHigh }
+    ensures shm_base_low { SHM_BASE_LOW ≡ offset_of SHMBaseLow }
+    ensures shm_base_high { SHM_BASE_HIGH ≡ offset_of SHMBaseHigh }
+    ensures config_generation { CONFIG_GENERATION ≡ offset_of ConfigGeneration }
+    ensures config { CONFIG ≡ offset_of Configuration }
+{}

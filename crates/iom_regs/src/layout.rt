@@ -1,5 +1,8 @@
 //! Where the registers stand, in bytes from the first on ("Register layout"), and bits of the control and status registers.
 
+ghost use Rattle.std.specs.Prelude.{◌≡◌};
+ghost use Rattle.iom_regs.specs.Table.{slot_at, Whole, Low, Capabilities, Fctl, Ddtp, Cqb, Cqh, Cqt, Fqb, Fqh, Fqt, Cqcsr, Fqcsr, Ipsr};
+
 /// capabilities, 8 bytes.
 pub const CAPABILITIES: u64 = 0;
 
@@ -68,3 +71,19 @@ pub const FQMF: u32 = 8;
 
 /// fqof, a fault-queue overflow.
 pub const FQOF: u32 = 9;
+
+/// The law of the offsets that this crate gives on: the register table has each register at its own.
+pub fn register_layout()
+    ensures capabilities { slot_at CAPABILITIES ≡ Low Capabilities }
+    ensures fctl { slot_at FCTL ≡ Whole Fctl }
+    ensures ddtp { slot_at DDTP ≡ Low Ddtp }
+    ensures cqb { slot_at CQB ≡ Low Cqb }
+    ensures cqh { slot_at CQH ≡ Whole Cqh }
+    ensures cqt { slot_at CQT ≡ Whole Cqt }
+    ensures fqb { slot_at FQB ≡ Low Fqb }
+    ensures fqh { slot_at FQH ≡ Whole Fqh }
+    ensures fqt { slot_at FQT ≡ Whole Fqt }
+    ensures cqcsr { slot_at CQCSR ≡ Whole Cqcsr }
+    ensures fqcsr { slot_at FQCSR ≡ Whole Fqcsr }
+    ensures ipsr { slot_at IPSR ≡ Whole Ipsr }
+{}

@@ -1,0 +1,248 @@
+"""The program beside the standard's model of tests/peer, without QEMU; and whether the comparison there notices what is false.
+
+For the second each side of the comparison is a model that says something false at one place, in place of the program or of QEMU.
+"""
+import os
+import sys
+
+from checks import PROGRAM, check, want
+
+sys.path.insert(0, os.path.join(os.path.dirname(os.path.abspath(__file__)), "peer"))
+
+import directed  # noqa: E402
+import peer  # noqa: E402
+from cases import WELL, random_case  # noqa: E402
+from directed import DATA, FAULTS, GSCID, GUEST_ROOT, GV, IODIR, IOVA, LEAVES, OTHER_DATA, SV39, SV39X4, VMA, Plain  # noqa: E402
+from model import BASE, CQCSR, FQB, FQCSR, IPSR, SIZE, Model  # noqa: E402
+from qemu import IOMMU, PLACE  # noqa: E402
+
+SEED = "without QEMU"
+RANDOM_CASES = 150
+NAMES = peer.table()
+FQIE = 2
+
+
+def whole_case():
+    """What the false answers are about: a read, a write, reads after an invalidation of the translation and of the context, a fault of
+    the second stage for an entry of the first, and faults up to one more than the queue has room for."""
+    case = Plain(SV39, SV39X4).with_entry(LEAVES, 1, 1 << 10 | WELL).with_entry(LEAVES, 2, 2 << 10 | WELL)
+    case.write(FQCSR, 4, 0).write(FQB, 8, FAULTS << 10 | 1).write(FQCSR, 4, 1).write(CQCSR, 4, 1)
+    case.read(IOVA, length=8).put(IOVA, length=8)
+    case.store(LEAVES, 1, 0).command(VMA | GV | GSCID << 44).read(IOVA)
+    case.store(GUEST_ROOT, 2, 0).read(IOVA + 0x1000)
+    case.store(directed.DIRECTORY, 4 * directed.DEVICES[0], 0).command(IODIR).read(IOVA)
+    return case.read(IOVA)
+
+
+# Models that say something false.
+
+
+class OtherCause(Model):
+    def access(self, did, iova, length, data=None):
+        answer, got = super().access(did, iova, length, data)
+        return "denied 1" if answer == "denied 13" else answer, got
+
+
+class OtherCauseInRecord(Model):
+    def deliver(self, words):
+        super().deliver([words[0] & ~2, *words[1:]])
+
+
+class OtherLowBit(Model):
+    def deliver(self, words):
+        super().deliver([*words[:3], words[3] ^ 1])
+
+
+class HalfRead(Model):
+    """Half of the bytes that a device reads, which the rest of a buffer doesn't show."""
+
+    def access(self, did, iova, length, data=None):
+        answer, got = super().access(did, iova, length, data)
+        half = len(got) // 2
+        return (answer, got) if data is not None or " " in answer else (answer[: 2 * half], got[:half])
+
+
+class LostRecord(Model):
+    def deliver(self, words):
+        if not self.records:
+            super().deliver(words)
+
+
+class StalePage(Model):
+    def is_dropped_by_vma(self, *which):
+        return False
+
+
+class StaleContext(Model):
+    def drop_contexts(self, dv, did):
+        pass
+
+
+class OtherWrite(Model):
+    def access(self, did, iova, length, data=None):
+        return super().access(did, iova, length, data and data[:-1] + b"\0")
+
+
+class StrayWrite(Model):
+    """A write that leaves a byte where no model writes one."""
+
+    def access(self, did, iova, length, data=None):
+        self.memory[-1] |= data is not None
+        return super().access(did, iova, length, data)
+
+
+def shows(offset, change):
+    """A model that shows a register otherwise."""
+
+    class Shows(Model):
+        def read(self, off, size):
+            value = super().read(off, size)
+            return change(value) if off == offset else value
+
+    return Shows
+
+
+FALSE = {
+    "a cause that is a part of the right one": OtherCause,
+    "a cause in a record": OtherCauseInRecord,
+    "iotval2 with the other low bit": OtherLowBit,
+    "half of a read": HalfRead,
+    "a record that is lost": LostRecord,
+    "a translation that stays behind an invalidation": StalePage,
+    "a context that stays behind an invalidation": StaleContext,
+    "a write without its last byte": OtherWrite,
+    "a write that goes elsewhere too": StrayWrite,
+    "fqcsr without fqon": shows(FQCSR, lambda value: value & ~(1 << 16)),
+    "fqcsr without fqof": shows(FQCSR, lambda value: value & ~(1 << 9)),
+    "fqcsr with fie": shows(FQCSR, lambda value: value | FQIE),
+    "cqcsr that is 1 where it is on": shows(CQCSR, lambda value: 1 if value else 0),
+    "ipsr with fip": shows(IPSR, lambda value: value | 2),
+}
+# An access that QEMU refuses gives zeros, whatever the cause; only its record has that.
+UNSEEN_OF_QEMU = OtherCause
+
+
+class OfProgram:
+    """A model in the place of the program."""
+
+    def __init__(self, model):
+        self.model = model
+
+    def answers(self, image, lines):
+        model = self.model()
+        count = int.from_bytes(image[24:28], "little")
+        at = 32
+        for _ in range(count):
+            address, length = int.from_bytes(image[at : at + 8], "little"), int.from_bytes(image[at + 8 : at + 12], "little")
+            model.put(address, image[at + 12 : at + 12 + length])
+            at += 12 + length
+        return [self.answer(model, *line.split()) for line in lines]
+
+    @staticmethod
+    def answer(model, word, *rest):
+        if word == "cmd":
+            return "done" if model.command() else "idle"
+        if word == "load":
+            return hex(model.load(*(int(it, 0) for it in rest)))
+        if word == "store":
+            address, size, value = (int(it, 0) for it in rest)
+            model.put(address, value.to_bytes(size, "little"))
+            return "done"
+        kind, *numbers = rest
+        if word == "dma":
+            did, iova = int(numbers[0], 0), int(numbers[1], 0)
+            data = bytes.fromhex(numbers[2]) if kind == "write" else None
+            return model.access(did, iova, len(data) if data else int(numbers[2]), data)[0]
+        numbers = [int(it, 0) for it in numbers]
+        if kind == "write":
+            model.write(*numbers)
+            return "done"
+        value = model.read(*numbers)
+        return "bad access" if value is None else hex(value)
+
+
+class OfQemu:
+    """A model in the place of QEMU, with all classes of difference."""
+
+    def __init__(self, model):
+        self.of, self.ids = model, peer.IDS[0]
+        self.settle()
+
+    def settle(self, ranges=()):
+        self.model, self.read = self.of(NAMES), {}
+
+    def ask(self, commands):
+        return [self.answer(*command.split()) for command in commands]
+
+    def answer(self, word, address, *rest):
+        model, address = self.model, int(address, 0)
+        size = {"l": 4, "q": 8}.get(word[-1])
+        if word == "write":
+            model.put(address, bytes.fromhex(rest[1][2:]))
+        elif word == "read":
+            return f"0x{model.memory[address - BASE : address - BASE + int(rest[0], 0)].hex()}"
+        elif word.startswith("read"):
+            return f"{model.read(address - IOMMU, size):#018x}"
+        elif address >= BASE:
+            model.put(address, int(rest[0], 0).to_bytes(size, "little"))
+        else:
+            model.write(address - IOMMU, size, int(rest[0], 0))
+            while model.command():
+                pass
+        return ""
+
+    def access(self, device, iova, length, place, is_write):
+        at = place * PLACE
+        data = peer.WRITES[device][at : at + length] if is_write else None
+        got = self.model.access(self.ids[device], iova, length, data)[1]
+        if not is_write:
+            self.read.setdefault(device, bytearray(len(peer.WRITES[device])))[at : at + len(got)] = got
+
+    def buffers(self, devices):
+        return {device: bytes(self.read[device]) for device in devices}
+
+
+def sides_found(program, qemu):
+    """The sides of which a comparison of the case tells a difference."""
+    comparison = peer.Comparison(OfProgram(program), [OfQemu(qemu)])
+    told = comparison.compare(whole_case(), NAMES, is_whole=StrayWrite in (program, qemu))[0]
+    return {what.split(",")[0] for what in told}
+
+
+@check("peer: two models that say nothing false don't differ")
+def _():
+    want("what is found", sides_found(Model, Model), set())
+
+
+def add_false(name, model):
+    @check(f"peer: the comparison notices {name}")
+    def _():
+        want("where it is found, said by the program,", sides_found(model, Model), {"rviommu"})
+        if model is not UNSEEN_OF_QEMU:
+            want("where it is found, said by QEMU,", sides_found(Model, model), {"QEMU"})
+
+
+for each in FALSE.items():
+    add_false(*each)
+
+
+def differing(case):
+    """Where the program says something else than the standard's model in a case."""
+    walk, script = peer.Walk(case, ()), peer.Script(case)
+    for number, step in enumerate(peer.cut(case, ())):
+        script.add(number, step, walk, *walk.step(step))
+    script.end(walk, sorted(walk.model.touched))
+    return script.differences(peer.Program(PROGRAM))
+
+
+@check("peer: the program is as the standard's model in the directed cases")
+def _():
+    for name, cases in directed.CASES.items():
+        for at, case in enumerate(cases):
+            want(f"what differs in {name}, case {at + 1},", differing(case), [])
+
+
+@check(f"peer: the program is as the standard's model in {RANDOM_CASES} random cases")
+def _():
+    for number in range(RANDOM_CASES):
+        want(f"what differs in case {number}", differing(random_case(SEED, number, peer.IDS)), [])
