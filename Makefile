@@ -110,7 +110,8 @@ install: $(program) $(library)
 	install -d $(DESTDIR)$(PREFIX)/include
 	install -m 644 include/rviommu.h $(DESTDIR)$(PREFIX)/include/rviommu.h
 	install -d $(DESTDIR)$(PREFIX)/lib/pkgconfig
-	install -m 644 c/out/lib/librviommu.a c/out/lib/librviommu.so $(DESTDIR)$(PREFIX)/lib
+	install -m 644 c/out/lib/librviommu.a $(DESTDIR)$(PREFIX)/lib
+	cp -P c/out/lib/librviommu.so c/out/lib/librviommu.so.* $(DESTDIR)$(PREFIX)/lib
 	install -m 644 c/out/lib/pkgconfig/rviommu.pc $(DESTDIR)$(PREFIX)/lib/pkgconfig/rviommu.pc
 
 dist: $(program) $(library)

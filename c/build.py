@@ -1,7 +1,8 @@
 #!/usr/bin/env -S python3 -B
 """build.py [PREFIX]    Builds the C library into PREFIX, c/out where none is named.
 
-It makes PREFIX/lib/librviommu.a, librviommu.so and pkgconfig/rviommu.pc, and PREFIX/include/rviommu.h; they may be moved together. The
+It makes PREFIX/lib/librviommu.a, librviommu.so and pkgconfig/rviommu.pc, and PREFIX/include/rviommu.h; they may be moved together. What
+librviommu.so leads to has the first two numbers of the version in its name, and a program that is linked to it asks for that name. The
 crate iom_c and those that it stands on are proved as they are built, and what is current costs a few seconds. Its archive is
 joined with the kit's few lines of C over malloc, realloc and free. Needs rt, ar and gcc on the path.
 Progress is told on standard error; PREFIX is printed.
@@ -71,13 +72,18 @@ def join(made):
     subprocess.run(["ar", "-M"], input=script.encode(), check=True)
 
 
-def share(archive, made):
+def share(archive, lib):
     """The shared object: the archive whole, with the header's functions in sight."""
+    name = "librviommu.so." + ".".join(version().split(".")[:2])
     with tempfile.NamedTemporaryFile("w", suffix=".map") as names:
         names.write("{ global: " + "".join(f"{it}; " for it in exported()) + "local: *; };\n")
         names.flush()
         whole = ["-Wl,--whole-archive", archive, "-Wl,--no-whole-archive", f"-Wl,--version-script={names.name}"]
-        subprocess.run(["gcc", "-shared", "-o", made, "-Wl,-soname,librviommu.so", *whole], check=True)
+        subprocess.run(["gcc", "-shared", "-o", os.path.join(lib, name), f"-Wl,-soname,{name}", *whole], check=True)
+    link = os.path.join(lib, "librviommu.so")
+    if os.path.lexists(link):
+        os.remove(link)
+    os.symlink(name, link)
 
 
 def main():
@@ -93,7 +99,7 @@ def main():
     if os.path.exists(archive):
         os.remove(archive)
     join(archive)
-    share(archive, os.path.join(lib, "librviommu.so"))
+    share(archive, lib)
     shutil.copyfile(HEADER, os.path.join(include, "rviommu.h"))
     with open(os.path.join(lib, "pkgconfig", "rviommu.pc"), "w", encoding="utf-8") as file:
         file.write(PKG_CONFIG.format(version=version()))

@@ -1,9 +1,8 @@
 # bash completion for rviommu
 
-# Offers the files that begin so. Names stay whole, whatever they have in them, and bash quotes them.
+# Offers files, by bash's own completion: names stay whole, whatever they have in them, line ends too, and are quoted.
 _rviommu_files() {
-    compopt -o filenames 2>/dev/null
-    mapfile -t COMPREPLY < <(compgen -f -- "$1")
+    compopt -o default 2>/dev/null
 }
 
 _rviommu() {
@@ -24,7 +23,7 @@ _rviommu() {
             ;;
     esac
     case ${COMP_WORDS[1]}:$COMP_CWORD in
-        asm:2 | asm:3 | run:2 | check:2 | check:3 | debug:2 | explain:2 | list:2 | upgrade:2 | upgrade:3) _rviommu_files "$current" ;;
+        asm:2 | asm:3 | run:2 | check:2 | check:3 | debug:2 | explain:2 | list:2 | upgrade:2 | upgrade:3) _rviommu_files ;;
         list:3) mapfile -t COMPREPLY < <(compgen -W "cmd fault context dir pte u64" -- "$current") ;;
         help:2) mapfile -t COMPREPLY < <(compgen -W "asm run check debug explain list upgrade" -- "$current") ;;
     esac

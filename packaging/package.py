@@ -47,11 +47,21 @@ Format: https://www.debian.org/doc/packaging-manuals/copyright-format/1.0/
 Upstream-Name: rviommu
 
 Files: *
-Copyright: the authors of rviommu
+Copyright: {year} the authors of rviommu
 License: none-given
  The repository that this package is made from has no licence. This package
  claims none: ask its authors what you may do with it.
 """
+
+OVERRIDES = """\
+# one package has the program, the library and what builds against it
+rviommu: link-to-shared-library-in-wrong-package
+rviommu: package-name-doesnt-match-sonames
+"""
+
+
+class Link(str):
+    """A symbolic link in a package, in place of a file's bytes: the name that it leads to."""
 
 
 def read(name):
@@ -92,6 +102,7 @@ def library(prefix, top, lib):
     def made(*names):
         return os.path.join(prefix, "lib", *names)
 
+    name = os.readlink(made("librviommu.so"))
     with open(made("pkgconfig", "rviommu.pc"), encoding="utf-8") as file:
         flags = file.read()
     up = "/".join([".."] * (lib.count("/") + 2))
@@ -99,7 +110,8 @@ def library(prefix, top, lib):
     files = {
         "include/rviommu.h": read("include/rviommu.h"),
         f"{lib}/librviommu.a": stripped(made("librviommu.a"), "--strip-debug", "--enable-deterministic-archives"),
-        f"{lib}/librviommu.so": stripped(made("librviommu.so"), "--strip-unneeded"),
+        f"{lib}/{name}": stripped(made(name), "--strip-unneeded"),
+        f"{lib}/librviommu.so": Link(name),
         f"{lib}/pkgconfig/rviommu.pc": flags.encode(),
     }
     return {top + path: data for path, data in files.items()}
@@ -125,6 +137,9 @@ def archived(names, date):
             entry.mtime, entry.mode, entry.uname, entry.gname = date, mode, "root", "root"
             if data is None:
                 entry.type = tarfile.DIRTYPE
+                return archive.addfile(entry)
+            if isinstance(data, Link):
+                entry.type, entry.linkname = tarfile.SYMTYPE, data
                 return archive.addfile(entry)
             entry.size = len(data)
             archive.addfile(entry, io.BytesIO(data))
@@ -191,7 +206,8 @@ def installed(program, prefix, version, date):
         f"{doc}/README.md": read("README.md"),
         f"{doc}/CHANGELOG.md": read("CHANGELOG.md"),
         f"{doc}/changelog.gz": zipped(debian_changelog(version, date)),
-        f"{doc}/copyright": COPYRIGHT.encode(),
+        f"{doc}/copyright": COPYRIGHT.format(year=datetime.datetime.fromtimestamp(date, datetime.timezone.utc).year).encode(),
+        "usr/share/lintian/overrides/rviommu": OVERRIDES.encode(),
         f"{doc}/c/README.md": read("c/README.md"),
         **{f"{doc}/{path}": data for path, data in (examples() | examples("c")).items()},
         **{f"usr/share/rviommu/{path}": data for path, data in page().items()},
@@ -204,11 +220,14 @@ def deb(program, prefix):
     if not shutil.which("dpkg-deb"):
         sys.exit("package: there is no dpkg-deb on the path (Debian's package dpkg has it)")
     files = installed(program, prefix, version, date)
-    sums = "".join(f"{hashlib.md5(data).hexdigest()}  {path}\n" for path, data in sorted(files.items()))
-    size = sum(-(-len(data) // 1024) for data in files.values())
+    whole = {path: data for path, data in files.items() if not isinstance(data, Link)}
+    sums = "".join(f"{hashlib.md5(data).hexdigest()}  {path}\n" for path, data in sorted(whole.items()))
+    size = sum(-(-len(data) // 1024) for data in whole.values())
     files["DEBIAN/control"] = CONTROL.format(version=version, maintainer=MAINTAINER, size=size).encode()
     files["DEBIAN/md5sums"] = sums.encode()
     files["DEBIAN/triggers"] = b"activate-noawait ldconfig\n"
+    number = os.readlink(os.path.join(prefix, "lib", "librviommu.so")).partition(".so.")[2]
+    files["DEBIAN/shlibs"] = f"librviommu {number} rviommu (>= {version})\n".encode()
     os.makedirs(MADE, exist_ok=True)
     name = f"rviommu_{version}_amd64.deb"
     with tempfile.TemporaryDirectory() as root:
@@ -216,6 +235,9 @@ def deb(program, prefix):
         for path, data in files.items():
             whole = os.path.join(root, path)
             os.makedirs(os.path.dirname(whole), mode=0o755, exist_ok=True)
+            if isinstance(data, Link):
+                os.symlink(data, whole)
+                continue
             with open(whole, "wb") as file:
                 file.write(data)
             os.chmod(whole, 0o755 if path == "usr/bin/rviommu" else 0o644)

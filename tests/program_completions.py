@@ -76,10 +76,11 @@ class Terminal:
         self.quiet()
         os.write(self.end, b"\r")
         self.wait_for(b"begins\r\n")
-        return re.findall(r"(?m)^word <(.*)>\r$", self.wait_for(b"ends\r\n").decode())
+        told = self.wait_for(b"ends\r\n").decode().replace("\r\n", "\n")
+        return re.findall(r"(?ms)^word <(.*?)>$", told)
 
 
-FILES = ["two words.asm", "brackets [1].asm", "it's $5.asm", "plain.asm"]
+FILES = ["two words.asm", "brackets [1].asm", "it's $5.asm", "plain.asm", "line\nend.asm"]
 # what is typed, and the words that it makes
 TYPED = [
     ("rviommu a\t", ["asm"]),
@@ -93,6 +94,7 @@ TYPED = [
     ("rviommu asm 'two\t", ["asm", "two words.asm"]),
     ("rviommu asm plain.asm brack\t", ["asm", "plain.asm", "brackets [1].asm"]),
     ("rviommu asm it\t", ["asm", "it's $5.asm"]),
+    ("rviommu asm li\t", ["asm", "line\nend.asm"]),
     ("rviommu run pl\t", ["run", "plain.asm"]),
     ("rviommu run folder/pl\t", ["run", "folder/plain.image"]),
     ("rviommu list two\t u\t 0 1", ["list", "two words.asm", "u64", "0", "1"]),
@@ -109,7 +111,7 @@ TYPED = [
 
 
 def add_shell(name):
-    @check(f"{name} completes words, kinds, options, and names with blanks and brackets")
+    @check(f"{name} completes words, kinds, options, and names with blanks, brackets and line ends")
     def _():
         words, setup = SHELLS[name]
         with folder() as here:

@@ -3,11 +3,12 @@ import os
 import re
 import subprocess
 
-from checks import DEBUG_FORMS, EXAMPLES, FORMS, PROGRAM, RUN_SECONDS, check, folder, put, want, want_words
+from checks import DEBUG_FORMS, EXAMPLES, FORMS, PROGRAM, RUN_SECONDS, check, folder, put, run, want, want_words
 from program_completions import KINDS, commands
 from program_images import STATEMENTS
 
 TOP = os.path.join(EXAMPLES, os.pardir)
+WIDTH = 80
 ANSWERS = ["done", "idle", "denied", "bus error", "bad access", "no device", "misuse", "outside", "none", "empty", "bad"]
 TEXTS = [
     *("line N: bad line", "line N: overlap", "line N: outside memory", "bad magic", "truncated", "trailing bytes"),
@@ -43,6 +44,12 @@ def _():
     wanted = [*commands(), "--help", "--version", "asm SOURCE IMAGE", "run IMAGE", "check [--stale] [IMAGE]", "debug [IMAGE]", "explain [IMAGE]", "list IMAGE KIND ADDR COUNT", "upgrade IMAGE NEW", *forms, *KINDS, *ANSWERS, *TEXTS]
     missing = [it for it in wanted if not re.search(r"(?m)(^|[\s,])" + re.escape(it) + r"(?=[\s,.;=]|$)", page)]
     want("what the man page lacks", missing, [])
+
+
+@check("help: no line of it, nor of a word's, has more than 80 characters")
+def _():
+    helps = [run(["--help"]), *(run([word, "--help"]) for word in commands())]
+    want("the lines that have more", [line for _, out, _ in helps for line in out.decode().splitlines() if len(line) > WIDTH], [])
 
 
 @check("man page: each line of a script that it shows is answered as it says")

@@ -124,7 +124,7 @@ const VERBS: [Verb; 7] = [
         operands: &[
             Operand {
                 name: STALE,
-                help: "Tells also each access that the tables in memory would answer otherwise",
+                help: "Tells also each access that the tables now answer otherwise",
                 need: Need::Flag,
             },
             Operand {
@@ -166,7 +166,7 @@ const VERBS: [Verb; 7] = [
             },
             Operand {
                 name: KIND,
-                help: "What the items are",
+                help: "What is listed",
                 need: Need::Required,
             },
             Operand {
