@@ -28,7 +28,7 @@ TOP = os.path.normpath(os.path.join(os.path.dirname(os.path.abspath(__file__)), 
 CRATES = os.path.join(TOP, "crates")
 LIST = os.path.join(TOP, "crates.txt")
 TREES = os.path.join(TOP, "out", "build")
-BYTES_A_JOB = 2 << 30
+BYTES_A_JOB = 3 << 30
 # A way to the top is long where it has this part of the longest one's bytes.
 LONG = 0.9
 # What a check does before its first function takes as long as that of so many bytes.

@@ -344,8 +344,9 @@ def _():
     free = [4 * word for word in range(1024) if word not in named]
     lines = [line for off in free for line in (f"reg write {off} 4 0xffffffff", f"reg read {off} 4")]
     want("what other offsets show", set(answers(IMAGE, lines)), {"done", "0x0"})
-    for off in (8, 32, 48, 72, 80):
-        want(f"8 bytes at {off}", last_answer(IMAGE, [f"reg read {off} 8"]), "bad access")
+    mixed = {int(off) // 8 * 8 for off, slot, _ in defined if slot == "Whole"}
+    seen = answers(IMAGE, [f"reg read {off} 8" for off in range(0, 4096, 8)])
+    want("the offsets at which 8 bytes are refused", [8 * at for at, it in enumerate(seen) if it == "bad access"], sorted(mixed))
 
 
 @check("man page: the registers of a block device are those of the program")

@@ -195,7 +195,7 @@ def _():
     want("the calls that are not there", [name for name in calls if not any(has(crate, name) for crate in CRATES)], [])
     files = {spans(cells[0])[0] for cells in rows(promises["`iom_tests` and `iom_rows`"])}
     there = {os.path.basename(path)[: -len(".rt")] for path in names_there("crates/iom_tests/src/*.rt")}
-    want("the files of tests", sorted(files), sorted(there - {"lib", "tape", "replaced"}))
+    want("the files of tests", sorted(files), sorted(there - {"lib", "tape"}))
 
 
 @check("PROMISES: all tests of the libraries stand in iom_tests")
@@ -217,6 +217,13 @@ def add_named(document, head=None):
         want("what is not there", lacking, [])
 
 
+@check("MODEL: each library with definitions has a section")
+def _():
+    told = [spans(head)[0] for head, _ in sections(text_of("docs/MODEL.md")) if spans(head)]
+    defining = {path.split("/")[1] for path in names_there("crates/*/specs/*.antt")} - {"iom_tests"}
+    want("the sections", sorted(told), sorted(defining))
+
+
 add_named("README.md", "What is proved")
 add_named("docs/MAP.md", "How a step flows")
 add_named("docs/CONTRIBUTING.md", "Recipes")
@@ -236,7 +243,7 @@ NUMBERS = [
     ("docs/PROMISES.md", "beyond 2^20 lines or 2^26 bytes", "crates/iom_tool/specs/Running.antt", "(length text ≡ 2 ^ 26) ⊎ (length (ended_lines text) ≡ 2 ^ 20)"),
     ("docs/PROMISES.md", "answers the 32 bytes of the image of 1 MiB", "crates/iom_image/src/image.rt", "pub fn built_in() -> [u8; 32]"),
     ("docs/CONTRIBUTING.md", "the 320 bytes of a `Reply`", "crates/iom_tool/src/draft.rt", "bytes: [u8; 320],"),
-    ("README.md", "each with about 2 GB of memory", "packaging/build.py", "BYTES_A_JOB = 2 << 30"),
+    ("README.md", "each process with 2 to 3 GB of memory", "packaging/build.py", "BYTES_A_JOB = 3 << 30"),
     ("README.md", "glibc 2.36 or later", "packaging/package.py", "Depends: libc6 (>= 2.36)"),
     ("README.md", "A file that the program reads has at most 2^30 bytes", "crates/rviommu/src/files.rt", "MOST_BYTES: u64 = 1 << 30;"),
     ("docs/PROMISES.md", "and of 200 lists of steps made at random", "crates/iom_rows/src/generated.rt", "SCRIPTS: u64 = 200;"),

@@ -153,8 +153,8 @@ with_pending r = record r {
       pending_after r.ipsr 0 (asks_command r.cqcsr) + pending_after r.ipsr 1 (asks_fault r.fqcsr);
 }
 
--- an access: four or eight bytes at a multiple of as many, within the 4096 bytes of registers, and not eight bytes over two
--- registers
+-- an access: four or eight bytes at a multiple of as many, within the 4096 bytes of registers, and not eight bytes in which a
+-- register of four stands
 abbrev pub is_legal : ℕ → ℕ → Bool
 is_legal off size =
     (size == 4 || size == 8) && off % size == 0 && nat_le (off + size) 4096
