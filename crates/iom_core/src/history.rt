@@ -186,8 +186,8 @@ impl Platform {
         Some((request, self.leading_context(request.did)))
     }
 
-    /// The context by which an access of device `did` was led that was let through in the last step: that of its live place; None: ddtp
-    /// alone led it.
+    /// The context that the live place of device `did` holds; None where no place is live with that id, and in mode Bare of ddtp, in
+    /// which no context leads an access.
     pub fn leading_context(&self, did: u32) -> Option<Context>
         ensures { result ≡ leading_context self.now.machine did }
     {
