@@ -196,7 +196,7 @@ add_refused("list", "image", "u64", "+1", "1")
 
 @check("a word that isn't UTF-8 is refused with status 2")
 def _():
-    for words in ([b"\xff"], [b"--\xff"], [b"jump", b"\xc3"]):
+    for words in ([b"\xff"], [b"--\xff"], [b"jump", b"\xc3"], ["run", b"image\xff"], ["asm", "source", b"\xff"]):
         status, out, errors = run(words, ASK + b"\n")
         want("status", status, 2)
         want("standard output", out, b"")

@@ -52,6 +52,13 @@ def _():
     want("the lines that have more", [line for _, out, _ in helps for line in out.decode().splitlines() if len(line) > WIDTH], [])
 
 
+@check("man page: it says that a name which isn't UTF-8 is refused, and with which status")
+def _():
+    said = re.search(r"(?s)EXIT STATUS\n.*\n2\n(.*)", man_page())[1]
+    want("what it says of status 2", "also the name of a file, isn't UTF-8" in said, True)
+    want("the status", [run(words)[0] for words in (["run", b"image\xff"], ["asm", b"source\xff", "image"])], [2, 2])
+
+
 @check("man page: each line of a script that it shows is answered as it says")
 def _():
     shown = re.findall(r"(?m)^(?!line |\d+: )(.+?) -> (.+)$", man_page())
