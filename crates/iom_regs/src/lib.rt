@@ -1,7 +1,9 @@
 //! The IOMMU's registers (RISC-V IOMMU Architecture 1.0, "Memory-mapped register interface").
 #![tactic(auto)]
 
-pub use layout::{CAPABILITIES, CQB, CQCSR, CQH, CQT, DDTP, FCTL, FQB, FQCSR, FQH, FQT, IPSR, register_layout};
+pub use layout::{
+    CAPABILITIES, CQB, CQCSR, CQH, CQT, DDTP, FCTL, FQB, FQCSR, FQH, FQT, IPSR, register_layout,
+};
 pub use regs::Regs;
 pub use views::{CommandErrors, FaultErrors, Mode, Queue, Which};
 
