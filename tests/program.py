@@ -27,6 +27,7 @@ import program_memory  # noqa: F401
 import program_names  # noqa: F401
 import program_pages  # noqa: F401
 import program_parts  # noqa: F401
+import program_peer  # noqa: F401
 import program_player  # noqa: F401
 import program_walks  # noqa: F401
 
