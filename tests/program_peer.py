@@ -12,8 +12,8 @@ sys.path.insert(0, os.path.join(os.path.dirname(os.path.abspath(__file__)), "pee
 import directed  # noqa: E402
 import peer  # noqa: E402
 from cases import WELL, random_case  # noqa: E402
-from directed import DATA, FAULTS, GSCID, GUEST_ROOT, GV, IODIR, IOVA, LEAVES, OTHER_DATA, SV39, SV39X4, VMA, Plain  # noqa: E402
-from model import BASE, CQCSR, FQB, FQCSR, IPSR, SIZE, Model  # noqa: E402
+from directed import FAULTS, GSCID, GUEST_ROOT, GV, IODIR, IOVA, LEAVES, SV39, SV39X4, VMA, Plain  # noqa: E402
+from model import BASE, CQCSR, FQB, FQCSR, IPSR, Model  # noqa: E402
 from qemu import IOMMU, PLACE  # noqa: E402
 
 SEED = "without QEMU"
