@@ -13,7 +13,7 @@ use Rattle.iom_items.proofs.Joined.{is_bare, words_joined, one_word, word_bare, 
 use Rattle.iom_items.proofs.Operating.{all_none, all_both, operand_found}
 use Rattle.iom_items.proofs.Saying.{Says}
 
--- the word of an operand: what a line has behind the blank
+-- the word of an operand: its text in a line, after the blank
 abbrev pub word_for : Pair → List ℕ
 word_for pair = drop 1 (operand pair.0 pair.1)
 
@@ -59,7 +59,7 @@ word_inside pair key =
 word_some : (pair : Pair) → 0 < length (word_for pair)
 word_some pair = omega (arith, ap length (word_parts pair.0 pair.1), length-append pair.0 (61 ∷ hexed pair.1))
 
--- a text with operands has their words behind its own
+-- a text with operands has its own words, then theirs
 abbrev pub are_keys : List Pair → Bool
 are_keys pairs = list_all (λ pair. is_key pair.0) pairs
 
@@ -112,7 +112,7 @@ fine_same known (pair ∷ pairs) keys =
     ∙ ap (λ b. b && are_operands known (words_for_all pairs)) (once_same known pair.0 (hexed pair.1) pairs parts.1)
     ∙ ap (λ b. once_of known pair.0 (keys_of pairs) && b) (fine_same known pairs parts.1)
 
--- numbers that a line can tell
+-- numbers that a text is read as
 abbrev pub AreSmall : List Pair → Type 0
 AreSmall pairs = AllByRecursion (λ pair. pair.1 < 2 ^ 64) pairs
 
@@ -124,7 +124,7 @@ told_same key (pair ∷ pairs) keys small =
     ∙ ap (λ found. if bytes_eq pair.0 key then found else value_of key (words_for_all pairs)) (hexed_read pair.1 small.0)
     ∙ ap (λ found. if bytes_eq pair.0 key then Some pair.1 else found) (told_same key pairs parts.1 small.1)
 
--- pairs that a form tells: keys that pass, each once, with its number
+-- operands that a line can have: known keys, each once, with its number
 pub record AreTold (pairs : List Pair) : Type 0 where
   pub keys : are_keys pairs ≡ true
   pub fine : are_fine (keys_of pairs) (keys_of pairs) ≡ true
@@ -136,7 +136,7 @@ own_values : (all pairs : List Pair) → ((key : List ℕ) → value_of key (wor
 own_values all [] same own = tt
 own_values all (pair ∷ pairs) same own = (same pair.0 ∙ own.0, own_values all pairs same own.1)
 
--- the words of a line say what it was made of
+-- the words of a line say the operands that it was made from
 pub words_say : (pairs : List Pair) → AreTold pairs → Says pairs (words_for_all pairs)
 words_say pairs told = record {
   are = fine_same (keys_of pairs) pairs told.keys ∙ told.fine;

@@ -117,7 +117,7 @@ context_found first second third fourth =
 abbrev four : ℕ → ℕ → ℕ → ℕ → List ℕ
 four first second third fourth = first ∷ second ∷ third ∷ fourth ∷ []
 
--- words that are no such item are told as numbers
+-- words that are no such item have a line of numbers
 as_numbers : (kind : Item) (words : List ℕ) → AreWords words → 1 ≤ length words → length words ≤ 8 → line_of kind words ≡ words_text words →
     HasStatement kind words
 as_numbers kind words small least most is = record {

@@ -19,7 +19,7 @@ turned false is = refl
 goes_on : (c : ℕ) (text : List ℕ) → (c == 35) ≡ false → before_comment (c ∷ text) ≡ c ∷ before_comment text
 goes_on c text other = rw other (one_more _ c text).0
 
--- a comment begins as late as in what follows
+-- so a comment begins only in the text after it
 before_joined : (first second : List ℕ) → is_bare first ≡ true → before_comment (first ++ second) ≡ first ++ before_comment second
 before_joined [] second bare = refl
 before_joined (c ∷ first) second bare =

@@ -35,7 +35,7 @@ use Rattle.iom_items.proofs.Numerals.{is_word, hexed_inside, hexed_read}
 use Rattle.iom_items.proofs.Saying.{Says, IsForm, both, command_says, command_said, fault_says, fault_said, context_says, context_said, dir_says, dir_said, pte_says, pte_said}
 use Rattle.iom_items.proofs.Again.{AreTold, are_keys, words_for_all, with_words, words_say, same_values}
 
--- what each item tells
+-- the operands of each item's line
 flag_small : (set : Bool) → flag set < 2 ^ 64
 flag_small set = omega (arith, small set)
 
@@ -261,7 +261,7 @@ each_length (word ∷ words) = by (number word) (each_number words) (each_length
     by (Some n) None rest = tt
     by (Some n) (Some ns) rest = omega (arith, rest)
 
--- what a statement's own operands say is told again
+-- the line says the same as the statement's own operands
 keyed : (kind : Item) (operands : List (List ℕ)) (words : List ℕ) (pairs : List Pair) → AreTold pairs →
     IsStatement (line_of kind words) words (name_of kind) (words_for_all pairs) → Says pairs operands → IsToldAgain kind operands words
 keyed kind operands words pairs told states says = record {
@@ -313,7 +313,7 @@ numbers_again operands words fits is =
     under_test true found words is = (refl, is)
     under_test false found words is = absurd cc
 
--- the words of what fits
+-- from an item to its words
 of_words : {A : Type 0} (kind : Item) (operands : List (List ℕ)) (to_words : A → List ℕ) (found : Option A) (words : List ℕ) →
     IfSome found (λ x. IsToldAgain kind operands (to_words x)) → option_map to_words found ≡ Some words → IsToldAgain kind operands words
 of_words kind operands to_words None words again is = absurd cc

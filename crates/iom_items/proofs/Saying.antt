@@ -18,16 +18,13 @@ use Rattle.iom_items.specs.Given.{AreOperands, IsValue}
 use Rattle.iom_items.proofs.Operating.{reads_values}
 use Rattle.iom_items.specs.Forms.{where_so, vma_keys, gvma_keys, fence_keys, fault_keys, context_keys, vma, gvma, fence, iodir, command, fault, context, dir, pte}
 use Rattle.iom_items.proofs.Bounds.{where_}
-use Rattle.iom_items.proofs.Stating.{mode_fits, modes_hold}
+use Rattle.iom_items.proofs.Stating.{mode_fits, modes_hold, some_is}
 use Rattle.iom_items.specs.Lines.{Pair, command_form, command_pairs, record_pairs, context_pairs, dir_pairs, pte_pairs}
-
-some_is : {A : Type 0} (x y : A) → Some x ≡ Some y → x ≡ y
-some_is x y is = cc
 
 none_is : {A B : Type 0} (x : A) → None ≡ Some x → B
 none_is x is = absurd cc
 
--- a flag and a number below a limit, as they are given
+-- a flag and a number below a limit, by the number for the key
 pub flag_value : (key : List ℕ) (words : List (List ℕ)) (set : Bool) → flag_for key words ≡ Some set → value_of key words ≡ Some (flag set)
 unfolding flag_for limited
 flag_value key words set is = by (value_of key words) refl
@@ -61,7 +58,7 @@ pub value_limited : (key : List ℕ) (limit : ℕ) (words : List (List ℕ)) (n 
 unfolding limited
 value_limited key limit words n is less = rw (is, lt-ltb n limit less) refl
 
--- the same by what words give
+-- the same as relations to the words
 pub reads_limits : (keys : List (List ℕ)) (key : List ℕ) (limit : ℕ) (words : List (List ℕ)) (n : ℕ) → AreOperands keys words →
     (limited key limit words ≡ Some n → IsValue key words n × (n < limit)) × (IsValue key words n → n < limit → limited key limit words ≡ Some n)
 reads_limits keys key limit words n are =
@@ -142,7 +139,8 @@ vma_says words =
     fl Q (codes "gv") words _ (λ gv e. op Q (codes "gscid") (2 ^ 16) words _ (λ gscid f.
     ((a, (b, (c, (d, (e, (f, tt)))))), refl)))))))))
 
-vma_said : (words : List (List ℕ)) (av : Bool) (page : ℕ) (pscv : Bool) (pscid : ℕ) (gv : Bool) (gscid : ℕ) → CommandFits (Vma av page pscv pscid gv gscid) → Says (command_pairs (Vma av page pscv pscid gv gscid)) words →
+vma_said : (words : List (List ℕ)) (av : Bool) (page : ℕ) (pscv : Bool) (pscid : ℕ) (gv : Bool) (gscid : ℕ) →
+    CommandFits (Vma av page pscv pscid gv gscid) → Says (command_pairs (Vma av page pscv pscid gv gscid)) words →
     vma words ≡ Some (Vma av page pscv pscid gv gscid)
 unfolding vma
 vma_said words av page pscv pscid gv gscid fits says =
@@ -165,7 +163,8 @@ gvma_says words =
     op Q (codes "pscid") (2 ^ 20) words _ (λ pscid c. fl Q (codes "gv") words _ (λ gv d.
     op Q (codes "gscid") (2 ^ 16) words _ (λ gscid e. ((a, (b, (c, (d, (e, tt))))), refl))))))))
 
-gvma_said : (words : List (List ℕ)) (av : Bool) (page : ℕ) (pscid : ℕ) (gv : Bool) (gscid : ℕ) → CommandFits (Gvma av page pscid gv gscid) → Says (command_pairs (Gvma av page pscid gv gscid)) words →
+gvma_said : (words : List (List ℕ)) (av : Bool) (page : ℕ) (pscid : ℕ) (gv : Bool) (gscid : ℕ) →
+    CommandFits (Gvma av page pscid gv gscid) → Says (command_pairs (Gvma av page pscid gv gscid)) words →
     gvma words ≡ Some (Gvma av page pscid gv gscid)
 unfolding gvma
 gvma_said words av page pscid gv gscid fits says =
@@ -188,7 +187,8 @@ fence_says words =
     op Q (codes "data") (2 ^ 32) words _ (λ value e. op Q (codes "addr") (2 ^ 64) words _ (λ addr f.
     where_ Q (addr % 4 == 0) _ ((a, (b, (c, (d, (e, (f, tt)))))), refl)))))))))
 
-fence_said : (words : List (List ℕ)) (av : Bool) (wsi : Bool) (pr : Bool) (pw : Bool) (value : ℕ) (addr : ℕ) → CommandFits (Fence av wsi pr pw value addr) → Says (command_pairs (Fence av wsi pr pw value addr)) words →
+fence_said : (words : List (List ℕ)) (av : Bool) (wsi : Bool) (pr : Bool) (pw : Bool) (value : ℕ) (addr : ℕ) →
+    CommandFits (Fence av wsi pr pw value addr) → Says (command_pairs (Fence av wsi pr pw value addr)) words →
     fence words ≡ Some (Fence av wsi pr pw value addr)
 unfolding fence
 fence_said words av wsi pr pw value addr fits says =
