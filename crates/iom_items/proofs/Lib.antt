@@ -3,3 +3,9 @@ pub mod Bounds
 pub mod Stating
 pub mod Operating
 pub mod Alone
+pub mod Numerals
+pub mod Joined
+pub mod Saying
+pub mod Again
+pub mod Restated
+pub mod Decoded

@@ -9,16 +9,16 @@ use Rattle.iom_items.specs.Operands.{◌>>=◌, Operand, operand_of, has_key, is
 use Rattle.iom_items.specs.Given.{IsOperand, HasKey, IsKnown, AreApart, AreOperands, Gives, NoneHas, IsValue}
 
 -- lists by their first element
-all_none : {X : Type 0} (P : X → Type 0) → All P []
+pub all_none : {X : Type 0} (P : X → Type 0) → All P []
 all_none P k d lt = absurd (omega (arith, lt))
 
-all_first : {X : Type 0} (P : X → Type 0) (x : X) (xs : List X) → All P (x ∷ xs) → P x
+pub all_first : {X : Type 0} (P : X → Type 0) (x : X) (xs : List X) → All P (x ∷ xs) → P x
 all_first P x xs all = all 0 x (omega arith)
 
-all_rest : {X : Type 0} (P : X → Type 0) (x : X) (xs : List X) → All P (x ∷ xs) → All P xs
+pub all_rest : {X : Type 0} (P : X → Type 0) (x : X) (xs : List X) → All P (x ∷ xs) → All P xs
 all_rest P x xs all k d lt = all (suc k) d (omega (arith, lt))
 
-all_both : {X : Type 0} (P : X → Type 0) (x : X) (xs : List X) → P x → All P xs → All P (x ∷ xs)
+pub all_both : {X : Type 0} (P : X → Type 0) (x : X) (xs : List X) → P x → All P xs → All P (x ∷ xs)
 all_both P x xs first rest zero d lt = first
 all_both P x xs first rest (suc k) d lt = rest k d (omega (arith, lt))
 
@@ -92,10 +92,10 @@ both_true true b one other = other
 both_true false b one other = absurd cc
 
 -- the cut at the first `=`, byte by byte
-abbrev cut : List ℕ → List ℕ → Option Operand
+abbrev pub cut : List ℕ → List ℕ → Option Operand
 cut key value = Some (record { key = key; value = value })
 
-abbrev longer : ℕ → Operand → Operand
+abbrev pub longer : ℕ → Operand → Operand
 longer c operand = record { key = c ∷ operand.key; value = operand.value }
 
 abbrev first_equals : List ℕ → ℕ
@@ -116,7 +116,7 @@ cut_where word at there is lt =
 cut_here : (c : ℕ) (word : List ℕ) → (c == 61) ≡ true → operand_of (c ∷ word) ≡ cut [] word
 cut_here c word is = cut_where (c ∷ word) 0 true (rw is refl) (lt-ltb 0 (suc (length word)) (omega arith))
 
-cut_later : (c : ℕ) (word : List ℕ) → (c == 61) ≡ false → operand_of (c ∷ word) ≡ option_map (longer c) (operand_of word)
+pub cut_later : (c : ℕ) (word : List ℕ) → (c == 61) ≡ false → operand_of (c ∷ word) ≡ option_map (longer c) (operand_of word)
 cut_later c word is =
     let one_more : 1 + first_equals word ≡ suc (first_equals word) = omega arith in
     let next : first_equals (c ∷ word) ≡ suc (first_equals word) = rw is one_more in

@@ -1,5 +1,5 @@
 -- The bytes of a line are ASCII.
-use Rattle.std.proofs.Common.{◌≡◌, ℕ, ◌+◌, ◌<◌, ◌==◌, Bool, true, false, nat_lt, List, [], ◌∷◌, ◌++◌, map, codes, get_or, Option, Some, None, refl, arith}
+use Rattle.std.proofs.Common.{◌≡◌, ℕ, ◌+◌, ◌<◌, ◌==◌, ◌&&◌, Bool, true, false, nat_lt, List, [], ◌∷◌, ◌++◌, map, codes, get_or, Option, Some, None, refl, arith}
 use Rattle.std.specs.Prelude.{IfSome}
 use Rattle.std.specs.List.{list_all, AllByRecursion}
 use Rattle.std.specs.Fmt.{digit_glyph}
@@ -10,7 +10,6 @@ use Rattle.std.specs.Str.{IsAscii}
 use Rattle.std.proofs.lemmas.Bool.{and_parts, and_from, cond_both, lt-ltb, ltb-true}
 use Rattle.std.proofs.lemmas.Int.Digits.{all_below_base_digits_of}
 use Rattle.std.proofs.lemmas.Str.Ascii.{IsAscii-nil, IsAscii-cons}
-use Rattle.iom_bits.specs.Bits.{flag}
 use Rattle.iom_text.specs.Texts.{hexed, numeral, digits_in}
 use Rattle.iom_mem.specs.Memory.{Memory, words_at}
 use Rattle.iom_ddt.specs.declared.context.Context.{Context}
@@ -22,8 +21,8 @@ use Rattle.iom_queue.specs.Commands.{command_of}
 use Rattle.iom_queue.specs.Records.{record_of}
 use Rattle.iom_items.specs.declared.item.Item.{Item}
 use Rattle.iom_items.specs.declared.item.Item.TheVariants as item
-use Rattle.iom_items.specs.Items.{words_in, dir_of, pte_of}
-use Rattle.iom_items.specs.Lines.{operand, command_text, record_text, context_text, pte_text, numbers_text, words_text, or_words, line_of, item_line}
+use Rattle.iom_items.specs.Items.{words_in, dir_of, pte_of, Entry}
+use Rattle.iom_items.specs.Lines.{Pair, operand, with_operands, command_form, command_pairs, command_text, record_pairs, record_text, context_pairs, context_text, dir_pairs, dir_text, pte_pairs, pte_text, numbers_text, words_text, or_words, line_of, item_line}
 
 abbrev is_plain : List ℕ → Bool
 is_plain text = list_all (λ c. nat_lt c 128) text
@@ -50,36 +49,54 @@ number_plain n =
     (cond_both (n == 0) (codes "0") (digits_in 16 n) Plain (λ _. refl) (λ _. glyphs (digits_of 16 n) (all_below_base_digits_of 16 n (omega arith))))
 
 op : (key : List ℕ) (n : ℕ) → Plain key → Plain (operand key n)
-op key n plain =
-    join ((codes " " ++ key) ++ codes "=") (hexed n) (join (codes " " ++ key) (codes "=") (join (codes " ") key refl plain) refl) (number_plain n)
+op [] n plain = number_plain n
+op (c ∷ key) n plain =
+    let parts = and_parts (nat_lt c 128) (is_plain key) plain in
+    and_from (nat_lt c 128) (is_plain (operand key n)) parts.0 (op key n parts.1)
 
--- texts that grow by operands
-record Growing : Type 0 where
-  text : List ℕ
-  plain : Plain text
+-- texts with operands
+keys_plain : List Pair → Bool
+keys_plain [] = true
+keys_plain (pair ∷ pairs) = is_plain pair.0 && keys_plain pairs
 
-abbrev begun : (text : List ℕ) → Plain text → Growing
-begun text plain = record { text = text; plain = plain }
+with_plain : (text : List ℕ) (pairs : List Pair) → Plain text → keys_plain pairs ≡ true → Plain (with_operands text pairs)
+unfolding keys_plain
+with_plain text [] plain keys = plain
+with_plain text (pair ∷ pairs) plain keys =
+    let parts = and_parts (is_plain pair.0) (keys_plain pairs) keys in
+    with_plain (text ++ operand pair.0 pair.1) pairs (join text (operand pair.0 pair.1) plain (op pair.0 pair.1 parts.0)) parts.1
 
-abbrev more : (key : List ℕ) (n : ℕ) → Growing → Plain key → Growing
-more key n now plain = record { text = now.text ++ operand key n; plain = join now.text (operand key n) now.plain (op key n plain) }
+name_plain : (c : Command) → Plain (codes "cmd " ++ command_form c)
+name_plain (Vma av page pscv pscid gv gscid) = refl
+name_plain (Gvma av page pscid gv gscid) = refl
+name_plain (Fence av wsi pr pw value addr) = refl
+name_plain (Iodir dv did) = refl
+
+pairs_plain : (c : Command) → keys_plain (command_pairs c) ≡ true
+unfolding keys_plain
+pairs_plain (Vma av page pscv pscid gv gscid) = refl
+pairs_plain (Gvma av page pscid gv gscid) = refl
+pairs_plain (Fence av wsi pr pw value addr) = refl
+pairs_plain (Iodir dv did) = refl
 
 command_plain : (c : Command) → Plain (command_text c)
-command_plain (Vma av page pscv pscid gv gscid) =
-    (more (codes "gscid") gscid (more (codes "gv") (flag gv) (more (codes "pscid") pscid (more (codes "pscv") (flag pscv) (more (codes "page") page (more (codes "av") (flag av) (begun (codes "cmd vma") refl) refl) refl) refl) refl) refl) refl).plain
-command_plain (Gvma av page pscid gv gscid) =
-    (more (codes "gscid") gscid (more (codes "gv") (flag gv) (more (codes "pscid") pscid (more (codes "page") page (more (codes "av") (flag av) (begun (codes "cmd gvma") refl) refl) refl) refl) refl) refl).plain
-command_plain (Fence av wsi pr pw value addr) =
-    (more (codes "addr") addr (more (codes "data") value (more (codes "pw") (flag pw) (more (codes "pr") (flag pr) (more (codes "wsi") (flag wsi) (more (codes "av") (flag av) (begun (codes "cmd fence") refl) refl) refl) refl) refl) refl) refl).plain
-command_plain (Iodir dv did) = (more (codes "did") did (more (codes "dv") (flag dv) (begun (codes "cmd iodir") refl) refl) refl).plain
+command_plain c = with_plain (codes "cmd " ++ command_form c) (command_pairs c) (name_plain c) (pairs_plain c)
 
 record_plain : (fault : Record) → Plain (record_text fault)
-record_plain fault =
-    (more (codes "iotval2") fault.iotval2 (more (codes "iotval") fault.iotval (more (codes "did") fault.did (more (codes "ttyp") fault.ttyp (more (codes "priv") (flag fault.privileged) (more (codes "pv") (flag fault.pv) (more (codes "pid") fault.pid (more (codes "cause") fault.cause (begun (codes "fault") refl) refl) refl) refl) refl) refl) refl) refl) refl).plain
+unfolding keys_plain
+record_plain fault = with_plain (codes "fault") (record_pairs fault) refl refl
 
 context_plain : (c : Context) → Plain (context_text c)
-context_plain c =
-    (more (codes "ppn") c.ppn (more (codes "mode") c.mode (more (codes "pscid") c.pscid (more (codes "tav") (flag c.tav) (more (codes "gscid") c.gscid (more (codes "gppn") c.gppn (more (codes "gmode") c.gmode (more (codes "custom") c.custom (more (codes "dtf") (flag c.dtf) (begun (codes "context") refl) refl) refl) refl) refl) refl) refl) refl) refl) refl).plain
+unfolding keys_plain
+context_plain c = with_plain (codes "context") (context_pairs c) refl refl
+
+dir_plain : (ppn : ℕ) → Plain (dir_text ppn)
+unfolding keys_plain
+dir_plain ppn = with_plain (codes "dir") (dir_pairs ppn) refl refl
+
+pte_plain : (entry : Entry) → Plain (pte_text entry)
+unfolding keys_plain
+pte_plain entry = with_plain (codes "pte") (pte_pairs entry) refl refl
 
 numbers_plain : (words : List ℕ) → Plain (numbers_text words)
 numbers_plain [] = refl
@@ -96,11 +113,8 @@ line_plain : (kind : Item) (words : List ℕ) → Plain (line_of kind words)
 line_plain item.Cmd words = either words command_text (command_of words) command_plain
 line_plain item.Fault words = either words record_text (record_of words) record_plain
 line_plain item.Context words = either words context_text (result_ok (context_in words)) context_plain
-line_plain item.Dir words =
-    either words (λ ppn. codes "dir" ++ operand (codes "ppn") ppn) (dir_of (get_or words 0 0)) (λ ppn. (more (codes "ppn") ppn (begun (codes "dir") refl) refl).plain)
-line_plain item.Pte words =
-    either words pte_text (pte_of (get_or words 0 0))
-    (λ entry. (more (codes "flags") entry.flags (more (codes "ppn") entry.ppn (begun (codes "pte") refl) refl) refl).plain)
+line_plain item.Dir words = either words dir_text (dir_of (get_or words 0 0)) dir_plain
+line_plain item.Pte words = either words pte_text (pte_of (get_or words 0 0)) pte_plain
 line_plain item.Word words = words_plain words
 
 ascii : (text : List ℕ) → Plain text → IsAscii text

@@ -37,7 +37,7 @@ gvma_fits words =
     op CommandFits (codes "pscid") (2 ^ 20) words _ (λ pscid d. fl CommandFits (codes "gv") words _ (λ gv e. op CommandFits (codes "gscid") (2 ^ 16) words _ (λ gscid f.
     (b, d, f)))))))
 
-is_so : (m n : ℕ) → (m == n) ≡ true → m ≡ n
+pub is_so : (m n : ℕ) → (m == n) ≡ true → m ≡ n
 is_so m n is = grind (arith, is)
 
 fence_fits : (words : List (List ℕ)) → IfSome (fence words) CommandFits
@@ -52,7 +52,7 @@ unfolding iodir
 iodir_fits words =
     where_ CommandFits _ _ (fl CommandFits (codes "dv") words _ (λ dv a. op CommandFits (codes "did") (2 ^ 24) words _ (λ did b. b)))
 
-command_fits : (words : List (List ℕ)) → IfSome (command words) CommandFits
+pub command_fits : (words : List (List ℕ)) → IfSome (command words) CommandFits
 unfolding command
 command_fits [] = tt
 command_fits (form ∷ words) =
@@ -61,7 +61,7 @@ command_fits (form ∷ words) =
     cond_both (bytes_eq form (codes "fence")) _ _ (λ found. IfSome found CommandFits) (λ _. fence_fits words) (λ _.
     cond_both (bytes_eq form (codes "iodir")) (iodir words) None (λ found. IfSome found CommandFits) (λ _. iodir_fits words) (λ _. tt))))
 
-fault_fits : (words : List (List ℕ)) → IfSome (fault words) RecordFits
+pub fault_fits : (words : List (List ℕ)) → IfSome (fault words) RecordFits
 unfolding fault
 fault_fits words =
     where_ RecordFits _ _ (op RecordFits (codes "cause") (2 ^ 12) words _ (λ cause a. op RecordFits (codes "pid") (2 ^ 20) words _ (λ pid b. fl RecordFits (codes "pv") words _ (λ pv c.
@@ -69,10 +69,10 @@ fault_fits words =
     op RecordFits (codes "iotval") (2 ^ 64) words _ (λ iotval g. op RecordFits (codes "iotval2") (2 ^ 64) words _ (λ iotval2 h.
     record { cause = a; pid = b; ttyp = e; did = f; iotval = g; iotval2 = h })))))))))
 
-aligned : (gmode gppn : ℕ) → (gmode == 0 || gppn % 4 == 0) ≡ true → (gmode ≢ 0 → gppn % 4 ≡ 0)
+pub aligned : (gmode gppn : ℕ) → (gmode == 0 || gppn % 4 == 0) ≡ true → (gmode ≢ 0 → gppn % 4 ≡ 0)
 aligned gmode gppn is other = grind (arith, common_steps, is, other)
 
-context_fits : (words : List (List ℕ)) → IfSome (context words) IsWellFormed
+pub context_fits : (words : List (List ℕ)) → IfSome (context words) IsWellFormed
 unfolding context
 context_fits words =
     where_ IsWellFormed _ _ (fl IsWellFormed (codes "dtf") words _ (λ dtf a. op IsWellFormed (codes "custom") (2 ^ 8) words _ (λ custom b. op IsWellFormed (codes "gmode") (2 ^ 4) words _ (λ gmode c.
@@ -86,16 +86,16 @@ context_fits words =
     (λ _. tt)))))))))))
 
 -- a flag is 0 or 1, and a field of one bit tells it
-small : (set : Bool) → flag set ≤ 1
+pub small : (set : Bool) → flag set ≤ 1
 small true = omega arith
 small false = omega arith
 
-bit_told : (word low : ℕ) (set : Bool) → field_of word low 1 ≡ flag set → has_bit word low ≡ set
+pub bit_told : (word low : ℕ) (set : Bool) → field_of word low 1 ≡ flag set → has_bit word low ≡ set
 unfolding has_bit
 bit_told word low true e = grind (arith, e)
 bit_told word low false e = grind (arith, e)
 
-record_of_words : (r : Record) → RecordFits r → record_of (record_words r) ≡ Some r
+pub record_of_words : (r : Record) → RecordFits r → record_of (record_words r) ≡ Some r
 unfolding record_of
 record_of_words r fits =
     let word : ℕ = summary_word r in
@@ -107,7 +107,7 @@ record_of_words r fits =
     let did : field_of word 40 24 ≡ r.did = omega (arith, small r.pv, small r.privileged, fits.cause, fits.pid, fits.ttyp, fits.did) in
     rw (cause, pid, bit_told word 32 r.pv pv, bit_told word 33 r.privileged privileged, ttyp, did) refl
 
-mode_fits : (mode : ℕ) → IsTrue (is_mode mode) → mode < 16
+pub mode_fits : (mode : ℕ) → IsTrue (is_mode mode) → mode < 16
 mode_fits mode is = grind (arith, common_steps, is)
 
 fields_of_words : (c : Context) → IsWellFormed c → fields_in (words_of c) ≡ c
@@ -136,7 +136,7 @@ kept false well same c valid_so well_so same_so = absurd cc
 kept true false same c valid_so well_so same_so = absurd cc
 kept true true false c valid_so well_so same_so = absurd cc
 
-modes_hold : (c : Context) → IsWellFormed c → is_well_formed c ≡ true
+pub modes_hold : (c : Context) → IsWellFormed c → is_well_formed c ≡ true
 modes_hold c fits = grind (arith, common_steps, fits.first_mode, fits.second_mode, fits.second_root_aligned)
 
 with_fields : (words : List ℕ) (c : Context) → fields_in words ≡ c → context_in words
@@ -154,12 +154,12 @@ pub context_same : (c : Context) → IsWellFormed c → line_of item.Context (wo
 context_same c fits = rw (context_of_words c fits) refl
 
 -- what is given under a test
-given : {A : Type 0} (b : Bool) (x y : A) → (if b then Some x else None) ≡ Some y → (b ≡ true) × (x ≡ y)
+pub given : {A : Type 0} (b : Bool) (x y : A) → (if b then Some x else None) ≡ Some y → (b ≡ true) × (x ≡ y)
 given true x y is = (refl, cc)
 given false x y is = absurd cc
 
 -- an entry and its word
-dir_read : (ppn : ℕ) → ppn < 2 ^ 44 → dir_of (dir_word ppn) ≡ Some ppn
+pub dir_read : (ppn : ℕ) → ppn < 2 ^ 44 → dir_of (dir_word ppn) ≡ Some ppn
 dir_read ppn fits =
     let low : field_of (dir_word ppn) 0 10 ≡ 1 = omega (arith, fits) in
     let high : field_of (dir_word ppn) 54 10 ≡ 0 = omega (arith, fits) in
@@ -174,7 +174,7 @@ dir_told ppn word lt is =
     let high = is_so (field_of word 54 10) 0 parts.1 in
     record { fits = omega (arith, kept.1); word_is = omega (arith, lt, low, high, kept.1) }
 
-pte_read : (entry : Entry) → entry.ppn < 2 ^ 44 → entry.flags < 2 ^ 10 → pte_of (pte_word entry.ppn entry.flags) ≡ Some entry
+pub pte_read : (entry : Entry) → entry.ppn < 2 ^ 44 → entry.flags < 2 ^ 10 → pte_of (pte_word entry.ppn entry.flags) ≡ Some entry
 pte_read entry ppn flags =
     let word : ℕ = pte_word entry.ppn entry.flags in
     let high : field_of word 54 10 ≡ 0 = omega (arith, ppn, flags) in
@@ -197,19 +197,19 @@ pub reads_ptes : (entry : Entry) (word : ℕ) → word < 2 ^ 64 →
     (IsPteEncoding entry word → pte_of word ≡ Some entry) × (pte_of word ≡ Some entry → IsPteEncoding entry word)
 reads_ptes entry word lt = (λ it. ap pte_of it.word_is ∙ pte_read entry it.ppn_fits it.flags_fit, pte_told entry word lt)
 
-dir_fits : (words : List (List ℕ)) → IfSome (dir words) (λ ppn. ppn < 2 ^ 44)
+pub dir_fits : (words : List (List ℕ)) → IfSome (dir words) (λ ppn. ppn < 2 ^ 44)
 unfolding dir
 dir_fits words = where_ (λ ppn. ppn < 2 ^ 44) _ _ (limited_below (codes "ppn") (2 ^ 44) words)
 
-abbrev EntryFits : Entry → Type 0
+abbrev pub EntryFits : Entry → Type 0
 EntryFits entry = (entry.ppn < 2 ^ 44) × (entry.flags < 2 ^ 10)
 
-pte_fits : (words : List (List ℕ)) → IfSome (pte words) EntryFits
+pub pte_fits : (words : List (List ℕ)) → IfSome (pte words) EntryFits
 unfolding pte
 pte_fits words =
     where_ EntryFits _ _ (op EntryFits (codes "ppn") (2 ^ 44) words _ (λ ppn a. op EntryFits (codes "flags") (2 ^ 10) words _ (λ flags b. (a, b))))
 
-some_is : {A : Type 0} (x y : A) → Some x ≡ Some y → x ≡ y
+pub some_is : {A : Type 0} (x y : A) → Some x ≡ Some y → x ≡ y
 some_is x y is = cc
 
 -- the line of the words of what fits is its text

@@ -1,7 +1,8 @@
 -- What operands are and what they give, in plain terms: a relation beside the recursions of `Operands`, which agree with it.
-use Rattle.std.specs.Prelude.{ℕ, ◌≡◌, ◌≢◌, ◌⊎◌, ◌++◌, true, List, ◌∷◌, All, Any, AllPairs, Contains, Some}
+use Rattle.std.specs.Prelude.{ℕ, ◌≡◌, ◌≢◌, ◌⊎◌, ◌++◌, ◌<◌, Bool, true, List, ◌∷◌, All, Any, AllPairs, Contains, Some}
 use Rattle.iom_text.specs.Words.{number}
-use Rattle.iom_items.specs.Operands.{are_operands, value_of}
+use Rattle.iom_bits.specs.Bits.{flag}
+use Rattle.iom_items.specs.Operands.{are_operands, value_of, limited, flag_for}
 
 -- a word is `key=value`, and its key has no `=` (61)
 pub record IsOperand (key value word : List ℕ) : Type 0 where
@@ -51,3 +52,15 @@ abbrev pub ReadsValues : Type 0
 ReadsValues =
     (keys : List (List ℕ)) (key : List ℕ) (words : List (List ℕ)) (n : ℕ) → AreOperands keys words →
     (value_of key words ≡ Some n → IsValue key words n) × (IsValue key words n → value_of key words ≡ Some n)
+
+-- Of operands, a number is read below a limit exactly if it is the number for the key and below the limit.
+abbrev pub ReadsLimits : Type 0
+ReadsLimits =
+    (keys : List (List ℕ)) (key : List ℕ) (limit : ℕ) (words : List (List ℕ)) (n : ℕ) → AreOperands keys words →
+    (limited key limit words ≡ Some n → IsValue key words n × (n < limit)) × (IsValue key words n → n < limit → limited key limit words ≡ Some n)
+
+-- Of operands, a flag is read exactly if the number for the key is its bit: 1 if it is set, 0 if not.
+abbrev pub ReadsFlags : Type 0
+ReadsFlags =
+    (keys : List (List ℕ)) (key : List ℕ) (words : List (List ℕ)) (set : Bool) → AreOperands keys words →
+    (flag_for key words ≡ Some set → IsValue key words (flag set)) × (IsValue key words (flag set) → flag_for key words ≡ Some set)

@@ -20,35 +20,63 @@ use Rattle.iom_items.specs.Items.{words_in, dir_of, pte_of, Entry}
 abbrev pub operand : List ℕ → ℕ → List ℕ
 operand key value = codes " " ++ key ++ codes "=" ++ hexed value
 
+-- an operand's key and its number
+abbrev pub Pair : Type 0
+Pair = List ℕ × ℕ
+
+-- a text with these operands after it
+abbrev pub with_operands : List ℕ → List Pair → List ℕ
+with_operands text [] = text
+with_operands text (pair ∷ pairs) = with_operands (text ++ operand pair.0 pair.1) pairs
+
+abbrev pub command_form : Command → List ℕ
+command_form (Vma av page pscv pscid gv gscid) = codes "vma"
+command_form (Gvma av page pscid gv gscid) = codes "gvma"
+command_form (Fence av wsi pr pw value addr) = codes "fence"
+command_form (Iodir dv did) = codes "iodir"
+
+abbrev pub command_pairs : Command → List Pair
+command_pairs (Vma av page pscv pscid gv gscid) =
+    (codes "av", flag av) ∷ (codes "page", page) ∷ (codes "pscv", flag pscv) ∷ (codes "pscid", pscid) ∷ (codes "gv", flag gv)
+    ∷ (codes "gscid", gscid) ∷ []
+command_pairs (Gvma av page pscid gv gscid) =
+    (codes "av", flag av) ∷ (codes "page", page) ∷ (codes "pscid", pscid) ∷ (codes "gv", flag gv) ∷ (codes "gscid", gscid) ∷ []
+command_pairs (Fence av wsi pr pw value addr) =
+    (codes "av", flag av) ∷ (codes "wsi", flag wsi) ∷ (codes "pr", flag pr) ∷ (codes "pw", flag pw) ∷ (codes "data", value)
+    ∷ (codes "addr", addr) ∷ []
+command_pairs (Iodir dv did) = (codes "dv", flag dv) ∷ (codes "did", did) ∷ []
+
 abbrev pub command_text : Command → List ℕ
-command_text (Vma av page pscv pscid gv gscid) =
-    codes "cmd vma" ++ operand (codes "av") (flag av) ++ operand (codes "page") page ++ operand (codes "pscv") (flag pscv)
-    ++ operand (codes "pscid") pscid ++ operand (codes "gv") (flag gv) ++ operand (codes "gscid") gscid
-command_text (Gvma av page pscid gv gscid) =
-    codes "cmd gvma" ++ operand (codes "av") (flag av) ++ operand (codes "page") page ++ operand (codes "pscid") pscid
-    ++ operand (codes "gv") (flag gv) ++ operand (codes "gscid") gscid
-command_text (Fence av wsi pr pw value addr) =
-    codes "cmd fence" ++ operand (codes "av") (flag av) ++ operand (codes "wsi") (flag wsi) ++ operand (codes "pr") (flag pr)
-    ++ operand (codes "pw") (flag pw) ++ operand (codes "data") value ++ operand (codes "addr") addr
-command_text (Iodir dv did) = codes "cmd iodir" ++ operand (codes "dv") (flag dv) ++ operand (codes "did") did
+command_text c = with_operands (codes "cmd " ++ command_form c) (command_pairs c)
+
+abbrev pub record_pairs : Record → List Pair
+record_pairs fault =
+    (codes "cause", fault.cause) ∷ (codes "pid", fault.pid) ∷ (codes "pv", flag fault.pv) ∷ (codes "priv", flag fault.privileged)
+    ∷ (codes "ttyp", fault.ttyp) ∷ (codes "did", fault.did) ∷ (codes "iotval", fault.iotval) ∷ (codes "iotval2", fault.iotval2) ∷ []
 
 abbrev pub record_text : Record → List ℕ
-record_text fault =
-    codes "fault" ++ operand (codes "cause") fault.cause ++ operand (codes "pid") fault.pid ++ operand (codes "pv") (flag fault.pv)
-    ++ operand (codes "priv") (flag fault.privileged) ++ operand (codes "ttyp") fault.ttyp ++ operand (codes "did") fault.did
-    ++ operand (codes "iotval") fault.iotval ++ operand (codes "iotval2") fault.iotval2
+record_text fault = with_operands (codes "fault") (record_pairs fault)
+
+abbrev pub context_pairs : Context → List Pair
+context_pairs c =
+    (codes "dtf", flag c.dtf) ∷ (codes "custom", c.custom) ∷ (codes "gmode", c.gmode) ∷ (codes "gppn", c.gppn)
+    ∷ (codes "gscid", c.gscid) ∷ (codes "tav", flag c.tav) ∷ (codes "pscid", c.pscid) ∷ (codes "mode", c.mode) ∷ (codes "ppn", c.ppn)
+    ∷ []
 
 abbrev pub context_text : Context → List ℕ
-context_text c =
-    codes "context" ++ operand (codes "dtf") (flag c.dtf) ++ operand (codes "custom") c.custom ++ operand (codes "gmode") c.gmode
-    ++ operand (codes "gppn") c.gppn ++ operand (codes "gscid") c.gscid ++ operand (codes "tav") (flag c.tav)
-    ++ operand (codes "pscid") c.pscid ++ operand (codes "mode") c.mode ++ operand (codes "ppn") c.ppn
+context_text c = with_operands (codes "context") (context_pairs c)
+
+abbrev pub dir_pairs : ℕ → List Pair
+dir_pairs ppn = (codes "ppn", ppn) ∷ []
 
 abbrev pub dir_text : ℕ → List ℕ
-dir_text ppn = codes "dir" ++ operand (codes "ppn") ppn
+dir_text ppn = with_operands (codes "dir") (dir_pairs ppn)
+
+abbrev pub pte_pairs : Entry → List Pair
+pte_pairs entry = (codes "ppn", entry.ppn) ∷ (codes "flags", entry.flags) ∷ []
 
 abbrev pub pte_text : Entry → List ℕ
-pte_text entry = codes "pte" ++ operand (codes "ppn") entry.ppn ++ operand (codes "flags") entry.flags
+pte_text entry = with_operands (codes "pte") (pte_pairs entry)
 
 -- words as numbers, a space before each
 abbrev pub numbers_text : List ℕ → List ℕ

@@ -1,6 +1,8 @@
 use Rattle.iom_asm.proofs.Following.{follow_items}
 use Rattle.iom_asm.proofs.Retold.{reads_again, tells_items, lists_items}
 use Rattle.iom_items.proofs.Stating.{tells_operands, reads_dirs, reads_ptes}
+use Rattle.iom_items.proofs.Restated.{tells_statements}
+use Rattle.iom_items.proofs.Decoded.{states_words}
 use Rattle.iom_asm.proofs.retelling.texts_are_told_again.Goals as goal
 
 pub returns-clause-reads : goal.returns-clause-reads
@@ -11,6 +13,12 @@ returns-clause-tells c = tells_items
 
 pub returns-clause-operands : goal.returns-clause-operands
 returns-clause-operands c = tells_operands
+
+pub returns-clause-statements : goal.returns-clause-statements
+returns-clause-statements c = tells_statements
+
+pub returns-clause-words : goal.returns-clause-words
+returns-clause-words c = states_words
 
 pub returns-clause-dirs : goal.returns-clause-dirs
 returns-clause-dirs c = reads_dirs
