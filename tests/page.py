@@ -304,6 +304,7 @@ def judge_browser(browser, tally, program, folder):
     using.judge_marks(browser, tally)
     using.judge_clicks(browser, tally)
     using.judge_own(browser, tally)
+    using.judge_too_long(browser, tally)
     using.judge_refused(browser, tally)
     using.judge_broken_addresses(browser, tally)
     for count, seconds in LARGE:

@@ -114,6 +114,19 @@ def judge_own(browser, tally):
     tally.judge("the second after a reload", browser.run(f"{TEXTS}[0]"), "reg read 0 8\n")
 
 
+def judge_too_long(browser, tally):
+    """A script that is too long for the page's address isn't put there, and that is told."""
+    browser.open(f"{PAGE}#example=disk")
+    # What can't be packed.
+    texts = "Array.from({ length: 40000 }, (_, i) => `# ${crypto.randomUUID()}`).join('\\n')"
+    browser.run(f"showOwn(own.find({texts}, '')), 0")
+    browser.wait("location.hash === ''", 20)
+    tally.judge("a script too long for the address", browser.run(f'[location.hash, {IN_WINDOW}("too-long")]'), ["", True])
+    choose(browser, "disk")
+    browser.wait("location.hash !== ''", 5)
+    tally.judge("one that isn't", browser.run('[location.hash.replace(/&.*/, ""), document.getElementById("too-long").hidden]'), ["#example=disk", True])
+
+
 def judge_clicks(browser, tally):
     """A line is shown that is clicked: its number, its text, in its second row too where it is wrapped, or its answer."""
     browser.open(f"{PAGE}#example=stale_translation&line=1")

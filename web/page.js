@@ -296,6 +296,7 @@ async function keepAddress() {
 
 /** Shows what the page's address names. Where there isn't such a thing, it tells so, and shows what it showed, or the first example. */
 async function openAddress() {
+  keepOwn();
   const named = await addressed(location.hash);
   const standing = at("example").selectedOptions[0]?.label;
   if (named.own) {
@@ -386,6 +387,7 @@ function listen() {
   at("above").addEventListener("click", () => setAddress(MEMORY_BYTES));
   at("theme").addEventListener("click", changeTheme);
   window.addEventListener("hashchange", openAddress);
+  window.addEventListener("pagehide", () => (keepOwn(), own.save()));
   document.addEventListener("keydown", onKey);
 }
 

@@ -8,11 +8,11 @@ const LAST_STEPS = 32;
 const WALK_PARTS = 30;
 const DEVICES = 8;
 const SHOWN_ITEMS = 16;
-// Of how many accesses it is found out which place they filled.
-const TRACKED = 400;
 // After how many numbers of lines answers are kept, and how many questions are asked before their time.
 const MOST_KNOWN = 4;
 const MOST_LATE = 128;
+// Of how many accesses it is found out which place they filled.
+const TRACKED = 400;
 
 // The modes of a context's stages by their numbers.
 const FIRST_MODES = { 0: "Bare", 8: "Sv39", 9: "Sv48" };
@@ -74,6 +74,9 @@ class Script {
   constructor(model, image, text) {
     this.model = model;
     this.image = image;
+    // What was asked after some numbers of lines, and which questions weren't the first ones there.
+    this.known = new Map();
+    this.late = [];
     this.lines = text.split("\n");
     if (this.lines[this.lines.length - 1] === "") {
       this.lines.pop();
@@ -88,9 +91,6 @@ class Script {
     this.stops.unshift(0);
     this.accesses = numbersWhere(this.lines, mayFill);
     this.tracked = { from: 0, to: 0, fills: [] };
-    // What was asked after some numbers of lines, and which questions weren't the first ones there.
-    this.known = new Map();
-    this.late = [];
   }
 
   /** The number of the last stop up to a line. */
