@@ -285,10 +285,11 @@ def judge_runs(browser, tally, example, image, answers):
         accesses = [i + 1 for i in range(count) if re.search("next=(read|write) ", around[2 * i])]
         denied = sum(it.startswith("denied") for it in around[1::2])
         text = browser.run(f'go({number}), document.getElementById("run-text")?.innerText ?? ""')
-        wanted = f"This line made {count} steps, {len(accesses)} accesses: {denied} denied, 0 stale; the last was {around[-1]}."
-        tally.judge(f"what line {number} made", text.replace("1 accesses", "1 access"), wanted.replace(" 1 accesses", " 1 access"))
+        steps = "1 step" if count == 1 else f"{count} steps"
+        made = f", {len(accesses)} accesses: {denied} denied, 0 stale" if accesses else ""
+        tally.judge(f"what line {number} made", text, f"This line made {steps}{made}; the last was {around[-1]}.")
         why = browser.run('[document.getElementById("why").textContent, document.querySelectorAll("#walk rect").length > 0, Number(document.getElementById("run-step")?.value)]')
-        tally.judge(f"the step of line {number} that is shown first", [why[0] != "No access.", *why[1:]], [True, True, accesses[-1]])
+        tally.judge(f"the step of line {number} that is shown first", [why[0] != "No access.", *why[1:]], [True, True, accesses[-1]] if accesses else [False, False, count])
         bad = []
         for step in range(1, count + 1):
             shown = dict(browser.run(f"go({number}, {step}), [...shown]"))
