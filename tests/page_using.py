@@ -20,11 +20,11 @@ IN_WINDOW = """((id) => {
   const found = document.elementFromPoint(box.left + box.width / 2, box.top + box.height / 2);
   return box.height > 0 && box.top >= 0 && box.bottom <= innerHeight && (found === element || element.contains(found));
 })"""
+WHY = [f"why {it}" for it in range(32)]
 ROWS = '[...document.querySelectorAll("#editor .row")]'
 NUMBERS = f'{ROWS}.map((it) => it.children[0].textContent)'
 ANSWERS = f'{ROWS}.map((it) => it.children[2].textContent)'
 TEXTS = '[document.getElementById("script").value, document.getElementById("image").value]'
-LINE = '/line=(\\\\d+)/.exec(location.hash)?.[1]'
 
 
 def address_of(script, image="", line=None):
@@ -49,7 +49,7 @@ def judge_broken_addresses(browser, tally):
     """An address that names what there isn't is told of, in the window, as long as nothing else is chosen; and it isn't lost."""
     good = address_of("cmd\n").partition("#own=")[2]
     other = base64.urlsafe_b64encode(zlib.compress(b'["cmd"]', wbits=-15)).decode().rstrip("=")
-    broken = {"example=nosuch": "names an example that there isn't", "own=!": "is broken", f"own={good[:-6]}": "is broken", f"own={other}": "holds something else", "own=": "is broken"}
+    broken = {"example=nosuch": "names an example that doesn't exist", "own=!": "is broken", f"own={good[:-6]}": "is broken", f"own={other}": "holds something else", "own=": "is broken"}
     for part, told in broken.items():
         browser.open(f"{PAGE}#{part}")
         tally.judge(f"an address with {part} is told of", told in browser.run('document.getElementById("notice")?.textContent ?? ""'), True)
@@ -259,7 +259,8 @@ def judge_queues(browser, tally):
 
 
 def runs_script(example):
-    """The script of the example disk with its steps of the device, one behind the other, as lines of many steps."""
+    """The script of the example disk with its steps of the device, one behind the other, as lines of many steps; after twenty of them a page that
+    the device has used is unmapped, and nothing is invalidated."""
     lines, steps = [], 0
     for line in [*example, "cmd"]:
         if line.startswith("dev step 0"):
@@ -269,7 +270,8 @@ def runs_script(example):
             lines.append("dev run 0 500")
         lines.append(line)
         steps = 0
-    return lines[:-1]
+    first = lines.index("dev run 0 500")
+    return [*lines[:first], "dev run 0 20", "store 0x80004008 8 0", *lines[first:-1]]
 
 
 def judge_runs(browser, tally, example, image, answers):
@@ -278,16 +280,22 @@ def judge_runs(browser, tally, example, image, answers):
     browser.open(address_of("\n".join(lines) + "\n", image, 1))
     plain = answers(lines)
     runs = [number for number, line in enumerate(lines, 1) if line.startswith("dev run")]
+    most_stale = 0
     tally.judge("lines of many steps", len(runs) > 1 and any(it.endswith("idle") for it in plain), True)
     for number in runs:
         count = int(plain[number - 1].split()[0], 16)
-        around = answers([*lines[: number - 1], *(it for _ in range(count) for it in ("dev show 0", "dev step 0"))])[number - 1 :]
-        accesses = [i + 1 for i in range(count) if re.search("next=(read|write) ", around[2 * i])]
-        denied = sum(it.startswith("denied") for it in around[1::2])
+        asked = ["dev show 0", "dev step 0", *WHY]
+        around = answers([*lines[: number - 1], *asked * count])[number - 1 :]
+        around = [around[i : i + len(asked)] for i in range(0, len(around), len(asked))]
+        accesses = [i for i, (view, *_) in enumerate(around, 1) if re.search("next=(read|write) ", view)]
+        denied = sum(answer.startswith("denied") for _, answer, *_ in around)
+        stale = sum(" stale " in [it for it in whys if it != "none"][-1] for _, _, *whys in around)
+        most_stale = max(most_stale, stale)
         text = browser.run(f'go({number}), document.getElementById("run-text")?.innerText ?? ""')
         steps = "1 step" if count == 1 else f"{count} steps"
-        made = f", {len(accesses)} accesses: {denied} denied, 0 stale" if accesses else ""
-        tally.judge(f"what line {number} made", text, f"This line made {steps}{made}; the last was {around[-1]}.")
+        made = f", {len(accesses)} accesses: {denied} denied, {stale} stale" if accesses else ""
+        tally.judge(f"what line {number} made", text, f"This line made {steps}{made}; the last was {around[-1][1]}.")
+        tally.judge(f"whether line {number} is marked as stale", browser.run(f'{ROWS}[{number - 1}].children[2].classList.contains("stale")'), stale > 0)
         why = browser.run('[document.getElementById("why").textContent, document.querySelectorAll("#walk rect").length > 0, Number(document.getElementById("run-step")?.value)]')
         tally.judge(f"the step of line {number} that is shown first", [why[0] != "No access.", *why[1:]], [True, True, accesses[-1]] if accesses else [False, False, count])
         bad = []
@@ -302,6 +310,7 @@ def judge_runs(browser, tally, example, image, answers):
             if bool(before) != (step in accesses):
                 bad.append((step, "picture"))
         tally.judge(f"the steps of line {number}", bad, [])
+    tally.judge("stale accesses of one line", most_stale > 1, True)
     browser.run(f"go({runs[0]}, 3), document.getElementById('run-forward').click()")
     tally.judge("the next step of a line", browser.run('Number(document.getElementById("run-step").value)'), 4)
 

@@ -301,9 +301,8 @@ class Editor {
 
   caretClicked() {
     this.asksAll = false;
-    const { caret, end } = this.selected();
     if (this.field.selectionStart === this.field.selectionEnd) {
-      this.told.clicked(caret.line + 1, end);
+      this.told.clicked(this.selected().caret.line + 1);
     }
   }
 

@@ -82,15 +82,15 @@ async function addressed(hash) {
   const line = told === null ? Infinity : Math.trunc(Number(told)) || 0;
   if (named.has("example")) {
     const name = named.get("example");
-    return EXAMPLES.some((it) => it.name === name) ? { example: name, line } : { fault: `names an example that there isn't: "${name}"`, line };
+    return EXAMPLES.some((it) => it.name === name) ? { example: name, line } : { fault: `names an example that doesn't exist, "${name}"`, line };
   }
   if (!named.has("own")) {
     return { line };
   }
   try {
     const own = JSON.parse(await unpacked(named.get("own")));
-    return isScript(own) ? { own, line } : { fault: "holds something else than a script and an image's text", line };
+    return isScript(own) ? { own, line } : { fault: "holds something else than a script", line };
   } catch {
-    return { fault: "holds a script that is broken: a part of it is missing or changed", line };
+    return { fault: "holds a script that is broken", line };
   }
 }

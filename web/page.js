@@ -311,7 +311,7 @@ async function openAddress() {
   }
   if (named.fault) {
     clearTimeout(addressTimer);
-    showNotice(`The page's address ${named.fault}. What stands below is not it, but "${at("example").selectedOptions[0]?.label}".`);
+    showNotice(`The page's address ${named.fault}. Shown instead is "${at("example").selectedOptions[0]?.label}".`);
   }
 }
 
