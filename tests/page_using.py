@@ -38,7 +38,7 @@ def address_of(script, image="", line=None):
 def type_into(browser, name, text):
     """Puts a text into a field, as typing it does, and waits until it is played."""
     browser.run(f'document.getElementById("{name}").value = {json.dumps(text)}, document.getElementById("{name}").dispatchEvent(new Event("input", {{ bubbles: true }})), 0')
-    time.sleep(0.5)
+    browser.wait("fresh === Infinity", 20)
 
 
 def choose(browser, value):
@@ -63,8 +63,9 @@ def judge_broken_addresses(browser, tally):
     browser.wait('location.hash.startsWith("#example=disk")', 5)
     tally.judge("the address of what was chosen", browser.run("location.hash.replace(/&.*/, '')"), "#example=disk")
     type_into(browser, "script", "cmd\ncmd\n")
+    browser.wait('location.hash.startsWith("#own=")', 5)
     browser.run('location.hash = "#example=nosuch", 0')
-    time.sleep(0.6)
+    browser.wait('!document.getElementById("notice").hidden', 5)
     seen = browser.run(f'[{TEXTS}[0], document.getElementById("notice")?.textContent.includes("your own") ?? false]')
     tally.judge("an own script stays where the address is changed to what there isn't", seen, ["cmd\ncmd\n", True])
 
@@ -334,6 +335,14 @@ ROW_OF = f"""((number) => {{
 }})"""
 
 
+# The number and the text of the first row that is seen as a whole at the top of the editor; null where there is none.
+FIRST_ROW = f"""(() => {{
+  const place = document.getElementById("editor").getBoundingClientRect();
+  const row = {ROWS}.find((it) => it.getBoundingClientRect().top >= place.top);
+  return row && row.getBoundingClientRect().top < place.top + 60 ? [Number(row.children[0].textContent), row.children[1].textContent] : null;
+}})"""
+
+
 def judge_large(browser, tally, count, most):
     """A script of so many lines is shown within so many seconds, whatever of it is looked at."""
     lines = large_script(count)
@@ -357,10 +366,10 @@ def judge_large(browser, tally, count, most):
         told = browser.run(f'[{ROW_OF}({number}), script.answers[{number - 1}]]')
         seen.append(told[0] == [lines[number - 1], told[1], True])
     tally.judge(f"lines of {count} that are gone to", [answers, *seen], [count, True, True, True])
-    where = browser.run('document.getElementById("editor").scrollTop = document.getElementById("editor").scrollHeight / 4, 0')
-    time.sleep(0.3)
-    where = browser.run(f'(() => {{ const place = document.getElementById("editor").getBoundingClientRect(); const row = {ROWS}.find((it) => it.getBoundingClientRect().top >= place.top); return row && [Number(row.children[0].textContent), row.children[1].textContent, row.getBoundingClientRect().top - place.top < 20]; }})()')
-    tally.judge(f"a quarter down {count} lines", where and [abs(where[0] / count - 0.25) < 0.02, where[1] == lines[where[0] - 1], where[2]], [True, True, True])
+    browser.run('document.getElementById("editor").scrollTop = document.getElementById("editor").scrollHeight / 4, 0')
+    browser.wait(f"{FIRST_ROW}() !== null", 5)
+    where = browser.run(f"{FIRST_ROW}()")
+    tally.judge(f"a quarter down {count} lines", where and [abs(where[0] / count - 0.25) < 0.02, where[1] == lines[where[0] - 1]], [True, True])
     print(f"page: {browser.name}: {count} lines are shown after {opened:.1f} s, what holds at the first after {held:.1f} s, at another after {stepped:.1f} s, what is stale after {whole:.1f} s")
     tally.judge(f"a step of {count} lines within {most} s", stepped < most, True)
 
