@@ -1,26 +1,29 @@
 #!/usr/bin/env -S python3 -B
-"""page.py [PROGRAM [FOLDER]]    Drives the page of web/out in headless Chromium, and puts pictures into FOLDER, where one is named.
+"""page.py [PROGRAM [FOLDER]]    Drives the page of web/out in Chromium without a window, and in Firefox where it is installed and new enough, and puts
+pictures into FOLDER, where one is named.
 
 Each example's answers in the page are those of its file NAME.answers, or give the verdicts that stand there. Where a PROGRAM is named, what the
-page shows at each line is what its word `debug` answers to the same questions. A script of 10,000 lines is answered within two seconds, a script
-kept in the address comes back, the page can be served, the keys move through the steps, a picture of a walk has a box for each part, no box lies on
-another, nothing is wider than a narrow screen, and nothing is told on the browser's console.
-Chromium is driven over a pipe by its own protocol. Prints 'page: N passed, M failed'; the status is 1 where something failed. The picture
-web/page.png, which README shows, is that of stale_translation.
+page shows at each line is what its word `debug` answers to the same questions, and what it marks is what `check` tells. A script of 10,000 lines is
+answered within two seconds, one of 100,000 and one of 1,000,000 are shown within few more than the model needs, a script kept in the address comes
+back, the page can be served, the keys move through the steps, a picture of a walk has a box for each part, no box lies on another, nothing is wider
+than a narrow screen, and nothing is told on the browser's console; the rest stands in page_using.py.
+Prints 'page: N passed, M failed'; the status is 1 where something failed. The picture web/page.png, which README shows, is that of stale_translation.
 """
-import base64
 import filecmp
 import functools
 import http.server
+import importlib.util
 import json
 import os
 import re
-import shutil
 import subprocess
 import sys
 import tempfile
 import threading
 import time
+
+import page_using as using
+from browsers import SECONDS, Chromium, Firefox
 
 TOP = os.path.normpath(os.path.join(os.path.dirname(os.path.abspath(__file__)), os.pardir))
 PAGE = "file://" + os.path.join(TOP, "web", "out", "index.html")
@@ -29,119 +32,20 @@ EXAMPLES = os.path.join(TOP, "examples")
 # Of which example a picture is taken, at which of its accesses, and how.
 PICTURES = [("stale_translation", 1, "light"), ("both_stages", -1, "dark"), ("who_refused", 0, "light")]
 WIDE, NARROW = (1440, 1100), (390, 1600)
-# How long a page may take to be ready, and the browser to be asked all.
-SECONDS, MOST_SECONDS = 60, 900
-
-
-class Browser:
-    """A headless Chromium with one page."""
-
-    def __init__(self):
-        program = next(filter(None, map(shutil.which, ("chromium", "chromium-browser", "google-chrome"))), None)
-        if program is None:
-            sys.exit("page.py: chromium is not on the path")
-        self.folder = tempfile.mkdtemp()
-        their_in, self.to = os.pipe()
-        self.back, their_out = os.pipe()
-
-        def as_three_and_four():
-            os.dup2(their_in, 90), os.dup2(their_out, 91)
-            os.dup2(90, 3), os.dup2(91, 4)
-
-        words = [program, "--headless=new", "--no-sandbox", "--disable-gpu", "--disable-dev-shm-usage", "--remote-debugging-pipe", f"--user-data-dir={self.folder}", "about:blank"]
-        self.process = subprocess.Popen(words, preexec_fn=as_three_and_four, pass_fds=(3, 4), stdin=subprocess.DEVNULL, stdout=subprocess.DEVNULL, stderr=subprocess.DEVNULL)
-        os.close(their_in), os.close(their_out)
-        self.limit = threading.Timer(MOST_SECONDS, self.process.kill)
-        self.limit.daemon = True
-        self.limit.start()
-        self.rest, self.number, self.session, self.told = b"", 0, None, []
-        target = self.call("Target.createTarget", url="about:blank")["targetId"]
-        self.session = self.call("Target.attachToTarget", targetId=target, flatten=True)["sessionId"]
-        for domain in ("Runtime", "Log", "Page"):
-            self.call(f"{domain}.enable")
-
-    def message(self):
-        while b"\0" not in self.rest:
-            piece = os.read(self.back, 1 << 20)
-            if not piece:
-                sys.exit("page.py: the browser has ended")
-            self.rest += piece
-        one, _, self.rest = self.rest.partition(b"\0")
-        return json.loads(one)
-
-    def call(self, method, **words):
-        self.number += 1
-        asked = {"id": self.number, "method": method, "params": words}
-        if self.session:
-            asked["sessionId"] = self.session
-        os.write(self.to, json.dumps(asked).encode() + b"\0")
-        while True:
-            got = self.message()
-            if got.get("id") == self.number:
-                if "error" in got:
-                    sys.exit(f"page.py: {method}: {got['error']}")
-                return got["result"]
-            self.listen(got)
-
-    def listen(self, got):
-        """Keeps what is told of errors."""
-        method, words = got.get("method"), got.get("params", {})
-        if method == "Runtime.exceptionThrown":
-            self.told.append(words["exceptionDetails"].get("exception", {}).get("description", str(words)))
-        elif method == "Runtime.consoleAPICalled" and words["type"] in ("error", "warning", "assert"):
-            self.told.append(str([it.get("value") for it in words["args"]]))
-        elif method == "Log.entryAdded" and words["entry"]["level"] in ("error", "warning"):
-            self.told.append(words["entry"]["text"])
-
-    def run(self, code):
-        """The value of an expression, awaited."""
-        got = self.call("Runtime.evaluate", expression=code, awaitPromise=True, returnByValue=True)
-        if "exceptionDetails" in got:
-            sys.exit(f"page.py: {code[:80]}: {got['exceptionDetails']}")
-        return got["result"].get("value")
-
-    def open(self, address):
-        self.call("Page.navigate", url="about:blank")
-        self.call("Page.navigate", url=address)
-        end = time.monotonic() + SECONDS
-        while not self.run('document.body?.dataset.ready === "yes" || !(document.getElementById("fault")?.hidden ?? true)'):
-            if time.monotonic() > end:
-                sys.exit(f"page.py: {address} isn't ready: {self.told}")
-            time.sleep(0.05)
-
-    def size(self, wide, high):
-        self.call("Emulation.setDeviceMetricsOverride", width=wide, height=high, deviceScaleFactor=1, mobile=False)
-
-    def theme(self, name):
-        self.call("Emulation.setEmulatedMedia", features=[{"name": "prefers-color-scheme", "value": name}])
-
-    def picture(self, path):
-        data = self.call("Page.captureScreenshot", format="png")["data"]
-        with open(path, "wb") as file:
-            file.write(base64.b64decode(data))
-
-    def key(self, key):
-        for kind in ("keyDown", "keyUp"):
-            self.call("Input.dispatchKeyEvent", type=kind, key=key, text=key if kind == "keyDown" and len(key) == 1 else "")
-
-    def close(self):
-        self.session = None
-        self.call("Browser.close")
-        self.process.wait()
-        self.limit.cancel()
-        shutil.rmtree(self.folder, ignore_errors=True)
+# How many lines are shown within how many seconds.
+LARGE = [(100_000, 4), (1_000_000, 30)]
 
 
 class Tally:
     def __init__(self):
-        self.passed, self.failed = 0, 0
+        self.passed, self.failed, self.browser = 0, 0, "page"
 
     def judge(self, name, got, wanted):
         if got == wanted:
             self.passed += 1
         else:
             self.failed += 1
-            print(f"{name}: {str(got)[:400]}\n  wanted {str(wanted)[:400]}")
+            print(f"{self.browser}: {name}: {str(got)[:400]}\n  wanted {str(wanted)[:400]}", flush=True)
 
 
 def read(name, ending):
@@ -158,6 +62,15 @@ def answers_of(program, image, lines):
     words = [program, "debug", *([image] if image else [])]
     done = subprocess.run(words, input="".join(f"{it}\n" for it in lines).encode(), stdout=subprocess.PIPE, check=True)
     return done.stdout.decode().splitlines()
+
+
+def image_of(program, name, folder):
+    """The image of an example, None where it has none."""
+    if not os.path.exists(os.path.join(EXAMPLES, f"{name}.asm")):
+        return None
+    image = os.path.join(folder, f"{name}.image")
+    subprocess.run([program, "asm", os.path.join(EXAMPLES, f"{name}.asm"), image], check=True)
+    return image
 
 
 def verdicts(browser, lines):
@@ -179,6 +92,11 @@ def judge_built(tally):
     names_there = [it for it in os.listdir(WEB) if it.endswith((".html", ".css", ".js"))]
     others = [it for it in names_there if not filecmp.cmp(os.path.join(WEB, it), os.path.join(WEB, "out", it), shallow=False)]
     tally.judge("the files of web/out that 'make page' has yet to copy", others, [])
+    spec = importlib.util.spec_from_file_location("page_build", os.path.join(WEB, "build.py"))
+    build = importlib.util.module_from_spec(spec)
+    spec.loader.exec_module(build)
+    tally.judge("the page's files that 'make page' copies", sorted(build.PAGES), sorted(names_there))
+    tally.judge("what 'make page' builds with", hasattr(build.builder(), "Build"), True)
 
 
 def judge_answers(browser, tally):
@@ -194,10 +112,7 @@ def judge_states(browser, tally, program):
     """What is shown at each line of each example, beside the program's answers to the same questions."""
     with tempfile.TemporaryDirectory() as folder:
         for name in names():
-            image = None
-            if os.path.exists(os.path.join(EXAMPLES, f"{name}.asm")):
-                image = os.path.join(folder, f"{name}.image")
-                subprocess.run([program, "asm", os.path.join(EXAMPLES, f"{name}.asm"), image], check=True)
+            image = image_of(program, name, folder)
             lines = read(name, "script").splitlines()
             browser.run(f"show({json.dumps(name)}, 0)")
             bad = [number for number in range(len(lines) + 1) if not is_state(browser, program, image, lines, number)]
@@ -205,7 +120,10 @@ def judge_states(browser, tally, program):
 
 
 def is_state(browser, program, image, lines, number):
-    shown = dict(browser.run(f"go({number}), [...shown]"))
+    told, steps = browser.run(f"go({number}), [[...shown], view.isStep ? Array(view.at - line + 1).fill(view.script.lines[line - 1]) : null]")
+    shown = dict(told)
+    # Of a line of many steps one is shown.
+    lines, number = (lines, number) if steps is None else ([*lines[: number - 1], *steps], number - 1 + len(steps))
     # A walk is told as the tables stood before the line, all else as after it.
     before = {it: told for it, told in shown.items() if it.startswith(("walk", "stale read", "stale write"))}
     after = {it: told for it, told in shown.items() if it not in before}
@@ -225,24 +143,23 @@ def long_script():
     return (lines + round_ * 1700)[:10000]
 
 
-BESIDE = """(async () => {
-  for (let i = 0; i < 3; i += 1) {
-    await new Promise((done) => requestAnimationFrame(done));
-  }
-  const field = at("script");
-  const place = field.getBoundingClientRect().top + parseFloat(getComputedStyle(field).paddingTop) + 4999 * LINE_PIXELS - field.scrollTop;
-  return Object.values(columns).map((lines) => Math.abs(lines[4999].getBoundingClientRect().top - place) < 2);
-})()"""
+def own(browser, script, image=""):
+    """Shows a script of one's own."""
+    browser.run(f"showOwn(own.find({json.dumps(script)}, {json.dumps(image)}))")
+
+
+def answer_of(browser, number):
+    return browser.run(f"script.answers[{number - 1}]")
 
 
 def judge_speed(browser, tally, program):
     lines = long_script()
-    text = json.dumps("".join(f"{it}\n" for it in lines))
     timed = "(() => { const from = performance.now(); play(); return performance.now() - from; })()"
-    milliseconds = browser.run(f'at("example").value = "", at("script").value = {text}, at("image").value = "", {timed}')
+    own(browser, "".join(f"{it}\n" for it in lines))
+    milliseconds = browser.run(timed)
     step = browser.run("(() => { const from = performance.now(); go(5000); return performance.now() - from; })()")
-    tally.judge("line 5,000 stands beside its number and its answer", browser.run(BESIDE), [True, True])
-    print(f"page: 10,000 lines are answered in {milliseconds:.0f} ms, one of them is shown in {step:.0f} ms")
+    tally.judge("line 5,000 stands beside its number and its answer", browser.run(f"{using.ROW_OF}(5000)"), [lines[4999], answer_of(browser, 5000), True])
+    print(f"page: {browser.name}: 10,000 lines are answered in {milliseconds:.0f} ms, one of them is shown in {step:.0f} ms")
     tally.judge("10,000 lines within two seconds", milliseconds < 2000, True)
     tally.judge("10,000 answers", browser.run('script.answers.filter((it) => it !== "").length'), 10000)
     if program:
@@ -252,7 +169,7 @@ def judge_speed(browser, tally, program):
 def judge_address(browser, tally):
     browser.open(PAGE + "#example=first_stage&line=3")
     tally.judge("an example in the address", browser.run('[at("example").value, line]'), ["first_stage", 3])
-    browser.run('at("script").value = "reg read 0 8\\nload 0x80000000 8\\n", at("example").value = "", play()')
+    own(browser, "reg read 0 8\nload 0x80000000 8\n")
     end = time.monotonic() + SECONDS
     while "own=" not in (address := browser.run("location.href")) and time.monotonic() < end:
         time.sleep(0.05)
@@ -275,6 +192,7 @@ def judge_served(browser, tally):
 
 def judge_keys(browser, tally):
     browser.run('show("first_stage"), document.activeElement.blur()')
+    tally.judge("the longest answer, where its place is less wide", browser.run('getComputedStyle(document.querySelector(".row .answer")).textOverflow'), "ellipsis")
     moved = []
     for key in ("Home", ".", ".", ",", "End", "."):
         browser.key(key)
@@ -288,13 +206,8 @@ def judge_keys(browser, tally):
 def judge_largest(browser, tally):
     """An image with the most memory, and with the largest disks."""
     image, text = "ram 0x80000000 0x4000000\ndisk 5 65536\nrodisk 6 65536\n", "store 0x83fffff8 8 5\nload 0x83fffff8 8\ndisk 1 33554368 64\n"
-    browser.run(f'at("example").value = "", at("image").value = {json.dumps(image)}, at("script").value = {json.dumps(text)}, play()')
+    own(browser, text, image)
     tally.judge("the largest image", browser.run("script.answers"), ["done", "0x5", "00" * 64])
-
-
-def judge_faults(browser, tally):
-    browser.run('at("image").value = "ram 0x80000000 0x1000\\nnonsense\\n", play()')
-    tally.judge("a bad text of an image", browser.run('at("fault").textContent'), "The image is refused: line 2: bad line")
 
 
 WALK = """(() => {
@@ -326,7 +239,7 @@ def judge_fillers(browser, tally):
         browser.run(f"show({json.dumps(name)}, 0)")
         bad = []
         for number in browser.run("script.accesses"):
-            fillers, why = browser.run(f'go({number}), [script.fillers(line), [...shown].findLast(([it]) => it.startsWith("why"))?.[1] ?? ""]')
+            fillers, why = browser.run(f'go({number}), [view.script.fillers(view.at), [...shown].findLast(([it]) => it.startsWith("why"))?.[1] ?? ""]')
             found = re.match(r"walked context=\d+ walk=(\d+) current=(\d+)", why)
             if found and not (int(found[1]) in fillers["pages"] and int(found[2]) in fillers["contexts"]):
                 bad.append((number, why, fillers))
@@ -342,7 +255,6 @@ def take_pictures(browser, tally, folder):
         browser.run(f"show({json.dumps(name)}), go(script.accesses.at({access})), document.activeElement.blur(), scrollTo(0, 0)")
         if folder:
             browser.picture(os.path.join(folder, f"{name}.png"))
-    tally.judge("a long answer can be scrolled to", browser.run('at("answers").scrollWidth > at("answers").clientWidth'), True)
     browser.size(*NARROW)
     for theme in ("light", "dark"):
         browser.theme(theme)
@@ -352,29 +264,74 @@ def take_pictures(browser, tally, folder):
     browser.size(*WIDE)
 
 
+def judge_with(browser, tally, program):
+    """What the page shows, beside what the program answers."""
+    judge_states(browser, tally, program)
+    with tempfile.TemporaryDirectory() as folder:
+        images = {name: image_of(program, name, folder) for name in names()}
+
+        def checked(name):
+            script = read(name, "script").encode()
+            return lambda words: told_by(program, [*words, *([images[name]] if images[name] else [])], script)
+
+        using.judge_verdicts(browser, tally, [(name, checked(name)) for name in names()])
+        disk = [it.partition("#")[0].strip() for it in read("disk", "script").splitlines()]
+        using.judge_runs(browser, tally, [it for it in disk if it], read("disk", "asm"), lambda lines: answers_of(program, images["disk"], lines))
+
+
+def told_by(program, words, script):
+    """The lines that the program writes of a script, whatever its status."""
+    return subprocess.run([program, *words], input=script, stdout=subprocess.PIPE, check=False).stdout.decode().splitlines()
+
+
+def judge_browser(browser, tally, program, folder):
+    browser.size(*WIDE)
+    browser.open(PAGE)
+    tally.judge("the start", browser.run('at("fault").hidden || at("fault").textContent'), True)
+    judge_answers(browser, tally)
+    if program:
+        judge_with(browser, tally, program)
+    judge_walks(browser, tally)
+    judge_fillers(browser, tally)
+    judge_speed(browser, tally, program)
+    judge_address(browser, tally)
+    judge_served(browser, tally)
+    judge_keys(browser, tally)
+    judge_largest(browser, tally)
+    using.judge_lines(browser, tally, names())
+    using.judge_readable(browser, tally, names())
+    using.judge_queues(browser, tally)
+    using.judge_marks(browser, tally)
+    using.judge_clicks(browser, tally)
+    using.judge_own(browser, tally)
+    using.judge_too_long(browser, tally)
+    using.judge_refused(browser, tally)
+    using.judge_broken_addresses(browser, tally)
+    for count, seconds in LARGE:
+        using.judge_large(browser, tally, count, seconds)
+    using.judge_large_typing(browser, tally)
+    browser.open(PAGE)
+    take_pictures(browser, tally, folder)
+    tally.judge("the console", browser.told, [])
+    using.judge_unbuilt(browser, tally)
+
+
 def main():
     program = os.path.abspath(sys.argv[1]) if len(sys.argv) > 1 else None
     folder = sys.argv[2] if len(sys.argv) > 2 else None
-    browser, tally = Browser(), Tally()
-    try:
-        browser.open(PAGE)
-        judge_built(tally)
-        tally.judge("the start", browser.run('at("fault").hidden || at("fault").textContent'), True)
-        judge_answers(browser, tally)
-        if program:
-            judge_states(browser, tally, program)
-        judge_walks(browser, tally)
-        judge_fillers(browser, tally)
-        judge_speed(browser, tally, program)
-        judge_address(browser, tally)
-        judge_served(browser, tally)
-        judge_keys(browser, tally)
-        judge_largest(browser, tally)
-        judge_faults(browser, tally)
-        take_pictures(browser, tally, folder)
-        tally.judge("the console", browser.told, [])
-    finally:
-        browser.close()
+    tally = Tally()
+    judge_built(tally)
+    if Chromium.program() is None:
+        sys.exit("page.py: chromium is not on the path")
+    for kind in (Chromium, Firefox):
+        if kind.program() is None:
+            continue
+        tally.browser = kind.name
+        browser = kind()
+        try:
+            judge_browser(browser, tally, program, folder if kind is Chromium else None)
+        finally:
+            browser.close()
     print(f"page: {tally.passed} passed, {tally.failed} failed")
     sys.exit(1 if tally.failed else 0)
 

@@ -1,5 +1,5 @@
 #!/usr/bin/env -S python3 -B
-"""build.py [--copy]    Builds the page that shows the model into web/out, where index.html can be opened from a file or served as it lies.
+"""build.py [--copy | --page]    Builds the page that shows the model into web/out, where index.html can be opened from a file or served as it lies.
 
 The model runs in the page as a WebAssembly module with a memory of 64 bits. The toolchain has no heap for that target, so the
 crates are copied, and in the copy their allocator, std::alloc::Global, is page_heap::Global: std's own code and proofs over three
@@ -8,7 +8,8 @@ What is assumed of the page's three functions is what std assumes of malloc, rea
 
 The merge gate knows nothing of this, and refuses sources that are of none of its crates. So the files of web/iom_page have the ending .page, and
 the copy stands outside the repository: in the folder that PAGE_COPY names in the environment, else in one of the user's cache.
-With --copy it is written and its folder printed, and nothing is proved. Needs rt on the path. Progress is told on standard error.
+With --copy it is written and its folder printed, and nothing is proved. With --page the page is put together anew around the model that was
+built last, in a second: for changes of the page's own files. Needs rt on the path. Progress is told on standard error.
 """
 import base64
 import hashlib
@@ -29,7 +30,7 @@ COPY = os.environ.get("PAGE_COPY") or os.path.join(CACHE, "rviommu", f"page-{has
 OUT = os.path.join(WEB, "out")
 # What the page's crate names of the repository's; the copy has these and all that they stand on.
 USES = ["iom_debug", "iom_asm", "iom_tool", "iom_core", "iom_image", "iom_account"]
-PAGES = ["index.html", "style.css", "model.js", "walk.js", "questions.js", "page.js"]
+PAGES = ["index.html", "style.css", "model.js", "walk.js", "questions.js", "verdicts.js", "editor.js", "own.js", "view.js", "page.js"]
 # The only crate of the copy with functions that are no Rattle.
 FOREIGN = "page_libc"
 
@@ -189,14 +190,22 @@ def write_tree(files):
                 file.write(text)
 
 
-def prove():
-    """Proves and builds the copy's crates, side by side, as packaging/build.py does those of the repository."""
-    spec = importlib.util.spec_from_file_location("build", os.path.join(TOP, "packaging", "build.py"))
+def builder():
+    """packaging/build.py, for the copy's crates."""
+    packaging = os.path.join(TOP, "packaging")
+    # It imports a file that stands beside it.
+    sys.path.append(packaging)
+    spec = importlib.util.spec_from_file_location("build", os.path.join(packaging, "build.py"))
     build = importlib.util.module_from_spec(spec)
     spec.loader.exec_module(build)
     build.CRATES, build.LIST, build.TREES = (os.path.join(COPY, *it) for it in (["crates"], ["crates.txt"], ["out", "build"]))
+    return build
+
+
+def prove():
+    """Proves and builds the copy's crates, side by side, as packaging/build.py does those of the repository."""
     os.environ["RT_ALLOW_C"] = FOREIGN
-    if build.Build("iom_page").run():
+    if builder().Build("iom_page").run():
         stop("the model could not be built")
 
 
@@ -218,22 +227,28 @@ def write_script(name, constant, value):
 
 def write_page():
     """The page with its model and its examples, each in a file of its own."""
+    model = os.path.join(COPY, "crates", "iom_page", "out", "iom_page.wasm")
+    if not os.path.exists(model):
+        stop("the model isn't built: run it without --page")
     os.makedirs(OUT, exist_ok=True)
     for file in PAGES:
         shutil.copy(os.path.join(WEB, file), OUT)
-    with open(os.path.join(COPY, "crates", "iom_page", "out", "iom_page.wasm"), "rb") as module:
+    with open(model, "rb") as module:
         write_script("module.js", "MODULE", base64.b64encode(module.read()).decode())
     write_script("examples.js", "EXAMPLES", examples())
 
 
 def main():
-    if sys.argv[1:] not in ([], ["--copy"]):
+    words = sys.argv[1:]
+    if words not in ([], ["--copy"], ["--page"]):
         sys.exit(__doc__)
-    make_copy()
-    if sys.argv[1:]:
+    if words != ["--page"]:
+        make_copy()
+    if words == ["--copy"]:
         print(COPY)
         return
-    prove()
+    if not words:
+        prove()
     write_page()
     print(OUT)
 

@@ -161,13 +161,18 @@ class Model {
   /** The answer to each line of a script on an image, as `debug` has it; empty for a blank line. */
   play(image, lines) {
     const script = new TextEncoder().encode(lines.map((line) => `${line}\n`).join(""));
-    const bytes = this.answered(4096 + 32 * lines.length, (room) =>
+    const bytes = this.answersTo(image, script, 4096 + 32 * lines.length);
+    return new TextDecoder().decode(bytes).split("\n").slice(0, -1);
+  }
+
+  /** The same of a script in bytes, each answer with a line end behind it; called a second time where this is too little room. */
+  answersTo(image, script, enough) {
+    return this.answered(enough, (room) =>
       this.with([image, script, room, 8], ([start, source, answers, count]) => {
         const told = this.exports.page_play(...slice(start), ...slice(source), ...slice(answers), BigInt(count.at));
         return { told, place: "", ...this.written(told, count, answers) };
       }),
     );
-    return new TextDecoder().decode(bytes).split("\n").slice(0, -1);
   }
 
   /** The bytes that a call answers, called again with more room where it was too little. */

@@ -8,6 +8,9 @@ const LAST_STEPS = 32;
 const WALK_PARTS = 30;
 const DEVICES = 8;
 const SHOWN_ITEMS = 16;
+// After how many numbers of lines answers are kept, and how many questions are asked before their time.
+const MOST_KNOWN = 4;
+const MOST_LATE = 128;
 // Of how many accesses it is found out which place they filled.
 const TRACKED = 400;
 
@@ -41,8 +44,29 @@ function wantedOf(line) {
 
 /** Whether a line may be an access of a device, which can fill the caches. */
 function mayFill(line) {
-  const [first, second] = wordsOf(line);
-  return first === "dma" || (first === "dev" && (second === "step" || second === "run"));
+  return /^[ \t\r]*(dma|dev[ \t\r]+(step|run))(?![^ \t\r#])/.test(line);
+}
+
+/** The numbers of the lines that a condition holds of, from 1 on. */
+function numbersWhere(lines, holds) {
+  const found = [];
+  lines.forEach((line, i) => holds(line) && found.push(i + 1));
+  return found;
+}
+
+/** The texts as lines of a script, in bytes. */
+function bytesOf(lines) {
+  return new TextEncoder().encode(lines.length ? `${lines.join("\n")}\n` : "");
+}
+
+/** Where the first line of a text in bytes ends, and each after it: 0 before the first one. */
+function endsOf(bytes, count) {
+  const ends = new Uint32Array(count + 1);
+  for (let line = 1, at = 0; line <= count; line += 1) {
+    at = bytes.indexOf(10, at) + 1;
+    ends[line] = at;
+  }
+  return ends;
 }
 
 /** A script on an image, and what is asked of it. */
@@ -50,26 +74,66 @@ class Script {
   constructor(model, image, text) {
     this.model = model;
     this.image = image;
+    // What was asked after some numbers of lines, and which questions weren't the first ones there.
+    this.known = new Map();
+    this.late = [];
     this.lines = text.split("\n");
     if (this.lines[this.lines.length - 1] === "") {
       this.lines.pop();
     }
-    this.answers = model.play(image, this.lines);
+    this.bytes = bytesOf(this.lines);
+    this.ends = endsOf(this.bytes, this.lines.length);
+    const answers = model.answersTo(image, this.bytes, 4096 + 32 * this.lines.length);
+    this.room = answers.length;
+    this.answers = new TextDecoder().decode(answers).split("\n").slice(0, -1);
     // The start, and each line that isn't blank.
-    this.stops = [0, ...this.answers.flatMap((answer, i) => (answer ? [i + 1] : []))];
-    this.accesses = this.lines.flatMap((line, i) => (mayFill(line) ? [i + 1] : []));
+    this.stops = numbersWhere(this.answers, (answer) => answer);
+    this.stops.unshift(0);
+    this.accesses = numbersWhere(this.lines, mayFill);
     this.tracked = { from: 0, to: 0, fills: [] };
   }
 
   /** The number of the last stop up to a line. */
   stopOf(line) {
-    return this.stops.findLastIndex((stop) => stop <= line);
+    let [low, high] = [0, this.stops.length];
+    while (high - low > 1) {
+      const middle = (low + high) >> 1;
+      [low, high] = this.stops[middle] <= line ? [middle, high] : [low, middle];
+    }
+    return low;
   }
 
   /** The answers to questions after the first `count` lines, by question. */
   ask(count, questions) {
-    const answers = this.model.play(this.image, [...this.lines.slice(0, count), ...questions]);
-    return new Map(questions.map((question, i) => [question, answers[count + i]]));
+    const known = this.known.get(count);
+    const missing = known ? questions.filter((it) => !known.has(it)) : questions;
+    if (missing.length) {
+      // What was asked later than the rest after other lines is asked with the rest here: each time the lines are played.
+      const asked = known ? missing : [...new Set([...missing, ...this.late])];
+      this.late = known ? [...new Set([...missing, ...this.late])].slice(0, MOST_LATE) : this.late;
+      this.know(count, asked, this.answersAfter(count, asked));
+    }
+    return new Map(questions.map((question) => [question, this.known.get(count).get(question)]));
+  }
+
+  /** Keeps answers to questions after so many lines, and those after few other numbers of lines. */
+  know(count, questions, answers) {
+    const known = this.known.get(count) ?? new Map();
+    questions.forEach((question, i) => known.set(question, answers[i]));
+    this.known.delete(count);
+    this.known.set(count, known);
+    if (this.known.size > MOST_KNOWN) {
+      this.known.delete(this.known.keys().next().value);
+    }
+  }
+
+  answersAfter(count, questions) {
+    const before = this.bytes.subarray(0, this.ends[count]);
+    const asked = bytesOf(questions);
+    const played = new Uint8Array(before.length + asked.length);
+    played.set(before);
+    played.set(asked, before.length);
+    return lastLines(this.model.answersTo(this.image, played, 4096 + this.room + 192 * questions.length), questions.length);
   }
 
   /** The lines that filled the places of both caches, as they are after the first `count` lines; 0: one that isn't known any more. */
@@ -173,6 +237,15 @@ function filledBy(before, after, fillers, line) {
   return [...kept, ...after.slice(kept.length).map(() => line)];
 }
 
+/** The last lines of a text in bytes, so many. */
+function lastLines(bytes, count) {
+  let from = bytes.length;
+  for (let i = 0; i <= count && from >= 0; i += 1) {
+    from = from ? bytes.lastIndexOf(10, from - 1) : -1;
+  }
+  return new TextDecoder().decode(bytes.subarray(from + 1)).split("\n").slice(0, -1);
+}
+
 /** The operands of a text by name. */
 function operandsOf(text) {
   return Object.fromEntries([...text.matchAll(/([\w-]+)=(\S+)/g)].map(([, key, value]) => [key, value]));
@@ -182,7 +255,7 @@ function operandsOf(text) {
 function itemQuestions(kind, size, told) {
   const view = operandsOf(told.get(`queue ${kind}`));
   const [entries, head, tail] = [view.entries, view.head, view.tail].map(Number);
-  if (!entries || view.base === "0x0") {
+  if (!entries) {
     return [];
   }
   const waiting = (tail - head + entries) % entries;

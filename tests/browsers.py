@@ -1,0 +1,270 @@
+"""Chromium and Firefox without a window, each with one page, driven by their own protocols: Chromium's over a pipe, Firefox's Marionette over a socket."""
+import base64
+import json
+import os
+import re
+import shutil
+import socket
+import subprocess
+import sys
+import tempfile
+import threading
+import time
+
+# How long a page may take to be ready, and a browser to be asked all.
+SECONDS, MOST_SECONDS = 60, 900
+IS_READY = 'document.body?.dataset.ready === "yes" || !(document.getElementById("fault")?.hidden ?? true)'
+# The first Firefox with a memory of 64 bits for WebAssembly.
+FIREFOX = 134
+
+
+def found(names):
+    """The first of these programs that is on the path."""
+    return next(filter(None, map(shutil.which, names)), None)
+
+
+class Page:
+    """What can be done with a page of either browser; `told` has what was told on its console of errors."""
+
+    def start(self, words, **how):
+        quiet = {"stdin": subprocess.DEVNULL, "stdout": subprocess.DEVNULL, "stderr": subprocess.DEVNULL}
+        self.process = subprocess.Popen(words, **quiet, **how)
+        self.limit = threading.Timer(MOST_SECONDS, self.process.kill)
+        self.limit.daemon = True
+        self.limit.start()
+
+    def wait(self, code, seconds=SECONDS):
+        """Waits until an expression holds, and returns whether it did."""
+        end = time.monotonic() + seconds
+        while not self.run(code):
+            if time.monotonic() > end:
+                return False
+            time.sleep(0.05)
+        return True
+
+    def open(self, address):
+        self.navigate("about:blank")
+        self.navigate(address)
+        if not self.wait(IS_READY):
+            sys.exit(f"page.py: {address} isn't ready: {self.told}")
+
+    def close(self):
+        self.end()
+        self.process.wait()
+        self.limit.cancel()
+        shutil.rmtree(self.folder, ignore_errors=True)
+
+
+class Chromium(Page):
+    name = "Chromium"
+
+    @staticmethod
+    def program():
+        return found(("chromium", "chromium-browser", "google-chrome"))
+
+    def __init__(self):
+        self.folder = tempfile.mkdtemp()
+        their_in, self.to = os.pipe()
+        self.back, their_out = os.pipe()
+
+        def as_three_and_four():
+            os.dup2(their_in, 90), os.dup2(their_out, 91)
+            os.dup2(90, 3), os.dup2(91, 4)
+
+        options = ["--headless=new", "--no-sandbox", "--disable-gpu", "--disable-dev-shm-usage", "--remote-debugging-pipe", f"--user-data-dir={self.folder}"]
+        self.start([self.program(), *options, "about:blank"], preexec_fn=as_three_and_four, pass_fds=(3, 4))
+        os.close(their_in), os.close(their_out)
+        self.rest, self.number, self.session, self.told = b"", 0, None, []
+        target = self.call("Target.createTarget", url="about:blank")["targetId"]
+        self.session = self.call("Target.attachToTarget", targetId=target, flatten=True)["sessionId"]
+        for domain in ("Runtime", "Log", "Page"):
+            self.call(f"{domain}.enable")
+
+    def message(self):
+        while b"\0" not in self.rest:
+            piece = os.read(self.back, 1 << 20)
+            if not piece:
+                sys.exit("page.py: the browser has ended")
+            self.rest += piece
+        one, _, self.rest = self.rest.partition(b"\0")
+        return json.loads(one)
+
+    def call(self, method, **words):
+        self.number += 1
+        asked = {"id": self.number, "method": method, "params": words}
+        if self.session:
+            asked["sessionId"] = self.session
+        os.write(self.to, json.dumps(asked).encode() + b"\0")
+        while True:
+            got = self.message()
+            if got.get("id") == self.number:
+                if "error" in got:
+                    sys.exit(f"page.py: {method}: {got['error']}")
+                return got["result"]
+            self.listen(got)
+
+    def listen(self, got):
+        """Keeps what is told of errors."""
+        method, words = got.get("method"), got.get("params", {})
+        if method == "Runtime.exceptionThrown":
+            self.told.append(words["exceptionDetails"].get("exception", {}).get("description", str(words)))
+        elif method == "Runtime.consoleAPICalled" and words["type"] in ("error", "warning", "assert"):
+            self.told.append(str([it.get("value") for it in words["args"]]))
+        elif method == "Log.entryAdded" and words["entry"]["level"] in ("error", "warning"):
+            self.told.append(words["entry"]["text"])
+
+    def forget(self):
+        """What was told on the console up to now was to be expected."""
+        self.run("0")
+        self.told.clear()
+
+    def run(self, code):
+        """The value of an expression, awaited."""
+        got = self.call("Runtime.evaluate", expression=code, awaitPromise=True, returnByValue=True)
+        if "exceptionDetails" in got:
+            sys.exit(f"page.py: {code[:80]}: {got['exceptionDetails']}")
+        return got["result"].get("value")
+
+    def navigate(self, address):
+        self.call("Page.navigate", url=address)
+
+    def size(self, wide, high):
+        self.call("Emulation.setDeviceMetricsOverride", width=wide, height=high, deviceScaleFactor=1, mobile=False)
+
+    def theme(self, name):
+        self.call("Emulation.setEmulatedMedia", features=[{"name": "prefers-color-scheme", "value": name}])
+
+    def picture(self, path):
+        data = self.call("Page.captureScreenshot", format="png")["data"]
+        with open(path, "wb") as file:
+            file.write(base64.b64decode(data))
+
+    def key(self, key):
+        for kind in ("keyDown", "keyUp"):
+            self.call("Input.dispatchKeyEvent", type=kind, key=key, text=key if kind == "keyDown" and len(key) == 1 else "")
+
+    def click(self, x, y):
+        for kind in ("mousePressed", "mouseReleased"):
+            self.call("Input.dispatchMouseEvent", type=kind, x=x, y=y, button="left", clickCount=1)
+
+    def end(self):
+        self.session = None
+        self.call("Browser.close")
+
+
+class Firefox(Page):
+    name = "Firefox"
+    keys = {"Home": "\ue011", "End": "\ue010"}
+
+    @staticmethod
+    def program():
+        """Firefox, where it is on the path and has a memory of 64 bits for WebAssembly."""
+        program = found(("firefox", "firefox-esr"))
+        if program is None:
+            print("page: Firefox isn't installed, and is left out")
+            return None
+        told = subprocess.run([program, "--version"], stdout=subprocess.PIPE, stderr=subprocess.DEVNULL, check=False).stdout.decode()
+        version = re.search(r"(\d+)\.", told)
+        if version is None or int(version[1]) < FIREFOX:
+            print(f"page: '{told.strip()}' has no memory of 64 bits for WebAssembly, and is left out")
+            return None
+        return program
+
+    def __init__(self):
+        self.folder = tempfile.mkdtemp()
+        settings = {"marionette.port": 0, "browser.shell.checkDefaultBrowser": False, "datareporting.policy.dataSubmissionEnabled": False, "app.update.auto": False}
+        with open(os.path.join(self.folder, "user.js"), "w", encoding="utf-8") as file:
+            file.writelines(f'user_pref("{key}", {json.dumps(value)});\n' for key, value in settings.items())
+        options = ["--headless", "--no-remote", "--marionette", "--remote-allow-system-access", "--profile", self.folder, "about:blank"]
+        self.start([self.program(), *options], env={**os.environ, "HOME": self.folder, "MOZ_HEADLESS_WIDTH": "1440", "MOZ_HEADLESS_HEIGHT": "1200"})
+        self.rest, self.number = b"", 0
+        self.socket = socket.create_connection(("127.0.0.1", self.port()))
+        self.message()
+        self.call("WebDriver:NewSession", capabilities={"alwaysMatch": {"timeouts": {"script": 1000 * MOST_SECONDS, "pageLoad": 1000 * MOST_SECONDS}}})
+
+    def port(self):
+        """The port that Firefox tells in its folder once it listens there."""
+        path = os.path.join(self.folder, "MarionetteActivePort")
+        end = time.monotonic() + SECONDS
+        while not (os.path.exists(path) and os.path.getsize(path)):
+            if time.monotonic() > end or self.process.poll() is not None:
+                sys.exit("page.py: Firefox can't be driven")
+            time.sleep(0.05)
+        with open(path, encoding="utf-8") as file:
+            return int(file.read())
+
+    def message(self):
+        while b":" not in self.rest:
+            self.receive()
+        length, _, self.rest = self.rest.partition(b":")
+        while len(self.rest) < int(length):
+            self.receive()
+        one, self.rest = self.rest[: int(length)], self.rest[int(length) :]
+        return json.loads(one)
+
+    def receive(self):
+        piece = self.socket.recv(1 << 20)
+        if not piece:
+            sys.exit("page.py: the browser has ended")
+        self.rest += piece
+
+    def call(self, method, **words):
+        self.number += 1
+        asked = json.dumps([0, self.number, method, words]).encode()
+        self.socket.sendall(b"%d:%s" % (len(asked), asked))
+        _, _, error, result = self.message()
+        if error:
+            sys.exit(f"page.py: {method}: {error.get('message')} {str(words)[:200]}")
+        return result
+
+    def run(self, code):
+        # The page's own variables are seen by code of its own, which 'eval' of its window is.
+        script = "const [code, done] = arguments; Promise.resolve(window.eval(code)).then((it) => done(JSON.stringify([it ?? null])), (fault) => done(`fault: ${fault}`));"
+        got = self.call("WebDriver:ExecuteAsyncScript", script=script, args=[code], sandbox=None, newSandbox=False)["value"]
+        if got.startswith("fault"):
+            sys.exit(f"page.py: {code[:80]}: {got}")
+        return json.loads(got)[0]
+
+    def navigate(self, address):
+        self.call("WebDriver:Navigate", url=address)
+
+    def size(self, wide, high):
+        """The size of what a page is seen in, which is smaller than the window by what stands around it."""
+        for _ in range(2):
+            inner = self.run("[innerWidth, innerHeight, outerWidth, outerHeight]")
+            self.call("WebDriver:SetWindowRect", width=wide + inner[2] - inner[0], height=high + inner[3] - inner[1])
+
+    def chrome(self, script, *args):
+        self.call("Marionette:SetContext", value="chrome")
+        got = self.call("WebDriver:ExecuteScript", script=script, args=list(args))["value"]
+        self.call("Marionette:SetContext", value="content")
+        return got
+
+    @property
+    def told(self):
+        code = "return Services.console.getMessageArray().filter((it) => it instanceof Ci.nsIScriptError && /^(file|http):/.test(it.sourceName)).map((it) => it.errorMessage)"
+        return self.chrome(code)
+
+    def forget(self):
+        """What was told on the console up to now was to be expected."""
+        self.chrome("Services.console.reset()")
+
+    def theme(self, name):
+        self.chrome('Services.prefs.setIntPref("layout.css.prefers-color-scheme.content-override", arguments[0])', ["dark", "light"].index(name))
+
+    def picture(self, path):
+        data = self.call("WebDriver:TakeScreenshot", full=False)["value"]
+        with open(path, "wb") as file:
+            file.write(base64.b64decode(data))
+
+    def key(self, key):
+        actions = [{"type": kind, "value": self.keys.get(key, key)} for kind in ("keyDown", "keyUp")]
+        self.call("WebDriver:PerformActions", actions=[{"type": "key", "id": "keys", "actions": actions}])
+
+    def click(self, x, y):
+        actions = [{"type": "pointerMove", "x": round(x), "y": round(y), "origin": "viewport"}, {"type": "pointerDown", "button": 0}, {"type": "pointerUp", "button": 0}]
+        self.call("WebDriver:PerformActions", actions=[{"type": "pointer", "id": "mouse", "parameters": {"pointerType": "mouse"}, "actions": actions}])
+
+    def end(self):
+        self.call("Marionette:Quit", flags=["eForceQuit"])
+        self.socket.close()
