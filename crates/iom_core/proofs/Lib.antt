@@ -5,7 +5,6 @@ pub mod Untouched
 pub mod Ways
 pub mod Moments
 pub mod Fresh
-pub mod NewContext
 pub mod Explained
 pub mod Warranted
 pub mod Puts

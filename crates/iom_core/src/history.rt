@@ -193,7 +193,7 @@ impl Platform {
     {
         match self.machine.registers.mode() {
             Mode::Bare => None,
-            _ => self.machine.contexts.find(did),
+            _ => self.machine.lines.contexts.find(did),
         }
     }
 
@@ -202,8 +202,8 @@ impl Platform {
         ensures { result ≡ holds self.now entry }
     {
         match entry {
-            Entry::Context(did) => self.machine.contexts.find(did).is_some(),
-            Entry::Page(key) => self.machine.pages.find(&key).is_some(),
+            Entry::Context(did) => self.machine.lines.contexts.find(did).is_some(),
+            Entry::Page(key) => self.machine.lines.pages.find(&key).is_some(),
         }
     }
 }

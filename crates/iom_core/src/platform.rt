@@ -4,6 +4,7 @@ ghost use Rattle.iom_core.specs.Access.{access_to};
 ghost use Rattle.iom_core.specs.Table.{is_device_access};
 
 use crate::access::Request;
+use crate::caches::Lines;
 use crate::devices::copied;
 use crate::machine::Machine;
 use crate::port::Port;
@@ -62,8 +63,7 @@ impl Platform {
         let machine = Machine {
             ram,
             registers: Regs::reset(),
-            contexts,
-            pages,
+            lines: Lines { contexts, pages },
         };
         Ok(Platform { machine, devices })
     }
@@ -96,7 +96,7 @@ impl Platform {
         ensures cache { result.now ≡ self.now.machine.pages }
         ensures sound { EachLive HoldsHit result.now }
     {
-        &self.machine.pages
+        &self.machine.lines.pages
     }
 
     /// The context cache: in the standard the DDTC.
@@ -104,7 +104,7 @@ impl Platform {
         ensures cache { result.now ≡ self.now.machine.contexts }
         ensures sound { EachLive HoldsContext result.now }
     {
-        &self.machine.contexts
+        &self.machine.lines.contexts
     }
 
     /// The bytes of the disk of block device `n`, counted from 0; None where there is no such device.
