@@ -1,10 +1,15 @@
 //! What is told of the steps of a platform.
 
+ghost use Rattle.std.specs.Prelude.{◌≡◌, ◌<◌, ◌^◌, IfSome};
+ghost use Rattle.std.specs.Option.{option_copied};
+ghost use Rattle.iom_core.specs.Access.{Fits};
+ghost use Rattle.iom_account.specs.Account.{stale_in};
+
 use crate::kept::Kept;
-use crate::known::{Known, known_before};
 use crate::reason::Reason;
-use iom_core::{Answer, Platform, Step};
+use iom_core::{Answer, Platform, Request, Step};
 use iom_history::History;
+use iom_reasons::{Way, stale};
 use std::marker::Model;
 
 /// Which steps filled what the caches of a platform hold, and why each of its last 32 steps went as it did. A step is told by the number
@@ -31,7 +36,7 @@ impl Account {
     ghost use Rattle.std.specs.Option.{option_copied};
     ghost use Rattle.circular_buffer.specs.Buffer.{keep_last, last_item};
     ghost use Rattle.iom_core.specs.Table.{next};
-    ghost use Rattle.iom_account.specs.Account.{Accounts, GoesAlong, IsKnown, IsReasonOf, ReasonFits};
+    ghost use Rattle.iom_account.specs.Account.{Accounts, GoesAlong, IsReasonOf, ReasonFits};
 
     /// An account that begins at this platform, of no step yet. Where translations come from is told if both caches hold nothing now.
     #[tactic(auto, using(crate::proofs::Fitting::none_told))]
@@ -82,45 +87,26 @@ impl Account {
         self.told.newest()
     }
 
-    /// Carries out the next step on the platform, which has the caller's `number`, and keeps what is told of it. Of 32 steps the oldest
-    /// leaves.
-    pub fn step(&mut self, platform: &mut Platform, step: &Step, number: u64) -> Answer
-        ensures answer { result ≡ (next platform.old step.now).answer }
+    /// Carries out the next step on the platform, which has the caller's `number`, puts its answer in place of what `answer` holds, and
+    /// keeps what is told of it. Of 32 steps the oldest leaves.
+    pub fn step(&mut self, platform: &mut Platform, step: &Step, number: u64, answer: &mut Answer)
+        ensures answer { answer.new ≡ (next platform.old step.now).answer }
         ensures state { platform.new ≡ (next platform.old step.now).state }
         ensures newest { IsSomeAnd (last_item self.new.told) (IsReasonOf platform.old step.now number) }
 
         // It goes along with the platform's steps: from a start whose caches hold nothing it tells of each what explains it.
         ensures along { GoesAlong self.old platform.old (step.now ∷ []) number self.new platform.new }
     {
-        let known = known_before(platform, step);
-        let mut answer = Answer::Done;
-        self.step_known(platform, step, &known, number, &mut answer);
-        answer
-    }
-
-    /// The same of a step of which this is known, with its answer put in place of what `answer` holds.
-    pub fn step_known(
-        &mut self,
-        platform: &mut Platform,
-        step: &Step,
-        known: &Known,
-        number: u64,
-        answer: &mut Answer,
-    )
-        requires known { IsKnown platform.old step.now known.now }
-        ensures answer { answer.new ≡ (next platform.old step.now).answer }
-        ensures state { platform.new ≡ (next platform.old step.now).state }
-        ensures newest { IsSomeAnd (last_item self.new.told) (IsReasonOf platform.old step.now number) }
-        ensures along { GoesAlong self.old platform.old (step.now ∷ []) number self.new platform.new }
-    {
+        let request = platform.request_of(step);
+        let stale = stale_in(platform, request.as_ref());
         let origin = self
             .history
-            .step_into(platform, step, known.request, number, answer);
+            .step_into(platform, step, request, number, answer);
         self.keep(Reason {
             number,
-            request: known.request,
+            request,
             origin,
-            stale: known.stale,
+            stale,
         });
     }
 
@@ -135,4 +121,13 @@ impl Account {
     {
         self.told.keep(reason);
     }
+}
+
+// The way that the tables say of a request, where something cached leads it otherwise.
+fn stale_in(platform: &Platform, request: Option<&Request>) -> Option<Way>
+    requires { IfSome (option_copied request) (λ request. request.did < 2 ^ 24) }
+    ensures told { result ≡ stale_in platform.now (option_copied request) }
+    ensures fits { IfSome result Fits }
+{
+    stale(platform, request?)
 }

@@ -3,10 +3,8 @@
 #![tactic(auto)]
 
 pub use account::Account;
-pub use known::{Known, known_before};
 pub use reason::Reason;
 
 mod account;
 mod kept;
-mod known;
 mod reason;

@@ -20,7 +20,8 @@ use Rattle.iom_cache.specs.declared.place.Place.{Place}
 use Rattle.iom_cache.specs.declared.place.Place.TheVariants.{Beyond, Empty, Live}
 use Rattle.iom_core.specs.State.{Machine}
 use Rattle.iom_core.specs.declared.access.Request.{Request}
-use Rattle.iom_reasons.specs.Stale.{IsStale, by_tables}
+use Rattle.iom_core.specs.Looking.{by_tables}
+use Rattle.iom_reasons.specs.Stale.{IsStale}
 use Rattle.iom_reasons.specs.Standing.{IsContextNow, IsHitNow, found_now, request_of}
 use Rattle.iom_reasons.specs.declared.part.Part.{Part}
 use Rattle.iom_reasons.specs.declared.part.Part.TheVariants as part

@@ -3,6 +3,7 @@ pub mod Runs
 pub mod Wide
 pub mod Untouched
 pub mod Ways
+pub mod Uncached
 pub mod Moments
 pub mod Fresh
 pub mod Explained

@@ -2,7 +2,7 @@
 #![tactic(auto)]
 
 pub use debugger::{Debugger, repeated};
-pub use iom_account::{Known, Reason, known_before};
+pub use iom_account::Reason;
 pub use iom_tool::Reply;
 pub use parts::{is_told_alike, put_part};
 pub use reasons::Reasons;

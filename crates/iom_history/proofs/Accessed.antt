@@ -70,8 +70,8 @@ found_context m request context used filled =
     (found_after same_did same_did_exact same_did_itself context_room request.did m.contexts (located m.memory m.registers request.did) context
     (sym (ap (λ (l : Look ℕ Context Cause). l.used) cached) ∙ used))
 
-found_by_look : (m : Machine) (request : Request) (context : Context) (hit : Hit) → (page_look m request context).used ≡ Ok hit →
-    find (same_key (request_key request context)) (filled_by page_room (page_look m request context).filled m.pages) ≡ Some hit
+found_by_look : (m : Machine) (request : Request) (context : Context) (hit : Hit) → (page_look m.memory m.pages request context).used ≡ Ok hit →
+    find (same_key (request_key request context)) (filled_by page_room (page_look m.memory m.pages request context).filled m.pages) ≡ Some hit
 unfolding page_look
 found_by_look m request context hit used =
     found_after same_key same_key_exact same_key_itself page_room (request_key request context) m.pages
@@ -92,7 +92,7 @@ found_page m request context hit is =
           let there : found ≡ hit = cc in
           subst (λ (f : Option (Key × Hit)). find (same_key (request_key request context)) (filled_by page_room f m.pages) ≡ Some hit)
           (sym (ap (λ (l : Led). l.page) e))
-          (subst (λ (c : Context). find (same_key (request_key request c)) (filled_by page_room (page_look m request own).filled m.pages) ≡ Some hit) one
+          (subst (λ (c : Context). find (same_key (request_key request c)) (filled_by page_room (page_look m.memory m.pages request own).filled m.pages) ≡ Some hit) one
           (found_by_look m request own found page ∙ ap (λ (h : Hit). Some h) there))
       | WasFault own fault used staged page e ↦ let other = sym (ap way e) ∙ is in absurd (cc)
     ]

@@ -44,7 +44,8 @@ use Rattle.iom_core.specs.State.{Machine}
 use Rattle.iom_core.specs.declared.access.Request.{Request}
 use Rattle.iom_reasons.specs.Bounds.{EntryFits, MetFits, ModeFits, PartFits}
 use Rattle.iom_reasons.specs.Parts.{access_parts, address_by, directory_parts, entry_parts, first_by, first_parts, parts_by, parts_of, read_at, read_by, second_by, second_parts, stage_parts}
-use Rattle.iom_reasons.specs.Stale.{Fits, by_tables}
+use Rattle.iom_core.specs.Access.{Fits}
+use Rattle.iom_core.specs.Looking.{by_tables}
 use Rattle.iom_reasons.specs.declared.part.Part.{Part}
 use Rattle.iom_reasons.specs.declared.part.Part.TheVariants as part
 use Rattle.iom_reasons.specs.declared.part.Wide.TheVariants as wide

@@ -31,7 +31,7 @@ use Rattle.iom_nested.specs.Stages.{first_shape_of, got_behind, ram_got, second_
 use Rattle.iom_nested.specs.declared.translation.Reached.{Reached}
 use Rattle.iom_core.specs.State.{Machine}
 use Rattle.iom_core.specs.declared.access.Request.{Request}
-use Rattle.iom_reasons.specs.Stale.{by_tables}
+use Rattle.iom_core.specs.Looking.{by_tables}
 use Rattle.iom_reasons.specs.Parts.{access_parts, address_by, directory_parts, entry_parts, first_by, first_parts, parts_by, parts_of, read_at, read_by, second_by, second_parts, stage_parts}
 use Rattle.iom_reasons.specs.Fetches.{IsGot, IsItem, IsRead}
 use Rattle.iom_reasons.specs.declared.part.Part.{Part}
@@ -156,7 +156,7 @@ access_read : (memory : Memory) (context : Context) (kind : Kind) (reached : Res
 access_read memory context kind (Ok reached) = second_read memory context kind reached.addr
 access_read memory context kind (Err failure) = All-nil (IsRead memory)
 
-stages_read : (memory : Memory) (iova : ℕ) (kind : Kind) (found : Result Context Cause) →
+pub stages_read : (memory : Memory) (iova : ℕ) (kind : Kind) (found : Result Context Cause) →
     All (IsRead memory) (stage_parts memory iova kind found)
 stages_read memory iova kind (Ok context) =
     let reached : Result Reached Failure = first_stage memory context iova kind (first_shape_of context) in

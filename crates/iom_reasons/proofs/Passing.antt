@@ -41,12 +41,12 @@ use Rattle.iom_nested.specs.declared.translation.Reached.{Reached}
 use Rattle.iom_cache.specs.Places.{look}
 use Rattle.iom_cache.specs.declared.key.Key.{Key}
 use Rattle.iom_core.specs.State.{Machine}
-use Rattle.iom_core.specs.Access.{led, led_by_context, led_by_mode, led_by_page, page_look, request_key}
+use Rattle.iom_core.specs.Access.{Under, context_look, led, led_by_context, led_by_mode, led_under, page_look, request_key, way_to}
 use Rattle.iom_core.specs.declared.way.Way.TheVariants.{Context as ByContext}
 use Rattle.iom_core.specs.declared.access.Request.{Request}
 use Rattle.iom_reasons.specs.Parts.{access_parts, directory_parts, entry_parts, first_by, first_parts, parts_by, parts_of, read_at, second_by, second_parts, stage_parts}
-use Rattle.iom_reasons.specs.Stale.{by_tables, uncached}
-use Rattle.iom_reasons.proofs.Ways.{looked_uncached}
+use Rattle.iom_core.specs.Looking.{by_tables, uncached}
+use Rattle.iom_core.proofs.Uncached.{looked_none, used_uncached}
 use Rattle.iom_reasons.specs.Passing.{IsGranted, IsNoFault, Lets, Passes}
 use Rattle.iom_reasons.specs.declared.part.Part.{Part}
 use Rattle.iom_reasons.specs.declared.part.Part.TheVariants as part
@@ -328,30 +328,39 @@ translated_stages_pass : (memory : Memory) (context : Context) (iova : ℕ) (kin
 unfolding translation
 translated_stages_pass memory context iova kind hit is = stages_pass memory context iova kind hit (hit_of kind _ hit is)
 
--- by the way that is led
-page_passes : (m : Machine) (request : Request) (context : Context) (fill : Option (ℕ × Context)) (key : Key) (found : Result Hit Fault) →
-    translation m.memory context request.iova request.kind ≡ found →
-    IsGranted ((led_by_page context fill (look key None found).filled (look key None found).used).way) →
-    All Passes (stage_parts m.memory request.iova request.kind (Ok context))
-page_passes m request context fill key (Ok hit) is granted = translated_stages_pass m.memory context request.iova request.kind hit is
-page_passes m request context fill key (Err fault) is granted = absurd granted
+-- below a context, by the way that is led
+page_passes : (memory : Memory) (request : Request) (context : Context) (found : Result Hit Fault) →
+    translation memory context request.iova request.kind ≡ found → IsGranted (way_to context found) →
+    All Passes (stage_parts memory request.iova request.kind (Ok context))
+page_passes memory request context (Ok hit) is granted = translated_stages_pass memory context request.iova request.kind hit is
+page_passes memory request context (Err fault) is granted = absurd granted
 
-context_passes : (m : Machine) (request : Request) (context : Context) (fill : Option (ℕ × Context)) (bare : Bool) → is_bare context ≡ bare →
-    IsGranted ((if bare then record { way = ByContext context; context = fill; page = None }
-    else led_by_page context fill (page_look (uncached m) request context).filled (page_look (uncached m) request context).used).way) →
-    All Passes (stage_parts m.memory request.iova request.kind (Ok context))
+-- by whether both stages are Bare
+abbrev pub under_where : Bool → Memory → Request → Context → Under
+under_where bare memory request context =
+    if bare then record { way = ByContext context; page = None }
+    else record { way = way_to context (page_look memory [] request context).used; page = (page_look memory [] request context).filled }
+
+under_passes : (memory : Memory) (request : Request) (context : Context) (bare : Bool) → is_bare context ≡ bare →
+    IsGranted (under_where bare memory request context).way →
+    All Passes (stage_parts memory request.iova request.kind (Ok context))
 unfolding page_look
-context_passes m request context fill true is granted = bare_stages_pass m.memory context request.iova request.kind is
-context_passes m request context fill false is granted =
-    page_passes m request context fill (request_key request context) (translation m.memory context request.iova request.kind) refl granted
+under_passes memory request context true is granted = bare_stages_pass memory context request.iova request.kind is
+under_passes memory request context false is granted =
+    let told = translation memory context request.iova request.kind in
+    page_passes memory request context told refl (subst (λ r. IsGranted (way_to context r)) (looked_none (request_key request context) told) granted)
+
+pub context_passes : (memory : Memory) (request : Request) (context : Context) → IsGranted (led_under memory [] request context).way →
+    All Passes (stage_parts memory request.iova request.kind (Ok context))
+context_passes memory request context granted = under_passes memory request context (is_bare context) refl granted
 
 found_passes : (m : Machine) (request : Request) (found : Result Context Cause) → located m.memory m.registers request.did ≡ found →
-    IsGranted ((led_by_context (uncached m) request (look request.did None found).filled (look request.did None found).used).way) →
+    IsGranted (led_by_context (uncached m) request (context_look (uncached m) request.did).filled found).way →
     All Passes (directory_parts m request.did ++ stage_parts m.memory request.iova request.kind found)
 found_passes m request (Ok context) is granted =
     All-append Passes (directory_parts m request.did) (stage_parts m.memory request.iova request.kind (Ok context))
     (directory_passes m request.did context is)
-    (context_passes m request context (Some (request.did, context)) (is_bare context) refl granted)
+    (context_passes m.memory request context granted)
 found_passes m request (Err why) is granted = absurd granted
 
 mode_passes : (m : Machine) (request : Request) (own : Mode) → IsGranted ((led_by_mode own (uncached m) request).way) →
@@ -361,7 +370,7 @@ mode_passes m request mode.Bare granted = (λ is. cc, All-nil Passes)
 mode_passes m request (mode.Levels levels) granted = (
   λ is. cc,
   found_passes m request (located m.memory m.registers request.did) refl
-      (subst (λ l. IsGranted ((led_by_context (uncached m) request l.filled l.used).way)) (looked_uncached m request.did) granted),
+      (subst (λ r. IsGranted (led_by_context (uncached m) request (context_look (uncached m) request.did).filled r).way) (used_uncached m request.did) granted),
 )
 
 each_passes : (m : Machine) (request : Request) → IsGranted (by_tables m request) → All Passes (parts_of m request)

@@ -41,17 +41,18 @@ use Rattle.iom_nested.specs.declared.translation.Reached.{Reached}
 use Rattle.iom_cache.specs.Places.{look}
 use Rattle.iom_cache.specs.declared.key.Key.{Key}
 use Rattle.iom_core.specs.State.{Machine}
-use Rattle.iom_core.specs.Access.{led, led_by_context, led_by_mode, led_by_page, page_look, request_key}
+use Rattle.iom_core.specs.Access.{context_look, led, led_by_context, led_by_mode, led_under, page_look, request_key, way_to}
 use Rattle.iom_core.specs.declared.way.Way.TheVariants.{Context as ByContext}
 use Rattle.iom_core.specs.declared.access.Request.{Request}
 use Rattle.iom_reasons.specs.Parts.{access_parts, by_width, directory_parts, entry_parts, first_by, first_parts, parts_by, parts_of, read_at, second_by, second_parts, stage_parts}
-use Rattle.iom_reasons.specs.Stale.{by_tables, uncached}
+use Rattle.iom_core.specs.Looking.{by_tables, uncached}
 use Rattle.iom_reasons.specs.Passing.{IsGranted, IsNoFault, Lets, Refuses}
 use Rattle.iom_reasons.specs.declared.part.Part.{Part}
 use Rattle.iom_reasons.specs.declared.part.Part.TheVariants as part
 use Rattle.iom_reasons.specs.declared.part.Wide.{Wide}
 use Rattle.iom_reasons.specs.declared.part.Wide.TheVariants as wide
-use Rattle.iom_reasons.proofs.Ways.{looked_uncached}
+use Rattle.iom_core.proofs.Uncached.{looked_none, used_uncached}
+use Rattle.iom_reasons.proofs.Passing.{under_where}
 use Rattle.iom_reasons.proofs.Widths.{IsWide, each_is_wide}
 
 -- something in a list is so
@@ -308,29 +309,32 @@ unfolding translation
 translated_stages_stop memory context iova kind fault is =
     let f = failure_of kind _ fault is in stages_stop memory context iova kind _ f.0 refl f.1
 
--- by the way that is led
-page_refuses : (m : Machine) (request : Request) (context : Context) (fill : Option (ℕ × Context)) (key : Key) (found : Result Hit Fault) →
-    translation m.memory context request.iova request.kind ≡ found →
-    (IsGranted ((led_by_page context fill (look key None found).filled (look key None found).used).way) → ⊥) →
-    Occurs Bars (stage_parts m.memory request.iova request.kind (Ok context))
-page_refuses m request context fill key (Ok hit) is denied = absurd (denied tt)
-page_refuses m request context fill key (Err fault) is denied = translated_stages_stop m.memory context request.iova request.kind fault is
+-- below a context, by the way that is led
+page_refuses : (memory : Memory) (request : Request) (context : Context) (found : Result Hit Fault) →
+    translation memory context request.iova request.kind ≡ found → (IsGranted (way_to context found) → ⊥) →
+    Occurs Bars (stage_parts memory request.iova request.kind (Ok context))
+page_refuses memory request context (Ok hit) is denied = absurd (denied tt)
+page_refuses memory request context (Err fault) is denied = translated_stages_stop memory context request.iova request.kind fault is
 
-context_refuses : (m : Machine) (request : Request) (context : Context) (fill : Option (ℕ × Context)) (bare : Bool) →
-    (IsGranted ((if bare then record { way = ByContext context; context = fill; page = None }
-    else led_by_page context fill (page_look (uncached m) request context).filled (page_look (uncached m) request context).used).way) → ⊥) →
-    Occurs Bars (stage_parts m.memory request.iova request.kind (Ok context))
+under_refuses : (memory : Memory) (request : Request) (context : Context) (bare : Bool) →
+    (IsGranted (under_where bare memory request context).way → ⊥) →
+    Occurs Bars (stage_parts memory request.iova request.kind (Ok context))
 unfolding page_look
-context_refuses m request context fill true denied = absurd (denied tt)
-context_refuses m request context fill false denied =
-    page_refuses m request context fill (request_key request context) (translation m.memory context request.iova request.kind) refl denied
+under_refuses memory request context true denied = absurd (denied tt)
+under_refuses memory request context false denied =
+    let told = translation memory context request.iova request.kind in
+    page_refuses memory request context told refl (subst (λ r. IsGranted (way_to context r) → ⊥) (looked_none (request_key request context) told) denied)
+
+pub context_refuses : (memory : Memory) (request : Request) (context : Context) → (IsGranted (led_under memory [] request context).way → ⊥) →
+    Occurs Bars (stage_parts memory request.iova request.kind (Ok context))
+context_refuses memory request context denied = under_refuses memory request context (is_bare context) denied
 
 found_refuses : (m : Machine) (request : Request) (found : Result Context Cause) → located m.memory m.registers request.did ≡ found →
-    (IsGranted ((led_by_context (uncached m) request (look request.did None found).filled (look request.did None found).used).way) → ⊥) →
+    (IsGranted (led_by_context (uncached m) request (context_look (uncached m) request.did).filled found).way → ⊥) →
     Occurs Bars (directory_parts m request.did ++ stage_parts m.memory request.iova request.kind found)
 found_refuses m request (Ok context) is denied =
     in_second Bars (directory_parts m request.did) (stage_parts m.memory request.iova request.kind (Ok context))
-    (context_refuses m request context (Some (request.did, context)) (is_bare context) denied)
+    (context_refuses m.memory request context denied)
 found_refuses m request (Err why) is denied =
     in_first Bars (directory_parts m request.did) (stage_parts m.memory request.iova request.kind (Err why))
     (directory_refuses m request.did why is)
@@ -341,7 +345,7 @@ mode_refuses m request mode.Off denied = inl refl
 mode_refuses m request mode.Bare denied = absurd (denied tt)
 mode_refuses m request (mode.Levels levels) denied =
     inr (found_refuses m request (located m.memory m.registers request.did) refl
-    (subst (λ l. IsGranted ((led_by_context (uncached m) request l.filled l.used).way) → ⊥) (looked_uncached m request.did) denied))
+    (subst (λ r. IsGranted (led_by_context (uncached m) request (context_look (uncached m) request.did).filled r).way → ⊥) (used_uncached m request.did) denied))
 
 some_refuses : (m : Machine) (request : Request) → (IsGranted (by_tables m request) → ⊥) → Occurs Bars (parts_of m request)
 unfolding parts_of led

@@ -18,7 +18,8 @@ use Rattle.iom_cache.proofs.Same.{same_key_exact, same_key_itself}
 use Rattle.iom_core.specs.State.{Machine}
 use Rattle.iom_core.specs.Access.{led, request_key}
 use Rattle.iom_core.specs.declared.access.Request.{Request}
-use Rattle.iom_reasons.specs.Stale.{IsStale, by_tables, differing, is_same_context, is_same_denial, is_same_hit, is_same_way, stale_way, uncached}
+use Rattle.iom_core.specs.Looking.{by_tables, uncached}
+use Rattle.iom_reasons.specs.Stale.{IsStale, differing, is_same_context, is_same_denial, is_same_hit, is_same_way, stale_way}
 use Rattle.iom_reasons.specs.Standing.{IsContextNow, IsHitNow, IsStanding, found_now, is_context_now, is_found, is_hit_by, is_hit_now, request_of, standing_of}
 use Rattle.iom_reasons.specs.declared.standing.Located.{Located}
 use Rattle.iom_reasons.specs.declared.standing.Located.TheVariants as found
@@ -168,14 +169,6 @@ way_test true v w decides =
     let same : v ≡ w = decides.0 refl in sym (ap (is_same_way v) (sym same) ∙ way_itself v)
 way_test false v w decides =
     sym (false_from_ne_true _ (λ is. cc (decides.1 (same_way v w is))))
-
--- two ways by one context differ where their hits do
-pub hits_differ : (b : Bool) (c : Context) (cached now : Hit) → (IsTrue b ↔ (cached ≡ now)) →
-    (if b then None else Some (way.Walked c now)) ≡ differing (way.Walked c cached) (way.Walked c now)
-hits_differ b c cached now decides =
-    let test : b ≡ is_same_way (way.Walked c cached) (way.Walked c now) =
-    way_test b (way.Walked c cached) (way.Walked c now) (λ is. ap (λ (h : Hit). way.Walked c h) (decides.0 is), λ same. decides.1 (cc same)) in
-    ap (λ (t : Bool). if t then None else Some (way.Walked c now)) test
 
 -- a place's answer by the tests, where these tell what the tables say
 pub standing_told : {K V T : Type 0} (IsSaid : K → V → Type 0) (is_said : K → V → Bool) (say : K → T) →

@@ -23,7 +23,7 @@ use Rattle.iom_core.specs.State.{Machine}
 use Rattle.iom_core.specs.declared.access.Request.{Request}
 use Rattle.iom_reasons.specs.Parts.{access_parts, by_width, directory_parts, entry_parts, first_by, first_parts, parts_by, parts_of, read_at, second_by, second_parts, stage_parts}
 use Rattle.iom_reasons.specs.Passing.{Breaks, IsBeyond}
-use Rattle.iom_reasons.specs.Stale.{by_tables}
+use Rattle.iom_core.specs.Looking.{by_tables}
 use Rattle.iom_reasons.specs.declared.part.Part.{Part}
 use Rattle.iom_reasons.specs.declared.part.Part.TheVariants as part
 use Rattle.iom_reasons.specs.declared.part.Wide.{Wide}

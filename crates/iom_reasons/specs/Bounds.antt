@@ -7,7 +7,7 @@ use Rattle.iom_ddt.specs.declared.listing.Met.TheVariants as met
 use Rattle.iom_regs.specs.declared.views.Mode.{Mode}
 use Rattle.iom_regs.specs.declared.views.Mode.TheVariants as mode
 use Rattle.iom_walk.specs.declared.listing.PathEntry.{PathEntry}
-use Rattle.iom_reasons.specs.Stale.{Fits}
+use Rattle.iom_core.specs.Access.{Fits}
 use Rattle.iom_reasons.specs.declared.part.Part.{Part}
 use Rattle.iom_reasons.specs.declared.part.Part.TheVariants as part
 use Rattle.iom_reasons.specs.declared.part.Wide.{Wide}

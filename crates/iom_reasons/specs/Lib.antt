@@ -4,4 +4,3 @@ pub mod Bounds
 pub mod Fetches
 pub mod Passing
 pub mod Standing
-pub mod Found

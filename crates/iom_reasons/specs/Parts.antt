@@ -24,7 +24,8 @@ use Rattle.iom_nested.specs.Stages.{first_shape_of, ram_got, second_shape_of, ta
 use Rattle.iom_nested.specs.declared.translation.Reached.{Reached}
 use Rattle.iom_core.specs.State.{Machine}
 use Rattle.iom_core.specs.declared.access.Request.{Request}
-use Rattle.iom_reasons.specs.Stale.{by_tables}
+use Rattle.iom_core.specs.Access.{led_under}
+use Rattle.iom_core.specs.Looking.{by_tables}
 use Rattle.iom_reasons.specs.declared.part.Part.{Part}
 use Rattle.iom_reasons.specs.declared.part.Part.TheVariants as part
 use Rattle.iom_reasons.specs.declared.part.Wide.{Wide}
@@ -106,3 +107,8 @@ parts_of m request =
     part.Ddtp (mode_of m.registers) (root_of m.registers)
     ∷ parts_by (mode_of m.registers) m request
     ++ part.End (by_tables m request) ∷ []
+
+-- below a context that is cached: both stages as the tables stand now, and the way that they lead the request
+unfoldable pub parts_under : Memory → Request → Context → List Part
+parts_under memory request context =
+    stage_parts memory request.iova request.kind (Ok context) ++ part.End (led_under memory [] request context).way ∷ []

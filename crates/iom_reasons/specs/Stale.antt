@@ -1,35 +1,20 @@
 -- When a device's access is stale: RISC-V IOMMU Architecture 1.0, "Caching in-memory data structures".
-use Rattle.std.specs.Prelude.{◌≢◌, ◌==◌, ◌&&◌, Bool, true, false, [], Option, Some, None, if◌then◌else◌}
+use Rattle.std.specs.Prelude.{◌≢◌, ◌==◌, ◌&&◌, Bool, true, false, Option, Some, None, if◌then◌else◌}
 use Rattle.iom_bits.specs.Bits.{flag}
 use Rattle.iom_bits.specs.Causes.{cause_number}
 use Rattle.iom_ddt.specs.declared.context.Context.{Context}
-use Rattle.iom_nested.specs.Nested.{HitFits}
 use Rattle.iom_nested.specs.declared.translation.Hit.{Hit}
 use Rattle.iom_core.specs.State.{Machine}
 use Rattle.iom_core.specs.Access.{led}
+use Rattle.iom_core.specs.Looking.{by_tables, uncached}
 use Rattle.iom_core.specs.declared.access.Denial.{Denial}
 use Rattle.iom_core.specs.declared.access.Request.{Request}
 use Rattle.iom_core.specs.declared.way.Way.{Way}
 use Rattle.iom_core.specs.declared.way.Way.TheVariants as way
 
--- the same machine with both caches empty
-abbrev pub uncached : Machine → Machine
-uncached m = record m { contexts = []; pages = [] }
-
 -- A request is stale where the way that it is led differs from the way that the same machine with both caches empty leads it.
 abbrev pub IsStale : Machine → Request → Type 0
 IsStale m request = (led m request).way ≢ (led (uncached m) request).way
-
--- the way where nothing is cached: what the tables say
-abbrev pub by_tables : Machine → Request → Way
-by_tables m request = (led (uncached m) request).way
-
--- a hit that it leads by is one that the tables may say
-abbrev pub Fits : Way → Type 0
-Fits way.Register = Unit {0}
-Fits (way.Context context) = Unit {0}
-Fits (way.Walked context hit) = HitFits hit
-Fits (way.Denied denial) = Unit {0}
 
 -- tests for equality
 abbrev pub is_same_context : Context → Context → Bool

@@ -15,7 +15,8 @@ use Rattle.iom_cache.specs.declared.place.Place.TheVariants as place
 use Rattle.iom_core.specs.State.{Machine}
 use Rattle.iom_core.specs.Access.{request_key}
 use Rattle.iom_core.specs.declared.access.Request.{Request}
-use Rattle.iom_reasons.specs.Stale.{by_tables, is_same_context, is_same_hit}
+use Rattle.iom_core.specs.Looking.{by_tables}
+use Rattle.iom_reasons.specs.Stale.{is_same_context, is_same_hit}
 use Rattle.iom_reasons.specs.declared.standing.Located.{Located}
 use Rattle.iom_reasons.specs.declared.standing.Located.TheVariants as found
 use Rattle.iom_reasons.specs.declared.standing.Standing.{Standing}

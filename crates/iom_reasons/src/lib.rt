@@ -2,20 +2,16 @@
 //! whether the tables still say what a cache holds (RISC-V IOMMU Architecture 1.0, "Caching in-memory data structures").
 #![tactic(auto)]
 
-pub use finding::{Found, found_by};
 pub use iom_core::Way;
-pub use listing::{Parts, parts, put_parts};
+pub use listing::{Parts, parts, put_parts, put_parts_under};
 pub use part::{Part, Wide};
 pub use places::{stale_context, stale_page};
-pub use seeing::{Seen, seen_by};
-pub use staleness::{stale, way_by_tables, way_now};
+pub use staleness::stale;
 pub use standing::{Located, Standing};
 
-mod finding;
 mod listing;
 mod part;
 mod places;
-mod seeing;
 mod staleness;
 mod standing;
 mod way;

@@ -1,28 +1,27 @@
 //! The parts of a walk.
 
-ghost use Rattle.std.specs.Prelude.{◌≡◌, ◌++◌, ◌+◌, ◌<◌, ◌≤◌, ◌^◌, ◌-◌, map, flat_map, slice_get, All, Any, IfOk, None, Ok, Result, Some, ◌≢◌};
+ghost use Rattle.std.specs.Prelude.{◌≡◌, ◌++◌, ◌+◌, ◌<◌, ◌≤◌, ◌^◌, ◌-◌, [], map, flat_map, slice_get, All, Any, IfOk, None, Ok, Result, Some, ◌≢◌};
 ghost use Rattle.arrayvec.specs.ArrayVec.{array_vec_len};
 ghost use Rattle.iom_regs.specs.Views.{mode_of};
 ghost use Rattle.iom_ddt.specs.Contexts.{IsWellFormed};
 ghost use Rattle.iom_ddt.specs.Directory.{levels_of, located, path_of};
 ghost use Rattle.iom_bits.specs.declared.causes.Kind.TheVariants.{Read};
-ghost use Rattle.iom_core.specs.Access.{context_look, led_by_context};
 ghost use Rattle.iom_nested.specs.Faults.{Failure};
 ghost use Rattle.iom_nested.specs.Nested.{first_stage, told_of};
 ghost use Rattle.iom_nested.specs.declared.translation.Reached.{Reached};
 ghost use Rattle.iom_nested.specs.Stages.{first_shape_of};
-ghost use Rattle.iom_reasons.specs.Parts.{access_parts, directory_parts, entry_parts, first_parts, parts_by, parts_of, read_at, second_parts, stage_parts};
+ghost use Rattle.iom_reasons.specs.Parts.{access_parts, directory_parts, entry_parts, first_parts, parts_by, parts_of, parts_under, read_at, second_parts, stage_parts};
 ghost use Rattle.iom_reasons.specs.Bounds.{PartFits};
 ghost use Rattle.iom_reasons.specs.Fetches.{IsRead};
 ghost use Rattle.iom_reasons.specs.Passing.{IsGranted, Passes, Refuses};
 ghost use Rattle.iom_reasons.specs.declared.part.Part.TheVariants as part;
-ghost use Rattle.iom_reasons.specs.Stale.{Fits, by_tables, uncached};
+ghost use Rattle.iom_core.specs.Access.{led_under};
+ghost use Rattle.iom_core.specs.Looking.{by_tables};
 
-use crate::staleness::way_by_reached;
-use crate::{Part, Way, Wide};
+use crate::{Part, Wide};
 use arrayvec::ArrayVec;
-use iom_bits::{Cause, Kind};
-use iom_core::{Denial, Platform, Request};
+use iom_bits::Kind;
+use iom_core::{Platform, Request};
 use iom_ddt::{Context, is_too_wide, locate};
 use iom_mem::Ram;
 use iom_nested::{Fault, Physical, Reached, first_shape, first_stage_listed, second_shape};
@@ -76,29 +75,37 @@ pub fn put_parts(out: &mut Parts, platform: &Platform, request: &Request)
     let root = registers.root();
     out.clear();
     out.push(Part::Ddtp { mode, root });
-    let way = push_walk(out, platform, request);
-    out.push(Part::End(way));
+    push_walk(out, platform, request);
+    out.push(Part::End(platform.seen_uncached(request).way));
 }
 
-// What is behind ddtp, where its mode has a directory, and the way that the request is led.
-#[tactic(auto, unfolding(iom_core::specs::Access::led))]
-fn push_walk(out: &mut Parts, platform: &Platform, request: &Request) -> Way
+/// Puts what is looked at to lead a request below this context of its device, which a cache has, where no page is cached, in order: both
+/// stages, as the tables stand now, and the end, which is the way that they lead it. It takes the place of what the list holds.
+#[tactic(auto, unfolding(crate::specs::Parts::parts_under))]
+pub fn put_parts_under(out: &mut Parts, platform: &Platform, request: &Request, context: &Context)
+    requires { IsWellFormed context.now }
+    ensures parts { out.new.items ≡ parts_under platform.now.machine.memory request.now context.now }
+    ensures read { All (IsRead platform.now.machine.memory) out.new.items }
+    ensures passed { IsGranted (led_under platform.now.machine.memory [] request.now context.now).way → All Passes out.new.items }
+    ensures fits { All PartFits out.new.items }
+{
+    out.clear();
+    push_stages(out, platform, request, context);
+    out.push(Part::End(platform.way_under(request, context)));
+}
+
+// What is behind ddtp, where its mode has a directory.
+fn push_walk(out: &mut Parts, platform: &Platform, request: &Request)
     requires width { request.now.did < 2 ^ 24 }
     requires room { array_vec_len out.old ≤ 1 }
     ensures items { out.new.items ≡ out.old.items
         ++ parts_by (mode_of platform.now.machine.registers) platform.now.machine request.now }
     ensures len { array_vec_len out.new ≤ array_vec_len out.old + 27 }
     ensures fits { All PartFits (parts_by (mode_of platform.now.machine.registers) platform.now.machine request.now) }
-    ensures way { result ≡ by_tables platform.now.machine request.now }
-    ensures led { Fits result }
 {
-    match platform.registers().mode() {
-        Mode::Off => Way::Denied(Denial::plain(Cause::Off)),
-        Mode::Bare => Way::Register,
-        Mode::Levels(_) => {
-            push_directory(out, platform, request.did);
-            push_located(out, platform, request)
-        }
+    if let Mode::Levels(_) = platform.registers().mode() {
+        push_directory(out, platform, request.did);
+        push_located(out, platform, request);
     }
 }
 
@@ -131,9 +138,8 @@ fn push_items(out: &mut Parts, platform: &Platform, did: u32)
     }
 }
 
-// Both stages of the context that the directory has for the request, and the way that it is led.
-#[tactic(auto, using(crate::proofs::Ways::looked_uncached, iom_core::proofs::NewContext::apart))]
-fn push_located(out: &mut Parts, platform: &Platform, request: &Request) -> Way
+// Both stages of the context that the directory has for the request.
+fn push_located(out: &mut Parts, platform: &Platform, request: &Request)
     requires directory { 1 ≤ levels_of (mode_of platform.now.machine.registers) }
     requires width { request.now.did < 2 ^ 24 }
     requires room { array_vec_len out.old ≤ 5 }
@@ -142,37 +148,24 @@ fn push_located(out: &mut Parts, platform: &Platform, request: &Request) -> Way
     ensures len { array_vec_len out.new ≤ array_vec_len out.old + 24 }
     ensures fits { All PartFits (stage_parts platform.now.machine.memory request.now.iova request.now.kind
         (located platform.now.machine.memory platform.now.machine.registers request.now.did)) }
-    ensures way { result ≡ (led_by_context (uncached platform.now.machine) request.now
-        (context_look (uncached platform.now.machine) request.now.did).filled
-        (context_look (uncached platform.now.machine) request.now.did).used).way }
-    ensures led { Fits result }
 {
-    match &locate(platform.ram(), platform.registers(), request.did) {
-        Ok(context) => push_stages(out, platform, request, context),
-        Err(why) => Way::Denied(Denial::plain(*why)),
+    if let Ok(context) = &locate(platform.ram(), platform.registers(), request.did) {
+        push_stages(out, platform, request, context);
     }
 }
 
-// Both stages of a context, and the way by it.
-#[tactic(auto, unfolding(iom_core::specs::Access::page_look))]
-fn push_stages(out: &mut Parts, platform: &Platform, request: &Request, context: &Context) -> Way
+// Both stages of a context.
+fn push_stages(out: &mut Parts, platform: &Platform, request: &Request, context: &Context)
     requires well_formed { IsWellFormed context.now }
     requires room { array_vec_len out.old ≤ 5 }
     ensures items { out.new.items ≡ out.old.items
         ++ stage_parts platform.now.machine.memory request.now.iova request.now.kind (Ok context.now) }
     ensures len { array_vec_len out.new ≤ array_vec_len out.old + 24 }
     ensures fits { All PartFits (stage_parts platform.now.machine.memory request.now.iova request.now.kind (Ok context.now)) }
-    ensures way { result ≡ (led_by_context (uncached platform.now.machine) request.now None (Ok context.now)).way }
-    ensures led { Fits result }
 {
     let ram = platform.ram();
     let reached = push_first(out, ram, context, request.iova, request.kind);
     push_access(out, ram, context, reached, request.kind);
-    if context.is_bare() {
-        Way::Context(*context)
-    } else {
-        way_by_reached(ram, request, context, reached)
-    }
 }
 
 // The first stage, entry by entry, or an IOVA that is too wide for it, and where it leads.

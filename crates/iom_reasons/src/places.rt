@@ -4,10 +4,9 @@ ghost use Rattle.std.specs.Prelude.{◌≡◌, ◌↔◌, IsTrue, slice_get};
 ghost use Rattle.iom_core.specs.Access.{request_key};
 ghost use Rattle.iom_cache.specs.Places.{place_in};
 ghost use Rattle.iom_cache.specs.declared.place.Place.TheVariants.{Live};
-ghost use Rattle.iom_reasons.specs.Stale.{by_tables};
+ghost use Rattle.iom_core.specs.Looking.{by_tables};
 ghost use Rattle.iom_reasons.specs.Standing.{IsContextNow, IsHitNow, IsStanding, found_now, is_context_now, is_hit_now, request_of, standing_of};
 
-use crate::staleness::way_by_tables;
 use crate::{Located, Standing, Way};
 use iom_cache::{Key, Place, key_of};
 use iom_core::{Platform, Request};
@@ -92,7 +91,7 @@ fn page_standing(platform: &Platform, key: &Key, hit: &Hit) -> Standing<Way>
         (Live key.now hit.now) result }
 {
     let request = request_of(key);
-    let way = way_by_tables(platform, &request);
+    let way = platform.seen_uncached(&request).way;
     match way {
         Way::Walked(context, now) if now == *hit && has_key(&request, &context, key) =>
             Standing::Current,

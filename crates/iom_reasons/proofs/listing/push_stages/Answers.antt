@@ -2,10 +2,6 @@ use Rattle.std.proofs.Common.{Ok, rules}
 use Rattle.iom_reasons.proofs.Bounds.{stages_fit}
 use Rattle.iom_reasons.proofs.listing.push_stages.Goals as goal
 
-pub returns-then-is_bare-clause-fits : goal.returns-then-is_bare-clause-fits
-returns-then-is_bare-clause-fits c =
-    stages_fit c.args.platform.now.machine.memory c.args.request.now.iova c.args.request.now.kind (Ok c.args.context.now) c.requires.well_formed (search rules)
-
-pub returns-else-is_bare-clause-fits : goal.returns-else-is_bare-clause-fits
-returns-else-is_bare-clause-fits c =
+pub returns-clause-fits : goal.returns-clause-fits
+returns-clause-fits c =
     stages_fit c.args.platform.now.machine.memory c.args.request.now.iova c.args.request.now.kind (Ok c.args.context.now) c.requires.well_formed (search rules)

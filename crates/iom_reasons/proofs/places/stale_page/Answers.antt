@@ -1,4 +1,4 @@
-use Rattle.iom_reasons.specs.Stale.{by_tables}
+use Rattle.iom_core.specs.Looking.{by_tables}
 use Rattle.iom_reasons.specs.Standing.{IsHitNow, is_hit_now, request_of}
 use Rattle.iom_reasons.proofs.Sameness.{page_test, standing_told}
 use Rattle.iom_reasons.proofs.places.stale_page.Goals as goal
