@@ -1,7 +1,6 @@
 //! What is told of the steps of a platform.
 
 ghost use Rattle.std.specs.Prelude.{◌≡◌, ◌<◌, ◌^◌, IfSome};
-ghost use Rattle.std.specs.Option.{option_copied};
 ghost use Rattle.iom_core.specs.Access.{Fits};
 ghost use Rattle.iom_account.specs.Account.{stale_in};
 
@@ -98,7 +97,7 @@ impl Account {
         ensures along { GoesAlong self.old platform.old (step.now ∷ []) number self.new platform.new }
     {
         let request = platform.request_of(step);
-        let stale = stale_in(platform, request.as_ref());
+        let stale = stale_in(platform, request);
         let origin = self
             .history
             .step_into(platform, step, request, number, answer);
@@ -124,10 +123,10 @@ impl Account {
 }
 
 // The way that the tables say of a request, where something cached leads it otherwise.
-fn stale_in(platform: &Platform, request: Option<&Request>) -> Option<Way>
-    requires { IfSome (option_copied request) (λ request. request.did < 2 ^ 24) }
-    ensures told { result ≡ stale_in platform.now (option_copied request) }
+fn stale_in(platform: &Platform, request: Option<Request>) -> Option<Way>
+    requires { IfSome request (λ request. request.did < 2 ^ 24) }
+    ensures told { result ≡ stale_in platform.now request }
     ensures fits { IfSome result Fits }
 {
-    stale(platform, request?)
+    stale(platform, &request?)
 }
