@@ -26,7 +26,7 @@ abbrev pub nothing_seen : Seen
 nothing_seen = record { context = None; page = None; way = ByRegister }
 
 abbrev pub noticed : Seen → Event → Seen
-noticed seen (event.Context from context) = record seen { context = Some (from, context) }
+noticed seen (event.Context from did context) = record seen { context = Some (from, context) }
 noticed seen (event.Page from key hit) = record seen { page = Some from }
 noticed seen (event.Way way) = record seen { way = way }
 

@@ -59,7 +59,7 @@ impl Witness for Seen {
     #[inline(always)]
     fn tell(&mut self, event: Event) {
         match event {
-            Event::Context(from, context) => self.context = Some((from, context)),
+            Event::Context(from, _, context) => self.context = Some((from, context)),
             Event::Page(from, _, _) => self.page = Some(from),
             Event::Way(way) => self.way = way,
         }
