@@ -112,7 +112,7 @@ context_ends m did context used =
     subst Ends (sym cached)
     (look_ends did (find (same_did did) m.contexts) (located m.memory m.registers did) context (sym (ap (λ (l : Look ℕ Context Cause). l.used) cached) ∙ used))
 
-context_refused : (m : Machine) (did : ℕ) (why : Cause) → (context_look m did).used ≡ Err why → (context_look m did).filled ≡ None
+pub context_refused : (m : Machine) (did : ℕ) (why : Cause) → (context_look m did).used ≡ Err why → (context_look m did).filled ≡ None
 unfolding context_look
 context_refused m did why used = look_refuses did (live_context m did) (located m.memory m.registers did) why used
 
@@ -124,7 +124,7 @@ page_ends m request context hit used =
     look_ends (request_key request context) (find (same_key (request_key request context)) m.pages)
     (translation m.memory context request.iova request.kind) hit used
 
-page_refused : (m : Machine) (request : Request) (context : Context) (fault : Fault) → (page_look m.memory m.pages request context).used ≡ Err fault →
+pub page_refused : (m : Machine) (request : Request) (context : Context) (fault : Fault) → (page_look m.memory m.pages request context).used ≡ Err fault →
     (page_look m.memory m.pages request context).filled ≡ None
 unfolding page_look
 page_refused m request context fault used =

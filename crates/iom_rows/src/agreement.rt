@@ -5,7 +5,7 @@ ghost use Rattle.iom_core.specs.Warrants.{IsUncached};
 
 use iom_asm::LoadFault;
 use iom_core::{Platform, Step, Warrant, explain};
-use iom_history::{History, Origin};
+use iom_account::{History, Origin};
 use std::alloc::{AllocError, Global};
 
 /// A step that is explained otherwise than a history told it.

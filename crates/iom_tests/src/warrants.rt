@@ -4,7 +4,7 @@ use crate::devices::devices;
 use iom_bits::Kind;
 use iom_cache::Key;
 use iom_core::{Platform, Step, Warrant, explain};
-use iom_history::{History, Origin};
+use iom_account::{History, Origin};
 use iom_mem::Ram;
 use std::alloc::Global;
 use std::test::Fail;
