@@ -11,7 +11,7 @@ use Rattle.iom_core.specs.declared.step.Step.{Step}
 use Rattle.iom_core.specs.Access.{Fits}
 use Rattle.iom_reasons.specs.Stale.{stale_way}
 use Rattle.iom_core.specs.declared.way.Way.{Way}
-use Rattle.iom_history.specs.Following.{ComesFrom, Follows, Notes, number_of}
+use Rattle.iom_account.specs.Following.{ComesFrom, Follows, Notes, number_of}
 use Rattle.iom_account.specs.declared.reason.Reason.{Reason}
 
 -- the way that the tables say of an access that is stale, before the step that makes it; None: it isn't, or there is none

@@ -1,14 +1,17 @@
 //! What is told of the steps of a platform.
 
-ghost use Rattle.std.specs.Prelude.{◌≡◌, ◌<◌, ◌^◌, IfSome};
+ghost use Rattle.std.specs.Prelude.{◌≡◌, IfSome};
+ghost use Rattle.std.specs.Option.{option_and_then, option_map};
 ghost use Rattle.iom_core.specs.Access.{Fits};
-ghost use Rattle.iom_account.specs.Account.{stale_in};
+ghost use Rattle.iom_core.specs.Looking.{by_tables};
+ghost use Rattle.iom_core.specs.Table.{request_of_step};
+ghost use Rattle.iom_reasons.specs.Stale.{differing};
 
+use crate::history::History;
 use crate::kept::Kept;
 use crate::reason::Reason;
-use iom_core::{Answer, Platform, Request, Step};
-use iom_history::History;
-use iom_reasons::{Way, stale};
+use iom_core::{Answer, Platform, Step, Way};
+use iom_reasons::differing;
 use std::marker::Model;
 
 /// Which steps filled what the caches of a platform hold, and why each of its last 32 steps went as it did. A step is told by the number
@@ -96,15 +99,13 @@ impl Account {
         // It goes along with the platform's steps: from a start whose caches hold nothing it tells of each what explains it.
         ensures along { GoesAlong self.old platform.old (step.now ∷ []) number self.new platform.new }
     {
-        let request = platform.request_of(step);
-        let stale = stale_in(platform, request);
-        let origin = self
-            .history
-            .step_into(platform, step, request, number, answer);
+        let tables = tables_for(platform, step);
+        let taken = self.history.step(platform, step, number, answer);
+        let stale = stale_by(&taken.seen.way, tables);
         self.keep(Reason {
             number,
-            request,
-            origin,
+            request: taken.request,
+            origin: taken.origin,
             stale,
         });
     }
@@ -122,11 +123,20 @@ impl Account {
     }
 }
 
-// The way that the tables say of a request, where something cached leads it otherwise.
-fn stale_in(platform: &Platform, request: Option<Request>) -> Option<Way>
-    requires { IfSome request (λ request. request.did < 2 ^ 24) }
-    ensures told { result ≡ stale_in platform.now request }
+// The way that the tables say of the access that a step makes.
+fn tables_for(platform: &Platform, step: &Step) -> Option<Way>
+    ensures told { result ≡ option_map (by_tables platform.now.machine) (request_of_step platform.now step.now) }
     ensures fits { IfSome result Fits }
 {
-    stale(platform, &request?)
+    let request = platform.request_of(step)?;
+    Some(platform.seen_uncached(&request).way)
+}
+
+// What the tables say of an access that was led this way, where they say otherwise.
+fn stale_by(now: &Way, tables: Option<Way>) -> Option<Way>
+    requires { IfSome tables Fits }
+    ensures told { result ≡ option_and_then (differing now.now) tables }
+    ensures fits { IfSome result Fits }
+{
+    differing(now, tables?)
 }

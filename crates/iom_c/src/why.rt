@@ -5,7 +5,7 @@ use crate::ways::{RequestWay, plain_way, way_of};
 use iom_account::Reason;
 use iom_bits::Kind;
 use iom_core::Request;
-use iom_history::Origin;
+use iom_account::Origin;
 
 /// Why a step went as it did, in C `struct rviommu_why`. What its kind doesn't have is 0.
 #[repr(C)]

@@ -15,5 +15,4 @@ pub mod Moved
 pub mod Reaches
 pub mod Search
 pub mod Filled
-pub mod Passed
 pub mod Found

@@ -127,9 +127,9 @@ source_of (Some fill) = source.Read
 
 -- What a witness is told of an access that is led so, one after the other: the context that leads it, the page that it hits, each
 -- with where it comes from, and last the way.
-abbrev pub context_told : {S : Type 0} → (S → Event → S) → S → Option Context → Option (ℕ × Context) → S
-context_told next s None fill = s
-context_told next s (Some context) fill = next s (event.Context (source_of fill) context)
+abbrev pub context_told : {S : Type 0} → (S → Event → S) → S → ℕ → Option Context → Option (ℕ × Context) → S
+context_told next s did None fill = s
+context_told next s did (Some context) fill = next s (event.Context (source_of fill) did context)
 
 abbrev pub page_told : {S : Type 0} → (S → Event → S) → S → Request → Way → Option (Key × Hit) → S
 page_told next s request (Walked context hit) fill = next s (event.Page (source_of fill) (request_key request context) hit)
@@ -140,7 +140,11 @@ under_told next s request under = next (page_told next s request under.way under
 
 abbrev pub told : {S : Type 0} → (S → Event → S) → S → Request → Led → S
 told next s request led =
-    next (page_told next (context_told next s led.by led.context) request led.way led.page) (event.Way led.way)
+    next (page_told next (context_told next s request.did led.by led.context) request led.way led.page) (event.Way led.way)
+
+-- what it is told of the access that a request is
+abbrev pub told_of : {S : Type 0} → (S → Event → S) → S → Machine → Request → S
+told_of next s m request = told next s request (led m request)
 
 -- a machine by its parts
 abbrev pub machine_of : Memory → Registers → List (Option (ℕ × Context)) → List (Option (Key × Hit)) → Machine

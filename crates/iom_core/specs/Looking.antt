@@ -26,7 +26,7 @@ abbrev pub nothing_seen : Seen
 nothing_seen = record { context = None; page = None; way = ByRegister }
 
 abbrev pub noticed : Seen → Event → Seen
-noticed seen (event.Context from context) = record seen { context = Some (from, context) }
+noticed seen (event.Context from did context) = record seen { context = Some (from, context) }
 noticed seen (event.Page from key hit) = record seen { page = Some from }
 noticed seen (event.Way way) = record seen { way = way }
 
@@ -45,3 +45,18 @@ is_cached_by _ page way = false
 
 abbrev pub is_cached : Seen → Bool
 is_cached seen = is_cached_by seen.context seen.page seen.way
+
+abbrev pub is_read : Option Source → Bool
+is_read (Some source.Read) = true
+is_read _ = false
+
+abbrev pub is_read_context : Option (Source × Context) → Bool
+is_read_context (Some (source.Read, context)) = true
+is_read_context _ = false
+
+-- what was read, and not found: an access that a device makes fills it
+abbrev pub is_context_read : Seen → Bool
+is_context_read seen = is_read_context seen.context
+
+abbrev pub is_page_read : Seen → Bool
+is_page_read seen = is_read seen.page

@@ -11,7 +11,7 @@ ghost use Rattle.iom_cache.specs.Entries.{HoldsContext, HoldsHit};
 ghost use Rattle.iom_cache.specs.Keys.{same_did, same_key};
 ghost use Rattle.iom_cache.specs.Places.{EachLive, find, look};
 ghost use Rattle.iom_virtq.specs.Bus.{Read, Write, is_granted, reply_of};
-ghost use Rattle.iom_core.specs.Access.{Fits, address_on, context_look, filled_where, led, led_by_context, led_under, machine_of, page_told, plain, record_left, request_key, served, told, translating, under_told, with_delivery, with_fills};
+ghost use Rattle.iom_core.specs.Access.{Fits, address_on, context_look, filled_where, led, led_by_context, led_under, machine_of, page_told, plain, record_left, request_key, request_of, served, told, told_of, translating, under_told, with_delivery, with_fills};
 ghost use Rattle.iom_core.specs.State.{context_room, page_room};
 ghost use Rattle.iom_core.specs.declared.way.Way.TheVariants as way;
 ghost use Rattle.iom_core.specs.declared.witness.Event.TheVariants as event;
@@ -80,20 +80,27 @@ impl Denial {
 impl Machine {
     /// Reads the bytes from IOVA `iova` on, within one page of 4096 bytes, for device `did`, below 2^24, into `out`, which is
     /// unchanged unless the answer is Ok. `Denied` where the IOMMU denies it, which may leave a fault record; `Outside` where a
-    /// byte of it lies outside memory.
+    /// byte of it lies outside memory. A witness is told what leads it.
     #[tactic(auto, unfolding(crate::specs::Access::effect))]
-    pub fn read(&mut self, did: u32, iova: u64, out: &mut [u8]) -> Access
+    pub fn read<W: Witness>(
+        &mut self,
+        did: u32,
+        iova: u64,
+        out: &mut [u8],
+        witness: &mut W,
+    ) -> Access
         requires { did < 2 ^ 24 }
         ensures reply { reply_of result out.new ≡ (served self.old did (Read iova (length out.old))).reply }
         ensures left { self.new ≡ (served self.old did (Read iova (length out.old))).machine }
         ensures unchanged { OnFalse (is_granted result) (out.new ≡ out.old) }
+        ensures told { witness.new ≡ told_of W.next witness.old self.old (request_of did (Read iova (length out.old))) }
     {
         let request = Request {
             did,
             iova,
             kind: Kind::Read,
         };
-        match self.address(&request) {
+        match self.address(&request, witness) {
             Err(denial) => self.deny(&request, denial),
             Ok(addr) if self.ram.read(addr, out) => Access::Ok,
             Ok(_) => Access::Outside,
@@ -101,19 +108,26 @@ impl Machine {
     }
 
     /// Writes `bytes` from IOVA `iova` on, within one page of 4096 bytes, for device `did`, below 2^24. The answers are those of
-    /// `read`; unless it is Ok none of the bytes is written.
+    /// `read`; unless it is Ok none of the bytes is written. A witness is told what leads it.
     #[tactic(auto, unfolding(crate::specs::Access::effect))]
-    pub fn write(&mut self, did: u32, iova: u64, bytes: &[u8]) -> Access
+    pub fn write<W: Witness>(
+        &mut self,
+        did: u32,
+        iova: u64,
+        bytes: &[u8],
+        witness: &mut W,
+    ) -> Access
         requires { did < 2 ^ 24 }
         ensures reply { reply_of result [] ≡ (served self.old did (Write iova bytes.now)).reply }
         ensures left { self.new ≡ (served self.old did (Write iova bytes.now)).machine }
+        ensures told { witness.new ≡ told_of W.next witness.old self.old (request_of did (Write iova bytes.now)) }
     {
         let request = Request {
             did,
             iova,
             kind: Kind::Write,
         };
-        match self.address(&request) {
+        match self.address(&request, witness) {
             Err(denial) => self.deny(&request, denial),
             Ok(addr) if self.ram.write(addr, bytes) => Access::Ok,
             Ok(_) => Access::Outside,
@@ -122,12 +136,13 @@ impl Machine {
 
     // The physical address that a request leads to. What is read on the way is cached.
     #[inline(always)]
-    fn address(&mut self, request: &Request) -> Result<u64, Denial>
+    fn address<W: Witness>(&mut self, request: &Request, witness: &mut W) -> Result<u64, Denial>
         requires { request.now.did < 2 ^ 24 }
         ensures address { result ≡ address_on (led self.old request.now).way request.now.iova }
         ensures filled { self.new ≡ with_fills self.old (led self.old request.now) }
+        ensures told { witness.new ≡ told_of W.next witness.old self.old request.now }
     {
-        lead(&self.ram, &self.registers, &mut self.lines, request, &mut ())
+        lead(&self.ram, &self.registers, &mut self.lines, request, witness)
     }
 
     // Denies a request, and delivers its record where it makes one.
@@ -220,7 +235,7 @@ fn by_directory<C: Caches, W: Witness>(
     }
     match caches.context(request.did) {
         Some(context) => {
-            witness.tell(Event::Context(Source::Found, context));
+            witness.tell(Event::Context(Source::Found, request.did, context));
             by_context(ram, caches, request, &context, witness)
         }
         None => by_new_context(ram, registers, caches, request, witness),
@@ -266,7 +281,7 @@ fn by_new_context<C: Caches, W: Witness>(
 {
     match locate(ram, registers, request.did) {
         Ok(context) => {
-            witness.tell(Event::Context(Source::Read, context));
+            witness.tell(Event::Context(Source::Read, request.did, context));
             let reached = by_context(ram, caches, request, &context, witness);
             caches.fill_context(request.did, context);
             reached

@@ -2,7 +2,7 @@
 #![tactic(auto)]
 
 pub use access::{Denial, Request};
-pub use history::{explain, is_denial};
+pub use history::explain;
 pub use law::freshness;
 pub use looking::Seen;
 pub use platform::Platform;

@@ -37,7 +37,7 @@ impl Seen {
 }
 
 impl Seen {
-    ghost use Rattle.iom_core.specs.Looking.{is_cached};
+    ghost use Rattle.iom_core.specs.Looking.{is_cached, is_context_read, is_page_read};
 
     /// Whether the caches alone lead the access, so that nothing in memory is read for it.
     pub fn is_cached(&self) -> bool
@@ -49,6 +49,20 @@ impl Seen {
             _ => false,
         }
     }
+
+    /// Whether its context was read from the directory. An access that a device makes fills it.
+    pub fn is_context_read(&self) -> bool
+        ensures { result ≡ is_context_read self.now }
+    {
+        matches!(self.context, Some((Source::Read, _)))
+    }
+
+    /// Whether its page was read from the page tables. An access that a device makes fills it.
+    pub fn is_page_read(&self) -> bool
+        ensures { result ≡ is_page_read self.now }
+    {
+        matches!(self.page, Some(Source::Read))
+    }
 }
 
 impl Witness for Seen {
@@ -59,7 +73,7 @@ impl Witness for Seen {
     #[inline(always)]
     fn tell(&mut self, event: Event) {
         match event {
-            Event::Context(from, context) => self.context = Some((from, context)),
+            Event::Context(from, _, context) => self.context = Some((from, context)),
             Event::Page(from, _, _) => self.page = Some(from),
             Event::Way(way) => self.way = way,
         }

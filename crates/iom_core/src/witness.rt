@@ -19,8 +19,8 @@ pub enum Source {
 /// What is told of an access, each as it comes to pass ("Process to translate an IOVA").
 #[derive(Clone, Copy)]
 pub enum Event {
-    /// This context leads the device.
-    Context(Source, Context),
+    /// This context leads the device with this id.
+    Context(Source, u32, Context),
     /// The page with this key leads to this hit.
     Page(Source, Key, Hit),
     /// The request is led this way. It is the last that is told of an access.

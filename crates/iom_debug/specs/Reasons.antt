@@ -9,8 +9,8 @@ use Rattle.iom_core.specs.declared.access.Denial.{Denial}
 use Rattle.iom_core.specs.declared.access.Request.{Request}
 use Rattle.iom_core.specs.declared.step.Step.{Step}
 use Rattle.iom_core.specs.declared.way.Way.{Way}
-use Rattle.iom_history.specs.declared.origin.Origin.{Origin}
-use Rattle.iom_history.specs.declared.origin.Origin.TheVariants as origin
+use Rattle.iom_account.specs.declared.origin.Origin.{Origin}
+use Rattle.iom_account.specs.declared.origin.Origin.TheVariants as origin
 use Rattle.iom_account.specs.Account.{Account, GoesAlong as AccountGoesAlong}
 use Rattle.iom_account.specs.declared.reason.Reason.{Reason}
 use Rattle.iom_debug.specs.Ways.{address_of, address_text, stale_address}

@@ -7,7 +7,7 @@ use crate::text::{push_number, push_text, said};
 use crate::ways::{address_of, push_address};
 use iom_account::Reason;
 use iom_core::{Denial, Request};
-use iom_history::Origin;
+use iom_account::Origin;
 use iom_tool::Reply;
 
 /// Where the tables led the access of a step before it, a physical address or a denial; None where it was not stale.

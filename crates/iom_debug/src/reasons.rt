@@ -3,7 +3,7 @@
 ghost use Rattle.std.specs.Prelude.{◌≡◌};
 
 use crate::reason::stale_of;
-use iom_account::{Account, Reason};
+use iom_account::{Account, History, Reason};
 use iom_core::{Answer, Denial, Platform, Step};
 use std::marker::Model;
 
@@ -42,6 +42,13 @@ impl Reasons {
             account: Account::new(platform),
             stale: None,
         }
+    }
+
+    /// Which lines filled what the caches hold.
+    pub fn history(&self) -> &History
+        ensures { result.now ≡ self.now.account.history }
+    {
+        self.account.history()
     }
 
     /// What is told of step `i` of the last 32, any number; the oldest is 0, as in the trace. None where there are so many steps or

@@ -6,7 +6,7 @@ pub use iom_core::Way;
 pub use listing::{Parts, parts, put_parts, put_parts_under};
 pub use part::{Part, Wide};
 pub use places::{stale_context, stale_page};
-pub use staleness::stale;
+pub use staleness::{differing, stale};
 pub use standing::{Located, Standing};
 
 mod listing;

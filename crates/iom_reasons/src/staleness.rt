@@ -20,8 +20,8 @@ pub fn stale(platform: &Platform, request: &Request) -> Option<Way>
     differing(&platform.seen(request).way, tables)
 }
 
-// What the tables say, where it is another way than this one.
-fn differing(now: &Way, tables: Way) -> Option<Way>
+/// What the tables say, where it is another way than this one.
+pub fn differing(now: &Way, tables: Way) -> Option<Way>
     requires { Fits tables }
     ensures told { result ≡ differing now.now tables }
     ensures fits { IfSome result Fits }
