@@ -242,7 +242,7 @@ class Plain:
         at, parts = [((root + level) << 12) + 8 for level in (0, 1)] + [((root + 2) << 12) + 8 * page], []
         for level, place in zip((2, 1), at):
             parts.append(f"first level={level:#x} at={place:#x} in={place:#x} pte ppn={root + 3 - level:#x} flags=0x1 pointer")
-        frame = self.entries.get((set_of, page))
+        frame = self.entries.get((set_of, page)) or None
         told = f"pte ppn={frame:#x} flags=0xd7 leaf" if frame else "pte ppn=0x0 flags=0x0 V=0"
         parts.append(f"first level=0x0 at={at[2]:#x} in={at[2]:#x} {told}")
         parts.append(f"frame={frame:#x} addr={frame << 12 | 0xabc:#x}" if frame else "denied 13 iotval2=0x0")

@@ -55,7 +55,7 @@ impl<'a> Debugger<'a> {
     /// `bad` is answered so here too, and leaves the same.
     pub fn line(&mut self, number: u64, text: &[u8]) -> Reply
         ensures reply { result.items ≡ unwrap_or
-            (debug_reply (console self.old.platform.now self.old.trace.now) self.old.reasons.now.account.told (debug_line_of text.now)) [] }
+            (debug_reply (console self.old.platform.now self.old.trace.now) self.old.reasons.now.account (debug_line_of text.now)) [] }
         ensures state { self.new.platform.now
             ≡ end_of self.old.platform.now (debug_steps_of self.old.platform.now text.now) }
         ensures trace { self.new.trace.now
@@ -121,7 +121,7 @@ fn answer_line(
     text: &[u8],
 ) -> Reply
     ensures reply { result.items
-        ≡ unwrap_or (debug_reply (console platform.old trace.old) reasons.old.account.told (debug_line_of text.now)) [] }
+        ≡ unwrap_or (debug_reply (console platform.old trace.old) reasons.old.account (debug_line_of text.now)) [] }
     ensures state { platform.new ≡ end_of platform.old (debug_steps_of platform.old text.now) }
     ensures trace { trace.new ≡ trace_after trace.old platform.old (debug_steps_of platform.old text.now) }
     ensures along { GoesAlong reasons.old platform.old (debug_steps_of platform.old text.now) number reasons.new platform.new }
@@ -141,7 +141,7 @@ fn carry_out(
     text: &[u8],
 ) -> Reply
     ensures reply { result.items
-        ≡ unwrap_or (debug_reply (console platform.old trace.old) reasons.old.account.told (debug_line_of text.now)) [] }
+        ≡ unwrap_or (debug_reply (console platform.old trace.old) reasons.old.account (debug_line_of text.now)) [] }
     ensures state { platform.new ≡ end_of platform.old (debug_steps_of platform.old text.now) }
     ensures trace { trace.new ≡ trace_after trace.old platform.old (debug_steps_of platform.old text.now) }
     ensures along { GoesAlong reasons.old platform.old (debug_steps_of platform.old text.now) number reasons.new platform.new }
