@@ -12,7 +12,7 @@ use Rattle.iom_core.specs.Warrants.{IsUncached, moment, request_at}
 use Rattle.iom_core.specs.declared.looking.Seen.{Seen}
 use Rattle.iom_core.specs.declared.step.Step.{Step}
 use Rattle.iom_core.specs.declared.way.Way.{Way}
-use Rattle.iom_reasons.specs.Stale.{differing, stale_way}
+use Rattle.iom_tables.specs.Stale.{differing, stale_way}
 use Rattle.iom_account.specs.Following.{ComesFrom, Follows, Notes, number_of}
 use Rattle.iom_account.proofs.Runs.{end_more, length_more, moment_last, request_last}
 use Rattle.iom_account.specs.Account.{Account, Accounts, GoesAlong, IsReason, IsReasonOf, Tells, stale_in}

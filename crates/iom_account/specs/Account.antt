@@ -9,7 +9,7 @@ use Rattle.iom_core.specs.Warrants.{IsUncached, moment, request_at}
 use Rattle.iom_core.specs.declared.access.Request.{Request}
 use Rattle.iom_core.specs.declared.step.Step.{Step}
 use Rattle.iom_core.specs.Access.{Fits}
-use Rattle.iom_reasons.specs.Stale.{stale_way}
+use Rattle.iom_tables.specs.Stale.{stale_way}
 use Rattle.iom_core.specs.declared.way.Way.{Way}
 use Rattle.iom_account.specs.Following.{ComesFrom, Follows, Notes, number_of}
 use Rattle.iom_account.specs.declared.reason.Reason.{Reason}

@@ -5,13 +5,13 @@ ghost use Rattle.std.specs.Option.{option_and_then, option_map};
 ghost use Rattle.iom_core.specs.Access.{Fits};
 ghost use Rattle.iom_core.specs.Looking.{by_tables};
 ghost use Rattle.iom_core.specs.Table.{request_of_step};
-ghost use Rattle.iom_reasons.specs.Stale.{differing};
+ghost use Rattle.iom_tables.specs.Stale.{differing};
 
 use crate::history::History;
 use crate::kept::Kept;
 use crate::reason::Reason;
 use iom_core::{Answer, Platform, Step, Way};
-use iom_reasons::differing;
+use iom_tables::differing;
 use std::marker::Model;
 
 /// Which steps filled what the caches of a platform hold, and why each of its last 32 steps went as it did. A step is told by the number

@@ -208,7 +208,13 @@ impl History {
     }
 
     // Where the translation comes from that the last step used for this request, which was led this way.
-    fn origin(&self, platform: &Platform, request: &Request, number: u64, way: &Way) -> Option<Origin>
+    fn origin(
+        &self,
+        platform: &Platform,
+        request: &Request,
+        number: u64,
+        way: &Way,
+    ) -> Option<Origin>
         ensures { result ≡ origin_on self.now platform.now request.now number way.now }
     {
         match way {

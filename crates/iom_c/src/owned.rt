@@ -67,6 +67,7 @@ pub fn carry_out(own: &mut Owned, step: &Step) -> Answer
 {
     own.count = own.count.saturating_add(1);
     let mut answer = Answer::Done;
-    own.account.step(&mut own.platform, step, own.count, &mut answer);
+    own.account
+        .step(&mut own.platform, step, own.count, &mut answer);
     answer
 }

@@ -142,7 +142,13 @@ impl Machine {
         ensures filled { self.new ≡ with_fills self.old (led self.old request.now) }
         ensures told { witness.new ≡ told_of W.next witness.old self.old request.now }
     {
-        lead(&self.ram, &self.registers, &mut self.lines, request, witness)
+        lead(
+            &self.ram,
+            &self.registers,
+            &mut self.lines,
+            request,
+            witness,
+        )
     }
 
     // Denies a request, and delivers its record where it makes one.

@@ -78,12 +78,7 @@ fn written(device: &mut Blk, off: u64, size: u64, value: u64) -> Answer
 
 // The machine, lent to one device for its step.
 #[tactic(auto, unfolding(crate::specs::Table::moving))]
-fn moved<W: Witness>(
-    machine: &mut Machine,
-    did: u32,
-    device: &mut Blk,
-    witness: &mut W,
-) -> Answer
+fn moved<W: Witness>(machine: &mut Machine, did: u32, device: &mut Blk, witness: &mut W) -> Answer
     requires { did < 2 ^ 24 }
     ensures answer { result ≡ answer_of (moving machine.old did device.old (asks device.old)).told }
     ensures machine { machine.new ≡ (moving machine.old did device.old (asks device.old)).machine }

@@ -91,7 +91,13 @@ impl Platform {
     {
         let mut seen = Seen::nothing();
         let machine = &self.machine;
-        let _ = lead(&machine.ram, &machine.registers, &mut Looking(&machine.lines), request, &mut seen);
+        let _ = lead(
+            &machine.ram,
+            &machine.registers,
+            &mut Looking(&machine.lines),
+            request,
+            &mut seen,
+        );
         seen
     }
 
@@ -104,7 +110,13 @@ impl Platform {
     {
         let mut seen = Seen::nothing();
         let machine = &self.machine;
-        let _ = lead(&machine.ram, &machine.registers, &mut Nothing, request, &mut seen);
+        let _ = lead(
+            &machine.ram,
+            &machine.registers,
+            &mut Nothing,
+            request,
+            &mut seen,
+        );
         seen
     }
 

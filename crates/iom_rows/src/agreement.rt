@@ -3,8 +3,8 @@
 ghost use Rattle.std.specs.Prelude.{◌<◌, IfOk, length};
 ghost use Rattle.iom_core.specs.Warrants.{IsUncached};
 
-use iom_asm::LoadFault;
 use iom_account::{History, Origin};
+use iom_asm::LoadFault;
 use iom_core::{Answer, Platform, Step, explain};
 use std::alloc::{AllocError, Global};
 

@@ -2,8 +2,8 @@
 
 ghost use Rattle.std.specs.Prelude.{◌+◌, ◌≤◌, length};
 
-use iom_blk::{Phase, Want};
 use iom_account::Origin;
+use iom_blk::{Phase, Want};
 use iom_core::{Denial, Platform, Seen, Source, Step, Way};
 use iom_tool::Draft;
 

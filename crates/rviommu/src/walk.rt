@@ -2,14 +2,14 @@
 
 ghost use Rattle.std.specs.Prelude.{◌<◌, ◌^◌, All, IfSome};
 ghost use Rattle.iom_ddt.specs.Contexts.{IsWellFormed};
-ghost use Rattle.iom_reasons.specs.Bounds.{PartFits};
+ghost use Rattle.iom_tables.specs.Bounds.{PartFits};
 
 use crate::text::Text;
 use arrayvec::ArrayVec;
 use iom_core::{Platform, Request, Seen, Source};
 use iom_ddt::Context;
 use iom_debug::{is_told_alike, put_cached, put_part};
-use iom_reasons::{Part, Parts, put_parts, put_parts_under};
+use iom_tables::{Part, Parts, put_parts, put_parts_under};
 use iom_tool::Draft;
 use std::alloc::{AllocError, Global};
 
@@ -71,7 +71,9 @@ impl Walk {
             && !is_current(platform, request, context)
         {
             put_parts_under(&mut self.parts, platform, request, context);
-            return self.told.tell_under(platform, request, context, draft, &self.parts);
+            return self
+                .told
+                .tell_under(platform, request, context, draft, &self.parts);
         }
         if self.is_other {
             put_parts(&mut self.parts, platform, request);
