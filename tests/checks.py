@@ -202,6 +202,8 @@ DEBUG_FORMS = [
     b"stale write DID IOVA",
     b"stale context I",
     b"stale page I",
+    b"origin context I",
+    b"origin page I",
     b"walk read DID IOVA I",
     b"walk write DID IOVA I",
     b"why I",

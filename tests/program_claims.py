@@ -110,6 +110,9 @@ DEBUG_SAMPLES = {
         "register": [*TO_DDTP, b"stale page 0"], "context": [*CACHED, b"put 0x800010a0 context", b"stale page 0"],
         "empty": [*CACHED, *INVALIDATE.splitlines(), b"stale page 0"], "none": [b"stale page 0"],
     },
+    "origin context I": {
+        "context 12": [*CACHED, b"origin context 0"], "walked context=12 walk=14": [*CACHED, b"origin page 0"], "none": [b"origin page 0"],
+    },
     "why I": {
         "walked context=12 walk=14 current=15": [*CACHED, b"why 1"], "context 12": [*BARE, b"why 5"], "register": [*TO_DDTP, READ, b"why 3"],
         "denied": [READ, b"why 0"], "no access": [*CACHED, b"why 0"], "none": [b"why 0"], " stale": [*UNMAPPED, READ, b"why 3"],

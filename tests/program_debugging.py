@@ -227,6 +227,7 @@ def _():
     want_debugged([
         ("why 0", "none"), ("reg write ddtp 0x20000402", "done"), ("dma read 5 0x40201abc 4", "00000000"), ("why 0", "no access"), ("why 1", walked),
         ("stale context 0", "same"), ("stale page 0", "same"), ("stale context 1", "none"), ("stale page 1", "none"),
+        ("origin context 0", "context 3"), ("origin page 0", "walked context=3 walk=3"), ("origin context 1", "none"), ("origin page 1", "none"),
         ("put 0x80004008 pte ppn=0x80011 flags=0xd7", "done"), ("stale page 0", "page pscid=0x3 gscid=- frame=0x80011 level=0x0 global=0x0"),
         ("dma read 5 0x40201abc 4", "00000000"), ("why 3", walked + " stale addr=0x80011abc"),
         ("put 0x80004008 u64 0", "done"), ("stale page 0", "denied 13"), ("dma write 5 0x40201abc 00", "denied 15"), ("why 5", "denied"),
@@ -242,6 +243,7 @@ def _():
         ("why 2", "context 2"), ("reg write ddtp 1", "done"), ("stale context 0", "no directory"), ("dma read 6 0x80000001 1", "00"),
         ("why 4", "register"), ("why 5", "none"), ("why 0xffffffffffffffff", "none"), ("stale context 0xffffffffffffffff", "none"),
         ("why", "bad"), ("why 0 0", "bad"), ("stale context", "bad"), ("stale page", "bad"), ("stale page 0 0", "bad"), ("stale page x", "bad"),
+        ("origin", "bad"), ("origin page", "bad"), ("origin page 0 0", "bad"), ("origin pages 0", "bad"), ("origin context x", "bad"),
         ("trace 5", "none"),
     ], mapped)
 

@@ -2,6 +2,7 @@
 import glob
 import os
 import pty
+import random
 import re
 import time
 
@@ -56,12 +57,12 @@ def _():
     given = b"reg write ddtp 0x20000402 # a directory\n\n" + READ + b"\n" + READ + b"\n" + UNMAP + READ + b"\n" + INVALIDATE + READ + b"\n"
     wanted = "1: reg write ddtp 0x20000402 -> done\n"
     wanted += f"3: {READS} -> 11223344\n    caches: no context, no page\n{GRANTED}    warrant: walked context=3 walk=3 current=3\n"
-    cached = "    caches: context of line 3, page of line 3\n    warrant: walked context=3 walk=3 current=3\n"
+    cached = "    caches: context of line 3, page of line 3, addr=0x80010abc\n    warrant: walked context=3 walk=3 current=3\n"
     wanted += f"4: {READS} -> 11223344\n{cached}5: store 0x80004008 0x8 0x0 -> done\n"
     wanted += f"6: {READS} -> 11223344\n{cached}    stale: the tables now say denied 13\n"
     wanted += "7: reg write cqb 0x20024000 -> done\n8: reg write cqcsr 1 -> done\n9: reg write cqt 1 -> done\n"
     wanted += "10: cmd -> done\n10: cmd -> idle\n10: cmd run 9 -> 0x2 idle\n"
-    wanted += f"11: {READS} -> denied 13\n    caches: a context, no page\n{DENIED}"
+    wanted += f"11: {READS} -> denied 13\n    caches: context of line 3, no page\n{DENIED}"
     want_explained(given, wanted + summary(3, 2, "1 (line 6)", _13=1), MAPPED)
 
 
@@ -71,7 +72,7 @@ def _():
     wanted = f"1: reg write ddtp 0x20000402 -> done\n2: {READS} -> 11223344\n    caches: no context, no page\n{GRANTED}"
     wanted += "    warrant: walked context=2 walk=2 current=2\n3: reg write cqb 0x20024000 -> done\n4: put 0x80090000 cmd iodir -> done\n"
     wanted += "5: reg write cqcsr 1 -> done\n6: reg write cqt 1 -> done\n7: cmd -> done\n"
-    wanted += f"8: {READS} -> 11223344\n    caches: no context, page of line 2\n{GRANTED}    warrant: walked context=2 walk=2 current=8\n"
+    wanted += f"8: {READS} -> 11223344\n    caches: no context, page of line 2, addr=0x80010abc\n{GRANTED}    warrant: walked context=2 walk=2 current=8\n"
     want_explained(given, wanted + summary(2, 0), MAPPED)
 
 
@@ -86,7 +87,7 @@ def _():
     wanted += "4: dma write 0x0 0x80010000 ff -> bus error\n    walk: ddtp mode=0x1 root=0x0\n    walk: register addr=0x80010000\n"
     wanted += "    warrant: register\n5: reg write 0x10 0x8 0x20000402 -> done\n6: dma read 0x0 0x80000000 0x1 -> 00\n    caches: no context\n"
     wanted += f"    walk: ddtp mode=0x2 root=0x80001\n    walk: context at=0x80001000 {CONTEXT.replace('0x3 mode=0x8', '0x0 mode=0x0').replace('0x80002', '0x0')}\n"
-    wanted += "    walk: context addr=0x80000000\n    warrant: context 6\n7: dma read 0x0 0x80000000 0x1 -> 00\n    caches: context of line 6\n"
+    wanted += "    walk: context addr=0x80000000\n    warrant: context 6\n7: dma read 0x0 0x80000000 0x1 -> 00\n    caches: context of line 6, addr=0x80000000\n"
     wanted += "    warrant: context 6\n8: dma read 0x80 0x0 0x1 -> denied 260\n    walk: ddtp mode=0x2 root=0x80001\n"
     wanted += "    walk: dir did=0x80 width\n    walk: denied 260 iotval2=0x0\n    warrant: none, it is denied\n9: dma read 0x1 0x0 0x1 -> denied 258\n"
     wanted += "    walk: ddtp mode=0x2 root=0x80001\n    walk: context at=0x80001020 u64 0x0 0x0 0x0 0x0\n    walk: denied 258 iotval2=0x0\n"
@@ -107,7 +108,7 @@ def _():
     want("what is told of its steps", lines, [
         "13: dev step 0x0 -> done", "    asks: available index, read did=0x5 iova=0x40201002 len=0x2", "    caches: no context, no page",
         "    warrant: walked context=13 walk=13 current=13",
-        "14: dev step 0x0 -> done", "    asks: available ring, read did=0x5 iova=0x40201004 len=0x2", "    caches: context of line 13, page of line 13",
+        "14: dev step 0x0 -> done", "    asks: available ring, read did=0x5 iova=0x40201004 len=0x2", "    caches: context of line 13, page of line 13, addr=0x80010004",
         "    warrant: walked context=13 walk=13 current=13",
         "14: dev step 0x0 -> done", "    asks: descriptor 3, read did=0x5 iova=0x40202030 len=0x10", "    caches: context of line 13, no page",
         "    warrant: walked context=13 walk=14 current=13",
@@ -224,6 +225,100 @@ def _():
         want(f"the answers to {path}", list(answers_told(out.decode()).values()), wanted)
         played += 1
     want("whether there were some", played > 60, True)
+
+
+class Plain:
+    """A plain program beside explain: a device with a first stage, whose directory may name either of two sets of tables."""
+
+    ROOTS = (0x80002, 0x80005)
+    AT = "ddtp mode=0x2 root=0x80001", "context at=0x800010a0 "
+
+    def __init__(self):
+        self.root, self.entries, self.context, self.pages, self.told = self.ROOTS[0], {}, None, {}, {}
+
+    def walk(self, root, page):
+        """The frame that a root leads a page to, or None, and the parts of the walk."""
+        set_of = self.ROOTS.index(root)
+        at, parts = [((root + level) << 12) + 8 for level in (0, 1)] + [((root + 2) << 12) + 8 * page], []
+        for level, place in zip((2, 1), at):
+            parts.append(f"first level={level:#x} at={place:#x} in={place:#x} pte ppn={root + 3 - level:#x} flags=0x1 pointer")
+        frame = self.entries.get((set_of, page)) or None
+        told = f"pte ppn={frame:#x} flags=0xd7 leaf" if frame else "pte ppn=0x0 flags=0x0 V=0"
+        parts.append(f"first level=0x0 at={at[2]:#x} in={at[2]:#x} {told}")
+        parts.append(f"frame={frame:#x} addr={frame << 12 | 0xabc:#x}" if frame else "denied 13 iotval2=0x0")
+        return frame, parts
+
+    def access(self, line, page):
+        """What explain is to tell of a read in this page."""
+        root, filled = self.context or (self.root, line)
+        context = CONTEXT.replace("ppn=0x80002", f"ppn={root:#x}")
+        found = self.pages.get(page)
+        frame, parts = self.walk(root, page)
+        now = found[0] if found else frame
+        lines = ["caches: " + (f"context of line {filled}" if self.context else "no context")]
+        lines[0] += f", page of line {found[2]}, addr={now << 12 | 0xabc:#x}" if found else ", no page"
+        if not (self.context and found):
+            is_stale = self.context and root != self.root
+            head = [f"cached {context}"] if is_stale else [self.AT[0], self.AT[1] + context]
+            lines += [f"walk: {part}" for part in head + parts]
+        if now and not found:
+            found = self.pages[page] = (frame, filled, line)
+        lines.append(f"warrant: walked context={found[1]} walk={found[2]} current={filled}" if now else "warrant: none, it is denied")
+        said = self.walk(self.root, page)[0]
+        if (now and (root, now)) != (said and (self.root, said)):
+            lines.append("stale: the tables now say " + (f"addr={said << 12 | 0xabc:#x}" if said else "denied 13"))
+        self.context = (root, filled)
+        self.told[line] = ["    " + it for it in lines]
+
+    def script(self, dice, length):
+        """A script of some accesses, amid changes of the directory and the tables and invalidations that come late."""
+        lines = ["put 0x800010a0 context pscid=3 mode=8 ppn=0x80002"]
+        for root in self.ROOTS:
+            lines += [f"put {((root + level) << 12) + 8:#x} pte ppn={root + level + 1:#x} flags=1" for level in (0, 1)]
+        lines += ["reg write ddtp 0x20000402", "reg write cqb 0x20024006", "reg write cqcsr 1"]
+        tail = 0
+        for _ in range(length):
+            what, page = dice.randrange(8), dice.randrange(1, 5)
+            if what < 4:
+                lines.append(f"dma read 5 {0x40200000 + (page << 12) + 0xabc:#x} 4")
+                self.access(len(lines), page)
+            elif what == 4:
+                self.root = dice.choice(self.ROOTS)
+                lines.append(f"store 0x800010b8 8 {8 << 60 | self.root:#x}")
+            elif what < 7:
+                set_of, frame = dice.randrange(2), dice.choice((0, 0x80010, 0x80011))
+                self.entries[set_of, page] = frame
+                lines.append(f"store {((self.ROOTS[set_of] + 2) << 12) + 8 * page:#x} 8 {frame << 10 | 0xd7 if frame else 0:#x}")
+            elif tail < 100:
+                is_vma = dice.randrange(2)
+                lines += [f"put {0x80090000 + 16 * tail:#x} cmd {'vma' if is_vma else 'iodir'}", f"reg write cqt {tail + 1}", "cmd"]
+                tail += 1
+                if is_vma:
+                    self.pages = {}
+                else:
+                    self.context = None
+        return "".join(line + "\n" for line in lines).encode()
+
+
+@check("explain: accesses under contexts that the directory has no more are told as a plain program tells them")
+def _():
+    stale = 0
+    for seed in range(20):
+        plain = Plain()
+        given = plain.script(random.Random(seed), 80)
+        status, out, errors = run(["explain"], given)
+        want("status and standard error", (status, errors), WELL)
+        told, line = {}, 0
+        for text in out.decode().splitlines():
+            if text.startswith("    "):
+                told[line].append(text)
+            elif found := re.match(r"(\d+): ", text):
+                line = int(found[1])
+                told[line] = []
+        for line, wanted in plain.told.items():
+            want(f"what is told of line {line} of script {seed}", told[line], wanted)
+            stale += any("cached context" in it for it in wanted)
+    want("whether some contexts were stale", stale > 20, True)
 
 
 def add_explained(path):

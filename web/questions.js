@@ -11,8 +11,6 @@ const SHOWN_ITEMS = 16;
 // After how many numbers of lines answers are kept, and how many questions are asked before their time.
 const MOST_KNOWN = 4;
 const MOST_LATE = 128;
-// Of how many accesses it is found out which place they filled.
-const TRACKED = 400;
 
 // The modes of a context's stages by their numbers.
 const FIRST_MODES = { 0: "Bare", 8: "Sv39", 9: "Sv48" };
@@ -29,13 +27,7 @@ function range(count, text) {
 
 const CONTEXT_QUESTIONS = range(CONTEXT_PLACES, (i) => `place context ${i}`);
 const PAGE_QUESTIONS = range(PAGE_PLACES, (i) => `place page ${i}`);
-
-/** Appends lines, and questions behind them; answers where these stand. */
-function append(played, lines, questions) {
-  lines.forEach((line) => played.push(line));
-  questions.forEach((question) => played.push(question));
-  return played.length - questions.length;
-}
+const ORIGIN_QUESTIONS = [...range(CONTEXT_PLACES, (i) => `origin context ${i}`), ...range(PAGE_PLACES, (i) => `origin page ${i}`)];
 
 /** The answer that a line's comment wants, as of `cmd # => idle`; undefined where it wants none. */
 function wantedOf(line) {
@@ -90,7 +82,6 @@ class Script {
     this.stops = numbersWhere(this.answers, (answer) => answer);
     this.stops.unshift(0);
     this.accesses = numbersWhere(this.lines, mayFill);
-    this.tracked = { from: 0, to: 0, fills: [] };
   }
 
   /** The number of the last stop up to a line. */
@@ -136,42 +127,9 @@ class Script {
     return lastLines(this.model.answersTo(this.image, played, 4096 + this.room + 192 * questions.length), questions.length);
   }
 
-  /** The lines that filled the places of both caches, as they are after the first `count` lines; 0: one that isn't known any more. */
+  /** The lines that filled the places of both caches, as they are after the first `count` lines. */
   fillers(count) {
-    const last = this.accesses.findLastIndex((line) => line <= count);
-    if (last < 0) {
-      return { contexts: [], pages: [] };
-    }
-    if (last < this.tracked.from || last >= this.tracked.to) {
-      this.track(last);
-    }
-    return this.tracked.fills[last - this.tracked.from];
-  }
-
-  /** Finds out what the accesses up to this one, and those after it as far as it pays, filled. */
-  track(last) {
-    const from = this.accesses.length <= TRACKED ? 0 : Math.max(0, last + 1 - TRACKED);
-    const some = this.accesses.slice(from, from + TRACKED);
-    const places = [...CONTEXT_QUESTIONS, ...PAGE_QUESTIONS];
-    const played = [];
-    const asked = [];
-    let done = 0;
-    for (const line of some) {
-      const before = append(played, this.lines.slice(done, line - 1), places);
-      const after = append(played, [this.lines[line - 1]], places);
-      asked.push([before, after]);
-      done = line;
-    }
-    const answers = this.model.play(this.image, played);
-    let contexts = [];
-    let pages = [];
-    const at = (start, first, many) => answers.slice(start + first, start + first + many).filter((it) => it !== "none");
-    const fills = asked.map(([before, after], i) => {
-      contexts = filledBy(at(before, 0, CONTEXT_PLACES), at(after, 0, CONTEXT_PLACES), contexts, some[i]);
-      pages = filledBy(at(before, CONTEXT_PLACES, PAGE_PLACES), at(after, CONTEXT_PLACES, PAGE_PLACES), pages, some[i]);
-      return { contexts, pages };
-    });
-    this.tracked = { from, to: from + some.length, fills };
+    return fillersIn(this.ask(count, ORIGIN_QUESTIONS));
   }
 
   /** What is known after the first `count` lines: the caches, the queues, the devices and why the last line went so. */
@@ -183,6 +141,7 @@ class Script {
       ...range(CONTEXT_PLACES, (i) => `stale context ${i}`),
       ...PAGE_QUESTIONS,
       ...range(PAGE_PLACES, (i) => `stale page ${i}`),
+      ...ORIGIN_QUESTIONS,
       ...range(DEVICES, (i) => `dev show ${i}`),
       ...range(LAST_STEPS, (i) => `why ${i}`),
     ];
@@ -191,7 +150,7 @@ class Script {
     for (const [question, answer] of items.length ? this.ask(count, items.map((it) => it.question)) : []) {
       told.set(question, answer);
     }
-    return { told, commands: items.filter((it) => it.kind === "cmd"), faults: items.filter((it) => it.kind === "fault"), fillers: this.fillers(count) };
+    return { told, commands: items.filter((it) => it.kind === "cmd"), faults: items.filter((it) => it.kind === "fault"), fillers: fillersIn(told) };
   }
 
   /** The access that a line makes, by the state before it; null where it makes none. */
@@ -226,15 +185,14 @@ class Script {
   }
 }
 
-/** Which lines filled what a cache holds after an access of a line, from what it held before it and which lines had filled that. */
-function filledBy(before, after, fillers, line) {
-  let left = 0;
-  const fits = (gone) => before.every((place, i) => i < gone || after[i - gone] === place);
-  while (!fits(left)) {
-    left += 1;
-  }
-  const kept = before.slice(left).map((_, i) => fillers[i + left] ?? 0);
-  return [...kept, ...after.slice(kept.length).map(() => line)];
+/** The lines that filled the places of both caches, by the answers of `origin`. */
+function fillersIn(told) {
+  const lines = (count, question, pattern) =>
+    range(count, (i) => pattern.exec(told.get(question(i)) ?? "")).filter(Boolean).map((it) => Number(it[1]));
+  return {
+    contexts: lines(CONTEXT_PLACES, (i) => `origin context ${i}`, /^context (\d+)$/),
+    pages: lines(PAGE_PLACES, (i) => `origin page ${i}`, / walk=(\d+)$/),
+  };
 }
 
 /** The last lines of a text in bytes, so many. */

@@ -1,3 +1,12 @@
+pub mod Beside
+pub mod Searched
+pub mod Noted
+pub mod Runs
+pub mod Followed
+pub mod Accessed
+pub mod Told
+pub mod Stepped
+pub mod Placed
 pub mod Fitting
 pub mod Telling
 pub mod Ring

@@ -1,15 +1,20 @@
 -- What is told of steps, with one step more.
-use Rattle.std.proofs.Common.{◌≡◌, ◌∙◌, ◌++◌, ◌+◌, ◌-◌, ◌<◌, ◌≤◌, ℕ, zero, suc, List, [], ◌∷◌, length, take, drop, replicate, Option, Some, append_assoc, append-nil, length-drop, drop-drop, refl, sym, ap, subst, arith}
+use Rattle.std.proofs.Common.{◌≡◌, ◌∙◌, ◌++◌, ◌+◌, ◌-◌, ◌<◌, ◌≤◌, ℕ, zero, suc, List, [], ◌∷◌, length, take, drop, replicate, Option, Some, None, append_assoc, append-nil, length-drop, drop-drop, refl, sym, ap, subst, arith}
 use Rattle.std.specs.Prelude.{IsSomeAnd, slice_get}
+use Rattle.std.specs.Option.{option_and_then, option_map}
 use Rattle.std.proofs.lemmas.List.{drop-append-le, take-append-le}
 use Rattle.std.proofs.Math.Seq.{get_or-append_seam, take-length}
 use Rattle.circular_buffer.specs.Buffer.{keep_last, last_item}
 use Rattle.iom_core.specs.State.{State}
-use Rattle.iom_core.specs.Table.{next, request_of_step}
+use Rattle.iom_core.specs.Looking.{by_tables, nothing_seen, noticed}
+use Rattle.iom_core.specs.Table.{Asking, asked, next, request_in, request_of_step, told_by_step}
 use Rattle.iom_core.specs.Warrants.{IsUncached, moment, request_at}
+use Rattle.iom_core.specs.declared.looking.Seen.{Seen}
 use Rattle.iom_core.specs.declared.step.Step.{Step}
-use Rattle.iom_history.specs.Following.{ComesFrom, Follows, Notes, number_of}
-use Rattle.iom_history.proofs.Runs.{end_more, length_more, moment_last, request_last}
+use Rattle.iom_core.specs.declared.way.Way.{Way}
+use Rattle.iom_tables.specs.Stale.{differing, stale_way}
+use Rattle.iom_account.specs.Following.{ComesFrom, Follows, Notes, number_of}
+use Rattle.iom_account.proofs.Runs.{end_more, length_more, moment_last, request_last}
 use Rattle.iom_account.specs.Account.{Account, Accounts, GoesAlong, IsReason, IsReasonOf, Tells, stale_in}
 use Rattle.iom_account.specs.declared.reason.Reason.{Reason}
 
@@ -161,3 +166,19 @@ nothing_told history platform follows = record {
   follows = follows;
   tells = record { all = []; many = refl; each = λ n reason at. absurd (cc at); kept = refl };
 }
+
+-- what the tables said of an access, by the way that it was told to be led
+stale_asked : (state : State) (asking : Option Asking) (seen : Seen) → seen ≡ told_by_step noticed nothing_seen state.machine asking →
+    option_and_then (differing seen.way) (option_map (by_tables state.machine) (option_map request_in asking))
+    ≡ stale_in state (option_map request_in asking)
+unfolding stale_way
+stale_asked state None seen is = refl
+stale_asked state (Some asking) seen is =
+    ap (λ (s : Seen). differing s.way (by_tables state.machine (request_in asking))) is
+
+pub stale_told : (state : State) (step : Step) (seen : Seen) (tables found : Option Way) →
+    seen ≡ told_by_step noticed nothing_seen state.machine (asked state step) →
+    tables ≡ option_map (by_tables state.machine) (request_of_step state step) → found ≡ option_and_then (differing seen.way) tables →
+    found ≡ stale_in state (request_of_step state step)
+stale_told state step seen tables found is tables_are told =
+    told ∙ ap (option_and_then (differing seen.way)) tables_are ∙ stale_asked state (asked state step) seen is

@@ -1,6 +1,6 @@
 -- What is told of the steps of a platform while they are carried out: which steps filled what its caches hold, and why each of the last
 -- went as it did.
-use Rattle.std.specs.Prelude.{ℕ, suc, ◌≡◌, ◌++◌, false, List, length, replicate, take, slice_get, Option, Some, None, IfSome}
+use Rattle.std.specs.Prelude.{ℕ, suc, ◌≡◌, ◌++◌, List, length, replicate, take, slice_get, Option, Some, None, IfSome}
 use Rattle.circular_buffer.specs.Buffer.{keep_last}
 use Rattle.iom_core.specs.State.{State}
 use Rattle.iom_core.specs.Run.{end_of}
@@ -8,30 +8,16 @@ use Rattle.iom_core.specs.Table.{request_of_step}
 use Rattle.iom_core.specs.Warrants.{IsUncached, moment, request_at}
 use Rattle.iom_core.specs.declared.access.Request.{Request}
 use Rattle.iom_core.specs.declared.step.Step.{Step}
-use Rattle.iom_reasons.specs.Found.{finds, found_in}
-use Rattle.iom_reasons.specs.Stale.{Fits, stale_way}
-use Rattle.iom_reasons.specs.declared.finding.Found.{Found}
+use Rattle.iom_core.specs.Access.{Fits}
+use Rattle.iom_tables.specs.Stale.{stale_way}
 use Rattle.iom_core.specs.declared.way.Way.{Way}
-use Rattle.iom_history.specs.Following.{ComesFrom, Follows, Notes, number_of}
-use Rattle.iom_account.specs.declared.known.Known.{Known}
+use Rattle.iom_account.specs.Following.{ComesFrom, Follows, Notes, number_of}
 use Rattle.iom_account.specs.declared.reason.Reason.{Reason}
 
 -- the way that the tables say of an access that is stale, before the step that makes it; None: it isn't, or there is none
 abbrev pub stale_in : State → Option Request → Option Way
 stale_in state None = None
 stale_in state (Some request) = stale_way state.machine request
-
--- what an access finds in the caches before its step; nothing where there is none
-abbrev pub found_before : State → Option Request → Found
-found_before state None = finds false false false
-found_before state (Some request) = found_in state.machine request
-
--- what is known of a step before it is carried out
-pub record IsKnown (state : State) (step : Step) (known : Known) : Type 0 where
-  pub request : known.request ≡ request_of_step state step
-  pub found : known.found ≡ found_before state (request_of_step state step)
-  pub stale : known.stale ≡ stale_in state (request_of_step state step)
-  pub fits : IfSome known.stale Fits
 
 -- the way that is told is one that the tables may say
 abbrev pub ReasonFits : Reason → Type 0

@@ -1,1 +1,3 @@
+pub mod Beside
+pub mod Following
 pub mod Account

@@ -1,10 +1,17 @@
 //! What is told of the steps of a platform.
 
+ghost use Rattle.std.specs.Prelude.{◌≡◌, IfSome};
+ghost use Rattle.std.specs.Option.{option_and_then, option_map};
+ghost use Rattle.iom_core.specs.Access.{Fits};
+ghost use Rattle.iom_core.specs.Looking.{by_tables};
+ghost use Rattle.iom_core.specs.Table.{request_of_step};
+ghost use Rattle.iom_tables.specs.Stale.{differing};
+
+use crate::history::History;
 use crate::kept::Kept;
-use crate::known::{Known, known_before};
 use crate::reason::Reason;
-use iom_core::{Answer, Platform, Step};
-use iom_history::History;
+use iom_core::{Answer, Platform, Step, Way};
+use iom_tables::differing;
 use std::marker::Model;
 
 /// Which steps filled what the caches of a platform hold, and why each of its last 32 steps went as it did. A step is told by the number
@@ -31,7 +38,7 @@ impl Account {
     ghost use Rattle.std.specs.Option.{option_copied};
     ghost use Rattle.circular_buffer.specs.Buffer.{keep_last, last_item};
     ghost use Rattle.iom_core.specs.Table.{next};
-    ghost use Rattle.iom_account.specs.Account.{Accounts, GoesAlong, IsKnown, IsReasonOf, ReasonFits};
+    ghost use Rattle.iom_account.specs.Account.{Accounts, GoesAlong, IsReasonOf, ReasonFits};
 
     /// An account that begins at this platform, of no step yet. Where translations come from is told if both caches hold nothing now.
     #[tactic(auto, using(crate::proofs::Fitting::none_told))]
@@ -82,45 +89,24 @@ impl Account {
         self.told.newest()
     }
 
-    /// Carries out the next step on the platform, which has the caller's `number`, and keeps what is told of it. Of 32 steps the oldest
-    /// leaves.
-    pub fn step(&mut self, platform: &mut Platform, step: &Step, number: u64) -> Answer
-        ensures answer { result ≡ (next platform.old step.now).answer }
+    /// Carries out the next step on the platform, which has the caller's `number`, puts its answer in place of what `answer` holds, and
+    /// keeps what is told of it. Of 32 steps the oldest leaves.
+    pub fn step(&mut self, platform: &mut Platform, step: &Step, number: u64, answer: &mut Answer)
+        ensures answer { answer.new ≡ (next platform.old step.now).answer }
         ensures state { platform.new ≡ (next platform.old step.now).state }
         ensures newest { IsSomeAnd (last_item self.new.told) (IsReasonOf platform.old step.now number) }
 
         // It goes along with the platform's steps: from a start whose caches hold nothing it tells of each what explains it.
         ensures along { GoesAlong self.old platform.old (step.now ∷ []) number self.new platform.new }
     {
-        let known = known_before(platform, step);
-        let mut answer = Answer::Done;
-        self.step_known(platform, step, &known, number, &mut answer);
-        answer
-    }
-
-    /// The same of a step of which this is known, with its answer put in place of what `answer` holds.
-    pub fn step_known(
-        &mut self,
-        platform: &mut Platform,
-        step: &Step,
-        known: &Known,
-        number: u64,
-        answer: &mut Answer,
-    )
-        requires known { IsKnown platform.old step.now known.now }
-        ensures answer { answer.new ≡ (next platform.old step.now).answer }
-        ensures state { platform.new ≡ (next platform.old step.now).state }
-        ensures newest { IsSomeAnd (last_item self.new.told) (IsReasonOf platform.old step.now number) }
-        ensures along { GoesAlong self.old platform.old (step.now ∷ []) number self.new platform.new }
-    {
-        let origin = self
-            .history
-            .step_into(platform, step, known.request, number, answer);
+        let tables = tables_for(platform, step);
+        let taken = self.history.step(platform, step, number, answer);
+        let stale = stale_by(&taken.seen.way, tables);
         self.keep(Reason {
             number,
-            request: known.request,
-            origin,
-            stale: known.stale,
+            request: taken.request,
+            origin: taken.origin,
+            stale,
         });
     }
 
@@ -135,4 +121,22 @@ impl Account {
     {
         self.told.keep(reason);
     }
+}
+
+// The way that the tables say of the access that a step makes.
+fn tables_for(platform: &Platform, step: &Step) -> Option<Way>
+    ensures told { result ≡ option_map (by_tables platform.now.machine) (request_of_step platform.now step.now) }
+    ensures fits { IfSome result Fits }
+{
+    let request = platform.request_of(step)?;
+    Some(platform.seen_uncached(&request).way)
+}
+
+// What the tables say of an access that was led this way, where they say otherwise.
+fn stale_by(now: &Way, tables: Option<Way>) -> Option<Way>
+    requires { IfSome tables Fits }
+    ensures told { result ≡ option_and_then (differing now.now) tables }
+    ensures fits { IfSome result Fits }
+{
+    differing(now, tables?)
 }

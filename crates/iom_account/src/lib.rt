@@ -1,12 +1,16 @@
-//! An account of the steps of a platform: which steps filled what its caches hold, and why each of the last 32 went as it did (RISC-V
-//! IOMMU Architecture 1.0, "Caching in-memory data structures").
+//! An account of the steps of a platform: which steps filled what its caches hold, so that of each step it is known where the
+//! translation comes from that it used, and why each of the last 32 went as it did (RISC-V IOMMU Architecture 1.0, "Caching in-memory
+//! data structures").
 #![tactic(auto)]
 
 pub use account::Account;
-pub use known::{Known, known_before};
+pub use history::{Filled, History, Taken};
+pub use origin::Origin;
 pub use reason::Reason;
 
 mod account;
+mod history;
 mod kept;
-mod known;
+mod notes;
+mod origin;
 mod reason;

@@ -1,6 +1,5 @@
-use iom_core::Request;
-use iom_history::Origin;
-use iom_reasons::Way;
+use crate::origin::Origin;
+use iom_core::{Request, Way};
 
 /// What is told of a step that was carried out.
 #[derive(Clone, Copy, Default)]

@@ -7,9 +7,9 @@ use Rattle.iom_cache.specs.declared.key.Key.{Key}
 use Rattle.iom_core.specs.State.{State}
 use Rattle.iom_core.specs.Warrants.{IsUncached}
 use Rattle.iom_core.specs.declared.step.Step.{Step}
-use Rattle.iom_history.specs.Following.{ContextFrom, PageFrom, numbers_of}
-use Rattle.iom_history.specs.declared.history.Filled.{Filled}
-use Rattle.iom_history.proofs.Placed.{context_at_place, page_at_place}
+use Rattle.iom_account.specs.Following.{ContextFrom, PageFrom, numbers_of}
+use Rattle.iom_account.specs.declared.history.Filled.{Filled}
+use Rattle.iom_account.proofs.Placed.{context_at_place, page_at_place}
 use Rattle.iom_account.specs.Account.{Account, Accounts}
 use Rattle.iom_c.specs.Why.{OriginTold, PageOriginTold}
 

@@ -20,14 +20,15 @@ use Rattle.iom_cache.specs.declared.place.Place.{Place}
 use Rattle.iom_cache.specs.declared.place.Place.TheVariants.{Beyond, Empty, Live}
 use Rattle.iom_core.specs.State.{Machine}
 use Rattle.iom_core.specs.declared.access.Request.{Request}
-use Rattle.iom_reasons.specs.Stale.{IsStale, by_tables}
-use Rattle.iom_reasons.specs.Standing.{IsContextNow, IsHitNow, found_now, request_of}
-use Rattle.iom_reasons.specs.declared.part.Part.{Part}
-use Rattle.iom_reasons.specs.declared.part.Part.TheVariants as part
-use Rattle.iom_reasons.specs.declared.part.Wide.{Wide}
-use Rattle.iom_reasons.specs.declared.part.Wide.TheVariants as wide
-use Rattle.iom_reasons.specs.declared.standing.Located.{Located}
-use Rattle.iom_reasons.specs.declared.standing.Located.TheVariants as located
+use Rattle.iom_core.specs.Looking.{by_tables}
+use Rattle.iom_tables.specs.Stale.{IsStale}
+use Rattle.iom_tables.specs.Standing.{IsContextNow, IsHitNow, found_now, request_of}
+use Rattle.iom_tables.specs.declared.part.Part.{Part}
+use Rattle.iom_tables.specs.declared.part.Part.TheVariants as part
+use Rattle.iom_tables.specs.declared.part.Wide.{Wide}
+use Rattle.iom_tables.specs.declared.part.Wide.TheVariants as wide
+use Rattle.iom_tables.specs.declared.standing.Located.{Located}
+use Rattle.iom_tables.specs.declared.standing.Located.TheVariants as located
 use Rattle.iom_core.specs.declared.way.Way.{Way}
 use Rattle.iom_core.specs.declared.way.Way.TheVariants as way
 use Rattle.iom_c.specs.Looks.{context_of}

@@ -2,9 +2,9 @@
 use Rattle.std.specs.Prelude.{ℕ, ◌≡◌, true, false, Option, Some, None}
 use Rattle.iom_core.specs.declared.access.Request.{Request}
 use Rattle.iom_core.specs.declared.way.Way.{Way}
-use Rattle.iom_history.specs.declared.history.Filled.{Filled}
-use Rattle.iom_history.specs.declared.origin.Origin.{Origin}
-use Rattle.iom_history.specs.declared.origin.Origin.TheVariants as origin
+use Rattle.iom_account.specs.declared.history.Filled.{Filled}
+use Rattle.iom_account.specs.declared.origin.Origin.{Origin}
+use Rattle.iom_account.specs.declared.origin.Origin.TheVariants as origin
 use Rattle.iom_account.specs.declared.reason.Reason.{Reason}
 use Rattle.iom_c.specs.Looks.{is_write}
 use Rattle.iom_c.specs.Reasons.{plain_way, way_of}

@@ -7,7 +7,7 @@ ghost use Rattle.iom_core.specs.declared.step.Step.{Step};
 ghost use Rattle.iom_cache.specs.declared.key.Key.{Key};
 ghost use Rattle.iom_ddt.specs.declared.context.Context.{Context};
 ghost use Rattle.iom_nested.specs.declared.translation.Hit.{Hit};
-ghost use Rattle.iom_history.specs.Following.{ContextFrom, PageFrom, numbers_of};
+ghost use Rattle.iom_account.specs.Following.{ContextFrom, PageFrom, numbers_of};
 ghost use Rattle.iom_account.specs.Account.{Accounts};
 ghost use Rattle.iom_c.specs.Why.{OriginTold, PageOriginTold, WhyTold};
 ghost use Rattle.iom_c.specs.declared.owned.Owned.{Owned};

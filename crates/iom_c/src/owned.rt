@@ -66,5 +66,8 @@ pub fn carry_out(own: &mut Owned, step: &Step) -> Answer
         own.new.account own.new.platform }
 {
     own.count = own.count.saturating_add(1);
-    own.account.step(&mut own.platform, step, own.count)
+    let mut answer = Answer::Done;
+    own.account
+        .step(&mut own.platform, step, own.count, &mut answer);
+    answer
 }

@@ -2,7 +2,7 @@
 
 ghost use Rattle.std.specs.Prelude.{◌≡◌, ◌≤◌, ◌<◌, ◌^◌, slice_get, Some};
 ghost use Rattle.iom_cache.specs.Places.{place_in};
-ghost use Rattle.iom_reasons.specs.Parts.{parts_of};
+ghost use Rattle.iom_tables.specs.Parts.{parts_of};
 ghost use Rattle.iom_c.specs.Reasons.{asking, beyond, ContextStands, PageStands, PartTold, StaleTold};
 ghost use Rattle.iom_c.specs.declared.owned.Owned.{Owned};
 
@@ -12,7 +12,7 @@ use crate::ways::{LocatedContext, RequestWay, located_of, way_of};
 use iom_bits::Kind;
 use iom_cache::Place;
 use iom_core::{Platform, Request};
-use iom_reasons::{Standing, parts, stale, stale_context, stale_page};
+use iom_tables::{Standing, parts, stale, stale_context, stale_page};
 use std::alloc::Global;
 
 // What device `did` asks.

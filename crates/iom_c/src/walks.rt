@@ -3,8 +3,8 @@ ghost use Rattle.iom_c.specs.Reasons.{entry_part, met_part, mode_number, part_of
 
 use crate::ways::{RequestWay, plain_way, way_of};
 use iom_ddt::Met;
-use iom_reasons::{Part, Wide};
 use iom_regs::Mode;
+use iom_tables::{Part, Wide};
 use iom_walk::{Got, PathEntry, Ruling};
 
 /// One thing that is looked at to lead a request, in C `struct rviommu_walk_part`. What its kind doesn't have is 0.

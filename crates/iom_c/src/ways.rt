@@ -2,7 +2,7 @@ ghost use Rattle.std.specs.Prelude.{◌≡◌};
 ghost use Rattle.iom_c.specs.Reasons.{located_of, no_context, plain_way, way_of};
 
 use crate::places::{ContextPlace, context_of};
-use iom_reasons::{Located, Way};
+use iom_tables::{Located, Way};
 
 /// The way that a request is led, in C `struct rviommu_way`. What its kind doesn't have is 0.
 #[repr(C)]

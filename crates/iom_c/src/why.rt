@@ -2,10 +2,9 @@ ghost use Rattle.std.specs.Prelude.{◌≡◌};
 ghost use Rattle.iom_c.specs.Why.{asked_by, led_by, plain_reason, reason_of, used_by};
 
 use crate::ways::{RequestWay, plain_way, way_of};
-use iom_account::Reason;
+use iom_account::{Origin, Reason};
 use iom_bits::Kind;
 use iom_core::Request;
-use iom_history::Origin;
 
 /// Why a step went as it did, in C `struct rviommu_why`. What its kind doesn't have is 0.
 #[repr(C)]

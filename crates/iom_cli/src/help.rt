@@ -107,6 +107,8 @@ The lines of a script are those of `rviommu --help` and these:
   stale page I                  memory say now: same, or what they say
   walk read DID IOVA I          part I of the way of a device's access where
   walk write DID IOVA I         nothing is cached, the first 0
+  origin context I              the lines that filled place I of a cache, and of
+  origin page I                 a translation its context
   why I                         the lines where what step I of the trace used
                                 was cached, and whether it was stale
 

@@ -1,6 +1,5 @@
 -- What a search of the history finds explains a step.
-use Rattle.std.proofs.Common.{◌≡◌, ◌∙◌, ℕ, List, true, false, Some, None, sym, ap, subst}
-use Rattle.iom_ddt.specs.Contexts.{is_bare}
+use Rattle.std.proofs.Common.{◌≡◌, ◌∙◌, ℕ, List, Some, sym, ap, subst}
 use Rattle.iom_ddt.specs.declared.context.Context.{Context}
 use Rattle.iom_cache.specs.Origins.{IsLast}
 use Rattle.iom_cache.specs.declared.key.Key.{Key}
@@ -8,8 +7,10 @@ use Rattle.iom_cache.proofs.Origins.{IsLast-unique}
 use Rattle.iom_core.specs.State.{State}
 use Rattle.iom_core.specs.Access.{Led, request_key}
 use Rattle.iom_core.specs.declared.way.Way.{Way}
+use Rattle.iom_core.specs.declared.way.Way.TheVariants.{Register as ByRegister, Context as ByContext, Walked}
+use Rattle.iom_nested.specs.declared.translation.Hit.{Hit}
 use Rattle.iom_core.specs.declared.access.Request.{Request}
-use Rattle.iom_core.specs.Histories.{IsLedBy, fills_at}
+use Rattle.iom_core.specs.Histories.{fills_at}
 use Rattle.iom_core.specs.Warrants.{IsByContext, IsByRegister, IsUncached, IsWalked, moment, request_at, way_at}
 use Rattle.iom_core.specs.declared.history.Entry.TheVariants as entry
 use Rattle.iom_core.specs.declared.step.Step.{Step}
@@ -29,54 +30,54 @@ pub record WalkFound (start : State) (steps : List Step) (n : ℕ) (request : Re
   pub same : is.now ≡ now
 
 module _ (start : State) (steps : List Step) (n : ℕ) (request : Request) where
-  pub by_register : IsLedBy (way_at start steps n request) None → IsByRegister start steps n request
-  by_register led =
-      let by : Led → Type 0 = λ l. IsLedBy l.way None in
+  pub by_register : way_at start steps n request ≡ ByRegister → IsByRegister start steps n request
+  by_register is =
+      let way : Led → Way = λ l. l.way in
       elim (how_led (moment start steps n).machine request) [
-        | WasOff e ↦ absurd (subst by e led)
-        | WasByRegister bare e ↦ record { used = ap (λ (l : Led). l.way) e; mode = bare }
-        | WasNowhere why context e ↦ absurd (subst by e led)
-        | WasByContext context looked bare e ↦ let other : None ≡ Some context = subst by e led in absurd (cc)
-        | WasWalked context hit looked bare page e ↦ let other : None ≡ Some context = subst by e led in absurd (cc)
-        | WasFault context fault looked bare page e ↦ absurd (subst by e led)
+        | WasOff e ↦ let other = sym is ∙ ap way e in absurd (cc)
+        | WasByRegister bare e ↦ record { used = is; mode = bare }
+        | WasNowhere why context e ↦ let other = sym is ∙ ap way e in absurd (cc)
+        | WasByContext context looked bare e ↦ let other = sym is ∙ ap way e in absurd (cc)
+        | WasWalked context hit looked bare page e ↦ let other = sym is ∙ ap way e in absurd (cc)
+        | WasFault context fault looked bare page e ↦ let other = sym is ∙ ap way e in absurd (cc)
       ]
 
-  pub by_context : (context : Context) → IsUncached start → request_at start steps n ≡ Some request → is_bare context ≡ true →
-      IsLedBy (way_at start steps n request) (Some context) → ContextFound start steps n request
+  pub by_context : (context : Context) → IsUncached start → request_at start steps n ≡ Some request →
+      way_at start steps n request ≡ ByContext context → ContextFound start steps n request
   unfolding context_of
-  by_context context none is both led =
-      let by : Led → Type 0 = λ l. IsLedBy l.way (Some context) in
+  by_context context none both is =
+      let way : Led → Way = λ l. l.way in
       elim (how_led (moment start steps n).machine request) [
-        | WasOff e ↦ absurd (subst by e led)
-        | WasByRegister bare e ↦ let other : Some context ≡ None = subst by e led in absurd (cc)
-        | WasNowhere why looked e ↦ absurd (subst by e led)
+        | WasOff e ↦ let other = sym is ∙ ap way e in absurd (cc)
+        | WasByRegister bare e ↦ let other = sym is ∙ ap way e in absurd (cc)
+        | WasNowhere why looked e ↦ let other = sym is ∙ ap way e in absurd (cc)
         | WasByContext own looked bare e ↦ record {
           k = context_of start steps n request.did;
           is = record {
             context = own;
-            used = ap (λ (l : Led). l.way) e;
+            used = ap way e;
             bare = bare;
-            fresh = fresh_context start steps n request own none is looked (sym (ap (λ (l : Led). l.context) e));
+            fresh = fresh_context start steps n request own none both looked (sym (ap (λ (l : Led). l.context) e));
           };
         }
-        | WasWalked own hit looked staged page e ↦ let same : Some context ≡ Some own = subst by e led in absurd (cc)
-        | WasFault own fault looked staged page e ↦ absurd (subst by e led)
+        | WasWalked own hit looked staged page e ↦ let other = sym is ∙ ap way e in absurd (cc)
+        | WasFault own fault looked staged page e ↦ let other = sym is ∙ ap way e in absurd (cc)
       ]
 
-  pub by_walk : (now : Context) → IsUncached start → request_at start steps n ≡ Some request → is_bare now ≡ false →
-      IsLedBy (way_at start steps n request) (Some now) → WalkFound start steps n request now
-  by_walk now none is both led =
-      let by : Led → Type 0 = λ l. IsLedBy l.way (Some now) in
+  pub by_walk : (now : Context) (hit : Hit) → IsUncached start → request_at start steps n ≡ Some request →
+      way_at start steps n request ≡ Walked now hit → WalkFound start steps n request now
+  by_walk now hit none both is =
+      let way : Led → Way = λ l. l.way in
       elim (how_led (moment start steps n).machine request) [
-        | WasOff e ↦ absurd (subst by e led)
-        | WasByRegister bare e ↦ let other : Some now ≡ None = subst by e led in absurd (cc)
-        | WasNowhere why looked e ↦ absurd (subst by e led)
-        | WasByContext own looked bare e ↦ let same : Some now ≡ Some own = subst by e led in absurd (cc)
+        | WasOff e ↦ let other = sym is ∙ ap way e in absurd (cc)
+        | WasByRegister bare e ↦ let other = sym is ∙ ap way e in absurd (cc)
+        | WasNowhere why looked e ↦ let other = sym is ∙ ap way e in absurd (cc)
+        | WasByContext own looked bare e ↦ let other = sym is ∙ ap way e in absurd (cc)
         | WasWalked own found looked staged page e ↦
-            let h = walked start steps n request own found none is looked page e in
-            let one : Some now ≡ Some h.now = subst (λ (w : Way). IsLedBy w (Some now)) h.used led in
+            let h = walked start steps n request own found none both looked page e in
+            let one : Walked h.now h.hit ≡ Walked now hit = sym h.used ∙ is in
             record { c = _; w = _; current = _; is = h; same = cc }
-        | WasFault own fault looked staged page e ↦ absurd (subst by e led)
+        | WasFault own fault looked staged page e ↦ let other = sym is ∙ ap way e in absurd (cc)
       ]
 
   -- the moments are the last that filled

@@ -101,8 +101,8 @@ context_of start steps n did = found_stamp (same_did did) (moment start steps n)
 -- the page that a request uses was filled at its origin
 page_origin : (start : State) (steps : List Step) (n : ℕ) (request : Request) (context : Context) (hit : Hit) → IsUncached start →
     request_at start steps n ≡ Some request →
-    (page_look (moment start steps n).machine request context).used ≡ Ok hit →
-    (page_look (moment start steps n).machine request context).filled ≡ (led (moment start steps n).machine request).page →
+    (page_look (moment start steps n).machine.memory (moment start steps n).machine.pages request context).used ≡ Ok hit →
+    (page_look (moment start steps n).machine.memory (moment start steps n).machine.pages request context).filled ≡ (led (moment start steps n).machine request).page →
     Origin same_key drops_page (page_filled_at start steps) (executed_at start steps) n (request_key request context) hit
     (walk_of start steps n (request_key request context))
 unfolding page_look walk_of
@@ -152,11 +152,12 @@ walked_by start steps n w request now hit none used current o fill =
 pub walked : (start : State) (steps : List Step) (n : ℕ) (request : Request) (now : Context) (hit : Hit) → IsUncached start →
     request_at start steps n ≡ Some request →
     (context_look (moment start steps n).machine request.did).used ≡ Ok now →
-    (page_look (moment start steps n).machine request now).used ≡ Ok hit →
+    (page_look (moment start steps n).machine.memory (moment start steps n).machine.pages request now).used ≡ Ok hit →
     led (moment start steps n).machine request ≡ record {
       way = Walked now hit;
+      by = Some now;
       context = (context_look (moment start steps n).machine request.did).filled;
-      page = (page_look (moment start steps n).machine request now).filled;
+      page = (page_look (moment start steps n).machine.memory (moment start steps n).machine.pages request now).filled;
     } →
     IsWalked start steps n request
     (context_of start steps (walk_of start steps n (request_key request now)) request.did)

@@ -3,9 +3,9 @@ pub mod Runs
 pub mod Wide
 pub mod Untouched
 pub mod Ways
+pub mod Uncached
 pub mod Moments
 pub mod Fresh
-pub mod NewContext
 pub mod Explained
 pub mod Warranted
 pub mod Puts
@@ -15,5 +15,4 @@ pub mod Moved
 pub mod Reaches
 pub mod Search
 pub mod Filled
-pub mod Passed
 pub mod Found

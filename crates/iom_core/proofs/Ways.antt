@@ -17,7 +17,7 @@ use Rattle.iom_cache.specs.Places.{find, Look, look}
 use Rattle.iom_cache.specs.declared.key.Key.{Key}
 use Rattle.iom_cache.proofs.Origins.{look-unused}
 use Rattle.iom_core.specs.State.{Machine}
-use Rattle.iom_core.specs.Access.{Led, context_look, led, led_by_context, led_by_mode, led_by_page, page_look, request_key, plain, refused, translating}
+use Rattle.iom_core.specs.Access.{Led, Under, context_look, led, led_by_context, led_by_mode, page_look, request_key, plain, refused, translating, way_to}
 use Rattle.iom_core.specs.declared.way.Way.TheVariants.{Register as ByRegister, Context as ByContext, Walked, Denied}
 use Rattle.iom_core.specs.declared.access.Request.{Request}
 use Rattle.iom_core.proofs.Wide.{too_wide_located}
@@ -57,39 +57,48 @@ context_used-cached m did context used = elim (context_looked m did) [
 
 -- The cases of a request's way.
 pub data HowLed (m : Machine) (request : Request) : Type 0 where
-  WasOff : led m request ≡ refused cause.Off → HowLed m request
-  WasByRegister : mode_of m.registers ≡ Bare → led m request ≡ record { way = ByRegister; context = None; page = None } → HowLed m request
+  WasOff : led m request ≡ refused cause.Off None → HowLed m request
+  WasByRegister : mode_of m.registers ≡ Bare → led m request ≡ record { way = ByRegister; by = None; context = None; page = None } → HowLed m request
   WasNowhere : (why : Cause) → (context_look m request.did).used ≡ Err why →
-      led m request ≡ record { way = Denied (plain why); context = (context_look m request.did).filled; page = None } → HowLed m request
+      led m request ≡ record { way = Denied (plain why); by = None; context = (context_look m request.did).filled; page = None } → HowLed m request
   WasByContext : (context : Context) → (context_look m request.did).used ≡ Ok context → is_bare context ≡ true →
-      led m request ≡ record { way = ByContext context; context = (context_look m request.did).filled; page = None } → HowLed m request
+      led m request ≡ record { way = ByContext context; by = Some context; context = (context_look m request.did).filled; page = None } → HowLed m request
   WasWalked : (context : Context) (hit : Hit) → (context_look m request.did).used ≡ Ok context → is_bare context ≡ false →
-      (page_look m request context).used ≡ Ok hit →
-      led m request ≡ record { way = Walked context hit; context = (context_look m request.did).filled; page = (page_look m request context).filled } →
+      (page_look m.memory m.pages request context).used ≡ Ok hit →
+      led m request ≡ record { way = Walked context hit; by = Some context; context = (context_look m request.did).filled; page = (page_look m.memory m.pages request context).filled } →
       HowLed m request
   WasFault : (context : Context) (fault : Fault) → (context_look m request.did).used ≡ Ok context → is_bare context ≡ false →
-      (page_look m request context).used ≡ Err fault →
-      led m request ≡ record { way = Denied (translating context fault); context = (context_look m request.did).filled; page = (page_look m request context).filled } →
+      (page_look m.memory m.pages request context).used ≡ Err fault →
+      led m request ≡ record { way = Denied (translating context fault); by = Some context; context = (context_look m request.did).filled; page = (page_look m.memory m.pages request context).filled } →
       HowLed m request
 
+-- by a context, below which the request is led so
+abbrev led_above : Context → Option (ℕ × Context) → Under → Led
+led_above context fill under = record { way = under.way; by = Some context; context = fill; page = under.page }
+
 by_page : (m : Machine) (request : Request) (context : Context) → (context_look m request.did).used ≡ Ok context → is_bare context ≡ false →
-    led m request ≡ led_by_page context (context_look m request.did).filled (page_look m request context).filled (page_look m request context).used →
+    led m request ≡ led_above context (context_look m request.did).filled (record {
+      way = way_to context (page_look m.memory m.pages request context).used;
+      page = (page_look m.memory m.pages request context).filled;
+    }) →
     HowLed m request
 by_page m request context used bare is =
     let fill = (context_look m request.did).filled in
-    let page = (page_look m request context).filled in
-    let Goal : Result Hit Fault → Type 0 = λ r. (page_look m request context).used ≡ r → HowLed m request in
+    let page = (page_look m.memory m.pages request context).filled in
+    let by : Result Hit Fault → Led = λ r. led_above context fill (record { way = way_to context r; page = page }) in
+    let Goal : Result Hit Fault → Type 0 = λ r. (page_look m.memory m.pages request context).used ≡ r → HowLed m request in
     let by_used : (r : Result Hit Fault) → Goal r = λ r. elim r as Goal [
-      | Ok hit ↦ λ e. WasWalked context hit used bare e (is ∙ ap (led_by_page context fill page) e)
-      | Err fault ↦ λ e. WasFault context fault used bare e (is ∙ ap (led_by_page context fill page) e)
-    ] in by_used (page_look m request context).used refl
+      | Ok hit ↦ λ e. WasWalked context hit used bare e (is ∙ ap by e)
+      | Err fault ↦ λ e. WasFault context fault used bare e (is ∙ ap by e)
+    ] in by_used (page_look m.memory m.pages request context).used refl
 
 by_bareness : (m : Machine) (request : Request) (context : Context) → (context_look m request.did).used ≡ Ok context →
     led m request ≡ led_by_context m request (context_look m request.did).filled (Ok context) → HowLed m request
 by_bareness m request context used is =
     let fill = (context_look m request.did).filled in
-    let split : Bool → Led = λ b. if b then record { way = ByContext context; context = fill; page = None }
-    else led_by_page context fill (page_look m request context).filled (page_look m request context).used in
+    let look = page_look m.memory m.pages request context in
+    let split : Bool → Led = λ b. led_above context fill
+    (if b then record { way = ByContext context; page = None } else record { way = way_to context look.used; page = look.filled }) in
     let Goal : Bool → Type 0 = λ b. is_bare context ≡ b → HowLed m request in
     let by_bare : (b : Bool) → Goal b = λ b. elim b as Goal [
       | true ↦ λ bare. WasByContext context used bare (is ∙ ap split bare)
@@ -118,7 +127,7 @@ how_led m request =
 
 -- what is filled was not found
 page_look-unused : (m : Machine) (request : Request) (context : Context) →
-    IfSome ((page_look m request context).filled) (λ entry. find (same_key entry.0) m.pages ≡ None)
+    IfSome ((page_look m.memory m.pages request context).filled) (λ entry. find (same_key entry.0) m.pages ≡ None)
 unfolding page_look
 page_look-unused m request context =
     look-unused same_key (request_key request context) m.pages (translation m.memory context request.iova request.kind)
@@ -194,7 +203,7 @@ pub record FilledPage (m : Machine) (request : Request) (key : Key) (hit : Hit) 
   pub own : key ≡ request_key request context
   pub translated : translation m.memory context request.iova request.kind ≡ Ok hit
 
-page_look-filled : (m : Machine) (request : Request) (context : Context) (key : Key) (hit : Hit) → (page_look m request context).filled ≡ Some (key, hit) →
+page_look-filled : (m : Machine) (request : Request) (context : Context) (key : Key) (hit : Hit) → (page_look m.memory m.pages request context).filled ≡ Some (key, hit) →
     (key ≡ request_key request context) × (translation m.memory context request.iova request.kind ≡ Ok hit)
 unfolding page_look
 page_look-filled m request context key hit filled =
@@ -206,7 +215,7 @@ filled_page m request key hit filled =
     let none : (led m request).page ≡ None → FilledPage m request key hit = λ e. absurd (cc) in
     let P : Led → Option (Key × Hit) = λ l. l.page in
     let by_look : (context : Context) → (context_look m request.did).used ≡ Ok context → (led m request).context ≡ (context_look m request.did).filled →
-    (led m request).page ≡ (page_look m request context).filled → FilledPage m request key hit =
+    (led m request).page ≡ (page_look m.memory m.pages request context).filled → FilledPage m request key hit =
     λ context used c e. let f = page_look-filled m request context key hit (sym e ∙ filled) in
     record { context = context; used = used; filled = sym c; own = f.0; translated = f.1 } in
     elim (how_led m request) [

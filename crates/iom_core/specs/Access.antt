@@ -1,6 +1,6 @@
 -- A device's access: where it leads, what it leaves in the caches, and how the bus answers it. RISC-V IOMMU Architecture 1.0,
 -- "Process to translate an IOVA", "Caching in-memory data structures" and "Fault/Event-Queue (FQ)".
-use Rattle.std.specs.Prelude.{ℕ, ◌+◌, ◌*◌, ◌%◌, true, List, [], length, Option, Some, None, Result, Ok, Err, is_some, if◌then◌else◌}
+use Rattle.std.specs.Prelude.{ℕ, ◌+◌, ◌*◌, ◌%◌, Bool, true, false, List, [], length, Option, Some, None, Result, Ok, Err, is_some, if◌then◌else◌}
 use Rattle.iom_bits.specs.declared.causes.Cause.{Cause}
 use Rattle.iom_bits.specs.declared.causes.Cause.TheVariants as cause
 use Rattle.iom_bits.specs.declared.causes.Kind.{Kind}
@@ -13,7 +13,7 @@ use Rattle.iom_regs.specs.declared.views.Mode.TheVariants as mode
 use Rattle.iom_ddt.specs.Contexts.{is_bare}
 use Rattle.iom_ddt.specs.Directory.{is_too_wide, levels_of, located}
 use Rattle.iom_ddt.specs.declared.context.Context.{Context}
-use Rattle.iom_nested.specs.Nested.{translation}
+use Rattle.iom_nested.specs.Nested.{HitFits, translation}
 use Rattle.iom_nested.specs.declared.translation.Fault.{Fault}
 use Rattle.iom_nested.specs.declared.translation.Hit.{Hit}
 use Rattle.iom_queue.specs.Delivery.{Delivery, delivered}
@@ -26,15 +26,20 @@ use Rattle.iom_virtq.specs.declared.access.Access.TheVariants as access
 use Rattle.iom_core.specs.State.{Machine, context_room, page_room}
 use Rattle.iom_core.specs.declared.access.Denial.{Denial}
 use Rattle.iom_core.specs.declared.access.Request.{Request}
+use Rattle.iom_core.specs.declared.witness.Event.{Event}
+use Rattle.iom_core.specs.declared.witness.Event.TheVariants as event
+use Rattle.iom_core.specs.declared.witness.Source.{Source}
+use Rattle.iom_core.specs.declared.witness.Source.TheVariants as source
 use Rattle.iom_core.specs.declared.way.Way.{Way}
 use Rattle.iom_core.specs.declared.way.Way.TheVariants.{Register as ByRegister, Context as ByContext, Walked, Denied}
 
 -- A request is led by ddtp, whose mode is Bare (ByRegister), or by its device's context, both of whose stages are Bare (ByContext): the
 -- address is the IOVA itself; by the stages of the context, which lead the page to a frame (Walked); or nowhere (Denied).
 
--- the way, and what is filled in each cache
+-- the way; the context that leads the request, also where it is denied under it; and what is filled in each cache
 pub record Led : Type 0 where
   pub way : Way
+  pub by : Option Context
   pub context : Option (ℕ × Context)
   pub page : Option (Key × Hit)
 
@@ -60,33 +65,48 @@ context_look m did = look did (live_context m did) (located m.memory m.registers
 abbrev pub request_key : Request → Context → Key
 request_key request context = key_of context request.did request.iova request.kind
 
-unfoldable pub page_look : Machine → Request → Context → Look Key Hit Fault
-page_look m request context =
-    look (request_key request context) (find (same_key (request_key request context)) m.pages)
-    (translation m.memory context request.iova request.kind)
+unfoldable pub page_look : Memory → List (Option (Key × Hit)) → Request → Context → Look Key Hit Fault
+page_look memory pages request context =
+    look (request_key request context) (find (same_key (request_key request context)) pages)
+    (translation memory context request.iova request.kind)
 
 -- denied before any page table is read
-abbrev pub refused : Cause → Led
-refused why = record { way = Denied (plain why); context = None; page = None }
+abbrev pub refused : Cause → Option (ℕ × Context) → Led
+refused why fill = record { way = Denied (plain why); by = None; context = fill; page = None }
 
--- by the page
-abbrev pub led_by_page : Context → Option (ℕ × Context) → Option (Key × Hit) → Result Hit Fault → Led
-led_by_page context fill page (Ok hit) = record { way = Walked context hit; context = fill; page = page }
-led_by_page context fill page (Err fault) =
-    record { way = Denied (translating context fault); context = fill; page = page }
+-- by where the stages of a context lead the page
+abbrev pub way_to : Context → Result Hit Fault → Way
+way_to context (Ok hit) = Walked context hit
+way_to context (Err fault) = Denied (translating context fault)
+
+-- a hit that it leads by has the bounds of one
+abbrev pub Fits : Way → Type 0
+Fits ByRegister = Unit {0}
+Fits (ByContext context) = Unit {0}
+Fits (Walked context hit) = HitFits hit
+Fits (Denied denial) = Unit {0}
+
+-- below a context: the way, and the page that is filled
+pub record Under : Type 0 where
+  pub way : Way
+  pub page : Option (Key × Hit)
+
+abbrev pub led_under : Memory → List (Option (Key × Hit)) → Request → Context → Under
+led_under memory pages request context =
+    if is_bare context then record { way = ByContext context; page = None }
+    else record { way = way_to context (page_look memory pages request context).used; page = (page_look memory pages request context).filled }
 
 -- by the context, which is filled before the page is walked, so also where the walk fails
 abbrev pub led_by_context : Machine → Request → Option (ℕ × Context) → Result Context Cause → Led
 led_by_context m request fill (Ok context) =
-    if is_bare context then record { way = ByContext context; context = fill; page = None }
-    else led_by_page context fill (page_look m request context).filled (page_look m request context).used
-led_by_context m request fill (Err why) = record { way = Denied (plain why); context = fill; page = None }
+    record { way = (led_under m.memory m.pages request context).way; by = Some context; context = fill; page = (led_under m.memory m.pages request context).page }
+led_by_context m request fill (Err why) = refused why fill
 
 -- by the mode: with Off all is disallowed, with Bare the address is the IOVA itself, otherwise the directory has the device's
 -- context
 abbrev pub led_by_mode : Mode → Machine → Request → Led
-led_by_mode mode.Off m request = refused cause.Off
-led_by_mode mode.Bare m request = record { way = ByRegister; context = None; page = None }
+led_by_mode mode.Off m request = refused cause.Off None
+led_by_mode mode.Bare m request = record { way = ByRegister; by = None; context = None; page = None }
 led_by_mode (mode.Levels levels) m request =
     led_by_context m request (context_look m request.did).filled (context_look m request.did).used
 
@@ -99,6 +119,43 @@ address_on ByRegister iova = Ok iova
 address_on (ByContext context) iova = Ok iova
 address_on (Walked context hit) iova = Ok (hit.frame * 4096 + iova % 4096)
 address_on (Denied denial) iova = Err denial
+
+-- what is found in a live place isn't filled; what is read is
+abbrev pub source_of : {X : Type 0} → Option X → Source
+source_of None = source.Found
+source_of (Some fill) = source.Read
+
+-- What a witness is told of an access that is led so, one after the other: the context that leads it, the page that it hits, each
+-- with where it comes from, and last the way.
+abbrev pub context_told : {S : Type 0} → (S → Event → S) → S → ℕ → Option Context → Option (ℕ × Context) → S
+context_told next s did None fill = s
+context_told next s did (Some context) fill = next s (event.Context (source_of fill) did context)
+
+abbrev pub page_told : {S : Type 0} → (S → Event → S) → S → Request → Way → Option (Key × Hit) → S
+page_told next s request (Walked context hit) fill = next s (event.Page (source_of fill) (request_key request context) hit)
+page_told next s request _ fill = s
+
+abbrev pub under_told : {S : Type 0} → (S → Event → S) → S → Request → Under → S
+under_told next s request under = next (page_told next s request under.way under.page) (event.Way under.way)
+
+abbrev pub told : {S : Type 0} → (S → Event → S) → S → Request → Led → S
+told next s request led =
+    next (page_told next (context_told next s request.did led.by led.context) request led.way led.page) (event.Way led.way)
+
+-- what it is told of the access that a request is
+abbrev pub told_of : {S : Type 0} → (S → Event → S) → S → Machine → Request → S
+told_of next s m request = told next s request (led m request)
+
+-- a machine by its parts
+abbrev pub machine_of : Memory → Registers → List (Option (ℕ × Context)) → List (Option (Key × Hit)) → Machine
+machine_of memory registers contexts pages =
+    record { memory = memory; registers = registers; contexts = contexts; pages = pages }
+
+-- places with a fill, in caches that are filled, and as they are in those that aren't
+abbrev pub filled_where : {K V : Type 0} → Bool → ℕ → Option (K × V) → List (Option (K × V)) → List (Option (K × V))
+filled_where fills room None places = places
+filled_where true room (Some entry) places = filled_by room (Some entry) places
+filled_where false room (Some entry) places = places
 
 -- the machine after the look-ups
 abbrev pub with_fills : Machine → Led → Machine

@@ -1,5 +1,6 @@
 pub mod State
 pub mod Access
+pub mod Looking
 pub mod Commands
 pub mod Table
 pub mod Run

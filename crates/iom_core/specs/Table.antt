@@ -15,10 +15,11 @@ use Rattle.iom_blk.specs.Registers.{is_legal as is_device_register, read as devi
 use Rattle.iom_blk.specs.declared.want.Moved.{Moved}
 use Rattle.iom_blk.specs.declared.want.Moved.TheVariants as moved
 use Rattle.iom_core.specs.State.{State, Machine, with_device, with_machine}
-use Rattle.iom_core.specs.Access.{request_of, served}
+use Rattle.iom_core.specs.Access.{request_of, served, told_of}
 use Rattle.iom_core.specs.declared.access.Request.{Request}
 use Rattle.iom_core.specs.Commands.{after_command, executed_by, fetched, is_taken}
 use Rattle.iom_core.specs.declared.step.Step.{Step}
+use Rattle.iom_core.specs.declared.witness.Event.{Event}
 use Rattle.iom_core.specs.declared.step.Step.TheVariants as step
 use Rattle.iom_core.specs.declared.step.Answer.{Answer}
 use Rattle.iom_core.specs.declared.step.Answer.TheVariants as answer
@@ -78,6 +79,11 @@ request_in asking = request_of asking.did asking.ask
 
 abbrev pub request_of_step : State → Step → Option Request
 request_of_step state taken = option_map request_in (asked state taken)
+
+-- what a witness is told of a step: of the access that it makes, if it makes one
+abbrev pub told_by_step : {S : Type 0} → (S → Event → S) → S → Machine → Option Asking → S
+told_by_step next s m None = s
+told_by_step next s m (Some asking) = told_of next s m (request_in asking)
 
 -- The command that a step executes; None: it is no command step, or one that was idle, faulted, met an illegal command, or a
 -- fence whose store could not be done.

@@ -1,24 +1,32 @@
 //! A device's access: where it leads, and what it leaves in the caches (RISC-V IOMMU Architecture 1.0, "Process to translate
 //! an IOVA", "Caching in-memory data structures").
 
-ghost use Rattle.std.specs.Prelude.{◌≡◌, ◌<◌, ◌≤◌, ◌^◌, ◌+◌, ◌*◌, ◌%◌, [], false, length, None, Ok};
-ghost use Rattle.iom_regs.specs.Views.{mode_of};
-ghost use Rattle.iom_ddt.specs.Directory.{levels_of, located};
-ghost use Rattle.iom_ddt.specs.Contexts.{IsWellFormed, is_bare};
-ghost use Rattle.iom_cache.specs.Keys.{same_did, same_key};
-ghost use Rattle.iom_nested.specs.Nested.{HitFits};
-ghost use Rattle.iom_cache.specs.Places.{find, look};
+ghost use Rattle.std.specs.Prelude.{◌≡◌, ◌<◌, ◌≤◌, ◌^◌, ◌+◌, ◌*◌, ◌%◌, [], false, length, IfSome, None, Ok, Err};
 ghost use Rattle.std.specs.Bool.{OnFalse};
+ghost use Rattle.iom_regs.specs.Views.{mode_of};
+ghost use Rattle.iom_ddt.specs.Contexts.{IsWellFormed, is_bare};
+ghost use Rattle.iom_ddt.specs.Directory.{levels_of, located};
+ghost use Rattle.iom_nested.specs.Nested.{HitFits};
+ghost use Rattle.iom_cache.specs.Entries.{HoldsContext, HoldsHit};
+ghost use Rattle.iom_cache.specs.Keys.{same_did, same_key};
+ghost use Rattle.iom_cache.specs.Places.{EachLive, find, look};
 ghost use Rattle.iom_virtq.specs.Bus.{Read, Write, is_granted, reply_of};
-ghost use Rattle.iom_core.specs.Access.{address_on, context_look, led, led_by_context, plain, record_left, request_key, served, translating, with_delivery, with_fills};
+ghost use Rattle.iom_core.specs.Access.{Fits, address_on, context_look, filled_where, led, led_by_context, led_under, machine_of, page_told, plain, record_left, request_key, request_of, served, told, told_of, translating, under_told, with_delivery, with_fills};
+ghost use Rattle.iom_core.specs.State.{context_room, page_room};
+ghost use Rattle.iom_core.specs.declared.way.Way.TheVariants as way;
+ghost use Rattle.iom_core.specs.declared.witness.Event.TheVariants as event;
 
+use crate::caches::Caches;
 use crate::machine::Machine;
+use crate::way::Way;
+use crate::witness::{Event, Source, Witness};
 use iom_bits::{Cause, Kind};
 use iom_cache::{Key, key_of};
 use iom_ddt::{Context, is_too_wide, locate};
+use iom_mem::Ram;
 use iom_nested::{Fault, Hit, translate};
 use iom_queue::{Record, deliver, is_reported};
-use iom_regs::Mode;
+use iom_regs::{Mode, Regs};
 use iom_virtq::Access;
 
 /// What a device asks of the IOMMU: an untranslated request (RISC-V IOMMU Architecture 1.0, "Process to translate an IOVA").
@@ -72,20 +80,27 @@ impl Denial {
 impl Machine {
     /// Reads the bytes from IOVA `iova` on, within one page of 4096 bytes, for device `did`, below 2^24, into `out`, which is
     /// unchanged unless the answer is Ok. `Denied` where the IOMMU denies it, which may leave a fault record; `Outside` where a
-    /// byte of it lies outside memory.
+    /// byte of it lies outside memory. A witness is told what leads it.
     #[tactic(auto, unfolding(crate::specs::Access::effect))]
-    pub fn read(&mut self, did: u32, iova: u64, out: &mut [u8]) -> Access
+    pub fn read<W: Witness>(
+        &mut self,
+        did: u32,
+        iova: u64,
+        out: &mut [u8],
+        witness: &mut W,
+    ) -> Access
         requires { did < 2 ^ 24 }
         ensures reply { reply_of result out.new ≡ (served self.old did (Read iova (length out.old))).reply }
         ensures left { self.new ≡ (served self.old did (Read iova (length out.old))).machine }
         ensures unchanged { OnFalse (is_granted result) (out.new ≡ out.old) }
+        ensures told { witness.new ≡ told_of W.next witness.old self.old (request_of did (Read iova (length out.old))) }
     {
         let request = Request {
             did,
             iova,
             kind: Kind::Read,
         };
-        match self.address(&request) {
+        match self.address(&request, witness) {
             Err(denial) => self.deny(&request, denial),
             Ok(addr) if self.ram.read(addr, out) => Access::Ok,
             Ok(_) => Access::Outside,
@@ -93,130 +108,47 @@ impl Machine {
     }
 
     /// Writes `bytes` from IOVA `iova` on, within one page of 4096 bytes, for device `did`, below 2^24. The answers are those of
-    /// `read`; unless it is Ok none of the bytes is written.
+    /// `read`; unless it is Ok none of the bytes is written. A witness is told what leads it.
     #[tactic(auto, unfolding(crate::specs::Access::effect))]
-    pub fn write(&mut self, did: u32, iova: u64, bytes: &[u8]) -> Access
+    pub fn write<W: Witness>(
+        &mut self,
+        did: u32,
+        iova: u64,
+        bytes: &[u8],
+        witness: &mut W,
+    ) -> Access
         requires { did < 2 ^ 24 }
         ensures reply { reply_of result [] ≡ (served self.old did (Write iova bytes.now)).reply }
         ensures left { self.new ≡ (served self.old did (Write iova bytes.now)).machine }
+        ensures told { witness.new ≡ told_of W.next witness.old self.old (request_of did (Write iova bytes.now)) }
     {
         let request = Request {
             did,
             iova,
             kind: Kind::Write,
         };
-        match self.address(&request) {
+        match self.address(&request, witness) {
             Err(denial) => self.deny(&request, denial),
             Ok(addr) if self.ram.write(addr, bytes) => Access::Ok,
             Ok(_) => Access::Outside,
         }
     }
 
-    // The physical address that a request leads to. What is found on the way is cached.
+    // The physical address that a request leads to. What is read on the way is cached.
     #[inline(always)]
-    #[tactic(auto, unfolding(crate::specs::Access::led))]
-    fn address(&mut self, request: &Request) -> Result<u64, Denial>
+    fn address<W: Witness>(&mut self, request: &Request, witness: &mut W) -> Result<u64, Denial>
         requires { request.now.did < 2 ^ 24 }
-        ensures address { result
-            ≡ address_on (led self.old request.now).way request.now.iova }
+        ensures address { result ≡ address_on (led self.old request.now).way request.now.iova }
         ensures filled { self.new ≡ with_fills self.old (led self.old request.now) }
+        ensures told { witness.new ≡ told_of W.next witness.old self.old request.now }
     {
-        match self.registers.mode() {
-            Mode::Off => Err(Denial::plain(Cause::Off)),
-            Mode::Bare => Ok(request.iova),
-            Mode::Levels(_) => self.address_by_directory(request),
-        }
-    }
-
-    // The same by the context of the device's id, from its live place or else from the directory.
-    #[inline(always)]
-    #[tactic(auto, unfolding(crate::specs::Access::context_look), using(crate::proofs::Wide::too_wide_located))]
-    fn address_by_directory(&mut self, request: &Request) -> Result<u64, Denial>
-        requires directory { 1 ≤ levels_of (mode_of self.old.registers) }
-        requires width { request.now.did < 2 ^ 24 }
-        ensures address { result ≡ address_on (led_by_context self.old request.now
-            (context_look self.old request.now.did).filled (context_look self.old request.now.did).used).way request.now.iova }
-        ensures filled { self.new ≡ with_fills self.old (led_by_context self.old request.now
-            (context_look self.old request.now.did).filled (context_look self.old request.now.did).used) }
-    {
-        if is_too_wide(&self.registers, request.did) {
-            return Err(Denial::plain(Cause::TooWide));
-        }
-        match self.contexts.find(request.did) {
-            Some(context) => self.address_by_context(request, &context),
-            None => self.address_by_new_context(request),
-        }
-    }
-
-    // The same by a context that the directory has. It is filled also where the walk fails.
-    #[inline(never)]
-    #[tactic(auto, using(crate::proofs::NewContext::apart))]
-    fn address_by_new_context(&mut self, request: &Request) -> Result<u64, Denial>
-        requires directory { 1 ≤ levels_of (mode_of self.old.registers) }
-        requires width { request.now.did < 2 ^ 24 }
-        requires new { find (same_did request.now.did) self.old.contexts ≡ None }
-        ensures address { result ≡ address_on (led_by_context self.old request.now
-            (look request.now.did None (located self.old.memory self.old.registers request.now.did)).filled
-            (located self.old.memory self.old.registers request.now.did)).way request.now.iova }
-        ensures filled { self.new ≡ with_fills self.old (led_by_context self.old request.now
-            (look request.now.did None (located self.old.memory self.old.registers request.now.did)).filled
-            (located self.old.memory self.old.registers request.now.did)) }
-    {
-        match locate(&self.ram, &self.registers, request.did) {
-            Ok(context) => {
-                let reached = self.address_by_context(request, &context);
-                self.contexts.fill(request.did, context);
-                reached
-            }
-            Err(cause) => Err(Denial::plain(cause)),
-        }
-    }
-
-    // The same by a context, from the page's live place or else by the stages.
-    #[inline(always)]
-    #[tactic(auto, unfolding(crate::specs::Access::page_look))]
-    fn address_by_context(&mut self, request: &Request, context: &Context) -> Result<u64, Denial>
-        requires { IsWellFormed context.now }
-        ensures address { result
-            ≡ address_on (led_by_context self.old request.now None (Ok context.now)).way request.now.iova }
-        ensures filled { self.new
-            ≡ with_fills self.old (led_by_context self.old request.now None (Ok context.now)) }
-    {
-        if context.is_bare() {
-            return Ok(request.iova);
-        }
-        let key = key_of(context, request.did, request.iova, request.kind);
-        match self.pages.find(&key) {
-            Some(hit) => Ok(in_frame(&hit, request.iova)),
-            None => self.address_by_walk(request, context, key),
-        }
-    }
-
-    // The same by the stages of a context, where no live place has the page.
-    #[inline(never)]
-    #[tactic(auto, unfolding(crate::specs::Access::page_look))]
-    fn address_by_walk(
-        &mut self,
-        request: &Request,
-        context: &Context,
-        key: Key,
-    ) -> Result<u64, Denial>
-        requires well_formed { IsWellFormed context.now }
-        requires staged { is_bare context.now ≡ false }
-        requires key { key ≡ request_key request.now context.now }
-        requires new { find (same_key key) self.old.pages ≡ None }
-        ensures address { result
-            ≡ address_on (led_by_context self.old request.now None (Ok context.now)).way request.now.iova }
-        ensures filled { self.new
-            ≡ with_fills self.old (led_by_context self.old request.now None (Ok context.now)) }
-    {
-        match translate(&self.ram, context, request.iova, request.kind) {
-            Ok(hit) => {
-                self.pages.fill(key, hit);
-                Ok(in_frame(&hit, request.iova))
-            }
-            Err(fault) => Err(Denial::translating(context, fault)),
-        }
+        lead(
+            &self.ram,
+            &self.registers,
+            &mut self.lines,
+            request,
+            witness,
+        )
     }
 
     // Denies a request, and delivers its record where it makes one.
@@ -233,6 +165,215 @@ impl Machine {
         }
         Access::Denied(denial.cause)
     }
+}
+
+/// The physical address that a request leads to, in these caches, which are filled with what is read for it. A witness is told what
+/// leads it ("Process to translate an IOVA").
+#[inline(always)]
+#[tactic(auto, unfolding(crate::specs::Access::led))]
+pub(crate) fn lead<C: Caches, W: Witness>(
+    ram: &Ram,
+    registers: &Regs,
+    caches: &mut C,
+    request: &Request,
+    witness: &mut W,
+) -> Result<u64, Denial>
+    requires width { request.now.did < 2 ^ 24 }
+    requires contexts_fit { EachLive HoldsContext (C.contexts caches.old) }
+    requires pages_fit { EachLive HoldsHit (C.pages caches.old) }
+    ensures address { result ≡ address_on
+        (led (machine_of ram.now registers.now (C.contexts caches.old) (C.pages caches.old)) request.now).way request.now.iova }
+    ensures contexts { C.contexts caches.new ≡ filled_where C.fills context_room
+        (led (machine_of ram.now registers.now (C.contexts caches.old) (C.pages caches.old)) request.now).context (C.contexts caches.old) }
+    ensures pages { C.pages caches.new ≡ filled_where C.fills page_room
+        (led (machine_of ram.now registers.now (C.contexts caches.old) (C.pages caches.old)) request.now).page (C.pages caches.old) }
+    ensures contexts_fit { EachLive HoldsContext (C.contexts caches.new) }
+    ensures pages_fit { EachLive HoldsHit (C.pages caches.new) }
+    ensures told { witness.new ≡ told W.next witness.old request.now
+        (led (machine_of ram.now registers.now (C.contexts caches.old) (C.pages caches.old)) request.now) }
+    ensures fits { Fits (led (machine_of ram.now registers.now (C.contexts caches.old) (C.pages caches.old)) request.now).way }
+    ensures well_formed { IfSome (led (machine_of ram.now registers.now (C.contexts caches.old) (C.pages caches.old)) request.now).by IsWellFormed }
+{
+    match registers.mode() {
+        Mode::Off => refuse(Denial::plain(Cause::Off), witness),
+        Mode::Bare => {
+            witness.tell(Event::Way(Way::Register));
+            Ok(request.iova)
+        }
+        Mode::Levels(_) => by_directory(ram, registers, caches, request, witness),
+    }
+}
+
+// The same by the context of the device's id, from its live place or else from the directory.
+#[inline(always)]
+#[tactic(auto, unfolding(crate::specs::Access::context_look), using(crate::proofs::Wide::too_wide_located))]
+fn by_directory<C: Caches, W: Witness>(
+    ram: &Ram,
+    registers: &Regs,
+    caches: &mut C,
+    request: &Request,
+    witness: &mut W,
+) -> Result<u64, Denial>
+    requires directory { 1 ≤ levels_of (mode_of registers.now) }
+    requires width { request.now.did < 2 ^ 24 }
+    requires contexts_fit { EachLive HoldsContext (C.contexts caches.old) }
+    requires pages_fit { EachLive HoldsHit (C.pages caches.old) }
+    ensures address { let m = machine_of ram.now registers.now (C.contexts caches.old) (C.pages caches.old) in
+        result ≡ address_on (led_by_context m request.now
+        (context_look m request.now.did).filled (context_look m request.now.did).used).way request.now.iova }
+    ensures contexts { let m = machine_of ram.now registers.now (C.contexts caches.old) (C.pages caches.old) in
+        C.contexts caches.new ≡ filled_where C.fills context_room (context_look m request.now.did).filled (C.contexts caches.old) }
+    ensures pages { let m = machine_of ram.now registers.now (C.contexts caches.old) (C.pages caches.old) in
+        C.pages caches.new ≡ filled_where C.fills page_room (led_by_context m request.now
+        (context_look m request.now.did).filled (context_look m request.now.did).used).page (C.pages caches.old) }
+    ensures contexts_fit { EachLive HoldsContext (C.contexts caches.new) }
+    ensures pages_fit { EachLive HoldsHit (C.pages caches.new) }
+    ensures told { let m = machine_of ram.now registers.now (C.contexts caches.old) (C.pages caches.old) in
+        witness.new ≡ told W.next witness.old request.now (led_by_context m request.now
+        (context_look m request.now.did).filled (context_look m request.now.did).used) }
+    ensures fits { let m = machine_of ram.now registers.now (C.contexts caches.old) (C.pages caches.old) in
+        Fits (led_by_context m request.now (context_look m request.now.did).filled (context_look m request.now.did).used).way }
+    ensures well_formed { let m = machine_of ram.now registers.now (C.contexts caches.old) (C.pages caches.old) in
+        IfSome (led_by_context m request.now (context_look m request.now.did).filled (context_look m request.now.did).used).by IsWellFormed }
+{
+    if is_too_wide(registers, request.did) {
+        return refuse(Denial::plain(Cause::TooWide), witness);
+    }
+    match caches.context(request.did) {
+        Some(context) => {
+            witness.tell(Event::Context(Source::Found, request.did, context));
+            by_context(ram, caches, request, &context, witness)
+        }
+        None => by_new_context(ram, registers, caches, request, witness),
+    }
+}
+
+// The same by a context that the directory has. It is filled also where the walk fails.
+#[inline(never)]
+fn by_new_context<C: Caches, W: Witness>(
+    ram: &Ram,
+    registers: &Regs,
+    caches: &mut C,
+    request: &Request,
+    witness: &mut W,
+) -> Result<u64, Denial>
+    requires directory { 1 ≤ levels_of (mode_of registers.now) }
+    requires width { request.now.did < 2 ^ 24 }
+    requires new { find (same_did request.now.did) (C.contexts caches.old) ≡ None }
+    requires contexts_fit { EachLive HoldsContext (C.contexts caches.old) }
+    requires pages_fit { EachLive HoldsHit (C.pages caches.old) }
+    ensures address { result ≡ address_on (led_by_context
+        (machine_of ram.now registers.now (C.contexts caches.old) (C.pages caches.old)) request.now
+        (look request.now.did None (located ram.now registers.now request.now.did)).filled
+        (located ram.now registers.now request.now.did)).way request.now.iova }
+    ensures contexts { C.contexts caches.new ≡ filled_where C.fills context_room
+        (look request.now.did None (located ram.now registers.now request.now.did)).filled (C.contexts caches.old) }
+    ensures pages { C.pages caches.new ≡ filled_where C.fills page_room (led_by_context
+        (machine_of ram.now registers.now (C.contexts caches.old) (C.pages caches.old)) request.now
+        (look request.now.did None (located ram.now registers.now request.now.did)).filled
+        (located ram.now registers.now request.now.did)).page (C.pages caches.old) }
+    ensures contexts_fit { EachLive HoldsContext (C.contexts caches.new) }
+    ensures pages_fit { EachLive HoldsHit (C.pages caches.new) }
+    ensures told { witness.new ≡ told W.next witness.old request.now (led_by_context
+        (machine_of ram.now registers.now (C.contexts caches.old) (C.pages caches.old)) request.now
+        (look request.now.did None (located ram.now registers.now request.now.did)).filled
+        (located ram.now registers.now request.now.did)) }
+    ensures fits { Fits (led_by_context (machine_of ram.now registers.now (C.contexts caches.old) (C.pages caches.old)) request.now
+        (look request.now.did None (located ram.now registers.now request.now.did)).filled
+        (located ram.now registers.now request.now.did)).way }
+    ensures well_formed { IfSome (led_by_context (machine_of ram.now registers.now (C.contexts caches.old) (C.pages caches.old)) request.now
+        (look request.now.did None (located ram.now registers.now request.now.did)).filled
+        (located ram.now registers.now request.now.did)).by IsWellFormed }
+{
+    match locate(ram, registers, request.did) {
+        Ok(context) => {
+            witness.tell(Event::Context(Source::Read, request.did, context));
+            let reached = by_context(ram, caches, request, &context, witness);
+            caches.fill_context(request.did, context);
+            reached
+        }
+        Err(cause) => refuse(Denial::plain(cause), witness),
+    }
+}
+
+// The same below a context, from the page's live place or else by the stages.
+#[inline(always)]
+#[tactic(auto, unfolding(crate::specs::Access::page_look))]
+pub(crate) fn by_context<C: Caches, W: Witness>(
+    ram: &Ram,
+    caches: &mut C,
+    request: &Request,
+    context: &Context,
+    witness: &mut W,
+) -> Result<u64, Denial>
+    requires well_formed { IsWellFormed context.now }
+    requires pages_fit { EachLive HoldsHit (C.pages caches.old) }
+    ensures address { result ≡ address_on (led_under ram.now (C.pages caches.old) request.now context.now).way request.now.iova }
+    ensures contexts { C.contexts caches.new ≡ C.contexts caches.old }
+    ensures pages { C.pages caches.new ≡ filled_where C.fills page_room
+        (led_under ram.now (C.pages caches.old) request.now context.now).page (C.pages caches.old) }
+    ensures pages_fit { EachLive HoldsHit (C.pages caches.new) }
+    ensures told { witness.new ≡ under_told W.next witness.old request.now (led_under ram.now (C.pages caches.old) request.now context.now) }
+    ensures fits { Fits (led_under ram.now (C.pages caches.old) request.now context.now).way }
+{
+    if context.is_bare() {
+        witness.tell(Event::Way(Way::Context(*context)));
+        return Ok(request.iova);
+    }
+    let key = key_of(context, request.did, request.iova, request.kind);
+    match caches.page(&key) {
+        Some(hit) => {
+            witness.tell(Event::Page(Source::Found, key, hit));
+            witness.tell(Event::Way(Way::Walked(*context, hit)));
+            Ok(in_frame(&hit, request.iova))
+        }
+        None => by_walk(ram, caches, request, context, key, witness),
+    }
+}
+
+// The same by the stages of a context, where no live place has the page.
+#[inline(never)]
+#[tactic(auto, unfolding(crate::specs::Access::page_look))]
+fn by_walk<C: Caches, W: Witness>(
+    ram: &Ram,
+    caches: &mut C,
+    request: &Request,
+    context: &Context,
+    key: Key,
+    witness: &mut W,
+) -> Result<u64, Denial>
+    requires well_formed { IsWellFormed context.now }
+    requires staged { is_bare context.now ≡ false }
+    requires key { key ≡ request_key request.now context.now }
+    requires new { find (same_key key) (C.pages caches.old) ≡ None }
+    requires pages_fit { EachLive HoldsHit (C.pages caches.old) }
+    ensures address { result ≡ address_on (led_under ram.now (C.pages caches.old) request.now context.now).way request.now.iova }
+    ensures contexts { C.contexts caches.new ≡ C.contexts caches.old }
+    ensures pages { C.pages caches.new ≡ filled_where C.fills page_room
+        (led_under ram.now (C.pages caches.old) request.now context.now).page (C.pages caches.old) }
+    ensures pages_fit { EachLive HoldsHit (C.pages caches.new) }
+    ensures told { witness.new ≡ under_told W.next witness.old request.now (led_under ram.now (C.pages caches.old) request.now context.now) }
+    ensures fits { Fits (led_under ram.now (C.pages caches.old) request.now context.now).way }
+{
+    match translate(ram, context, request.iova, request.kind) {
+        Ok(hit) => {
+            caches.fill_page(key, hit);
+            witness.tell(Event::Page(Source::Read, key, hit));
+            witness.tell(Event::Way(Way::Walked(*context, hit)));
+            Ok(in_frame(&hit, request.iova))
+        }
+        Err(fault) => refuse(Denial::translating(context, fault), witness),
+    }
+}
+
+// Denies a request.
+#[inline(always)]
+fn refuse<W: Witness>(denial: Denial, witness: &mut W) -> Result<u64, Denial>
+    ensures denied { result ≡ Err denial }
+    ensures told { witness.new ≡ W.next witness.old (event.Way (way.Denied denial)) }
+{
+    witness.tell(Event::Way(Way::Denied(denial)));
+    Err(denial)
 }
 
 // The physical address of an IOVA in the frame that its page leads to.

@@ -70,8 +70,8 @@ impl Machine {
     fn invalidate(&mut self, command: &Command)
         ensures { self.new ≡ without_dropped self.old (Some command.now) }
     {
-        drop_pages(&mut self.pages, command);
-        drop_contexts(&mut self.contexts, command);
+        drop_pages(&mut self.lines.pages, command);
+        drop_contexts(&mut self.lines.contexts, command);
     }
 }
 

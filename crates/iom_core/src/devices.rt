@@ -1,14 +1,16 @@
 //! The block devices, and what the hart and they themselves do with them.
 
 ghost use Rattle.std.specs.Prelude.{◌≡◌, ◌<◌, ◌^◌, slice_get, IfOk};
+ghost use Rattle.std.specs.Option.{option_map};
 ghost use Rattle.iom_blk.specs.Phases.{asks};
-ghost use Rattle.iom_core.specs.Table.{answer_of, dev_read, dev_write, dev_written, device_step, moving};
+ghost use Rattle.iom_core.specs.Table.{answer_of, asked_by, asking_for, dev_read, dev_write, dev_written, device_step, moving, told_by_step};
 
 use crate::Platform;
 use crate::hart::overflows;
 use crate::machine::Machine;
 use crate::port::Port;
 use crate::step::Answer;
+use crate::witness::Witness;
 use iom_blk::{Blk, Moved};
 use std::alloc::{AllocError, Global};
 
@@ -43,17 +45,18 @@ impl Platform {
     }
 
     /// What a step of block device `dev` answers: `Done` for an access that was granted, `Idle` where it had none to make,
-    /// `Denied`, `BusError`, or `NoDevice` where there is no such device.
-    pub(crate) fn device(&mut self, dev: u64) -> Answer
+    /// `Denied`, `BusError`, or `NoDevice` where there is no such device. A witness is told of the access.
+    pub(crate) fn device<W: Witness>(&mut self, dev: u64, witness: &mut W) -> Answer
         ensures answer { result ≡ (device_step self.old dev (slice_get self.old.devices dev)).answer }
         ensures state { self.new ≡ (device_step self.old dev (slice_get self.old.devices dev)).state }
+        ensures told { witness.new ≡ told_by_step W.next witness.old self.old.machine (asked_by (slice_get self.old.devices dev)) }
     {
         let n = dev as usize;
         if n >= self.devices.len() {
             return Answer::NoDevice;
         }
         let (did, device) = &mut self.devices[n];
-        moved(&mut self.machine, *did, device)
+        moved(&mut self.machine, *did, device, witness)
     }
 }
 
@@ -75,13 +78,18 @@ fn written(device: &mut Blk, off: u64, size: u64, value: u64) -> Answer
 
 // The machine, lent to one device for its step.
 #[tactic(auto, unfolding(crate::specs::Table::moving))]
-fn moved(machine: &mut Machine, did: u32, device: &mut Blk) -> Answer
+fn moved<W: Witness>(machine: &mut Machine, did: u32, device: &mut Blk, witness: &mut W) -> Answer
     requires { did < 2 ^ 24 }
     ensures answer { result ≡ answer_of (moving machine.old did device.old (asks device.old)).told }
     ensures machine { machine.new ≡ (moving machine.old did device.old (asks device.old)).machine }
     ensures device { device.new ≡ (moving machine.old did device.old (asks device.old)).device }
+    ensures told { witness.new ≡ told_by_step W.next witness.old machine.old (option_map (asking_for did) (asks device.old)) }
 {
-    let mut port = Port { machine, did };
+    let mut port = Port {
+        machine,
+        did,
+        witness,
+    };
     match device.step(&mut port) {
         Moved::Idle => Answer::Idle,
         Moved::Did => Answer::Done,

@@ -1,21 +1,21 @@
-//! Where the translation comes from that a step used: what a step did is read from its answer and the caches around it.
+//! Where the translation comes from that a step used.
 
-ghost use Rattle.std.specs.Prelude.{ℕ, ◌≡◌, ◌<◌, ◌^◌, ◌&&◌, not, length, Some, IfOk, IfSome};
+ghost use Rattle.std.specs.Prelude.{ℕ, ◌≡◌, ◌<◌, ◌^◌, length, Some, IfOk, IfSome};
+ghost use Rattle.std.specs.Option.{option_map};
 ghost use Rattle.iom_cache.specs.Origins.{IsLast};
-ghost use Rattle.iom_core.specs.Histories.{IsAccess, IsAccessOf, IsLedBy, fills_at, holds, is_denial, later, leading_context};
+ghost use Rattle.iom_core.specs.Histories.{access_at, fills_at, fills_entry, later, led_so};
 ghost use Rattle.iom_core.specs.Run.{end_of};
-ghost use Rattle.iom_core.specs.Table.{request_of_step};
+ghost use Rattle.iom_core.specs.Table.{next, request_of_step};
 ghost use Rattle.iom_core.specs.declared.step.Step.TheVariants as step;
 ghost use Rattle.iom_core.specs.Warrants.{Explains, IsUncached, request_at, way_at};
 
 use crate::access::Request;
 use crate::platform::device_request;
-use crate::{Answer, Platform, Step, Warrant};
+use crate::witness::{Event, Source, Witness};
+use crate::{Answer, Platform, Step, Warrant, Way};
 use iom_bits::Kind;
 use iom_blk::Want;
 use iom_cache::{Key, key_of};
-use iom_ddt::Context;
-use iom_regs::Mode;
 use std::alloc::{AllocError, Global};
 
 /// An entry of a cache that a step of the past may have filled.
@@ -42,32 +42,33 @@ pub fn explain(
 {
     match access_at(alloc, start, steps, n)? {
         None => Ok(None),
-        Some((request, context)) => warrant_of(alloc, start, steps, n, request, context),
+        Some((request, way)) => warrant_of(alloc, start, steps, n, request, way),
     }
 }
 
-// The warrant of a request of step `n`, by the context that it was led by; None: by ddtp alone.
+// The warrant of a request of step `n`, which is led this way.
 fn warrant_of(
     alloc: Global,
     start: &Platform,
     steps: &[Step],
     n: usize,
     request: Request,
-    by: Option<Context>,
+    way: Way,
 ) -> Result<Option<Warrant>, AllocError>
     requires below { n < length steps.now }
     requires uncached { IsUncached start.now }
     requires request { request_at start.now steps.now n ≡ Some request }
-    requires led { IsLedBy (way_at start.now steps.now n request) by }
+    requires led { way_at start.now steps.now n request ≡ way }
     ensures { IfOk result (λ found. Explains start.now steps.now n found) }
 {
-    match by {
-        None => Ok(Some(Warrant::Register)),
-        Some(now) if now.is_bare() => {
+    match way {
+        Way::Denied(_) => Ok(None),
+        Way::Register => Ok(Some(Warrant::Register)),
+        Way::Context(_) => {
             let context = origin(alloc, start, steps, n, Entry::Context(request.did))?;
             Ok(Some(Warrant::Context { context }))
         }
-        Some(now) => {
+        Way::Walked(now, _) => {
             let key = key_of(&now, request.did, request.iova, request.kind);
             let walk = origin(alloc, start, steps, n, Entry::Page(key))?;
             let current = origin(alloc, start, steps, n, Entry::Context(request.did))?;
@@ -81,17 +82,17 @@ fn warrant_of(
     }
 }
 
-// What step `n` asks of the IOMMU, unless it is denied, and the context that it is led by.
+// What step `n` asks of the IOMMU, and the way that it is led.
 fn access_at(
     alloc: Global,
     start: &Platform,
     steps: &[Step],
     n: usize,
-) -> Result<Option<(Request, Option<Context>)>, AllocError>
+) -> Result<Option<(Request, Way)>, AllocError>
     requires { n < length steps.now }
-    ensures { IfOk result (IsAccess start.now steps.now n) }
+    ensures { IfOk result (λ found. found ≡ access_at start.now steps.now n) }
 {
-    let mut platform = played(alloc, start, &steps[..n])?;
+    let platform = played(alloc, start, &steps[..n])?;
     Ok(platform.access_of(&steps[n]))
 }
 
@@ -121,18 +122,41 @@ fn origin(
     let mut platform = start.try_clone(alloc)?;
     let mut last = None;
     for (k, step) in steps[..=n].iter().enumerate() {
-        let held = platform.holds(entry);
-        platform.step(step);
-        last = later(last, k, held, platform.holds(entry));
+        last = later(last, k, platform.fills(step, entry));
     }
     Ok(last.unwrap_or(n))
 }
 
-// The last of the steps that filled an entry, with step `k`, before and after which it was held or not.
-fn later(last: Option<usize>, k: usize, held: bool, holds: bool) -> Option<usize>
-    ensures { result ≡ later last k (not held && holds) }
+// The last of the steps that filled an entry, with step `k`, which did or not.
+fn later(last: Option<usize>, k: usize, fills: bool) -> Option<usize>
+    ensures { result ≡ later last k fills }
 {
-    if !held && holds { Some(k) } else { last }
+    if fills { Some(k) } else { last }
+}
+
+// Whether an access that is told of fills an entry.
+#[derive(Clone, Copy)]
+struct Search {
+    entry: Entry,
+    is_filled: bool,
+}
+
+impl Witness for Search {
+    ghost use Rattle.iom_core.specs.Histories.{searched};
+
+    ghost next = { searched };
+
+    fn tell(&mut self, event: Event) {
+        match (self.entry, event) {
+            (Entry::Context(did), Event::Context(Source::Read, own, _)) => {
+                self.is_filled = own == did;
+            }
+            (Entry::Page(key), Event::Page(Source::Read, own, _)) => {
+                self.is_filled = own == key;
+            }
+            _ => {}
+        }
+    }
 }
 
 impl Platform {
@@ -175,42 +199,26 @@ impl Platform {
         })
     }
 
-    // What a step asks of the IOMMU, unless it is denied, and the context that it is led by. It is carried out.
-    fn access_of(&mut self, step: &Step) -> Option<(Request, Option<Context>)>
-        ensures { IsAccessOf self.old (request_of_step self.old step.now) result }
+    // What a step asks of the IOMMU, and the way that it is led.
+    fn access_of(&self, step: &Step) -> Option<(Request, Way)>
+        ensures { result ≡ option_map (led_so self.now) (request_of_step self.now step.now) }
     {
         let request = self.request_of(step)?;
-        if is_denial(&self.step(step)) {
-            return None;
-        }
-        Some((request, self.leading_context(request.did)))
+        Some((request, self.seen(&request).way))
     }
 
-    /// The context that the live place of device `did` holds; None where no place is live with that id, and in mode Bare of ddtp, in
-    /// which no context leads an access.
-    pub fn leading_context(&self, did: u32) -> Option<Context>
-        ensures { result ≡ leading_context self.now.machine did }
+    // Carries out a step, and tells whether it fills an entry.
+    #[tactic(auto, using(crate::proofs::Search::told_filled))]
+    fn fills(&mut self, step: &Step, entry: Entry) -> bool
+        ensures fills { result ≡ fills_entry self.old (request_of_step self.old step.now) entry }
+        ensures state { self.new ≡ (next self.old step.now).state }
     {
-        match self.machine.registers.mode() {
-            Mode::Bare => None,
-            _ => self.machine.contexts.find(did),
-        }
+        let mut search = Search {
+            entry,
+            is_filled: false,
+        };
+        let mut answer = Answer::Done;
+        self.step_told(step, &mut answer, &mut search);
+        search.is_filled
     }
-
-    // Whether a live place has the entry.
-    fn holds(&self, entry: Entry) -> bool
-        ensures { result ≡ holds self.now entry }
-    {
-        match entry {
-            Entry::Context(did) => self.machine.contexts.find(did).is_some(),
-            Entry::Page(key) => self.machine.pages.find(&key).is_some(),
-        }
-    }
-}
-
-/// Whether an answer is a denial: `Denied`, with any cause.
-pub fn is_denial(answer: &Answer) -> bool
-    ensures { result ≡ is_denial answer.now }
-{
-    matches!(answer, Answer::Denied(_))
 }

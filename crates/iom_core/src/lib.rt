@@ -2,23 +2,28 @@
 #![tactic(auto)]
 
 pub use access::{Denial, Request};
-pub use history::{explain, is_denial};
+pub use history::explain;
 pub use law::freshness;
+pub use looking::Seen;
 pub use platform::Platform;
 pub use port::Port;
 pub use step::{Answer, Step};
 pub use warrant::Warrant;
 pub use way::Way;
+pub use witness::{Event, Source, Witness};
 
 mod access;
+mod caches;
 mod command;
 mod devices;
 mod hart;
 mod history;
 mod law;
+mod looking;
 mod machine;
 mod platform;
 mod port;
 mod step;
 mod warrant;
 mod way;
+mod witness;

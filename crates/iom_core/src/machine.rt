@@ -1,4 +1,4 @@
-use iom_cache::{ContextCache, TransCache};
+use crate::caches::Lines;
 use iom_mem::Ram;
 use iom_regs::Regs;
 use std::alloc::{AllocError, Global};
@@ -11,10 +11,8 @@ pub struct Machine {
     pub ram: Ram,
     /// The IOMMU's registers.
     pub registers: Regs,
-    /// The context cache: in the standard the DDTC.
-    pub contexts: ContextCache,
-    /// The translation cache: in the standard the IOTLB.
-    pub pages: TransCache,
+    /// Both caches.
+    pub lines: Lines,
 }
 
 impl Model for Machine {
@@ -27,11 +25,11 @@ impl Model for Machine {
     ghost view = { λ m. record {
       memory = m.ram;
       registers = m.registers;
-      contexts = m.contexts;
-      pages = m.pages;
+      contexts = m.lines.contexts;
+      pages = m.lines.pages;
     } };
 
-    ghost invariant = { λ m. EachLive HoldsContext m.contexts × EachLive HoldsHit m.pages };
+    ghost invariant = { λ m. EachLive HoldsContext m.lines.contexts × EachLive HoldsHit m.lines.pages };
 }
 
 impl Machine {
@@ -42,13 +40,12 @@ impl Machine {
         ensures { IfOk result (λ copy. copy ≡ self.now) }
     {
         let ram = self.ram.try_clone(alloc)?;
-        let contexts = self.contexts.try_clone(alloc)?;
-        let pages = self.pages.try_clone(alloc)?;
+        let contexts = self.lines.contexts.try_clone(alloc)?;
+        let pages = self.lines.pages.try_clone(alloc)?;
         Ok(Machine {
             ram,
             registers: self.registers,
-            contexts,
-            pages,
+            lines: Lines { contexts, pages },
         })
     }
 }

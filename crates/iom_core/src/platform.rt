@@ -4,10 +4,12 @@ ghost use Rattle.iom_core.specs.Access.{access_to};
 ghost use Rattle.iom_core.specs.Table.{is_device_access};
 
 use crate::access::Request;
+use crate::caches::Lines;
 use crate::devices::copied;
 use crate::machine::Machine;
 use crate::port::Port;
 use crate::step::{Answer, Step};
+use crate::witness::Witness;
 use arrayvec::ArrayVec;
 use iom_bits::Kind;
 use iom_blk::Blk;
@@ -39,7 +41,7 @@ impl Model for Platform {
 
 impl Platform {
     ghost use Rattle.iom_core.specs.State.{AreDevices, disk_of, opening};
-    ghost use Rattle.iom_core.specs.Table.{next, probed, asking_where};
+    ghost use Rattle.iom_core.specs.Table.{asked, asking_where, next, probed, told_by_step};
     ghost use Rattle.iom_core.specs.declared.access.Request.{Request};
     ghost use Rattle.iom_core.specs.Reach.{Reaches, Refuses};
     ghost use Rattle.iom_core.specs.Run.{answers, states, end_of};
@@ -62,8 +64,7 @@ impl Platform {
         let machine = Machine {
             ram,
             registers: Regs::reset(),
-            contexts,
-            pages,
+            lines: Lines { contexts, pages },
         };
         Ok(Platform { machine, devices })
     }
@@ -96,7 +97,7 @@ impl Platform {
         ensures cache { result.now ≡ self.now.machine.pages }
         ensures sound { EachLive HoldsHit result.now }
     {
-        &self.machine.pages
+        &self.machine.lines.pages
     }
 
     /// The context cache: in the standard the DDTC.
@@ -104,7 +105,7 @@ impl Platform {
         ensures cache { result.now ≡ self.now.machine.contexts }
         ensures sound { EachLive HoldsContext result.now }
     {
-        &self.machine.contexts
+        &self.machine.lines.contexts
     }
 
     /// The bytes of the disk of block device `n`, counted from 0; None where there is no such device.
@@ -144,7 +145,19 @@ impl Platform {
         ensures reach { Reaches self.old step.now answer.new self.new }
         ensures refused { Refuses answer.new self.old self.new }
     {
-        self.take(step, answer);
+        self.take(step, answer, &mut ());
+    }
+
+    /// The same, and a witness is told of the access that the step makes, if it makes one: by which context and to which page it is
+    /// led, where these come from, and the way.
+    pub fn step_told<W: Witness>(&mut self, step: &Step, answer: &mut Answer, witness: &mut W)
+        ensures answer { answer.new ≡ (next self.old step.now).answer }
+        ensures state { self.new ≡ (next self.old step.now).state }
+        ensures told { witness.new ≡ told_by_step W.next witness.old self.old.machine (asked self.old step.now) }
+        ensures reach { Reaches self.old step.now answer.new self.new }
+        ensures refused { Refuses answer.new self.old self.new }
+    {
+        self.take(step, answer, witness);
     }
 
     /// Carries out steps in their order, and puts the answer to each at its place in `out`.
@@ -176,16 +189,17 @@ impl Platform {
         ensures end { self.new ≡ end_of self.old steps.now }
     {
         for (i, step) in steps.iter().enumerate() {
-            self.take(step, &mut out[i]);
+            self.take(step, &mut out[i], &mut ());
         }
     }
 
     // A step by its row of the step table, its answer put in place. A device's read puts its own, so that no bytes are moved.
     #[inline(always)]
     #[tactic(auto, unfolding(crate::specs::Table::next, crate::specs::Table::asked))]
-    fn take(&mut self, step: &Step, answer: &mut Answer)
+    fn take<W: Witness>(&mut self, step: &Step, answer: &mut Answer, witness: &mut W)
         ensures answer { answer.new ≡ (next self.old step.now).answer }
         ensures state { self.new ≡ (next self.old step.now).state }
+        ensures told { witness.new ≡ told_by_step W.next witness.old self.old.machine (asked self.old step.now) }
     {
         *answer = match step {
             Step::Load { addr, size } => self.machine.load(*addr, *size),
@@ -194,8 +208,12 @@ impl Platform {
             Step::RegWrite { off, size, value } => self.machine.reg_write(*off, *size, *value),
             Step::Command if self.machine.command() => Answer::Done,
             Step::Command => Answer::Idle,
-            Step::DmaRead { did, iova, len } => return self.dma_read(*did, *iova, *len, answer),
-            Step::DmaWrite { did, iova, bytes } => self.dma_write(*did, *iova, bytes.as_slice()),
+            Step::DmaRead { did, iova, len } => {
+                return self.dma_read(*did, *iova, *len, answer, witness);
+            }
+            Step::DmaWrite { did, iova, bytes } => {
+                self.dma_write(*did, *iova, bytes.as_slice(), witness)
+            }
             Step::DevRead { dev, off, size } => self.dev_read(*dev, *off, *size),
             Step::DevWrite {
                 dev,
@@ -203,17 +221,26 @@ impl Platform {
                 size,
                 value,
             } => self.dev_write(*dev, *off, *size, *value),
-            Step::Device { dev } => self.device(*dev),
+            Step::Device { dev } => self.device(*dev, witness),
         };
     }
 
     // Apart from the other steps, so that these needn't clear room for its bytes, which are read in the answer's place.
     #[inline(never)]
-    fn dma_read(&mut self, did: u64, iova: u64, len: u64, answer: &mut Answer)
+    fn dma_read<W: Witness>(
+        &mut self,
+        did: u64,
+        iova: u64,
+        len: u64,
+        answer: &mut Answer,
+        witness: &mut W,
+    )
         ensures answer { answer.new
             ≡ (probed self.old (asking_where (is_device_access did iova len) did (Read iova len))).answer }
         ensures state { self.new
             ≡ (probed self.old (asking_where (is_device_access did iova len) did (Read iova len))).state }
+        ensures told { witness.new
+            ≡ told_by_step W.next witness.old self.old.machine (asking_where (is_device_access did iova len) did (Read iova len)) }
     {
         let Some(request) = device_request(did, iova, len, Kind::Read) else {
             *answer = Answer::Misuse;
@@ -227,6 +254,7 @@ impl Platform {
         let mut port = Port {
             machine: &mut self.machine,
             did: request.did,
+            witness,
         };
         match port.read(request.iova, bytes.as_mut_slice()) {
             Access::Ok => {}
@@ -236,11 +264,19 @@ impl Platform {
     }
 
     // A device's write, which is no step where the device may not ask for it.
-    fn dma_write(&mut self, did: u64, iova: u64, bytes: &[u8]) -> Answer
+    fn dma_write<W: Witness>(
+        &mut self,
+        did: u64,
+        iova: u64,
+        bytes: &[u8],
+        witness: &mut W,
+    ) -> Answer
         ensures answer { result
             ≡ (probed self.old (asking_where (is_device_access did iova (length bytes.now)) did (Write iova bytes.now))).answer }
         ensures state { self.new
             ≡ (probed self.old (asking_where (is_device_access did iova (length bytes.now)) did (Write iova bytes.now))).state }
+        ensures told { witness.new ≡ told_by_step W.next witness.old self.old.machine
+            (asking_where (is_device_access did iova (length bytes.now)) did (Write iova bytes.now)) }
     {
         let Some(request) = device_request(did, iova, bytes.len() as u64, Kind::Write) else {
             return Answer::Misuse;
@@ -248,6 +284,7 @@ impl Platform {
         let mut port = Port {
             machine: &mut self.machine,
             did: request.did,
+            witness,
         };
         match port.write(request.iova, bytes) {
             Access::Ok => Answer::Done,

@@ -11,9 +11,9 @@ use Rattle.iom_items.specs.Lines as lines
 use Rattle.iom_items.specs.declared.item.Item.TheVariants as item
 use Rattle.iom_core.specs.State.{Machine}
 use Rattle.iom_core.specs.declared.access.Request.{Request}
-use Rattle.iom_reasons.specs.Fetches.{IsItem, IsRead}
-use Rattle.iom_reasons.specs.declared.part.Part.{Part}
-use Rattle.iom_reasons.specs.declared.part.Part.TheVariants as part
+use Rattle.iom_tables.specs.Fetches.{IsItem, IsRead}
+use Rattle.iom_tables.specs.declared.part.Part.{Part}
+use Rattle.iom_tables.specs.declared.part.Part.TheVariants as part
 use Rattle.iom_debug.specs.Walks.{IsBeforeEnd, met_text, part_text}
 
 -- one item of the directory is told by what was read of it

@@ -125,6 +125,10 @@ at_disk : (words : List (List ℕ)) → Apart (codes "disk") words
 unfolding form_by step_of question_of
 at_disk words line is = refl
 
+at_origin : (words : List (List ℕ)) → Apart (codes "origin") words
+unfolding form_by step_of question_of
+at_origin words line is = refl
+
 -- a word is this name, or it is another
 tried : (verb : List ℕ) (words : List (List ℕ)) (name : List ℕ) → Apart name words → (bytes_eq verb name ≡ false → Apart verb words) → Apart verb words
 tried verb words name at others = by (bytes_eq verb name) refl where
@@ -144,7 +148,8 @@ form_apart verb words =
     tried verb words (codes "queue") (at_queue words) (λ no_queue.
     tried verb words (codes "dump") (at_dump words) (λ no_dump.
     tried verb words (codes "disk") (at_disk words) (λ no_disk.
-    λ line is. absurd (cc (rw (no_reg, no_dev, no_cmd, no_stale, no_why, no_walk, no_queue, no_dump, no_disk) at is)))))))))))
+    tried verb words (codes "origin") (at_origin words) (λ no_origin.
+    λ line is. absurd (cc (rw (no_reg, no_dev, no_cmd, no_stale, no_why, no_walk, no_queue, no_dump, no_disk, no_origin) at is))))))))))))
 
 at_put : (words : List (List ℕ)) → run_line (codes "put") words ≡ Bad
 unfolding step_of question_of

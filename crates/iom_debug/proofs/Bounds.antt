@@ -3,8 +3,8 @@ use Rattle.std.proofs.Common.{◌≡◌, ◌<◌, ◌^◌, ℕ, zero, suc, List,
 use Rattle.std.specs.Prelude.{IfSome, slice_get}
 use Rattle.std.specs.List.{All, AllByRecursion}
 use Rattle.std.proofs.lemmas.List.Elements.{recursion_from_All}
-use Rattle.iom_reasons.specs.Bounds.{PartFits}
-use Rattle.iom_reasons.specs.declared.part.Part.{Part}
+use Rattle.iom_tables.specs.Bounds.{PartFits}
+use Rattle.iom_tables.specs.declared.part.Part.{Part}
 use Rattle.iom_regs.specs.Table.{Registers}
 use Rattle.iom_regs.specs.Views.{queue_of}
 use Rattle.iom_regs.specs.declared.views.Which.{Which}

@@ -7,8 +7,7 @@ use Rattle.iom_core.specs.Table.{request_of_step}
 use Rattle.iom_core.specs.declared.access.Denial.{Denial}
 use Rattle.iom_core.specs.declared.access.Request.{Request}
 use Rattle.iom_core.specs.declared.step.Step.{Step}
-use Rattle.iom_account.specs.Account.{IsKnown, IsReasonOf, stale_in as way_in}
-use Rattle.iom_account.specs.declared.known.Known.{Known}
+use Rattle.iom_account.specs.Account.{IsReasonOf, stale_in as way_in}
 use Rattle.iom_account.specs.declared.reason.Reason.{Reason}
 use Rattle.iom_debug.specs.Reasons.{address_by, stale_in, stale_of}
 
@@ -27,14 +26,3 @@ pub stale_newest : (state : State) (step : Step) (number : ℕ) (newest : Option
     IsSomeAnd newest (IsReasonOf state step number) → found ≡ option_and_then stale_of newest → found ≡ stale_in state (request_of_step state step)
 stale_newest state step number (Some reason) found is at = at ∙ told state step number reason is
 stale_newest state step number None found is at = absurd is
-
-none_address : (asked : Option Request) → address_by asked None ≡ None
-none_address None = refl
-none_address (Some request) = refl
-
--- nothing is known to be stale
-pub none_stale : (state : State) (step : Step) (known : Known) → IsKnown state step known → known.stale ≡ None →
-    stale_in state (request_of_step state step) ≡ None
-none_stale state step known is none =
-    sym (by_way state (request_of_step state step)) ∙ ap (address_by (request_of_step state step)) (sym is.stale ∙ none)
-    ∙ none_address (request_of_step state step)

@@ -10,14 +10,14 @@ use Rattle.iom_debug.specs.Script.{DebugLine, Plain, Inquires, Again, Stores, de
 use Rattle.iom_tool.specs.Texts.{text_of}
 use Rattle.iom_debug.specs.Taking.{last_answer, run_text, taken}
 use Rattle.iom_debug.specs.Answers.{inquired}
-use Rattle.iom_account.specs.declared.reason.Reason.{Reason}
+use Rattle.iom_account.specs.Account.{Account}
 
 -- by what is told of the last steps; None: nothing
-abbrev pub debug_reply : Console → List Reason → DebugLine → Option (List ℕ)
-debug_reply now told (Plain line) = reply now line
-debug_reply now told (Inquires inquiry) = Some (inquired now told inquiry)
-debug_reply now told (Again step most) = Some (run_text now.state (replicate most step))
-debug_reply now told (Stores steps) = Some (text_of (last_answer now.state steps))
+abbrev pub debug_reply : Console → Account → DebugLine → Option (List ℕ)
+debug_reply now account (Plain line) = reply now line
+debug_reply now account (Inquires inquiry) = Some (inquired now account inquiry)
+debug_reply now account (Again step most) = Some (run_text now.state (replicate most step))
+debug_reply now account (Stores steps) = Some (text_of (last_answer now.state steps))
 
 -- the steps that a line is
 abbrev pub debug_steps : State → DebugLine → List Step

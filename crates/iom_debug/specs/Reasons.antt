@@ -1,6 +1,6 @@
 -- What is told of the steps of lines while they are carried out: where each access's translation came from, and where the tables led it
 -- then.
-use Rattle.std.specs.Prelude.{ℕ, ◌++◌, List, [], ◌∷◌, codes, Option, Some, None, Result}
+use Rattle.std.specs.Prelude.{ℕ, ◌++◌, List, [], ◌∷◌, codes, Option, Some, None, Result, slice_get}
 use Rattle.std.specs.Option.{option_map}
 use Rattle.iom_text.specs.Texts.{numeral}
 use Rattle.iom_core.specs.State.{State}
@@ -9,9 +9,11 @@ use Rattle.iom_core.specs.declared.access.Denial.{Denial}
 use Rattle.iom_core.specs.declared.access.Request.{Request}
 use Rattle.iom_core.specs.declared.step.Step.{Step}
 use Rattle.iom_core.specs.declared.way.Way.{Way}
-use Rattle.iom_history.specs.declared.origin.Origin.{Origin}
-use Rattle.iom_history.specs.declared.origin.Origin.TheVariants as origin
+use Rattle.iom_account.specs.declared.origin.Origin.{Origin}
+use Rattle.iom_account.specs.declared.origin.Origin.TheVariants as origin
 use Rattle.iom_account.specs.Account.{Account, GoesAlong as AccountGoesAlong}
+use Rattle.iom_account.specs.Following.{Notes, numbers_of}
+use Rattle.iom_account.specs.declared.history.Filled.{Filled}
 use Rattle.iom_account.specs.declared.reason.Reason.{Reason}
 use Rattle.iom_debug.specs.Ways.{address_of, address_text, stale_address}
 
@@ -75,3 +77,18 @@ why_text (Some reason) = reason_text reason
 abbrev pub stale_only : Option (Result ℕ Denial) → List ℕ
 stale_only None = []
 stale_only (Some address) = address_text address
+
+-- which lines filled a place of a cache, also where what stood there was dropped: of a context one, of a translation that of its context too
+abbrev pub context_origin_by : Option ℕ → List ℕ
+context_origin_by None = codes "none"
+context_origin_by (Some number) = codes "context " ++ numeral 10 number
+
+abbrev pub context_origin_text : Notes → ℕ → List ℕ
+context_origin_text history i = context_origin_by (slice_get history.contexts i)
+
+abbrev pub page_origin_by : Option Filled → List ℕ
+page_origin_by None = codes "none"
+page_origin_by (Some filled) = codes "walked context=" ++ numeral 10 filled.context ++ codes " walk=" ++ numeral 10 filled.walk
+
+abbrev pub page_origin_text : Notes → ℕ → List ℕ
+page_origin_text history i = page_origin_by (numbers_of (slice_get history.bases i) (slice_get history.walks i))

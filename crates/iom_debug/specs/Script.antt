@@ -157,6 +157,20 @@ why (i ∷ []) = do
   Some (Inquires (inquiry.Why i))
 why _ = None
 
+unfoldable pub origin_of : List ℕ → ℕ → Option Inquiry
+origin_of what i =
+    if bytes_eq what (codes "context") then Some (inquiry.ContextOrigin i)
+    else if bytes_eq what (codes "page") then Some (inquiry.PageOrigin i)
+    else None
+
+-- origin context I, origin page I
+unfoldable pub origin : List (List ℕ) → Option DebugLine
+origin (what ∷ i ∷ []) = do
+  i ← number i
+  asked ← origin_of what i
+  Some (Inquires asked)
+origin _ = None
+
 -- walk read|write DID IOVA I
 unfoldable pub walk : List (List ℕ) → Option DebugLine
 walk (kind ∷ did ∷ iova ∷ i ∷ []) = do
@@ -207,6 +221,7 @@ form_by verb operands =
     else if bytes_eq verb (codes "queue") then queue operands
     else if bytes_eq verb (codes "dump") then dump operands
     else if bytes_eq verb (codes "disk") then disk operands
+    else if bytes_eq verb (codes "origin") then origin operands
     else None
 
 -- words of 8 bytes are stored one after the other

@@ -14,11 +14,11 @@ use Rattle.iom_walk.specs.declared.source.Got.TheVariants as got
 use Rattle.iom_core.specs.State.{Machine}
 use Rattle.iom_core.specs.declared.access.Denial.{Denial}
 use Rattle.iom_core.specs.declared.access.Request.{Request}
-use Rattle.iom_reasons.specs.Parts.{parts_of}
-use Rattle.iom_reasons.specs.declared.part.Part.{Part}
-use Rattle.iom_reasons.specs.declared.part.Part.TheVariants as part
-use Rattle.iom_reasons.specs.declared.part.Wide.{Wide}
-use Rattle.iom_reasons.specs.declared.part.Wide.TheVariants as wide
+use Rattle.iom_tables.specs.Parts.{parts_of}
+use Rattle.iom_tables.specs.declared.part.Part.{Part}
+use Rattle.iom_tables.specs.declared.part.Part.TheVariants as part
+use Rattle.iom_tables.specs.declared.part.Wide.{Wide}
+use Rattle.iom_tables.specs.declared.part.Wide.TheVariants as wide
 use Rattle.iom_core.specs.declared.way.Way.{Way}
 use Rattle.iom_core.specs.declared.way.Way.TheVariants as way
 use Rattle.iom_items.specs.Lines.{line_of, operand}

@@ -10,12 +10,13 @@ use Rattle.iom_cache.specs.Places.{place_in}
 use Rattle.iom_core.specs.State.{Machine}
 use Rattle.iom_core.specs.declared.access.Denial.{Denial}
 use Rattle.iom_core.specs.declared.access.Request.{Request}
-use Rattle.iom_reasons.specs.Stale.{by_tables, stale_way}
-use Rattle.iom_reasons.specs.Standing.{found_now, is_context_now, is_hit_now, request_of, standing_of}
-use Rattle.iom_reasons.specs.declared.standing.Located.{Located}
-use Rattle.iom_reasons.specs.declared.standing.Located.TheVariants as found
-use Rattle.iom_reasons.specs.declared.standing.Standing.{Standing}
-use Rattle.iom_reasons.specs.declared.standing.Standing.TheVariants as standing
+use Rattle.iom_core.specs.Looking.{by_tables}
+use Rattle.iom_tables.specs.Stale.{stale_way}
+use Rattle.iom_tables.specs.Standing.{found_now, is_context_now, is_hit_now, request_of, standing_of}
+use Rattle.iom_tables.specs.declared.standing.Located.{Located}
+use Rattle.iom_tables.specs.declared.standing.Located.TheVariants as found
+use Rattle.iom_tables.specs.declared.standing.Standing.{Standing}
+use Rattle.iom_tables.specs.declared.standing.Standing.TheVariants as standing
 use Rattle.iom_core.specs.declared.way.Way.{Way}
 use Rattle.iom_core.specs.declared.way.Way.TheVariants as way
 use Rattle.iom_items.specs.Lines.{context_text, operand}

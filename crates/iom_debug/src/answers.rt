@@ -11,7 +11,7 @@ ghost use Rattle.iom_debug.specs.Forms.{InRange};
 ghost use Rattle.iom_debug.specs.Texts.{ask_text, blk_text, broken_text, bytes_text, device_text, disk_text, part_of, phase_text, queue_text, reason_text, stop_text, view_text};
 
 use crate::form::Inquiry;
-use crate::reason::why_line;
+use crate::reason::{context_origin_line, page_origin_line, why_line};
 use crate::reasons::Reasons;
 use crate::standings::{context_standing_line, page_standing_line};
 use crate::text::{push_bytes, push_hexed, push_operand, push_text, said};
@@ -28,13 +28,15 @@ use iom_virtq::ChainFault;
 /// The answer to a question. Nothing is changed.
 pub fn answer_to(platform: &Platform, trace: &Trace, reasons: &Reasons, inquiry: &Inquiry) -> Reply
     requires { InRange inquiry.now }
-    ensures { result.items ≡ inquired (console platform.now trace.now) reasons.now.account.told inquiry.now }
+    ensures { result.items ≡ inquired (console platform.now trace.now) reasons.now.account inquiry.now }
 {
     match *inquiry {
         Inquiry::Stale(request) => stale_line(platform, &request),
         Inquiry::StaleContext(i) => context_standing_line(platform, i),
         Inquiry::StalePage(i) => page_standing_line(platform, i),
         Inquiry::Why(i) => why_line(reasons.reason(i)),
+        Inquiry::ContextOrigin(i) => context_origin_line(reasons.history(), i),
+        Inquiry::PageOrigin(i) => page_origin_line(reasons.history(), i),
         Inquiry::Walk(request, i) => walk_line(platform, &request, i),
         Inquiry::Queue(which) => queue_line(platform.registers(), which),
         Inquiry::Dump(addr, count) => memory_line(platform.ram(), addr, count),

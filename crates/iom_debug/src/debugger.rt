@@ -1,6 +1,5 @@
 ghost use Rattle.std.specs.Prelude.{◌≡◌, ◌≢◌, [], None};
 ghost use Rattle.std.specs.Option.{unwrap_or};
-ghost use Rattle.iom_account.specs.Account.{IsKnown};
 ghost use Rattle.iom_core.specs.Run.{end_of};
 ghost use Rattle.iom_core.specs.Table.{next};
 ghost use Rattle.iom_tool.specs.Script.{Bad, line_of};
@@ -14,9 +13,8 @@ ghost use Rattle.iom_debug.specs.Taking.{Took, desk, is_done};
 use crate::answers::answer_to;
 use crate::form::{Form, form_of};
 use crate::reasons::Reasons;
-use crate::taking::{step_by, store_all, take_again, take_known, take_told};
+use crate::taking::{step_by, store_all, take, take_again, take_told};
 use crate::ways::address_line;
-use iom_account::{Known, known_before};
 use iom_core::{Platform, Step};
 use iom_tool::{Reply, Session, Trace, step_of};
 
@@ -57,7 +55,7 @@ impl<'a> Debugger<'a> {
     /// `bad` is answered so here too, and leaves the same.
     pub fn line(&mut self, number: u64, text: &[u8]) -> Reply
         ensures reply { result.items ≡ unwrap_or
-            (debug_reply (console self.old.platform.now self.old.trace.now) self.old.reasons.now.account.told (debug_line_of text.now)) [] }
+            (debug_reply (console self.old.platform.now self.old.trace.now) self.old.reasons.now.account (debug_line_of text.now)) [] }
         ensures state { self.new.platform.now
             ≡ end_of self.old.platform.now (debug_steps_of self.old.platform.now text.now) }
         ensures trace { self.new.trace.now
@@ -87,21 +85,7 @@ impl<'a> Debugger<'a> {
         ensures same_trace { self.new.trace.ghost_name ≡ self.old.trace.ghost_name }
         ensures same_reasons { self.new.reasons.ghost_name ≡ self.old.reasons.ghost_name }
     {
-        let known = known_before(self.platform, &step);
-        self.take_known(number, step, &known)
-    }
-
-    /// The same of a step of which this is known, as `known_before` tells it.
-    pub fn take_known(&mut self, number: u64, step: Step, known: &Known) -> bool
-        requires known { IsKnown self.old.platform.now step known.now }
-        ensures done { result ≡ is_done (next self.old.platform.now step).answer }
-        ensures took { Took (desk self.old.platform.now self.old.trace.now self.old.reasons.now) step number
-            (desk self.new.platform.now self.new.trace.now self.new.reasons.now) }
-        ensures same_platform { self.new.platform.ghost_name ≡ self.old.platform.ghost_name }
-        ensures same_trace { self.new.trace.ghost_name ≡ self.old.trace.ghost_name }
-        ensures same_reasons { self.new.reasons.ghost_name ≡ self.old.reasons.ghost_name }
-    {
-        take_known(self.platform, self.trace, self.reasons, number, step, known)
+        take(self.platform, self.trace, self.reasons, number, step)
     }
 
     /// Where the tables led the last access of the last line that was stale, before its step, as `stale` tells it (`denied 13`,
@@ -137,7 +121,7 @@ fn answer_line(
     text: &[u8],
 ) -> Reply
     ensures reply { result.items
-        ≡ unwrap_or (debug_reply (console platform.old trace.old) reasons.old.account.told (debug_line_of text.now)) [] }
+        ≡ unwrap_or (debug_reply (console platform.old trace.old) reasons.old.account (debug_line_of text.now)) [] }
     ensures state { platform.new ≡ end_of platform.old (debug_steps_of platform.old text.now) }
     ensures trace { trace.new ≡ trace_after trace.old platform.old (debug_steps_of platform.old text.now) }
     ensures along { GoesAlong reasons.old platform.old (debug_steps_of platform.old text.now) number reasons.new platform.new }
@@ -157,7 +141,7 @@ fn carry_out(
     text: &[u8],
 ) -> Reply
     ensures reply { result.items
-        ≡ unwrap_or (debug_reply (console platform.old trace.old) reasons.old.account.told (debug_line_of text.now)) [] }
+        ≡ unwrap_or (debug_reply (console platform.old trace.old) reasons.old.account (debug_line_of text.now)) [] }
     ensures state { platform.new ≡ end_of platform.old (debug_steps_of platform.old text.now) }
     ensures trace { trace.new ≡ trace_after trace.old platform.old (debug_steps_of platform.old text.now) }
     ensures along { GoesAlong reasons.old platform.old (debug_steps_of platform.old text.now) number reasons.new platform.new }

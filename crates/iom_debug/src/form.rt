@@ -2,9 +2,9 @@
 
 ghost use Rattle.std.specs.Prelude.{◌≡◌, ◌+◌, ◌*◌, ◌^◌, ◌<◌, ◌≤◌, map, nat_le, IfSome};
 ghost use Rattle.std.specs.Option.{option_map};
-ghost use Rattle.iom_debug.specs.Forms.{Fits, line_in};
+ghost use Rattle.iom_debug.specs.Forms.{Fits, InRange, line_in};
 ghost use Rattle.iom_text.specs.Words.{words_of};
-ghost use Rattle.iom_debug.specs.Script.{is_count, is_limit, reg_read, reg_write, reg, dev_read, dev_write, dev_show, dev_run, dev, cmd_run, cmd, item_words, put, kind_named, request, stale_request, stale_context, stale_page, stale, why, walk, queue_named, queue, dump, disk, form_by, form_in, form_of};
+ghost use Rattle.iom_debug.specs.Script.{is_count, is_limit, reg_read, reg_write, reg, dev_read, dev_write, dev_show, dev_run, dev, cmd_run, cmd, item_words, put, kind_named, request, stale_request, stale_context, stale_page, stale, why, origin_of, origin, walk, queue_named, queue, dump, disk, form_by, form_in, form_of};
 
 use crate::names::{mmio_named, register_named};
 use arrayvec::ArrayVec;
@@ -25,6 +25,10 @@ pub enum Inquiry {
     StalePage(u64),
     /// What is told of step I of the trace, the oldest 0.
     Why(u64),
+    /// Which line filled place I of the context cache, the oldest 0.
+    ContextOrigin(u64),
+    /// Which lines filled place I of the translation cache, the oldest 0, and its context.
+    PageOrigin(u64),
     /// The part of this number, from 0, of the walk of a request as the tables stand now.
     Walk(Request, u64),
     /// What a queue's registers tell, and what stopped it.
@@ -328,6 +332,32 @@ fn why(operands: &[&[u8]]) -> Option<Form>
     Some(Form::Inquires(Inquiry::Why(number(i)?)))
 }
 
+// The question which lines filled a place of a cache.
+#[tactic(auto, unfolding(crate::specs::Script::origin_of))]
+fn origin_of(what: &[u8], i: u64) -> Option<Inquiry>
+    ensures asks { result ≡ origin_of what.now i }
+    ensures range { IfSome result InRange }
+{
+    match what {
+        b"context" => Some(Inquiry::ContextOrigin(i)),
+        b"page" => Some(Inquiry::PageOrigin(i)),
+        _ => None,
+    }
+}
+
+// What follows `origin`: a place of a cache.
+#[tactic(auto, unfolding(crate::specs::Script::origin))]
+fn origin(operands: &[&[u8]]) -> Option<Form>
+    ensures line { option_map line_in result ≡ origin (map (λ word. word.now) operands.now) }
+    ensures fits { IfSome result Fits }
+{
+    let [what, i] = operands else {
+        return None;
+    };
+    let i = number(i)?;
+    Some(Form::Inquires(origin_of(what, i)?))
+}
+
 // What follows `walk`: a request, and which part.
 #[tactic(auto, unfolding(crate::specs::Script::walk))]
 fn walk(operands: &[&[u8]]) -> Option<Form>
@@ -424,6 +454,8 @@ fn form_by(verb: &[u8], operands: &[&[u8]]) -> Option<Form>
         dump(operands)
     } else if verb == b"disk".as_slice() {
         disk(operands)
+    } else if verb == b"origin".as_slice() {
+        origin(operands)
     } else {
         None
     }

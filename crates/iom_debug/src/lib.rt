@@ -2,13 +2,14 @@
 #![tactic(auto)]
 
 pub use debugger::{Debugger, repeated};
-pub use iom_account::{Known, Reason, known_before};
+pub use iom_account::Reason;
 pub use iom_tool::Reply;
-pub use parts::{is_told_alike, put_part};
+pub use parts::{is_told_alike, put_cached, put_part};
 pub use reasons::Reasons;
 pub use summary::{Outcome, Summary};
 pub use taking::counted;
 pub use wanting::wanted;
+pub use ways::address_of;
 
 mod answers;
 mod debugger;

@@ -3,12 +3,12 @@
 ghost use Rattle.std.specs.Prelude.{◌≡◌, ◌↔◌, ◌+◌, ◌++◌, ◌<◌, ◌≤◌, ◌^◌, [], ◌∷◌, IsTrue, codes, length};
 ghost use Rattle.iom_bits.specs.Causes.{cause_number};
 ghost use Rattle.iom_text.specs.Texts.{numeral};
-ghost use Rattle.iom_items.specs.Lines.{line_of, operand, pte_text};
+ghost use Rattle.iom_items.specs.Lines.{context_text, line_of, operand, pte_text};
 ghost use Rattle.iom_items.specs.declared.item.Item.TheVariants as item;
 ghost use Rattle.iom_core.specs.State.{Machine};
 ghost use Rattle.iom_core.specs.declared.access.Request.{Request};
-ghost use Rattle.iom_reasons.specs.Bounds.{PartFits};
-ghost use Rattle.iom_reasons.specs.Fetches.{IsRead};
+ghost use Rattle.iom_tables.specs.Bounds.{PartFits};
+ghost use Rattle.iom_tables.specs.Fetches.{IsRead};
 ghost use Rattle.iom_tool.specs.Debugger.{item_text};
 ghost use Rattle.iom_debug.specs.Walks.{IsBeforeEnd, end_text, first_text, got_text, in_text, met_text, mode_number, part_text, row_text, second_text, wide_text};
 ghost use Rattle.iom_debug.specs.Ways.{address_text};
@@ -16,11 +16,11 @@ ghost use Rattle.iom_debug.specs.Ways.{address_text};
 use crate::ways::address_of;
 use iom_bits::{Cause, field};
 use iom_core::{Denial, Platform, Request};
-use iom_ddt::Met;
-use iom_items::{Item, item_line};
+use iom_ddt::{Context, Met};
+use iom_items::{Item, context_line, item_line};
 use iom_mem::Ram;
-use iom_reasons::{Part, Way, Wide};
 use iom_regs::Mode;
+use iom_tables::{Part, Way, Wide};
 use iom_text::decimal;
 use iom_tool::Draft;
 use iom_walk::{Got, PathEntry, Ruling};
@@ -41,6 +41,16 @@ pub fn put_part(out: &mut Draft, platform: &Platform, request: &Request, part: &
         Part::Second { guest, entry } => push_second(out, *guest, entry),
         Part::End(way) => push_end(out, way, address_of(way, request.iova)),
     }
+}
+
+/// Puts a context that a cache has in place of what a draft holds, as the head of the walk below it: `cached`, and the context's line.
+pub fn put_cached(out: &mut Draft, context: &Context)
+    ensures text { out.new ≡ codes "cached " ++ context_text context.now }
+    ensures short { length out.new ≤ 320 }
+{
+    out.clear();
+    out.append(b"cached ");
+    out.append(context_line(context).as_slice());
 }
 
 /// Whether two parts are equal, and neither is the end of a walk. Then they are told alike, whatever their walks are: the text of an end

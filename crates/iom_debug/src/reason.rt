@@ -1,13 +1,12 @@
 ghost use Rattle.std.specs.Prelude.{◌≡◌, ◌+◌, ◌++◌, ◌≤◌, length, IfSome};
 ghost use Rattle.std.specs.Option.{option_copied};
 ghost use Rattle.iom_account.specs.Account.{ReasonFits};
-ghost use Rattle.iom_debug.specs.Reasons.{origin_text, reason_text, stale_of, tables_text, used_text, why_text};
+ghost use Rattle.iom_debug.specs.Reasons.{context_origin_text, origin_text, page_origin_text, reason_text, stale_of, tables_text, used_text, why_text};
 
 use crate::text::{push_number, push_text, said};
 use crate::ways::{address_of, push_address};
-use iom_account::Reason;
+use iom_account::{History, Origin, Reason};
 use iom_core::{Denial, Request};
-use iom_history::Origin;
 use iom_tool::Reply;
 
 /// Where the tables led the access of a step before it, a physical address or a denial; None where it was not stale.
@@ -87,4 +86,30 @@ pub fn why_line(reason: Option<&Reason>) -> Reply
         Some(reason) => reason_line(reason),
         None => said(b"none"),
     }
+}
+
+/// Which line filled place `i` of the context cache, the oldest 0, as `context 12`; `none` beyond the last place.
+pub fn context_origin_line(history: &History, i: u64) -> Reply
+    ensures { result.items ≡ context_origin_text history.now i }
+{
+    let Some(number) = history.context(i) else {
+        return said(b"none");
+    };
+    let mut out = Reply::new();
+    push_number(&mut out, b"context ", number);
+    out
+}
+
+/// Which lines filled place `i` of the translation cache, the oldest 0, and its context, as `walked context=12 walk=14`; `none` beyond the
+/// last place.
+pub fn page_origin_line(history: &History, i: u64) -> Reply
+    ensures { result.items ≡ page_origin_text history.now i }
+{
+    let Some(filled) = history.page(i) else {
+        return said(b"none");
+    };
+    let mut out = Reply::new();
+    push_number(&mut out, b"walked context=", filled.context);
+    push_number(&mut out, b" walk=", filled.walk);
+    out
 }

@@ -3,7 +3,7 @@
 ghost use Rattle.std.specs.Prelude.{◌≡◌};
 
 use crate::reason::stale_of;
-use iom_account::{Account, Known, Reason, known_before};
+use iom_account::{Account, History, Reason};
 use iom_core::{Answer, Denial, Platform, Step};
 use std::marker::Model;
 
@@ -27,7 +27,7 @@ impl Reasons {
     ghost use Rattle.std.specs.Prelude.{◌≡◌, [], ◌∷◌, None, IfSome, slice_get};
     ghost use Rattle.std.specs.Option.{option_and_then, option_copied};
     ghost use Rattle.circular_buffer.specs.Buffer.{last_item};
-    ghost use Rattle.iom_account.specs.Account.{Accounts, IsKnown, ReasonFits};
+    ghost use Rattle.iom_account.specs.Account.{Accounts, ReasonFits};
     ghost use Rattle.iom_core.specs.Table.{next, request_of_step};
     ghost use Rattle.iom_debug.specs.Reasons.{GoesAlong, later, stale_in, stale_of};
 
@@ -42,6 +42,13 @@ impl Reasons {
             account: Account::new(platform),
             stale: None,
         }
+    }
+
+    /// Which lines filled what the caches hold.
+    pub fn history(&self) -> &History
+        ensures { result.now ≡ self.now.account.history }
+    {
+        self.account.history()
     }
 
     /// What is told of step `i` of the last 32, any number; the oldest is 0, as in the trace. None where there are so many steps or
@@ -82,41 +89,16 @@ impl Reasons {
         self.stale = None;
     }
 
-    /// Carries out the next step on the platform, a step of the line of this number, and keeps what is told of it. Of 32 steps the
-    /// oldest leaves.
-    pub fn step(&mut self, platform: &mut Platform, step: &Step, number: u64) -> Answer
-        ensures answer { result ≡ (next platform.old step.now).answer }
-        ensures state { platform.new ≡ (next platform.old step.now).state }
-        ensures stale { self.new.stale ≡ later self.old.stale (stale_in platform.old (request_of_step platform.old step.now)) }
-        ensures along { GoesAlong self.old platform.old (step.now ∷ []) number self.new platform.new }
-    {
-        let known = known_before(platform, step);
-        let mut answer = Answer::Done;
-        self.step_known(platform, step, &known, number, &mut answer);
-        answer
-    }
-
-    /// The same of a step of which this is known, with its answer put in place of what `answer` holds.
-    #[tactic(auto, using(crate::proofs::Newest::stale_newest, crate::proofs::Newest::none_stale))]
-    pub fn step_known(
-        &mut self,
-        platform: &mut Platform,
-        step: &Step,
-        known: &Known,
-        number: u64,
-        answer: &mut Answer,
-    )
-        requires known { IsKnown platform.old step.now known.now }
+    /// Carries out the next step on the platform, a step of the line of this number, puts its answer in place of what `answer` holds,
+    /// and keeps what is told of it. Of 32 steps the oldest leaves.
+    #[tactic(auto, using(crate::proofs::Newest::stale_newest))]
+    pub fn step(&mut self, platform: &mut Platform, step: &Step, number: u64, answer: &mut Answer)
         ensures answer { answer.new ≡ (next platform.old step.now).answer }
         ensures state { platform.new ≡ (next platform.old step.now).state }
         ensures stale { self.new.stale ≡ later self.old.stale (stale_in platform.old (request_of_step platform.old step.now)) }
         ensures along { GoesAlong self.old platform.old (step.now ∷ []) number self.new platform.new }
     {
-        self.account
-            .step_known(platform, step, known, number, answer);
-        if known.stale.is_none() {
-            return;
-        }
+        self.account.step(platform, step, number, answer);
         let stale = self.newest_stale();
         if stale.is_some() {
             self.stale = stale;

@@ -13,7 +13,7 @@ use iom_core::Platform;
 use iom_ddt::Context;
 use iom_items::context_line;
 use iom_nested::Hit;
-use iom_reasons::{Located, Standing, Way, stale_context, stale_page};
+use iom_tables::{Located, Standing, Way, stale_context, stale_page};
 use iom_tool::Reply;
 
 /// Whether the directory says now what place `i` of the context cache holds: `same`, or what it says.

@@ -1,7 +1,6 @@
 //! Steps one after the other, while each is done.
 
 ghost use Rattle.std.specs.Prelude.{◌≡◌, ◌+◌, ◌*◌, ◌^◌, ◌≤◌, length, replicate, codes, ◌++◌};
-ghost use Rattle.iom_account.specs.Account.{IsKnown};
 ghost use Rattle.iom_core.specs.Run.{end_of};
 ghost use Rattle.iom_core.specs.Table.{next};
 ghost use Rattle.iom_text.specs.Texts.{hexed};
@@ -15,7 +14,6 @@ ghost use Rattle.iom_debug.specs.Taking.{Took, desk, is_done, last_answer, run_t
 use crate::form::Actor;
 use crate::reasons::Reasons;
 use crate::text::{push_hexed, push_text};
-use iom_account::Known;
 use iom_core::{Answer, Platform, Step};
 use iom_tool::{Reply, Trace, answer_text};
 
@@ -28,21 +26,19 @@ pub struct StepAnswer {
     pub text: Reply,
 }
 
-/// Carries out a step of the line of this number, of which this is known, and answers whether it was done.
-pub fn take_known(
+/// Carries out a step of the line of this number, and answers whether it was done.
+pub fn take(
     platform: &mut Platform,
     trace: &mut Trace,
     reasons: &mut Reasons,
     number: u64,
     step: Step,
-    known: &Known,
 ) -> bool
-    requires known { IsKnown platform.old step known.now }
     ensures done { result ≡ is_done (next platform.old step).answer }
     ensures took { Took (desk platform.old trace.old reasons.old) step number (desk platform.new trace.new reasons.new) }
 {
     let mut answer = Answer::Done;
-    reasons.step_known(platform, &step, known, number, &mut answer);
+    reasons.step(platform, &step, number, &mut answer);
     let is_done = is_done(&answer);
     trace.keep(step, answer);
     is_done
@@ -61,7 +57,8 @@ pub fn take_told(
     ensures short { length result.text.items ≤ 128 }
     ensures took { Took (desk platform.old trace.old reasons.old) step number (desk platform.new trace.new reasons.new) }
 {
-    let answer = reasons.step(platform, &step, number);
+    let mut answer = Answer::Done;
+    reasons.step(platform, &step, number, &mut answer);
     let answered = StepAnswer {
         is_done: is_done(&answer),
         text: answer_text(&answer),

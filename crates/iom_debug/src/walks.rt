@@ -2,13 +2,13 @@
 
 ghost use Rattle.std.specs.Prelude.{◌≡◌, ◌<◌, ◌^◌, All, IfSome, slice_get};
 ghost use Rattle.std.specs.Option.{option_copied};
-ghost use Rattle.iom_reasons.specs.Bounds.{PartFits};
+ghost use Rattle.iom_tables.specs.Bounds.{PartFits};
 ghost use Rattle.iom_debug.specs.Walks.{part_text, walk_text};
 
 use crate::parts::put_part;
 use crate::text::said;
 use iom_core::{Platform, Request};
-use iom_reasons::{Part, Parts, parts};
+use iom_tables::{Part, Parts, parts};
 use iom_tool::{Draft, Reply};
 
 /// Part `i` of the walk of a request as the tables stand now, the first 0; `none` past the last one.

@@ -1,12 +1,12 @@
 //! Where the tables lead a request now.
 
 ghost use Rattle.std.specs.Prelude.{◌≡◌, ◌+◌, ◌<◌, ◌≤◌, ◌^◌, ◌++◌, length};
-ghost use Rattle.iom_reasons.specs.Stale.{Fits};
+ghost use Rattle.iom_core.specs.Access.{Fits};
 ghost use Rattle.iom_debug.specs.Ways.{address_of, address_text, stale_address, stale_text};
 
 use crate::text::{push_cause, push_hexed, push_text, said};
 use iom_core::{Denial, Platform, Request};
-use iom_reasons::{Way, stale};
+use iom_tables::{Way, stale};
 use iom_tool::Reply;
 
 /// The physical address that a way leads an IOVA to, or its denial.

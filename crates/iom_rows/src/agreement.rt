@@ -3,9 +3,9 @@
 ghost use Rattle.std.specs.Prelude.{◌<◌, IfOk, length};
 ghost use Rattle.iom_core.specs.Warrants.{IsUncached};
 
+use iom_account::{History, Origin};
 use iom_asm::LoadFault;
-use iom_core::{Platform, Step, Warrant, explain};
-use iom_history::{History, Origin};
+use iom_core::{Answer, Platform, Step, explain};
 use std::alloc::{AllocError, Global};
 
 /// A step that is explained otherwise than a history told it.
@@ -81,25 +81,6 @@ fn numbered(n: usize) -> u64 {
     (n as u64).wrapping_mul(3).wrapping_add(10)
 }
 
-// A warrant as a history tells it.
-fn by_numbers(warrant: Warrant) -> Origin {
-    match warrant {
-        Warrant::Register => Origin::Register,
-        Warrant::Context { context } => Origin::Context {
-            context: numbered(context),
-        },
-        Warrant::Walked {
-            context,
-            walk,
-            current,
-        } => Origin::Walked {
-            context: numbered(context),
-            walk: numbered(walk),
-            current: numbered(current),
-        },
-    }
-}
-
 // The platform that an image starts. Its caches hold nothing.
 #[tactic(auto, using(crate::proofs::Uncached::uncached))]
 fn started(alloc: Global, image: &[u8]) -> Result<Platform, LoadFault>
@@ -113,12 +94,16 @@ fn explained(
     alloc: Global,
     start: &Platform,
     steps: &[Step],
+    numbers: &[u64],
     n: usize,
 ) -> Result<Option<Origin>, AllocError>
     requires below { n < length steps.now }
     requires uncached { IsUncached start.now }
 {
-    Ok(explain(alloc, start, steps, n)?.map(by_numbers))
+    match explain(alloc, start, steps, n)? {
+        Some(warrant) => Ok(Some(Origin::told(warrant, numbers))),
+        None => Ok(None),
+    }
 }
 
 // The first of the steps from `start` on that is explained otherwise than a history tells it.
@@ -132,9 +117,14 @@ fn compared(
 {
     let mut platform = start.try_clone(alloc)?;
     let mut history = History::new(&platform);
+    let mut answer = Answer::Done;
+    let mut numbers = Vec::new(alloc);
     for n in 0..steps.len() {
-        let told = history.step(&mut platform, &steps[n], numbered(n)).origin;
-        let explained = explained(alloc, start, steps, n)?;
+        let number = numbered(n);
+        numbers.push(number)?;
+        let taken = history.step(&mut platform, &steps[n], number, &mut answer);
+        let told = taken.origin;
+        let explained = explained(alloc, start, steps, &numbers, n)?;
         if told != explained {
             return Ok(Some(Difference {
                 step: n,

@@ -1,10 +1,10 @@
 //! Which moments warrant what a read used.
 
 use crate::devices::devices;
+use iom_account::{History, Origin};
 use iom_bits::Kind;
 use iom_cache::Key;
-use iom_core::{Platform, Step, Warrant, explain};
-use iom_history::{History, Origin};
+use iom_core::{Answer, Platform, Step, Warrant, explain};
 use iom_mem::Ram;
 use std::alloc::Global;
 use std::test::Fail;
@@ -75,34 +75,17 @@ fn numbered(k: usize) -> u64 {
     (k as u64).wrapping_mul(3).wrapping_add(10)
 }
 
-// A warrant as a history tells it.
-fn told(warrant: Warrant) -> Origin {
-    match warrant {
-        Warrant::Register => Origin::Register,
-        Warrant::Context { context } => Origin::Context {
-            context: numbered(context),
-        },
-        Warrant::Walked {
-            context,
-            walk,
-            current,
-        } => Origin::Walked {
-            context: numbered(context),
-            walk: numbered(walk),
-            current: numbered(current),
-        },
-    }
-}
-
 // Where a history says that the translation comes from that step n used, if it goes along with the steps up to it.
 fn origin(mut platform: Platform, steps: &[Step], n: usize) -> Option<Origin> {
     let mut history = History::new(&platform);
+    let mut answer = Answer::Done;
     let mut last = None;
     for (k, step) in steps.iter().enumerate() {
         if k > n {
             break;
         }
-        last = history.step(&mut platform, step, numbered(k)).origin;
+        let taken = history.step(&mut platform, step, numbered(k), &mut answer);
+        last = taken.origin;
     }
     last
 }
@@ -121,7 +104,15 @@ pub fn is_warranted(
     if n >= steps.len() || explain(alloc, &start, steps, n)? != want {
         return Ok(false);
     }
-    Ok(origin(start, steps, n) == want.map(told))
+    let mut numbers = Vec::new(alloc);
+    for k in 0..=n {
+        numbers.push(numbered(k))?;
+    }
+    let told = match want {
+        Some(warrant) => Some(Origin::told(warrant, &numbers)),
+        None => None,
+    };
+    Ok(origin(start, steps, n) == told)
 }
 
 /// The number of the first case that is otherwise, of steps carried out from a memory with these words on.

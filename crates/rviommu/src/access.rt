@@ -2,10 +2,9 @@
 
 ghost use Rattle.std.specs.Prelude.{◌+◌, ◌≤◌, length};
 
+use iom_account::Origin;
 use iom_blk::{Phase, Want};
-use iom_core::{Denial, Platform, Step};
-use iom_history::Origin;
-use iom_reasons::Found;
+use iom_core::{Denial, Platform, Seen, Source, Step, Way};
 use iom_tool::Draft;
 
 /// What a block device asks of the IOMMU.
@@ -96,56 +95,59 @@ pub fn asked_by(platform: &Platform, step: &Step) -> Option<Asked> {
     })
 }
 
-/// What an access found in the caches, and which lines had filled it. None of one that was denied before it came to the caches, and
-/// of one that ddtp led alone.
+/// What an access finds in the caches under the context that leads its device.
 #[derive(Clone, Copy)]
 pub struct Caches {
-    found: Found,
-    origin: Option<Origin>,
+    // The line that filled its context, where that is cached.
+    context: Option<u64>,
+    // Whether the stages of its context lead it.
+    is_staged: bool,
+    // Whether its page is cached.
+    is_page_found: bool,
+    // The physical address that what is cached leads it to.
+    addr: Option<u64>,
 }
 
 impl Caches {
-    /// What is told of an access that found this, whose translation came from `origin`, or which was denied for this cause.
-    pub fn new(found: Found, origin: Option<Origin>, denied: Option<u16>) -> Option<Caches> {
-        match (origin, denied) {
-            (Some(Origin::Register), _) => None,
-            (None, Some(cause)) if cause >= 256 => None,
-            _ => Some(Caches { found, origin }),
-        }
+    /// What leads an access that is seen so before it is made, whose device's live context a line of this number filled, and which leads
+    /// there. None where no context leads it.
+    pub fn new(seen: &Seen, filler: u64, address: Result<u64, Denial>) -> Option<Caches> {
+        let (source, _) = seen.context?;
+        let is_page_found = seen.page == Some(Source::Found);
+        let is_led = is_page_found || seen.is_cached();
+        Some(Caches {
+            context: if source == Source::Found {
+                Some(filler)
+            } else {
+                None
+            },
+            is_staged: !matches!(seen.way, Way::Context(_)),
+            is_page_found,
+            addr: if is_led { address.ok() } else { None },
+        })
     }
 
-    /// Appends it as a line.
-    pub fn push(&self, out: &mut Draft)
+    /// Appends it as a line, of an access whose translation came from `origin`.
+    pub fn push(&self, out: &mut Draft, origin: Option<Origin>)
         requires { length out.old ≤ 200 }
-        ensures room { length out.new ≤ 300 }
+        ensures room { length out.new ≤ 310 }
     {
         out.append(b"    caches: ");
-        self.push_context(out);
-        match self.origin {
-            Some(Origin::Walked { walk, .. }) if self.found.page => {
+        match self.context {
+            Some(line) => push_decimal(out, b"context of line ", line),
+            None => out.append(b"no context"),
+        }
+        match origin {
+            Some(Origin::Walked { walk, .. }) if self.is_page_found => {
                 push_decimal(out, b", page of line ", walk);
             }
-            Some(Origin::Context { .. }) => {}
-            _ => out.append(b", no page"),
+            _ if self.is_staged => out.append(b", no page"),
+            _ => {}
+        }
+        if let Some(addr) = self.addr {
+            push_hexed(out, b", addr=", addr);
         }
         out.push(b'\n');
-    }
-
-    // Appends what was found of its context.
-    fn push_context(&self, out: &mut Draft)
-        requires { length out.old ≤ 212 }
-        ensures { length out.new ≤ length out.old + 36 }
-    {
-        if !self.found.context {
-            out.append(b"no context");
-            return;
-        }
-        match self.origin {
-            Some(Origin::Context { context: line } | Origin::Walked { current: line, .. }) => {
-                push_decimal(out, b"context of line ", line);
-            }
-            _ => out.append(b"a context"),
-        }
     }
 }
 

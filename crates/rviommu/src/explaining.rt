@@ -1,7 +1,5 @@
 //! Scripts whose lines are told with the reasons of their accesses.
 
-ghost use Rattle.std.specs.Prelude.{◌<◌, ◌^◌, IfSome};
-
 use crate::access::{Asked, Caches, asked_by, push_stale, push_warrant};
 use crate::checking::before_comment;
 use crate::fault::Fault;
@@ -12,9 +10,8 @@ use crate::text::Text;
 use crate::walk::{WALK_ROOM, Walk};
 use iom_core::{Answer, Denial, Step};
 use iom_debug::{
-    Debugger, Known, Outcome, Reason, Reasons, Reply, Summary, counted, known_before, repeated,
+    Debugger, Outcome, Reason, Reasons, Reply, Summary, address_of, counted, repeated,
 };
-use iom_reasons::Found;
 use iom_tool::{Draft, Entry, RunFault, Trace, answer_text, put_entry, step_of};
 use std::alloc::{AllocError, Global};
 use std::fs::Files;
@@ -38,6 +35,15 @@ struct Account<'w, W> {
     // One text of either.
     draft: Draft,
     summary: Summary,
+}
+
+// What is known of an access before it is made.
+#[derive(Clone, Copy)]
+struct Known {
+    // Whether the caches alone lead it.
+    is_cached: bool,
+    // What it finds there; None where no context leads it.
+    caches: Option<Caches>,
 }
 
 // The last step of a trace, and its answer.
@@ -68,16 +74,28 @@ fn told(trace: &Trace, taken: u64) -> Reply {
 }
 
 impl<W: Write> Account<'_, W> {
-    // Tells the walk of the access that a step is about to make, where the caches don't lead it alone.
-    fn look(&mut self, debugger: &Debugger<'_>, known: &Known) -> Result<(), Fault<'static>>
-        requires { IfSome known.now.request (λ request. request.did < 2 ^ 24) }
-    {
-        if !known.found.is_whole
-            && let Some(request) = &known.request
-        {
-            self.walk.tell(debugger.platform, request, &mut self.draft)?;
+    // What is known of the access that a step is about to make. Its walk is told where the caches don't lead it alone.
+    fn look(
+        &mut self,
+        debugger: &Debugger<'_>,
+        step: &Step,
+    ) -> Result<Option<Known>, Fault<'static>> {
+        let platform = &*debugger.platform;
+        let Some(request) = platform.request_of(step) else {
+            return Ok(None);
+        };
+        let seen = platform.seen(&request);
+        let is_cached = seen.is_cached();
+        if !is_cached {
+            self.walk.tell(platform, &request, &seen, &mut self.draft)?;
         }
-        Ok(())
+        let history = debugger.reasons.history();
+        let filler = history.context_of(platform, request.did).unwrap_or(0);
+        let address = address_of(&seen.way, request.iova);
+        Ok(Some(Known {
+            is_cached,
+            caches: Caches::new(&seen, filler, address),
+        }))
     }
 
     // Takes a step, tells it and its reason, and answers whether it was done.
@@ -87,17 +105,16 @@ impl<W: Write> Account<'_, W> {
         number: u64,
         step: Step,
     ) -> Result<bool, Fault<'static>> {
-        let known = known_before(debugger.platform, &step);
-        self.look(debugger, &known)?;
+        let known = self.look(debugger, &step)?;
         let asked = asked_by(debugger.platform, &step);
-        let is_done = debugger.take_known(number, step, &known);
+        let is_done = debugger.take(number, step);
         if let Some(entry) = newest(debugger.trace) {
             self.tell_step(number, entry)?;
             if let Some(reason) = debugger.reasons.newest()
-                && reason.request.is_some()
+                && let Some(known) = &known
             {
                 let stale = debugger.reasons.newest_stale();
-                self.tell(known.found, asked, reason, stale, denial(&entry.answer))?;
+                self.tell(known, asked, reason, stale, denial(&entry.answer))?;
             }
             self.write()?;
         }
@@ -114,7 +131,7 @@ impl<W: Write> Account<'_, W> {
     // Tells the reason of an access: where the tables led it, if it was stale, and the cause that it was denied for, if it was.
     fn tell(
         &mut self,
-        found: Found,
+        known: &Known,
         asked: Option<Asked>,
         reason: &Reason,
         stale: Option<Result<u64, Denial>>,
@@ -124,11 +141,11 @@ impl<W: Write> Account<'_, W> {
         if let Some(asked) = asked {
             asked.push(&mut self.draft);
         }
-        if let Some(caches) = Caches::new(found, reason.origin, denied) {
-            caches.push(&mut self.draft);
+        if let Some(caches) = &known.caches {
+            caches.push(&mut self.draft, reason.origin);
         }
         self.text.push(self.draft.as_slice())?;
-        if !found.is_whole {
+        if !known.is_cached {
             self.text.push(self.walk.as_slice())?;
         }
         self.draft.clear();
@@ -138,7 +155,7 @@ impl<W: Write> Account<'_, W> {
         self.summary.count(&Outcome {
             number: reason.number,
             denied,
-            is_cached: found.is_whole,
+            is_cached: known.is_cached,
             is_stale: stale.is_some(),
         })
     }

@@ -1,13 +1,15 @@
 //! The walk of an access, told.
 
-ghost use Rattle.std.specs.Prelude.{◌<◌, ◌^◌, All};
-ghost use Rattle.iom_reasons.specs.Bounds.{PartFits};
+ghost use Rattle.std.specs.Prelude.{◌<◌, ◌^◌, All, IfSome};
+ghost use Rattle.iom_ddt.specs.Contexts.{IsWellFormed};
+ghost use Rattle.iom_tables.specs.Bounds.{PartFits};
 
 use crate::text::Text;
 use arrayvec::ArrayVec;
-use iom_core::{Platform, Request};
-use iom_debug::{is_told_alike, put_part};
-use iom_reasons::{Part, Parts, put_parts};
+use iom_core::{Platform, Request, Seen, Source};
+use iom_ddt::Context;
+use iom_debug::{is_told_alike, put_cached, put_part};
+use iom_tables::{Part, Parts, put_parts, put_parts_under};
 use iom_tool::Draft;
 use std::alloc::{AllocError, Global};
 
@@ -52,16 +54,27 @@ impl Walk {
         self.told.lines.as_slice()
     }
 
-    /// Tells the walk of a request as the tables stand now, each part in a draft first, in place of what that holds. The device id is
-    /// below 2^24. The fault is want of memory.
+    /// Tells the walk of a request that is seen so, as the tables stand now, under the context that leads it, each part in a draft first,
+    /// in place of what that holds. A cached context that the directory doesn't have any more stands in place of ddtp and the directory.
+    /// The device id is below 2^24. The fault is want of memory.
     pub fn tell(
         &mut self,
         platform: &Platform,
         request: &Request,
+        seen: &Seen,
         draft: &mut Draft,
     ) -> Result<(), AllocError>
-        requires { request.now.did < 2 ^ 24 }
+        requires width { request.now.did < 2 ^ 24 }
+        requires context { IfSome seen.now.context (λ found. IsWellFormed found.1) }
     {
+        if let Some((Source::Found, context)) = &seen.context
+            && !is_current(platform, request, context)
+        {
+            put_parts_under(&mut self.parts, platform, request, context);
+            return self
+                .told
+                .tell_under(platform, request, context, draft, &self.parts);
+        }
         if self.is_other {
             put_parts(&mut self.parts, platform, request);
             let (last, next) = (&self.others, &self.parts);
@@ -76,7 +89,45 @@ impl Walk {
     }
 }
 
+// Whether the directory has this context of a request's device. The device id is below 2^24.
+fn is_current(platform: &Platform, request: &Request, context: &Context) -> bool
+    requires { request.now.did < 2 ^ 24 }
+{
+    match platform.seen_uncached(request).context {
+        Some((_, now)) => now == *context,
+        None => false,
+    }
+}
+
 impl Told {
+    // Tells a walk below a cached context, by its parts. None of its lines is kept for the next walk.
+    fn tell_under(
+        &mut self,
+        platform: &Platform,
+        request: &Request,
+        context: &Context,
+        draft: &mut Draft,
+        parts: &Parts,
+    ) -> Result<(), AllocError>
+        requires { All PartFits parts.now.items }
+    {
+        self.ends.clear();
+        self.lines.truncate(0);
+        put_cached(draft, context);
+        self.push(draft)?;
+        for at in 0..parts.len() {
+            put_part_at(draft, platform, request, parts, at);
+            self.push(draft)?;
+        }
+        Ok(())
+    }
+
+    // Appends a line.
+    fn push(&mut self, draft: &Draft) -> Result<(), AllocError> {
+        self.lines.push(b"    walk: ")?;
+        self.lines.push_line(draft.as_slice())
+    }
+
     // Tells the next walk, by its parts and those of the last one.
     fn tell(
         &mut self,
@@ -93,8 +144,7 @@ impl Told {
         self.lines.truncate(self.ends.last().copied().unwrap_or(0));
         for at in kept..next.len() {
             put_part_at(draft, platform, request, next, at);
-            self.lines.push(b"    walk: ")?;
-            self.lines.push_line(draft.as_slice())?;
+            self.push(draft)?;
             let _fits = self.ends.try_push(self.lines.len());
         }
         Ok(())

@@ -1,6 +1,7 @@
-use Rattle.std.proofs.Common.{◌≡◌, ◌∙◌, Option, Some, None, sym, ap, rules}
+use Rattle.std.proofs.Common.{◌≡◌, ◌∙◌, ℕ, Option, Some, None, sym, ap, rules}
 use Rattle.std.specs.Prelude.{IfNone, IfSome}
 use Rattle.std.specs.Bool.{OnTrue}
+use Rattle.std.specs.Option.{option_map}
 use Rattle.iom_virtq.specs.Bus.{Ask, Reply, is_granted}
 use Rattle.iom_blk.specs.Breaking.{broken_by}
 use Rattle.iom_blk.specs.Device.{Device}
@@ -8,39 +9,48 @@ use Rattle.iom_blk.specs.Phases.{asks, moved_of, took}
 use Rattle.iom_blk.specs.Wants.{Answers}
 use Rattle.iom_blk.specs.declared.want.Moved.{Moved}
 use Rattle.iom_blk.specs.declared.want.Moved.TheVariants.{Idle}
-use Rattle.iom_core.specs.Access.{served}
-use Rattle.iom_core.specs.Table.{answer_of, moving}
+use Rattle.iom_core.specs.Access.{request_of, served, told_of}
+use Rattle.iom_core.specs.State.{Machine}
+use Rattle.iom_core.specs.Table.{answer_of, asking_for, moving, told_by_step}
+use Rattle.iom_core.specs.declared.witness.Event.{Event}
 use Rattle.iom_core.specs.declared.port.Port.{Port}
 use Rattle.iom_core.proofs.devices.moved.Goals as goal
 
--- a step through a port, as `moving` has it
-went : (p q : Port) (d e : Device) (told : Moved) (asked : Option Ask) → IfNone asked ((told ≡ Idle) × (e ≡ d) × (q ≡ p)) →
-    IfSome asked (λ ask. (reply : Reply) × ((q.machine.ghost_name ≡ p.machine.ghost_name) × (q.did ≡ p.did)
-    × (reply ≡ (served p.machine.now p.did ask).reply) × (q.machine.now ≡ (served p.machine.now p.did ask).machine))
+-- a step through a port, as `moving` has it, and what is told of it
+went : {P S : Type 0} (M D : Type 0) (next : S → Event → S) (machine : P → Machine) (did : P → ℕ) (witness : P → S) (p q : P) (d e : Device) (told : Moved)
+    (asked : Option Ask) → IfNone asked ((told ≡ Idle) × (e ≡ d) × (q ≡ p)) →
+    IfSome asked (λ ask. (reply : Reply) × (M × (did q ≡ did p) × D
+    × (reply ≡ (served (machine p) (did p) ask).reply) × (machine q ≡ (served (machine p) (did p) ask).machine)
+    × (witness q ≡ told_of next (witness p) (machine p) (request_of (did p) ask)))
     × (e ≡ took d reply) × (told ≡ moved_of reply.access) × OnTrue (is_granted reply.access) (Answers reply.bytes ask)
     × (e.broken ≡ broken_by d reply)) →
-    (told ≡ (moving p.machine.now p.did d asked).told) × (q.machine.now ≡ (moving p.machine.now p.did d asked).machine)
-    × (e ≡ (moving p.machine.now p.did d asked).device)
+    (told ≡ (moving (machine p) (did p) d asked).told) × (machine q ≡ (moving (machine p) (did p) d asked).machine)
+    × (e ≡ (moving (machine p) (did p) d asked).device) × (witness q ≡ told_by_step next (witness p) (machine p) (option_map (asking_for (did p)) asked))
 unfolding moving
-went p q d e told None idle moved = (idle.0, ap (λ (x : Port). x.machine.now) idle.2, idle.1)
-went p q d e told (Some ask) idle moved = (moved.3 ∙ ap (λ (x : Reply). moved_of x.access) moved.1.2, moved.1.3, moved.2 ∙ ap (took d) moved.1.2)
+went M D next machine did witness p q d e told None idle moved = (idle.0, ap machine idle.2, idle.1, ap witness idle.2)
+went M D next machine did witness p q d e told (Some ask) idle moved =
+    (moved.3 ∙ ap (λ (x : Reply). moved_of x.access) moved.1.3, moved.1.4, moved.2 ∙ ap (took d) moved.1.3, moved.1.5)
 
 pub returns-in-Idle : goal.returns-in-Idle
-returns-in-Idle c =
-    let w = went _ _ _ _ _ _ c.in-Idle.ensures.idle c.in-Idle.ensures.moved in
-    record { answer = ap answer_of w.0; machine = rw (sym w.1) (search rules); device = w.2 }
+returns-in-Idle g c =
+    let w = went _ _ g.W.Witness.next (λ (q : Port _ _). q.machine.now) (λ (q : Port _ _). q.did) (λ (q : Port _ _). q.witness.now) _ _ _ _ _ _
+    c.in-Idle.ensures.idle c.in-Idle.ensures.moved in
+    record { answer = ap answer_of w.0; machine = rw (sym w.1) (search rules); device = w.2; told = rw (sym w.3) (search rules) }
 
 pub returns-in-Did : goal.returns-in-Did
-returns-in-Did c =
-    let w = went _ _ _ _ _ _ c.in-Did.ensures.idle c.in-Did.ensures.moved in
-    record { answer = ap answer_of w.0; machine = rw (sym w.1) (search rules); device = w.2 }
+returns-in-Did g c =
+    let w = went _ _ g.W.Witness.next (λ (q : Port _ _). q.machine.now) (λ (q : Port _ _). q.did) (λ (q : Port _ _). q.witness.now) _ _ _ _ _ _
+    c.in-Did.ensures.idle c.in-Did.ensures.moved in
+    record { answer = ap answer_of w.0; machine = rw (sym w.1) (search rules); device = w.2; told = rw (sym w.3) (search rules) }
 
 pub returns-in-Denied : goal.returns-in-Denied
-returns-in-Denied c =
-    let w = went _ _ c.args.device.now _ _ (asks c.args.device.now) c.in-Denied.ensures.idle c.in-Denied.ensures.moved in
-    record { answer = rw (sym (ap answer_of w.0)) (search rules); machine = rw (sym w.1) (search rules); device = w.2 }
+returns-in-Denied g c =
+    let w = went _ _ g.W.Witness.next (λ (q : Port _ _). q.machine.now) (λ (q : Port _ _). q.did) (λ (q : Port _ _). q.witness.now) _ _ c.args.device.now _ _
+    (asks c.args.device.now) c.in-Denied.ensures.idle c.in-Denied.ensures.moved in
+    record { answer = rw (sym (ap answer_of w.0)) (search rules); machine = rw (sym w.1) (search rules); device = w.2; told = rw (sym w.3) (search rules) }
 
 pub returns-in-Outside : goal.returns-in-Outside
-returns-in-Outside c =
-    let w = went _ _ _ _ _ _ c.in-Outside.ensures.idle c.in-Outside.ensures.moved in
-    record { answer = ap answer_of w.0; machine = rw (sym w.1) (search rules); device = w.2 }
+returns-in-Outside g c =
+    let w = went _ _ g.W.Witness.next (λ (q : Port _ _). q.machine.now) (λ (q : Port _ _). q.did) (λ (q : Port _ _). q.witness.now) _ _ _ _ _ _
+    c.in-Outside.ensures.idle c.in-Outside.ensures.moved in
+    record { answer = ap answer_of w.0; machine = rw (sym w.1) (search rules); device = w.2; told = rw (sym w.3) (search rules) }

@@ -1,9 +1,8 @@
-use Rattle.std.proofs.Common.{◌≡◌, ◌∙◌, Option, Some, sym, ap, subst}
+use Rattle.std.proofs.Common.{◌≡◌, ◌∙◌, Option, Some, sym, ap}
 use Rattle.std.specs.Prelude.{slice_get}
-use Rattle.std.specs.Option.{option_and_then}
+use Rattle.std.specs.Option.{option_and_then, option_map}
 use Rattle.std.proofs.lemmas.Option.{slice_get-get_or}
-use Rattle.iom_core.specs.declared.access.Request.{Request}
-use Rattle.iom_core.specs.Histories.{IsAccessOf}
+use Rattle.iom_core.specs.Histories.{led_so}
 use Rattle.iom_core.specs.State.{State}
 use Rattle.iom_core.specs.Table.{request_of_step}
 use Rattle.iom_core.specs.Warrants.{moment}
@@ -19,5 +18,5 @@ returns c =
     let step = c.index-steps-n.result in
     let is : slice_get steps c.args.n ≡ Some step = slice_get-get_or steps c.args.n step c.requires ∙ ap (λ (s : Step). Some s) (sym c.index-steps-n.is) in
     let at : c.in_ok-platform.platform ≡ state = c.in_ok-platform.ensures ∙ sym (moment_end start steps c.args.n) in
-    let here = subst (λ (s : State). IsAccessOf s (request_of_step s step) c.access_of.result) at c.access_of.ensures in
-    subst (λ (asked : Option Request). IsAccessOf state asked c.access_of.result) (sym (ap (option_and_then (request_of_step state)) is)) here
+    c.access_of.ensures ∙ ap (λ (s : State). option_map (led_so s) (request_of_step s step)) at
+    ∙ sym (ap (λ (o : Option Step). option_map (led_so state) (option_and_then (request_of_step state) o)) is)

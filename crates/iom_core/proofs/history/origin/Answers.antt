@@ -3,8 +3,8 @@ use Rattle.std.specs.Prelude.{slice_get}
 use Rattle.std.proofs.lemmas.Grind.{common_steps}
 use Rattle.std.proofs.lemmas.Option.{slice_get-get_or}
 use Rattle.iom_core.specs.State.{State}
-use Rattle.iom_core.specs.Histories.{LastBelow, fills_at, holds}
-use Rattle.iom_core.specs.Table.{next}
+use Rattle.iom_core.specs.Histories.{LastBelow, fills_at, fills_entry}
+use Rattle.iom_core.specs.Table.{next, request_of_step}
 use Rattle.iom_core.specs.Warrants.{moment}
 use Rattle.iom_core.specs.declared.step.Step.{Step}
 use Rattle.iom_core.proofs.Search.{last_none, last_up_to, moment_more, moment_start, search_more, step_at}
@@ -29,10 +29,9 @@ loop-k-preserved c =
     let at : l.platform ≡ moment start steps l.k = l.invariant.at in
     record {
       items = refl;
-      at = c.step.ensures.state ∙ ap (λ (s : State). (next s step).state) at ∙ moment_more start steps l.k step is;
-      last = rw c.later-last.ensures (search_more start steps c.args.entry l.k step l.last c.holds-held.result c.holds.result is
-          (c.holds-held.ensures ∙ ap (λ (s : State). holds s c.args.entry) at)
-          (c.holds.ensures ∙ ap (λ (s : State). holds s c.args.entry) (c.step.ensures.state ∙ ap (λ (s : State). (next s step).state) at)) l.invariant.last);
+      at = c.fills.ensures.state ∙ ap (λ (s : State). (next s step).state) at ∙ moment_more start steps l.k step is;
+      last = rw c.later-last.ensures (search_more start steps c.args.entry l.k step l.last c.fills.result is
+          (c.fills.ensures.fills ∙ ap (λ (s : State). fills_entry s (request_of_step s step) c.args.entry) at) l.invariant.last);
     }
 
 pub returns : goal.returns

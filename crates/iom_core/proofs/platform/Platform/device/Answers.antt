@@ -4,12 +4,12 @@ use Rattle.std.proofs.lemmas.Grind.{common_steps}
 use Rattle.std.proofs.lemmas.Option.{slice_get-get_or}
 use Rattle.iom_blk.specs.Device.{Device}
 use Rattle.iom_core.specs.State.{State}
-use Rattle.iom_core.specs.Table.{device_step}
+use Rattle.iom_core.specs.Table.{asked_by, device_step, told_by_step}
 use Rattle.iom_core.proofs.Slots.{fits_at, fits_set}
 use Rattle.iom_core.proofs.platform.Platform.device.Goals as goal
 
 pub moved-requires : goal.moved-requires
-moved-requires c =
+moved-requires g c =
     let devices = c.self.inside.devices.items in
     let own = c.index_mut.result.now in
     let inside : c.args.dev < length devices = grind (arith, common_steps) in
@@ -17,7 +17,7 @@ moved-requires c =
     fits_at devices c.args.dev own c.self.invariant there
 
 pub invariant_of-self : goal.invariant_of-self
-invariant_of-self c =
+invariant_of-self g c =
     let devices = c.self.inside.devices.items in
     let own = c.index_mut.result.now in
     let inside : c.args.dev < length devices = grind (arith, common_steps) in
@@ -25,7 +25,7 @@ invariant_of-self c =
     fits_set devices c.args.dev (own.0, c.moved.new.device) c.self.invariant (fits_at devices c.args.dev own c.self.invariant there)
 
 pub returns-clause-answer : goal.returns-clause-answer
-returns-clause-answer c =
+returns-clause-answer g c =
     let devices = c.self.inside.devices.items in
     let own = c.index_mut.result.now in
     let inside : c.args.dev < length devices = grind (arith, common_steps) in
@@ -34,9 +34,18 @@ returns-clause-answer c =
     c.self.view_is (rw there c.moved.ensures.answer)
 
 pub returns-clause-state : goal.returns-clause-state
-returns-clause-state c =
+returns-clause-state g c =
     let devices = c.self.inside.devices.items in
     let own = c.index_mut.result.now in
     let inside : c.args.dev < length devices = grind (arith, common_steps) in
     let there : slice_get devices c.args.dev ≡ Some own = slice_get-get_or devices c.args.dev own inside ∙ ap (λ (o : ℕ × Device). Some o) (sym c.index_mut.ensures.value) in
     rw (sym c.self.view_is, there, c.moved.ensures.machine, c.moved.ensures.device) refl
+
+pub returns-clause-told : goal.returns-clause-told
+returns-clause-told g c =
+    let devices = c.self.inside.devices.items in
+    let own = c.index_mut.result.now in
+    let inside : c.args.dev < length devices = grind (arith, common_steps) in
+    let there : slice_get devices c.args.dev ≡ Some own = slice_get-get_or devices c.args.dev own inside ∙ ap (λ (o : ℕ × Device). Some o) (sym c.index_mut.ensures.value) in
+    subst (λ (s : State). c.moved.new.witness ≡ told_by_step g.W.Witness.next c.args.witness.now s.machine (asked_by (slice_get s.devices c.args.dev)))
+    c.self.view_is (rw there c.moved.ensures.told)

@@ -4,8 +4,8 @@ use Rattle.iom_core.proofs.platform.Platform.take.Goals as goal
 
 pub returns-in-Device-clause-answer : goal.returns-in-Device-clause-answer
 unfolding next asked
-returns-in-Device-clause-answer c = search rules
+returns-in-Device-clause-answer g c = search rules
 
 pub returns-in-Device-clause-state : goal.returns-in-Device-clause-state
 unfolding next asked
-returns-in-Device-clause-state c = search rules
+returns-in-Device-clause-state g c = search rules

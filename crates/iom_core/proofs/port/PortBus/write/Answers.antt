@@ -4,4 +4,4 @@ use Rattle.iom_core.proofs.port.PortBus.write.Goals as goal
 
 pub returns : goal.returns
 unfolding effect
-returns c = search rules
+returns g c = search rules

@@ -1,0 +1,264 @@
+ghost use Rattle.std.specs.Prelude.{◌≡◌, ◌↔◌, ◌<◌, ◌^◌, ℕ, List, replicate, [], ◌∷◌, ◌++◌, IfSome, IsSomeAnd, Some, None, get_or, slice_get, length};
+ghost use Rattle.iom_cache.specs.Keys.{same_did};
+ghost use Rattle.iom_cache.specs.Origins.{first_stamps};
+ghost use Rattle.iom_cache.specs.Places.{place_of};
+ghost use Rattle.iom_core.specs.Looking.{noticed, nothing_seen};
+ghost use Rattle.iom_core.specs.Table.{asked, next, request_of_step, told_by_step};
+ghost use Rattle.iom_core.specs.Warrants.{IsUncached};
+ghost use Rattle.iom_account.specs.Beside.{beside};
+ghost use Rattle.iom_account.specs.Following.{ComesFrom, ContextFrom, Follows, HasNoAccess, PageFrom, context_noted, noted_so, numbers_of, origin_on, origin_so, walk_noted};
+
+use crate::notes::{context_place, count_contexts, count_pages, equal, note, zeros};
+use crate::origin::Origin;
+use arrayvec::ArrayVec;
+use iom_cache::key_of;
+use iom_core::{Answer, Platform, Request, Seen, Step, Way};
+use std::marker::Model;
+
+/// Which steps filled what a platform's caches hold, each by the number that its caller gave it.
+#[derive(Drop)]
+pub struct History {
+    // Beside each place of the context cache, the number of the step that filled it.
+    contexts: ArrayVec<u64, 16>,
+    // Beside each place of the translation cache, the number of the step that filled it.
+    walks: ArrayVec<u64, 64>,
+    // Beside the same place, the number of the step that had filled the context under which it walked.
+    bases: ArrayVec<u64, 64>,
+}
+
+impl Model for History {
+    ghost use Rattle.iom_account.specs.Following.{Notes};
+
+    ghost Value = { Notes };
+
+    ghost view = { λ h. record { contexts = h.contexts.items; walks = h.walks.items; bases = h.bases.items } };
+}
+
+/// What a step did.
+#[derive(Clone, Copy)]
+pub struct Taken {
+    /// What it asked of the IOMMU; None where it made no access.
+    pub request: Option<Request>,
+    /// What led its access; nothing where it made none.
+    pub seen: Seen,
+    /// Where the translation comes from that it used; None where it made no access, or was denied.
+    pub origin: Option<Origin>,
+}
+
+/// Which steps filled a place of the translation cache.
+#[derive(Clone, Copy, Debug, PartialEq)]
+pub struct Filled {
+    /// The number of the step that had filled the context under which it walked.
+    pub context: u64,
+    /// The number of the step that filled the place.
+    pub walk: u64,
+}
+
+impl History {
+    ghost use Rattle.iom_core.specs.State.{State};
+    ghost use Rattle.iom_core.specs.declared.step.Step.{Step};
+    ghost use Rattle.iom_ddt.specs.declared.context.Context.{Context};
+    ghost use Rattle.iom_nested.specs.declared.translation.Hit.{Hit};
+    ghost use Rattle.iom_cache.specs.declared.key.Key.{Key};
+
+    /// A history that begins at this platform. It tells where translations come from if both caches hold nothing now. It takes
+    /// no memory.
+    pub fn new(platform: &Platform) -> History
+        ensures { IsUncached platform.now → Follows result platform.now platform.now [] [] }
+    {
+        let contexts = count_contexts(platform.contexts());
+        let pages = count_pages(platform.trans());
+        History {
+            contexts: zeros(contexts),
+            walks: zeros(pages),
+            bases: zeros(pages),
+        }
+    }
+
+    /// An equal history, which goes its own way from here. It takes no memory.
+    pub fn copied(&self) -> History
+        ensures { result ≡ self.now }
+    {
+        History {
+            contexts: equal(&self.contexts),
+            walks: equal(&self.walks),
+            bases: equal(&self.bases),
+        }
+    }
+
+    /// Carries out the next step on the platform, which has the caller's `number`, puts its answer in place of what `answer` holds, and
+    /// says what it asked, what led it, and where the translation comes from that it used. It takes no memory.
+    pub fn step(
+        &mut self,
+        platform: &mut Platform,
+        step: &Step,
+        number: u64,
+        answer: &mut Answer,
+    ) -> Taken
+        ensures answer { answer.new ≡ (next platform.old step.now).answer }
+        ensures state { platform.new ≡ (next platform.old step.now).state }
+        ensures request { result.request ≡ request_of_step platform.old step.now }
+        ensures seen { result.seen ≡ told_by_step noticed nothing_seen platform.old.machine (asked platform.old step.now) }
+        // Whatever the caches held, it tells no origin of a step that made no access or was denied, and one of every other.
+        ensures none { (result.origin ≡ None) ↔ HasNoAccess platform.old (request_of_step platform.old step.now) }
+
+        // From a start whose caches hold nothing it goes along with the steps, and tells of each what explains it.
+        ensures follows { (start : State) (steps : List Step) (numbers : List ℕ) →
+            Follows self.old platform.old start steps numbers →
+            Follows self.new platform.new start (steps ++ step.now ∷ []) (numbers ++ number ∷ []) }
+        ensures origin { (start : State) (steps : List Step) (numbers : List ℕ) →
+            Follows self.old platform.old start steps numbers →
+            ComesFrom start (steps ++ step.now ∷ []) (numbers ++ number ∷ []) (length steps) result.origin }
+    {
+        let request = platform.request_of(step);
+        let seen = take(platform, step, answer);
+        let origin = self.note_step(platform, request, &seen, number);
+        Taken {
+            request,
+            seen,
+            origin,
+        }
+    }
+
+    /// The number of the step that filled place `i` of the context cache, whose oldest is place 0; 0 where it was empty from the
+    /// start on, and None where it is beyond the last place.
+    pub fn context(&self, i: u64) -> Option<u64>
+        ensures number { result ≡ slice_get self.now.contexts i }
+        ensures from { (platform start : State) (steps : List Step) (numbers : List ℕ) (did : ℕ) (context : Context) →
+            Follows self.now platform start steps numbers →
+            slice_get platform.machine.contexts i ≡ Some (Some (did, context)) →
+            IsSomeAnd result (ContextFrom start steps numbers did context) }
+    {
+        self.context_beside(i)
+    }
+
+    /// The numbers of the steps that filled place `i` of the translation cache, whose oldest is place 0, and its context; 0 twice
+    /// where it was empty from the start on, and None where it is beyond the last place.
+    pub fn page(&self, i: u64) -> Option<Filled>
+        ensures numbers { result ≡ numbers_of (slice_get self.now.bases i) (slice_get self.now.walks i) }
+        ensures from { (platform start : State) (steps : List Step) (numbers : List ℕ) (key : Key) (hit : Hit) →
+            Follows self.now platform start steps numbers →
+            slice_get platform.machine.pages i ≡ Some (Some (key, hit)) →
+            IsSomeAnd result (λ filled. PageFrom start steps numbers key hit filled.context filled.walk) }
+    {
+        self.page_beside(i)
+    }
+
+    /// The number of the step that filled the live context of a device id, 24 bits; None where there is none.
+    pub fn context_of(&self, platform: &Platform, did: u32) -> Option<u64>
+        ensures { result ≡ slice_get self.now.contexts (place_of (same_did did) platform.now.machine.contexts) }
+    {
+        self.context_beside(context_place(platform.contexts(), did) as u64)
+    }
+
+    // The number beside place `i` of the context cache.
+    fn context_beside(&self, i: u64) -> Option<u64>
+        ensures { result ≡ slice_get self.now.contexts i }
+    {
+        self.contexts.as_slice().get(i as usize).copied()
+    }
+
+    // The numbers beside place `i` of the translation cache.
+    fn page_beside(&self, i: u64) -> Option<Filled>
+        ensures { result ≡ numbers_of (slice_get self.now.bases i) (slice_get self.now.walks i) }
+    {
+        let place = i as usize;
+        let context = self.bases.as_slice().get(place).copied()?;
+        let walk = self.walks.as_slice().get(place).copied()?;
+        Some(Filled { context, walk })
+    }
+
+    // Notes what a step read that asked this, by what it told, and says where the translation comes from that it used.
+    fn note_step(
+        &mut self,
+        platform: &Platform,
+        request: Option<Request>,
+        seen: &Seen,
+        number: u64,
+    ) -> Option<Origin>
+        ensures noted { self.new ≡ noted_so platform.now request seen.now number self.old }
+        ensures origin { result ≡ origin_so self.new platform.now request number seen.now.way }
+    {
+        let Some(request) = request else {
+            return None;
+        };
+        self.note_context(seen.is_context_read(), number);
+        self.note_walk(platform, seen.is_page_read(), request.did, number);
+        self.origin(platform, &request, number, &seen.way)
+    }
+
+    // Notes a context that a step read.
+    fn note_context(&mut self, read: bool, number: u64)
+        ensures { self.new ≡ context_noted read number self.old }
+    {
+        if read {
+            note(&mut self.contexts, number);
+        }
+    }
+
+    // Notes a page that a step of device `did` read, and its context's number.
+    fn note_walk(&mut self, platform: &Platform, read: bool, did: u32, number: u64)
+        ensures { self.new ≡ walk_noted read number (beside (same_did did) platform.now.machine.contexts self.old.contexts number) self.old }
+    {
+        if read {
+            let base = self.context_number(platform, did, number);
+            note(&mut self.walks, number);
+            note(&mut self.bases, base);
+        }
+    }
+
+    // Where the translation comes from that the last step used for this request, which was led this way.
+    fn origin(
+        &self,
+        platform: &Platform,
+        request: &Request,
+        number: u64,
+        way: &Way,
+    ) -> Option<Origin>
+        ensures { result ≡ origin_on self.now platform.now request.now number way.now }
+    {
+        match way {
+            Way::Denied(_) => None,
+            Way::Register => Some(Origin::Register),
+            Way::Context(_) => {
+                let context = self.context_number(platform, request.did, number);
+                Some(Origin::Context { context })
+            }
+            Way::Walked(context, _) => {
+                let key = key_of(context, request.did, request.iova, request.kind);
+                let place = platform.trans().place_of(&key);
+                Some(Origin::Walked {
+                    context: number_at(self.bases.as_slice(), place, number),
+                    walk: number_at(self.walks.as_slice(), place, number),
+                    current: self.context_number(platform, request.did, number),
+                })
+            }
+        }
+    }
+
+    // The number beside the live context of a device id, 24 bits.
+    fn context_number(&self, platform: &Platform, did: u32, number: u64) -> u64
+        ensures { result ≡ beside (same_did did) platform.now.machine.contexts self.now.contexts number }
+    {
+        let place = context_place(platform.contexts(), did);
+        number_at(self.contexts.as_slice(), place, number)
+    }
+}
+
+// Carries out a step, and says what led its access.
+fn take(platform: &mut Platform, step: &Step, answer: &mut Answer) -> Seen
+    ensures answer { answer.new ≡ (next platform.old step.now).answer }
+    ensures state { platform.new ≡ (next platform.old step.now).state }
+    ensures seen { result ≡ told_by_step noticed nothing_seen platform.old.machine (asked platform.old step.now) }
+{
+    let mut seen = Seen::nothing();
+    platform.step_told(step, answer, &mut seen);
+    seen
+}
+
+// The number beside a place; `number` where there is none.
+fn number_at(notes: &[u64], place: usize, number: u64) -> u64
+    ensures { result ≡ get_or notes.now place number }
+{
+    notes.get(place).copied().unwrap_or(number)
+}

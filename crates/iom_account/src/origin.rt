@@ -1,0 +1,53 @@
+ghost use Rattle.std.specs.Prelude.{◌≡◌};
+ghost use Rattle.iom_account.specs.Following.{number_of, told};
+
+use iom_core::Warrant;
+
+/// Where the translation comes from that a device's access used, each step told by the number that its caller gave it.
+#[derive(Clone, Copy, Debug, PartialEq)]
+pub enum Origin {
+    /// ddtp's mode was Bare: the physical address was the IOVA.
+    Register,
+    /// Both stages of the device's context were Bare: the physical address was the IOVA. Step `context` had filled that context,
+    /// or was this one.
+    Context {
+        context: u64,
+    },
+    /// Page tables led to it: those that step `walk` found, under the context that step `context` had filled. The context in
+    /// force at the access, whose key is the same, is that of step `current`. Each may be this step.
+    Walked {
+        context: u64,
+        walk: u64,
+        current: u64,
+    },
+}
+
+impl Origin {
+    /// A warrant each of whose steps is told by its number, of these numbers of the steps from 0 on; by 0 where they have none of it.
+    pub fn told(warrant: Warrant, numbers: &[u64]) -> Origin
+        ensures { result ≡ told numbers.now warrant }
+    {
+        match warrant {
+            Warrant::Register => Origin::Register,
+            Warrant::Context { context } => Origin::Context {
+                context: number_of(numbers, context),
+            },
+            Warrant::Walked {
+                context,
+                walk,
+                current,
+            } => Origin::Walked {
+                context: number_of(numbers, context),
+                walk: number_of(numbers, walk),
+                current: number_of(numbers, current),
+            },
+        }
+    }
+}
+
+// The number of step k; 0 where these have none of it.
+fn number_of(numbers: &[u64], k: usize) -> u64
+    ensures { result ≡ number_of numbers.now k }
+{
+    numbers.get(k).copied().unwrap_or(0)
+}

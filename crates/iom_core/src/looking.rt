@@ -1,0 +1,133 @@
+//! What a request would do as the next access, with nothing changed.
+
+ghost use Rattle.std.specs.Prelude.{◌≡◌, ◌<◌, ◌^◌, [], IfSome};
+ghost use Rattle.iom_ddt.specs.Contexts.{IsWellFormed};
+ghost use Rattle.iom_core.specs.Access.{Fits, led_under};
+ghost use Rattle.iom_core.specs.Looking.{nothing_seen, seen_in, uncached};
+
+use crate::access::{Request, by_context, lead};
+use crate::caches::{Looking, Nothing};
+use crate::platform::Platform;
+use crate::way::Way;
+use crate::witness::{Event, Source, Witness};
+use iom_ddt::Context;
+
+/// What leads an access, as it was told of it.
+#[derive(Clone, Copy)]
+pub struct Seen {
+    /// The context that leads the device, also where the access is denied under it, and where it comes from; None where none does.
+    pub context: Option<(Source, Context)>,
+    /// Where the page's hit comes from; None where the stages of a context lead it to none.
+    pub page: Option<Source>,
+    /// The way that it is led.
+    pub way: Way,
+}
+
+impl Seen {
+    /// Nothing yet.
+    pub fn nothing() -> Seen
+        ensures { result ≡ nothing_seen }
+    {
+        Seen {
+            context: None,
+            page: None,
+            way: Way::Register,
+        }
+    }
+}
+
+impl Seen {
+    ghost use Rattle.iom_core.specs.Looking.{is_cached, is_context_read, is_page_read};
+
+    /// Whether the caches alone lead the access, so that nothing in memory is read for it.
+    pub fn is_cached(&self) -> bool
+        ensures { result ≡ is_cached self.now }
+    {
+        match (self.context, self.page, self.way) {
+            (Some((Source::Found, _)), _, Way::Context(_)) => true,
+            (Some((Source::Found, _)), Some(Source::Found), _) => true,
+            _ => false,
+        }
+    }
+
+    /// Whether its context was read from the directory. An access that a device makes fills it.
+    pub fn is_context_read(&self) -> bool
+        ensures { result ≡ is_context_read self.now }
+    {
+        matches!(self.context, Some((Source::Read, _)))
+    }
+
+    /// Whether its page was read from the page tables. An access that a device makes fills it.
+    pub fn is_page_read(&self) -> bool
+        ensures { result ≡ is_page_read self.now }
+    {
+        matches!(self.page, Some(Source::Read))
+    }
+}
+
+impl Witness for Seen {
+    ghost use Rattle.iom_core.specs.Looking.{noticed};
+
+    ghost next = { noticed };
+
+    #[inline(always)]
+    fn tell(&mut self, event: Event) {
+        match event {
+            Event::Context(from, _, context) => self.context = Some((from, context)),
+            Event::Page(from, _, _) => self.page = Some(from),
+            Event::Way(way) => self.way = way,
+        }
+    }
+}
+
+impl Platform {
+    /// What leads a request now, from the caches first and else from the tables, as a step leads it ("Process to translate an
+    /// IOVA"). Nothing is cached, reported or changed. The device id is below 2^24, the IOVA any.
+    pub fn seen(&self, request: &Request) -> Seen
+        requires { request.now.did < 2 ^ 24 }
+        ensures seen { result ≡ seen_in self.now.machine request.now }
+        ensures fits { Fits result.way }
+        ensures well_formed { IfSome result.context (λ found. IsWellFormed found.1) }
+    {
+        let mut seen = Seen::nothing();
+        let machine = &self.machine;
+        let _ = lead(
+            &machine.ram,
+            &machine.registers,
+            &mut Looking(&machine.lines),
+            request,
+            &mut seen,
+        );
+        seen
+    }
+
+    /// The same by the tables alone: what leads the request where nothing is cached.
+    pub fn seen_uncached(&self, request: &Request) -> Seen
+        requires { request.now.did < 2 ^ 24 }
+        ensures seen { result ≡ seen_in (uncached self.now.machine) request.now }
+        ensures fits { Fits result.way }
+        ensures well_formed { IfSome result.context (λ found. IsWellFormed found.1) }
+    {
+        let mut seen = Seen::nothing();
+        let machine = &self.machine;
+        let _ = lead(
+            &machine.ram,
+            &machine.registers,
+            &mut Nothing,
+            request,
+            &mut seen,
+        );
+        seen
+    }
+
+    /// The way of a request below this context of its device, as the tables lead it now.
+    pub fn way_under(&self, request: &Request, context: &Context) -> Way
+        requires { IsWellFormed context.now }
+        ensures way { result ≡ (led_under self.now.machine.memory [] request.now context.now).way }
+        ensures fits { Fits result }
+    {
+        let mut seen = Seen::nothing();
+        let _ = by_context(&self.machine.ram, &mut Nothing, request, context, &mut seen);
+        seen.way
+    }
+}

@@ -1,7 +1,0 @@
-pub mod Ways
-pub mod Fetches
-pub mod Passing
-pub mod Refusing
-pub mod Bounds
-pub mod Sameness
-pub mod Widths

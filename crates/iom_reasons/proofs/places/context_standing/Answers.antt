@@ -1,5 +1,0 @@
-use Rattle.std.proofs.Common.{rules}
-use Rattle.iom_reasons.proofs.places.context_standing.Goals as goal
-
-pub returns-in-Context : goal.returns-in-Context
-returns-in-Context c = search rules

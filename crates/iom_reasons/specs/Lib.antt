@@ -1,7 +1,0 @@
-pub mod Stale
-pub mod Parts
-pub mod Bounds
-pub mod Fetches
-pub mod Passing
-pub mod Standing
-pub mod Found

@@ -1,0 +1,192 @@
+-- What is told of memory is what memory has.
+use Rattle.std.proofs.Common.{◌≡◌, ◌-◌, ◌++◌, ℕ, zero, suc, Bool, true, false, not, List, [], ◌∷◌, map, Option, Some, None, Result, Ok, Err, if◌then◌else◌, refl, sym, subst}
+use Rattle.std.specs.Prelude.{All, flat_map}
+use Rattle.std.proofs.lemmas.List.Elements.{All-nil, All-cons, All-head, All-tail, All-append, All-map}
+use Rattle.iom_bits.specs.declared.causes.Cause.{Cause}
+use Rattle.iom_bits.specs.declared.causes.Kind.{Kind}
+use Rattle.iom_bits.specs.declared.causes.Kind.TheVariants.{Read}
+use Rattle.iom_mem.specs.Memory.{Memory, word, words_at}
+use Rattle.iom_regs.specs.Table.{Registers}
+use Rattle.iom_regs.specs.Views.{mode_of, root_of}
+use Rattle.iom_regs.specs.declared.views.Mode.{Mode}
+use Rattle.iom_regs.specs.declared.views.Mode.TheVariants as mode
+use Rattle.iom_ddt.specs.Directory.{behind, entry_place, is_too_wide, leaf_place, levels_of, located, path_of, pointed_by}
+use Rattle.iom_ddt.specs.Directory as directory
+use Rattle.iom_ddt.specs.declared.context.Context.{Context}
+use Rattle.iom_ddt.specs.declared.listing.Met.{Met}
+use Rattle.iom_ddt.specs.declared.listing.Met.TheVariants as met
+use Rattle.iom_walk.specs.Outcome.{outcome_of}
+use Rattle.iom_walk.specs.Path.{Entry, entry_at, next_table, path_from, path_of as walk_path_of, verdict_on}
+use Rattle.iom_walk.specs.Shape.{is_in_width, levels}
+use Rattle.iom_walk.specs.Told.{path_told, told}
+use Rattle.iom_walk.specs.Verdict.{is_pointer}
+use Rattle.iom_walk.specs.declared.listing.PathEntry.{PathEntry}
+use Rattle.iom_walk.specs.declared.outcome.Outcome.{Outcome}
+use Rattle.iom_walk.specs.declared.outcome.Outcome.TheVariants as outcome
+use Rattle.iom_walk.specs.declared.shape.Shape.{Shape}
+use Rattle.iom_walk.specs.declared.source.Got.{Got}
+use Rattle.iom_nested.specs.Faults.{Failure}
+use Rattle.iom_nested.specs.Nested.{first_stage}
+use Rattle.iom_nested.specs.Stages.{first_shape_of, got_behind, ram_got, second_shape_of, table_got, table_got_by}
+use Rattle.iom_nested.specs.declared.translation.Reached.{Reached}
+use Rattle.iom_core.specs.State.{Machine}
+use Rattle.iom_core.specs.declared.access.Request.{Request}
+use Rattle.iom_core.specs.Looking.{by_tables}
+use Rattle.iom_tables.specs.Parts.{access_parts, address_by, directory_parts, entry_parts, first_by, first_parts, parts_by, parts_of, read_at, read_by, second_by, second_parts, stage_parts}
+use Rattle.iom_tables.specs.Fetches.{IsGot, IsItem, IsRead}
+use Rattle.iom_tables.specs.declared.part.Part.{Part}
+use Rattle.iom_tables.specs.declared.part.Part.TheVariants as part
+use Rattle.iom_tables.specs.declared.part.Wide.TheVariants as wide
+use Rattle.iom_tables.proofs.Widths.{each_by_width}
+
+-- the items of a path of the directory
+behind_read : (memory : Memory) (got : Result ℕ Cause) (from : ℕ → List Met) → ((table : ℕ) → All (IsItem memory) (from table)) →
+    All (IsItem memory) (behind got from)
+behind_read memory (Ok table) from each = each table
+behind_read memory (Err cause) from each = All-nil (IsItem memory)
+
+directory_read : (memory : Memory) (did level table : ℕ) → All (IsItem memory) (directory.path_from memory did level table)
+directory_read memory did zero table =
+    All-cons (IsItem memory) (met.Leaf (leaf_place did table) (words_at memory (leaf_place did table) 4)) [] refl (All-nil (IsItem memory))
+directory_read memory did (suc level) table =
+    let place : ℕ = entry_place did (suc level) table in
+    All-cons (IsItem memory) (met.Entry place (word memory place)) (behind (pointed_by (word memory place)) (directory.path_from memory did level))
+    refl (behind_read memory (pointed_by (word memory place)) (directory.path_from memory did level) (directory_read memory did level))
+
+path_read : (memory : Memory) (registers : Registers) (did : ℕ) → All (IsItem memory) (path_of memory registers did)
+unfolding path_of
+path_read memory registers did = elim (is_too_wide (levels_of (mode_of registers)) did) as (λ wide. All (IsItem memory)
+    (if wide then [] else directory.path_from memory did (levels_of (mode_of registers) - 1) (root_of registers))) [
+      | true ↦ All-nil (IsItem memory)
+      | false ↦ directory_read memory did (levels_of (mode_of registers) - 1) (root_of registers)
+    ]
+
+-- the entries of a walk, over any source of words
+abbrev IsMet : (ℕ → Got) → PathEntry → Type 0
+IsMet at entry = entry.got ≡ at entry.place
+
+behind_pointer : {X : Type 0} (P : X → Type 0) (pointer : Bool) (rest : List X) → All P rest → All P (if pointer then rest else [])
+behind_pointer P true rest each = each
+behind_pointer P false rest each = All-nil P
+
+walk_from_met : (at : ℕ → Got) (shape : Shape) (address : ℕ) (kind : Kind) (table count : ℕ) →
+    All (λ entry. IsMet at (told kind entry)) (path_from at shape address table count)
+unfolding path_from
+walk_from_met at shape address kind table zero = All-nil (λ entry. IsMet at (told kind entry))
+walk_from_met at shape address kind table (suc count) =
+    let P : Entry → Type 0 = λ entry. IsMet at (told kind entry) in
+    let entry : Entry = entry_at at shape address table count in
+    let pointer : Bool = is_pointer (verdict_on Read entry) in
+    let rest : List Entry = path_from at shape address (next_table entry) count in
+    All-cons P entry (if pointer then rest else []) refl
+    (behind_pointer P pointer rest (walk_from_met at shape address kind (next_table entry) count))
+
+walk_met : (at : ℕ → Got) (shape : Shape) (root address : ℕ) (kind : Kind) → All (IsMet at) (path_told at shape root address kind)
+unfolding path_told
+walk_met at shape root address kind =
+    let path : List Entry = walk_path_of at shape root address in
+    elim (is_in_width shape address) as (λ wide. All (IsMet at) (if wide then map (told kind) path else [])) [
+      | true ↦ All-map (IsMet at) (told kind) path (walk_from_met at shape address kind root (levels shape))
+      | false ↦ All-nil (IsMet at)
+    ]
+
+-- the second stage
+second_by_read : (memory : Memory) (root : ℕ) (kind : Kind) (guest : ℕ) (shape : Option Shape) →
+    All (IsRead memory) (second_by memory root kind guest shape)
+second_by_read memory root kind guest None = All-nil (IsRead memory)
+second_by_read memory root kind guest (Some shape) =
+    let path : List PathEntry = path_told (ram_got memory) shape root guest kind in
+    each_by_width (IsRead memory) (is_in_width shape guest) (wide.Second guest) (map (part.Second guest) path) (λ is. tt)
+    (All-map (IsRead memory) (part.Second guest) path (walk_met (ram_got memory) shape root guest kind))
+
+second_read : (memory : Memory) (context : Context) (kind : Kind) (guest : ℕ) → All (IsRead memory) (second_parts memory context kind guest)
+unfolding second_parts
+second_read memory context kind guest = second_by_read memory context.gppn kind guest (second_shape_of context)
+
+-- an entry of the first
+got_by : (memory : Memory) (place : ℕ) (end : Outcome) → IsGot memory (got_behind memory place end) (address_by place end)
+got_by memory place (outcome.Leaf leaf) = refl
+got_by memory place outcome.Outside = λ word is. cc
+got_by memory place (outcome.Guest at) = λ word is. cc
+got_by memory place outcome.Fault = λ word is. cc
+
+got_of : (memory : Memory) (root place : ℕ) (shape : Option Shape) →
+    IsGot memory (table_got_by memory root shape place) (read_by memory root place shape)
+got_of memory root place None = refl
+got_of memory root place (Some shape) = got_by memory place (outcome_of (ram_got memory) shape root place Read)
+
+first_read : (memory : Memory) (context : Context) (entry : PathEntry) → IsMet (table_got memory context) entry →
+    IsGot memory entry.got (read_at memory context entry.place)
+unfolding read_at
+first_read memory context entry met =
+    subst (λ read. IsGot memory read (read_by memory context.gppn entry.place (second_shape_of context))) (sym met)
+    (got_of memory context.gppn entry.place (second_shape_of context))
+
+entry_read : (memory : Memory) (context : Context) (entry : PathEntry) → IsMet (table_got memory context) entry →
+    All (IsRead memory) (entry_parts memory context entry)
+entry_read memory context entry met =
+    let first : Part = part.First entry (read_at memory context entry.place) in
+    All-append (IsRead memory) (second_parts memory context Read entry.place) (first ∷ [])
+    (second_read memory context Read entry.place)
+    (All-cons (IsRead memory) first [] (first_read memory context entry met) (All-nil (IsRead memory)))
+
+entries_read : (memory : Memory) (context : Context) (entries : List PathEntry) → All (IsMet (table_got memory context)) entries →
+    All (IsRead memory) (flat_map (entry_parts memory context) entries)
+entries_read memory context [] each = All-nil (IsRead memory)
+entries_read memory context (entry ∷ more) each =
+    All-append (IsRead memory) (entry_parts memory context entry) (flat_map (entry_parts memory context) more)
+    (entry_read memory context entry (All-head (IsMet (table_got memory context)) entry more each))
+    (entries_read memory context more (All-tail (IsMet (table_got memory context)) entry more each))
+
+first_by_read : (memory : Memory) (context : Context) (iova : ℕ) (kind : Kind) (shape : Option Shape) →
+    All (IsRead memory) (first_by memory context iova kind shape)
+first_by_read memory context iova kind None = All-nil (IsRead memory)
+first_by_read memory context iova kind (Some shape) =
+    let path : List PathEntry = path_told (table_got memory context) shape context.ppn iova kind in
+    each_by_width (IsRead memory) (is_in_width shape iova) (wide.First iova) (flat_map (entry_parts memory context) path) (λ is. tt)
+    (entries_read memory context path (walk_met (table_got memory context) shape context.ppn iova kind))
+
+first_parts_read : (memory : Memory) (context : Context) (iova : ℕ) (kind : Kind) → All (IsRead memory) (first_parts memory context iova kind)
+unfolding first_parts
+first_parts_read memory context iova kind = first_by_read memory context iova kind (first_shape_of context)
+
+-- the access, and the whole
+access_read : (memory : Memory) (context : Context) (kind : Kind) (reached : Result Reached Failure) →
+    All (IsRead memory) (access_parts memory context kind reached)
+access_read memory context kind (Ok reached) = second_read memory context kind reached.addr
+access_read memory context kind (Err failure) = All-nil (IsRead memory)
+
+pub stages_read : (memory : Memory) (iova : ℕ) (kind : Kind) (found : Result Context Cause) →
+    All (IsRead memory) (stage_parts memory iova kind found)
+stages_read memory iova kind (Ok context) =
+    let reached : Result Reached Failure = first_stage memory context iova kind (first_shape_of context) in
+    All-append (IsRead memory) (first_parts memory context iova kind) (access_parts memory context kind reached)
+    (first_parts_read memory context iova kind) (access_read memory context kind reached)
+stages_read memory iova kind (Err why) = All-nil (IsRead memory)
+
+directory_parts_read : (m : Machine) (did : ℕ) → All (IsRead m.memory) (directory_parts m did)
+directory_parts_read m did =
+    let items : List Met = path_of m.memory m.registers did in
+    each_by_width (IsRead m.memory) (not (is_too_wide (levels_of (mode_of m.registers)) did)) (wide.Directory did) (map part.Directory items) (λ is. tt)
+    (All-map (IsRead m.memory) part.Directory items (path_read m.memory m.registers did))
+
+by_mode_read : (mode : Mode) (m : Machine) (request : Request) → All (IsRead m.memory) (parts_by mode m request)
+by_mode_read mode.Off m request = All-nil (IsRead m.memory)
+by_mode_read mode.Bare m request = All-nil (IsRead m.memory)
+by_mode_read (mode.Levels levels) m request =
+    let found : Result Context Cause = located m.memory m.registers request.did in
+    All-append (IsRead m.memory) (directory_parts m request.did) (stage_parts m.memory request.iova request.kind found)
+    (directory_parts_read m request.did) (stages_read m.memory request.iova request.kind found)
+
+pub each_read : (m : Machine) (request : Request) → All (IsRead m.memory) (parts_of m request)
+unfolding parts_of
+each_read m request =
+    let P : Part → Type 0 = IsRead m.memory in
+    let ddtp : Part = part.Ddtp (mode_of m.registers) (root_of m.registers) in
+    let end : Part = part.End (by_tables m request) in
+    let between : List Part = parts_by (mode_of m.registers) m request in
+    All-cons P ddtp (between ++ end ∷ []) tt
+    (All-append P between (end ∷ []) (by_mode_read (mode_of m.registers) m request) (All-cons P end [] tt (All-nil P)))
+
+pub each_read_of : (m : Machine) (request : Request) (parts : List Part) → parts ≡ parts_of m request → All (IsRead m.memory) parts
+each_read_of m request parts are = subst (All (IsRead m.memory)) (sym are) (each_read m request)

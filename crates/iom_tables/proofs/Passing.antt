@@ -1,0 +1,388 @@
+-- Where a request is granted, nothing that is looked at refuses it.
+use Rattle.std.proofs.Common.{◌≡◌, ◌≢◌, ◌+◌, ◌-◌, ◌*◌, ◌/◌, ◌%◌, ◌==◌, ◌++◌, ℕ, zero, suc, Bool, true, false, not, List, [], ◌∷◌, map, Option, Some, None, Result, Ok, Err, if◌then◌else◌, refl, sym, subst, inl, inr, rules}
+use Rattle.std.specs.Prelude.{All, find, flat_map}
+use Rattle.std.proofs.lemmas.List.Elements.{All-nil, All-cons, All-head, All-tail, All-append, All-map, All-weaker}
+use Rattle.iom_bits.specs.declared.causes.Cause.{Cause}
+use Rattle.iom_bits.specs.declared.causes.Cause.TheVariants.{TooWide}
+use Rattle.iom_bits.specs.declared.causes.Kind.{Kind}
+use Rattle.iom_bits.specs.declared.causes.Kind.TheVariants.{Read}
+use Rattle.iom_mem.specs.Memory.{Memory, word, words_at}
+use Rattle.iom_regs.specs.Table.{Registers}
+use Rattle.iom_regs.specs.Views.{mode_of, root_of}
+use Rattle.iom_regs.specs.declared.views.Mode.{Mode}
+use Rattle.iom_regs.specs.declared.views.Mode.TheVariants as mode
+use Rattle.iom_ddt.specs.Contexts.{is_bare}
+use Rattle.iom_ddt.specs.Directory.{behind, decided_by, entry_place, is_too_wide, leaf_place, levels_of, located, path_of, pointed_by}
+use Rattle.iom_ddt.specs.Directory as directory
+use Rattle.iom_ddt.specs.declared.context.Context.{Context}
+use Rattle.iom_ddt.specs.declared.listing.Met.{Met}
+use Rattle.iom_ddt.specs.declared.listing.Met.TheVariants as met
+use Rattle.iom_walk.specs.Outcome.{conclude, conclude_at, outcome_of, verdict_on_path}
+use Rattle.iom_walk.specs.Path.{Entry, entry_at, next_table, path_from, path_of as walk_path_of, verdict_on}
+use Rattle.iom_walk.specs.Shape.{is_in_width, levels}
+use Rattle.iom_walk.specs.Told.{path_told, told}
+use Rattle.iom_walk.specs.Verdict.{consequence, is_pointer, ruling_of, verdict_of, word_of}
+use Rattle.iom_walk.specs.declared.entry.Ruling.{Ruling}
+use Rattle.iom_walk.specs.declared.entry.Ruling.TheVariants as ruling
+use Rattle.iom_walk.specs.declared.listing.PathEntry.{PathEntry}
+use Rattle.iom_walk.specs.declared.outcome.Leaf.{Leaf}
+use Rattle.iom_walk.specs.declared.outcome.Outcome.{Outcome}
+use Rattle.iom_walk.specs.declared.outcome.Outcome.TheVariants as outcome
+use Rattle.iom_walk.specs.declared.shape.Shape.{Shape}
+use Rattle.iom_walk.specs.declared.source.Got.{Got}
+use Rattle.iom_walk.specs.declared.source.Got.TheVariants as got
+use Rattle.iom_walk.proofs.Entries.{pointer_for_each}
+use Rattle.iom_nested.specs.Faults.{Failure}
+use Rattle.iom_nested.specs.Nested.{behind_first, first_stage, hit_by, reached_by, second_stage, told_of, translation}
+use Rattle.iom_nested.specs.Stages.{first_shape_of, got_behind, ram_got, second_shape_of, table_got, table_got_by}
+use Rattle.iom_nested.specs.declared.translation.Fault.{Fault}
+use Rattle.iom_nested.specs.declared.translation.Hit.{Hit}
+use Rattle.iom_nested.specs.declared.translation.Reached.{Reached}
+use Rattle.iom_cache.specs.Places.{look}
+use Rattle.iom_cache.specs.declared.key.Key.{Key}
+use Rattle.iom_core.specs.State.{Machine}
+use Rattle.iom_core.specs.Access.{Under, context_look, led, led_by_context, led_by_mode, led_under, page_look, request_key, way_to}
+use Rattle.iom_core.specs.declared.way.Way.TheVariants.{Context as ByContext}
+use Rattle.iom_core.specs.declared.access.Request.{Request}
+use Rattle.iom_tables.specs.Parts.{access_parts, directory_parts, entry_parts, first_by, first_parts, parts_by, parts_of, read_at, second_by, second_parts, stage_parts}
+use Rattle.iom_core.specs.Looking.{by_tables, uncached}
+use Rattle.iom_core.proofs.Uncached.{looked_none, used_uncached}
+use Rattle.iom_tables.specs.Passing.{IsGranted, IsNoFault, Lets, Passes}
+use Rattle.iom_tables.specs.declared.part.Part.{Part}
+use Rattle.iom_tables.specs.declared.part.Part.TheVariants as part
+use Rattle.iom_tables.specs.declared.part.Wide.TheVariants as wide
+use Rattle.iom_tables.proofs.Widths.{each_by_width, not_false}
+
+-- a verdict that points on or maps is that of such a row
+let_pointer : (row : Ruling) (word : ℕ) → is_pointer (consequence row word) ≡ true → Lets row
+let_pointer ruling.Pointer word is = inl refl
+let_pointer ruling.Leaf word is = inr refl
+let_pointer ruling.Outside word is = cc
+let_pointer ruling.Guest word is = cc
+let_pointer ruling.Invalid word is = cc
+let_pointer ruling.WriteOnly word is = cc
+let_pointer ruling.Reserved word is = cc
+let_pointer ruling.ReservedInPointer word is = cc
+let_pointer ruling.LastLevel word is = cc
+let_pointer ruling.Misaligned word is = cc
+let_pointer ruling.NotUser word is = cc
+let_pointer ruling.NotReadable word is = cc
+let_pointer ruling.NotWritable word is = cc
+let_pointer ruling.NotAccessed word is = cc
+let_pointer ruling.NotDirty word is = cc
+
+let_leaf : (global : Bool) (address : ℕ) (entry : Entry) (row : Ruling) (word : ℕ) (leaf : Leaf) →
+    conclude global address entry (consequence row word) ≡ outcome.Leaf leaf → Lets row
+let_leaf global address entry ruling.Pointer word leaf is = inl refl
+let_leaf global address entry ruling.Leaf word leaf is = inr refl
+let_leaf global address entry ruling.Outside word leaf is = cc
+let_leaf global address entry ruling.Guest word leaf is = cc
+let_leaf global address entry ruling.Invalid word leaf is = cc
+let_leaf global address entry ruling.WriteOnly word leaf is = cc
+let_leaf global address entry ruling.Reserved word leaf is = cc
+let_leaf global address entry ruling.ReservedInPointer word leaf is = cc
+let_leaf global address entry ruling.LastLevel word leaf is = cc
+let_leaf global address entry ruling.Misaligned word leaf is = cc
+let_leaf global address entry ruling.NotUser word leaf is = cc
+let_leaf global address entry ruling.NotReadable word leaf is = cc
+let_leaf global address entry ruling.NotWritable word leaf is = cc
+let_leaf global address entry ruling.NotAccessed word leaf is = cc
+let_leaf global address entry ruling.NotDirty word leaf is = cc
+
+-- an entry that was met and lets the walk on
+record IsLet (at : ℕ → Got) (kind : Kind) (entry : PathEntry) : Type 0 where
+  met : entry.got ≡ at entry.place
+  judged : entry.ruling ≡ ruling_of kind entry.level entry.got
+  lets : Lets entry.ruling
+
+abbrev end_on : Kind → Bool → ℕ → List Entry → Outcome
+end_on kind global address path = conclude_at kind global address (find (λ entry. not (is_pointer (verdict_on kind entry))) path)
+
+one_more : (at : ℕ → Got) (kind : Kind) (global : Bool) (address : ℕ) (entry : Entry) (rest : List Entry) (leaf : Leaf) (pointer : Bool) →
+    entry.got ≡ at entry.place → is_pointer (verdict_on kind entry) ≡ pointer →
+    (end_on kind global address rest ≡ outcome.Leaf leaf → All (λ e. IsLet at kind (told kind e)) rest) →
+    end_on kind global address (entry ∷ (if pointer then rest else [])) ≡ outcome.Leaf leaf →
+    All (λ e. IsLet at kind (told kind e)) (entry ∷ (if pointer then rest else []))
+unfolding verdict_of
+one_more at kind global address entry rest leaf true met is more ends =
+    let left : end_on kind global address rest ≡ outcome.Leaf leaf = rw is at ends in
+    All-cons (λ e. IsLet at kind (told kind e)) entry rest
+    (record { met = met; judged = refl; lets = let_pointer (ruling_of kind entry.level entry.got) (word_of entry.got) is }) (more left)
+one_more at kind global address entry rest leaf false met is more ends =
+    let last : conclude global address entry (verdict_on kind entry) ≡ outcome.Leaf leaf = rw is at ends in
+    All-cons (λ e. IsLet at kind (told kind e)) entry []
+    (record { met = met; judged = refl; lets = let_leaf global address entry (ruling_of kind entry.level entry.got) (word_of entry.got) leaf last })
+    (All-nil (λ e. IsLet at kind (told kind e)))
+
+walk_from_lets : (at : ℕ → Got) (shape : Shape) (kind : Kind) (global : Bool) (address table count : ℕ) (leaf : Leaf) →
+    end_on kind global address (path_from at shape address table count) ≡ outcome.Leaf leaf →
+    All (λ e. IsLet at kind (told kind e)) (path_from at shape address table count)
+unfolding path_from
+walk_from_lets at shape kind global address table zero leaf ends = All-nil (λ e. IsLet at kind (told kind e))
+walk_from_lets at shape kind global address table (suc count) leaf ends =
+    let entry : Entry = entry_at at shape address table count in
+    one_more at kind global address entry (path_from at shape address (next_table entry) count) leaf (is_pointer (verdict_on Read entry))
+    refl (sym (pointer_for_each kind count entry.got)) (walk_from_lets at shape kind global address (next_table entry) count leaf) ends
+
+walk_lets : (at : ℕ → Got) (shape : Shape) (root address : ℕ) (kind : Kind) (leaf : Leaf) →
+    outcome_of at shape root address kind ≡ outcome.Leaf leaf → All (IsLet at kind) (path_told at shape root address kind)
+unfolding outcome_of verdict_on_path path_told
+walk_lets at shape root address kind leaf =
+    let path : List Entry = walk_path_of at shape root address in
+    let told_path : List PathEntry = map (told kind) path in
+    elim (is_in_width shape address) as (λ wide. (if wide then verdict_on_path kind address path else outcome.Fault) ≡ outcome.Leaf leaf →
+    All (IsLet at kind) (if wide then told_path else [])) [
+      | true ↦ λ ends. All-map (IsLet at kind) (told kind) path (walk_from_lets at shape kind _ address root (levels shape) leaf ends)
+      | false ↦ λ ends. All-nil (IsLet at kind)
+    ]
+
+-- what leads somewhere keeps the width rule
+leaf_in_width : (at : ℕ → Got) (shape : Shape) (root address : ℕ) (kind : Kind) (leaf : Leaf) →
+    outcome_of at shape root address kind ≡ outcome.Leaf leaf → is_in_width shape address ≡ false → ⊥
+unfolding outcome_of
+leaf_in_width at shape root address kind leaf ends wide =
+    let other : outcome.Fault ≡ outcome.Leaf leaf = rw wide at ends in absurd (cc)
+
+-- the directory
+leaf_passes : (place : ℕ) (words : Option (List ℕ)) (context : Context) →
+    directory.verdict_on (met.Leaf place words ∷ []) ≡ Ok context → IsNoFault (decided_by (met.Leaf place words))
+unfolding directory.verdict_on
+leaf_passes place None context is = cc
+leaf_passes place (Some words) context is = rw is tt
+
+fault_never : (cause : Cause) (context : Context) (found : Result Context Cause) → found ≡ Err cause → found ≡ Ok context → ⊥
+fault_never cause context found is other = cc
+
+entry_passes : (place : ℕ) (entry : Option ℕ) (pointed : Result ℕ Cause) (from : ℕ → List Met) (context : Context) → pointed_by entry ≡ pointed →
+    ((table : ℕ) → directory.verdict_on (from table) ≡ Ok context → All (λ item. IsNoFault (decided_by item)) (from table)) →
+    directory.verdict_on (met.Entry place entry ∷ behind pointed from) ≡ Ok context →
+    All (λ item. IsNoFault (decided_by item)) (met.Entry place entry ∷ behind pointed from)
+unfolding directory.verdict_on
+entry_passes place entry (Ok table) from context is more found =
+    let left : directory.verdict_on (from table) ≡ Ok context = rw is at found in
+    All-cons (λ item. IsNoFault (decided_by item)) (met.Entry place entry) (from table) (rw is tt) (more table left)
+entry_passes place entry (Err cause) from context is more found =
+    absurd (fault_never cause context (directory.verdict_on (met.Entry place entry ∷ [])) (rw is refl) found)
+
+directory_from : (memory : Memory) (did level table : ℕ) (context : Context) →
+    directory.verdict_on (directory.path_from memory did level table) ≡ Ok context →
+    All (λ item. IsNoFault (decided_by item)) (directory.path_from memory did level table)
+directory_from memory did zero table context found =
+    All-cons (λ item. IsNoFault (decided_by item)) (met.Leaf (leaf_place did table) (words_at memory (leaf_place did table) 4)) []
+    (leaf_passes (leaf_place did table) (words_at memory (leaf_place did table) 4) context found) (All-nil (λ item. IsNoFault (decided_by item)))
+directory_from memory did (suc level) table context found =
+    let place : ℕ = entry_place did (suc level) table in
+    entry_passes place (word memory place) (pointed_by (word memory place)) (directory.path_from memory did level) context refl
+    (λ next. directory_from memory did level next context) found
+
+path_passes : (memory : Memory) (registers : Registers) (did : ℕ) (context : Context) → located memory registers did ≡ Ok context →
+    All Passes (map part.Directory (path_of memory registers did))
+unfolding located path_of
+path_passes memory registers did context =
+    let path : List Met = directory.path_from memory did (levels_of (mode_of registers) - 1) (root_of registers) in
+    elim (is_too_wide (levels_of (mode_of registers)) did) as (λ wide. (if wide then Err TooWide else directory.verdict_on path) ≡ Ok context →
+    All Passes (map part.Directory (if wide then [] else path))) [
+      | true ↦ λ found. All-nil Passes
+      | false ↦ λ found. All-map Passes part.Directory path
+          (directory_from memory did (levels_of (mode_of registers) - 1) (root_of registers) context found)
+    ]
+
+-- a context that is found has an id that keeps the width rule
+found_in_width : (memory : Memory) (registers : Registers) (did : ℕ) (context : Context) → located memory registers did ≡ Ok context →
+    not (is_too_wide (levels_of (mode_of registers)) did) ≡ false → ⊥
+unfolding located
+found_in_width memory registers did context found wide =
+    let is : is_too_wide (levels_of (mode_of registers)) did ≡ true = not_false _ wide in
+    fault_never TooWide context (located memory registers did) (rw is refl) found
+
+directory_passes : (m : Machine) (did : ℕ) (context : Context) → located m.memory m.registers did ≡ Ok context → All Passes (directory_parts m did)
+directory_passes m did context found =
+    each_by_width Passes (not (is_too_wide (levels_of (mode_of m.registers)) did)) (wide.Directory did)
+    (map part.Directory (path_of m.memory m.registers did)) (found_in_width m.memory m.registers did context found)
+    (path_passes m.memory m.registers did context found)
+
+-- the second stage, where it leads an address
+abbrev Leads : Memory → ℕ → Kind → ℕ → Option Shape → Type 0
+Leads memory root kind guest None = Unit {0}
+Leads memory root kind guest (Some shape) = (leaf : Leaf) × (outcome_of (ram_got memory) shape root guest kind ≡ outcome.Leaf leaf)
+
+second_by_passes : (memory : Memory) (root : ℕ) (kind : Kind) (guest : ℕ) (shape : Option Shape) → Leads memory root kind guest shape →
+    All Passes (second_by memory root kind guest shape)
+second_by_passes memory root kind guest None leads = All-nil Passes
+second_by_passes memory root kind guest (Some shape) leads =
+    let path : List PathEntry = path_told (ram_got memory) shape root guest kind in
+    each_by_width Passes (is_in_width shape guest) (wide.Second guest) (map (part.Second guest) path)
+    (leaf_in_width (ram_got memory) shape root guest kind leads.0 leads.1)
+    (All-map Passes (part.Second guest) path
+    (All-weaker (IsLet (ram_got memory) kind) (λ entry. Lets entry.ruling) (λ entry is. is.lets) path
+    (walk_lets (ram_got memory) shape root guest kind leads.0 leads.1)))
+
+second_passes : (memory : Memory) (context : Context) (kind : Kind) (guest : ℕ) →
+    Leads memory context.gppn kind guest (second_shape_of context) → All Passes (second_parts memory context kind guest)
+unfolding second_parts
+second_passes memory context kind guest leads = second_by_passes memory context.gppn kind guest (second_shape_of context) leads
+
+-- what wasn't read lets no walk on
+outside_never : (kind : Kind) (level : ℕ) → ¬ Lets (ruling_of kind level got.Outside)
+unfolding ruling_of
+outside_never kind level lets = elim lets [ inl is ↦ cc | inr is ↦ cc ]
+
+guest_never : (kind : Kind) (level : ℕ) → ¬ Lets (ruling_of kind level got.Guest)
+unfolding ruling_of
+guest_never kind level lets = elim lets [ inl is ↦ cc | inr is ↦ cc ]
+
+entry_leads : (memory : Memory) (kind : Kind) (level place : ℕ) (end : Outcome) → Lets (ruling_of kind level (got_behind memory place end)) →
+    (leaf : Leaf) × (end ≡ outcome.Leaf leaf)
+entry_leads memory kind level place (outcome.Leaf leaf) lets = (leaf, refl)
+entry_leads memory kind level place outcome.Outside lets = absurd (outside_never kind level lets)
+entry_leads memory kind level place (outcome.Guest at) lets = absurd (guest_never kind level lets)
+entry_leads memory kind level place outcome.Fault lets = absurd (guest_never kind level lets)
+
+place_leads : (memory : Memory) (root : ℕ) (kind : Kind) (entry : PathEntry) (shape : Option Shape) →
+    IsLet (table_got_by memory root shape) kind entry → Leads memory root Read entry.place shape
+place_leads memory root kind entry None is = tt
+place_leads memory root kind entry (Some shape) is =
+    entry_leads memory kind entry.level entry.place (outcome_of (ram_got memory) shape root entry.place Read)
+    (subst (λ got. Lets (ruling_of kind entry.level got)) is.met (subst Lets is.judged is.lets))
+
+-- the first stage
+first_entry_passes : (memory : Memory) (context : Context) (kind : Kind) (entry : PathEntry) → IsLet (table_got memory context) kind entry →
+    All Passes (entry_parts memory context entry)
+first_entry_passes memory context kind entry is =
+    let first : Part = part.First entry (read_at memory context entry.place) in
+    All-append Passes (second_parts memory context Read entry.place) (first ∷ [])
+    (second_passes memory context Read entry.place (place_leads memory context.gppn kind entry (second_shape_of context) is))
+    (All-cons Passes first [] is.lets (All-nil Passes))
+
+entries_pass : (memory : Memory) (context : Context) (kind : Kind) (entries : List PathEntry) →
+    All (IsLet (table_got memory context) kind) entries → All Passes (flat_map (entry_parts memory context) entries)
+entries_pass memory context kind [] each = All-nil Passes
+entries_pass memory context kind (entry ∷ more) each =
+    All-append Passes (entry_parts memory context entry) (flat_map (entry_parts memory context) more)
+    (first_entry_passes memory context kind entry (All-head (IsLet (table_got memory context) kind) entry more each))
+    (entries_pass memory context kind more (All-tail (IsLet (table_got memory context) kind) entry more each))
+
+-- the access
+access_leads : (memory : Memory) (root : ℕ) (kind : Kind) (reached : Reached) (end : Outcome) (hit : Hit) → hit_by reached end ≡ Ok hit →
+    (leaf : Leaf) × (end ≡ outcome.Leaf leaf)
+access_leads memory root kind reached (outcome.Leaf leaf) hit is = (leaf, refl)
+access_leads memory root kind reached outcome.Outside hit is = cc
+access_leads memory root kind reached (outcome.Guest place) hit is = cc
+access_leads memory root kind reached outcome.Fault hit is = cc
+
+access_by_leads : (memory : Memory) (context : Context) (kind : Kind) (reached : Reached) (shape : Option Shape) (hit : Hit) →
+    second_stage memory context kind shape reached ≡ Ok hit → Leads memory context.gppn kind reached.addr shape
+access_by_leads memory context kind reached None hit is = tt
+access_by_leads memory context kind reached (Some shape) hit is =
+    access_leads memory context.gppn kind reached (outcome_of (ram_got memory) shape context.gppn reached.addr kind) hit is
+
+access_passes : (memory : Memory) (context : Context) (kind : Kind) (reached : Reached) (hit : Hit) →
+    second_stage memory context kind (second_shape_of context) reached ≡ Ok hit → All Passes (access_parts memory context kind (Ok reached))
+access_passes memory context kind reached hit is =
+    second_passes memory context kind reached.addr (access_by_leads memory context kind reached (second_shape_of context) hit is)
+
+-- both stages
+end_passes : (memory : Memory) (context : Context) (iova : ℕ) (kind : Kind) (shape : Shape) (end : Outcome) (hit : Hit) →
+    outcome_of (table_got memory context) shape context.ppn iova kind ≡ end → behind_first memory context kind (reached_by iova end) ≡ Ok hit →
+    All Passes (first_by memory context iova kind (Some shape) ++ access_parts memory context kind (reached_by iova end))
+end_passes memory context iova kind shape (outcome.Leaf leaf) hit is found =
+    let path : List PathEntry = path_told (table_got memory context) shape context.ppn iova kind in
+    let reached : Reached = record { addr = leaf.frame * 4096 + iova % 4096; level = leaf.level; global = leaf.global } in
+    All-append Passes (first_by memory context iova kind (Some shape)) (access_parts memory context kind (Ok reached))
+    (each_by_width Passes (is_in_width shape iova) (wide.First iova) (flat_map (entry_parts memory context) path)
+    (leaf_in_width (table_got memory context) shape context.ppn iova kind leaf is)
+    (entries_pass memory context kind path (walk_lets (table_got memory context) shape context.ppn iova kind leaf is)))
+    (access_passes memory context kind reached hit found)
+end_passes memory context iova kind shape outcome.Outside hit is found = cc
+end_passes memory context iova kind shape (outcome.Guest place) hit is found = cc
+end_passes memory context iova kind shape outcome.Fault hit is found = cc
+
+stages_by_pass : (memory : Memory) (context : Context) (iova : ℕ) (kind : Kind) (shape : Option Shape) (hit : Hit) →
+    behind_first memory context kind (first_stage memory context iova kind shape) ≡ Ok hit →
+    All Passes (first_by memory context iova kind shape ++ access_parts memory context kind (first_stage memory context iova kind shape))
+stages_by_pass memory context iova kind None hit found =
+    access_passes memory context kind (record { addr = iova; level = 0; global = false }) hit found
+stages_by_pass memory context iova kind (Some shape) hit found =
+    end_passes memory context iova kind shape (outcome_of (table_got memory context) shape context.ppn iova kind) hit refl found
+
+stages_pass : (memory : Memory) (context : Context) (iova : ℕ) (kind : Kind) (hit : Hit) →
+    behind_first memory context kind (first_stage memory context iova kind (first_shape_of context)) ≡ Ok hit →
+    All Passes (stage_parts memory iova kind (Ok context))
+unfolding first_parts
+stages_pass memory context iova kind hit found = stages_by_pass memory context iova kind (first_shape_of context) hit found
+
+-- a context both of whose stages are Bare hits the page itself
+bare_stages_pass : (memory : Memory) (context : Context) (iova : ℕ) (kind : Kind) → is_bare context ≡ true →
+    All Passes (stage_parts memory iova kind (Ok context))
+bare_stages_pass memory context iova kind bare =
+    let first : (context.mode == 0) ≡ true = search rules in
+    let second : (context.gmode == 0) ≡ true = search rules in
+    stages_pass memory context iova kind (record { frame = iova / 4096; level = 0; global = false }) (rw (first, second) refl)
+
+hit_of : (kind : Kind) (found : Result Hit Failure) (hit : Hit) → told_of kind found ≡ Ok hit → found ≡ Ok hit
+hit_of kind (Ok found) hit is = cc
+hit_of kind (Err failure) hit is = cc
+
+translated_stages_pass : (memory : Memory) (context : Context) (iova : ℕ) (kind : Kind) (hit : Hit) → translation memory context iova kind ≡ Ok hit →
+    All Passes (stage_parts memory iova kind (Ok context))
+unfolding translation
+translated_stages_pass memory context iova kind hit is = stages_pass memory context iova kind hit (hit_of kind _ hit is)
+
+-- below a context, by the way that is led
+page_passes : (memory : Memory) (request : Request) (context : Context) (found : Result Hit Fault) →
+    translation memory context request.iova request.kind ≡ found → IsGranted (way_to context found) →
+    All Passes (stage_parts memory request.iova request.kind (Ok context))
+page_passes memory request context (Ok hit) is granted = translated_stages_pass memory context request.iova request.kind hit is
+page_passes memory request context (Err fault) is granted = absurd granted
+
+-- by whether both stages are Bare
+abbrev pub under_where : Bool → Memory → Request → Context → Under
+under_where bare memory request context =
+    if bare then record { way = ByContext context; page = None }
+    else record { way = way_to context (page_look memory [] request context).used; page = (page_look memory [] request context).filled }
+
+under_passes : (memory : Memory) (request : Request) (context : Context) (bare : Bool) → is_bare context ≡ bare →
+    IsGranted (under_where bare memory request context).way →
+    All Passes (stage_parts memory request.iova request.kind (Ok context))
+unfolding page_look
+under_passes memory request context true is granted = bare_stages_pass memory context request.iova request.kind is
+under_passes memory request context false is granted =
+    let told = translation memory context request.iova request.kind in
+    page_passes memory request context told refl (subst (λ r. IsGranted (way_to context r)) (looked_none (request_key request context) told) granted)
+
+pub context_passes : (memory : Memory) (request : Request) (context : Context) → IsGranted (led_under memory [] request context).way →
+    All Passes (stage_parts memory request.iova request.kind (Ok context))
+context_passes memory request context granted = under_passes memory request context (is_bare context) refl granted
+
+found_passes : (m : Machine) (request : Request) (found : Result Context Cause) → located m.memory m.registers request.did ≡ found →
+    IsGranted (led_by_context (uncached m) request (context_look (uncached m) request.did).filled found).way →
+    All Passes (directory_parts m request.did ++ stage_parts m.memory request.iova request.kind found)
+found_passes m request (Ok context) is granted =
+    All-append Passes (directory_parts m request.did) (stage_parts m.memory request.iova request.kind (Ok context))
+    (directory_passes m request.did context is)
+    (context_passes m.memory request context granted)
+found_passes m request (Err why) is granted = absurd granted
+
+mode_passes : (m : Machine) (request : Request) (own : Mode) → IsGranted ((led_by_mode own (uncached m) request).way) →
+    (own ≢ mode.Off) × All Passes (parts_by own m request)
+mode_passes m request mode.Off granted = absurd granted
+mode_passes m request mode.Bare granted = (λ is. cc, All-nil Passes)
+mode_passes m request (mode.Levels levels) granted = (
+  λ is. cc,
+  found_passes m request (located m.memory m.registers request.did) refl
+      (subst (λ r. IsGranted (led_by_context (uncached m) request (context_look (uncached m) request.did).filled r).way) (used_uncached m request.did) granted),
+)
+
+each_passes : (m : Machine) (request : Request) → IsGranted (by_tables m request) → All Passes (parts_of m request)
+unfolding parts_of led
+each_passes m request granted =
+    let ddtp : Part = part.Ddtp (mode_of m.registers) (root_of m.registers) in
+    let end : Part = part.End (by_tables m request) in
+    let between : List Part = parts_by (mode_of m.registers) m request in
+    let passed : (mode_of m.registers ≢ mode.Off) × All Passes between = mode_passes m request (mode_of m.registers) granted in
+    All-cons Passes ddtp (between ++ end ∷ []) passed.0
+    (All-append Passes between (end ∷ []) passed.1 (All-cons Passes end [] granted (All-nil Passes)))
+
+pub each_passes_of : (m : Machine) (request : Request) (parts : List Part) → parts ≡ parts_of m request →
+    IsGranted (by_tables m request) → All Passes parts
+each_passes_of m request parts are granted = subst (All Passes) (sym are) (each_passes m request granted)

@@ -1,0 +1,380 @@
+-- Where a request is denied, something that is looked at refuses it.
+use Rattle.std.proofs.Common.{◌≡◌, ◌≢◌, ◌-◌, ◌<◌, ◌⊎◌, ◌++◌, ℕ, zero, suc, Bool, true, false, not, List, [], ◌∷◌, map, length, Option, Some, None, Result, Ok, Err, if◌then◌else◌, refl, sym, ap, subst, inl, inr, arith}
+use Rattle.std.specs.Prelude.{All, Any, find, flat_map}
+use Rattle.std.proofs.lemmas.Grind.{common_steps}
+use Rattle.std.proofs.lemmas.List.Elements.{All-head, All-tail}
+use Rattle.iom_bits.specs.declared.causes.Cause.{Cause}
+use Rattle.iom_bits.specs.declared.causes.Cause.TheVariants.{TooWide}
+use Rattle.iom_bits.specs.declared.causes.Kind.{Kind}
+use Rattle.iom_bits.specs.declared.causes.Kind.TheVariants.{Read}
+use Rattle.iom_mem.specs.Memory.{Memory, word, words_at}
+use Rattle.iom_regs.specs.Table.{Registers}
+use Rattle.iom_regs.specs.Views.{mode_of, root_of}
+use Rattle.iom_regs.specs.declared.views.Mode.{Mode}
+use Rattle.iom_regs.specs.declared.views.Mode.TheVariants as mode
+use Rattle.iom_ddt.specs.Contexts.{is_bare}
+use Rattle.iom_ddt.specs.Directory.{behind, decided_by, entry_place, is_too_wide, leaf_place, levels_of, located, path_of, pointed_by}
+use Rattle.iom_ddt.specs.Directory as directory
+use Rattle.iom_ddt.specs.declared.context.Context.{Context}
+use Rattle.iom_ddt.specs.declared.listing.Met.{Met}
+use Rattle.iom_ddt.specs.declared.listing.Met.TheVariants as met
+use Rattle.iom_walk.specs.Outcome.{conclude, conclude_at, leaf_of, outcome_of, verdict_on_path}
+use Rattle.iom_walk.specs.Path.{Entry, entry_at, next_table, path_from, path_of as walk_path_of, verdict_on}
+use Rattle.iom_walk.specs.Shape.{is_in_width, levels}
+use Rattle.iom_walk.specs.Told.{path_told, told}
+use Rattle.iom_walk.specs.Verdict.{consequence, is_pointer, ruling_of, verdict_of, word_of}
+use Rattle.iom_walk.specs.declared.entry.Ruling.{Ruling}
+use Rattle.iom_walk.specs.declared.listing.PathEntry.{PathEntry}
+use Rattle.iom_walk.specs.declared.outcome.Leaf.{Leaf}
+use Rattle.iom_walk.specs.declared.outcome.Outcome.{Outcome}
+use Rattle.iom_walk.specs.declared.outcome.Outcome.TheVariants as outcome
+use Rattle.iom_walk.specs.declared.shape.Shape.{Shape}
+use Rattle.iom_walk.specs.declared.shape.Shape.TheVariants.{Sv39, Sv39x4, Sv48, Sv48x4}
+use Rattle.iom_walk.specs.declared.source.Got.{Got}
+use Rattle.iom_walk.proofs.Entries.{pointer_for_each}
+use Rattle.iom_nested.specs.Faults.{Failure}
+use Rattle.iom_nested.specs.Nested.{behind_first, first_stage, hit_by, reached_by, second_stage, told_of, translation}
+use Rattle.iom_nested.specs.Stages.{first_shape_of, ram_got, second_shape_of, table_got}
+use Rattle.iom_nested.specs.declared.translation.Fault.{Fault}
+use Rattle.iom_nested.specs.declared.translation.Hit.{Hit}
+use Rattle.iom_nested.specs.declared.translation.Reached.{Reached}
+use Rattle.iom_cache.specs.Places.{look}
+use Rattle.iom_cache.specs.declared.key.Key.{Key}
+use Rattle.iom_core.specs.State.{Machine}
+use Rattle.iom_core.specs.Access.{context_look, led, led_by_context, led_by_mode, led_under, page_look, request_key, way_to}
+use Rattle.iom_core.specs.declared.way.Way.TheVariants.{Context as ByContext}
+use Rattle.iom_core.specs.declared.access.Request.{Request}
+use Rattle.iom_tables.specs.Parts.{access_parts, by_width, directory_parts, entry_parts, first_by, first_parts, parts_by, parts_of, read_at, second_by, second_parts, stage_parts}
+use Rattle.iom_core.specs.Looking.{by_tables, uncached}
+use Rattle.iom_tables.specs.Passing.{IsGranted, IsNoFault, Lets, Refuses}
+use Rattle.iom_tables.specs.declared.part.Part.{Part}
+use Rattle.iom_tables.specs.declared.part.Part.TheVariants as part
+use Rattle.iom_tables.specs.declared.part.Wide.{Wide}
+use Rattle.iom_tables.specs.declared.part.Wide.TheVariants as wide
+use Rattle.iom_core.proofs.Uncached.{looked_none, used_uncached}
+use Rattle.iom_tables.proofs.Passing.{under_where}
+use Rattle.iom_tables.proofs.Widths.{IsWide, each_is_wide}
+
+-- something in a list is so
+abbrev Occurs : {X : Type 0} → (X → Type 0) → List X → Type 0
+Occurs P [] = ⊥
+Occurs P (x ∷ xs) = P x ⊎ Occurs P xs
+
+in_first : {X : Type 0} (P : X → Type 0) (xs ys : List X) → Occurs P xs → Occurs P (xs ++ ys)
+in_first P [] ys is = absurd is
+in_first P (x ∷ xs) ys is = elim is [ inl here ↦ inl here | inr later ↦ inr (in_first P xs ys later) ]
+
+in_second : {X : Type 0} (P : X → Type 0) (xs ys : List X) → Occurs P ys → Occurs P (xs ++ ys)
+in_second P [] ys is = is
+in_second P (x ∷ xs) ys is = inr (in_second P xs ys is)
+
+in_mapped : {X Y : Type 0} (P : X → Type 0) (Q : Y → Type 0) (f : X → Y) → ((x : X) → P x → Q (f x)) → (xs : List X) → Occurs P xs → Occurs Q (map f xs)
+in_mapped P Q f each [] is = absurd is
+in_mapped P Q f each (x ∷ xs) is = elim is [ inl here ↦ inl (each x here) | inr later ↦ inr (in_mapped P Q f each xs later) ]
+
+in_flat : {X Y : Type 0} (P : X → Type 0) (Q : Y → Type 0) (f : X → List Y) → ((x : X) → P x → Occurs Q (f x)) → (xs : List X) → Occurs P xs →
+    Occurs Q (flat_map f xs)
+in_flat P Q f each [] is = absurd is
+in_flat P Q f each (x ∷ xs) is = elim is [
+  | inl here ↦ in_first Q (f x) (flat_map f xs) (each x here)
+  | inr later ↦ in_second Q (f x) (flat_map f xs) (in_flat P Q f each xs later)
+]
+
+any_of : {X : Type 0} (P : X → Type 0) (xs : List X) → Occurs P xs → Any P xs
+any_of P [] is = absurd is
+any_of P (x ∷ xs) is = elim is [
+  | inl here ↦ (0, x, omega arith, refl, here)
+  | inr later ↦
+      let a = any_of P xs later in
+      let low : a.0 < length xs = a.2 in
+      (suc a.0, a.1, omega arith, a.3, a.4)
+]
+
+-- a part that refuses, where what is too wide does so by itself
+abbrev Bars : Part → Type 0
+Bars (part.Ddtp own root) = own ≡ mode.Off
+Bars (part.Directory met) = ¬ IsNoFault (decided_by met)
+Bars (part.Wide what) = Unit {0}
+Bars (part.First entry addr) = ¬ Lets entry.ruling
+Bars (part.Second guest entry) = ¬ Lets entry.ruling
+Bars (part.End end) = ⊥
+
+-- the width rule refuses, or one of the entries does
+refused_by_width : (kept : Bool) (what : Wide) (entries : List Part) → (kept ≡ false) ⊎ Occurs Bars entries → Occurs Bars (by_width kept what entries)
+refused_by_width true what entries is = elim is [ inl wide ↦ absurd (cc) | inr some ↦ some ]
+refused_by_width false what entries is = inl tt
+
+-- the directory
+abbrev Faults : Met → Type 0
+Faults item = ¬ IsNoFault (decided_by item)
+
+leaf_refuses : (place : ℕ) (words : Option (List ℕ)) (cause : Cause) →
+    directory.verdict_on (met.Leaf place words ∷ []) ≡ Err cause → Faults (met.Leaf place words)
+unfolding directory.verdict_on
+leaf_refuses place None cause is = λ never. never
+leaf_refuses place (Some words) cause is = rw is (λ never. never)
+
+entry_refuses : (place : ℕ) (entry : Option ℕ) (pointed : Result ℕ Cause) (from : ℕ → List Met) (cause : Cause) → pointed_by entry ≡ pointed →
+    ((table : ℕ) → directory.verdict_on (from table) ≡ Err cause → Occurs Faults (from table)) →
+    directory.verdict_on (met.Entry place entry ∷ behind pointed from) ≡ Err cause →
+    Occurs Faults (met.Entry place entry ∷ behind pointed from)
+unfolding directory.verdict_on
+entry_refuses place entry (Ok table) from cause is more found =
+    let left : directory.verdict_on (from table) ≡ Err cause = rw is at found in inr (more table left)
+entry_refuses place entry (Err why) from cause is more found = inl (rw is (λ never. never))
+
+directory_from : (memory : Memory) (did level table : ℕ) (cause : Cause) →
+    directory.verdict_on (directory.path_from memory did level table) ≡ Err cause → Occurs Faults (directory.path_from memory did level table)
+directory_from memory did zero table cause found =
+    inl (leaf_refuses (leaf_place did table) (words_at memory (leaf_place did table) 4) cause found)
+directory_from memory did (suc level) table cause found =
+    let place : ℕ = entry_place did (suc level) table in
+    entry_refuses place (word memory place) (pointed_by (word memory place)) (directory.path_from memory did level) cause refl
+    (λ next. directory_from memory did level next cause) found
+
+path_refuses : (memory : Memory) (registers : Registers) (did : ℕ) (cause : Cause) → located memory registers did ≡ Err cause →
+    (not (is_too_wide (levels_of (mode_of registers)) did) ≡ false) ⊎ Occurs Bars (map part.Directory (path_of memory registers did))
+unfolding located path_of
+path_refuses memory registers did cause =
+    let path : List Met = directory.path_from memory did (levels_of (mode_of registers) - 1) (root_of registers) in
+    let Goal : Bool → Type 0 = λ wide. is_too_wide (levels_of (mode_of registers)) did ≡ wide → (if wide then Err TooWide else directory.verdict_on path) ≡ Err cause →
+    (not (is_too_wide (levels_of (mode_of registers)) did) ≡ false) ⊎ Occurs Bars (map part.Directory (if wide then [] else path)) in
+    let by_cases : (wide : Bool) → Goal wide = λ wide. elim wide as Goal [
+      | true ↦ λ is found. inl (ap not is)
+      | false ↦ λ is found. inr (in_mapped Faults Bars part.Directory (λ item is. is) path
+          (directory_from memory did (levels_of (mode_of registers) - 1) (root_of registers) cause found))
+    ] in by_cases (is_too_wide (levels_of (mode_of registers)) did) refl
+
+directory_refuses : (m : Machine) (did : ℕ) (cause : Cause) → located m.memory m.registers did ≡ Err cause → Occurs Bars (directory_parts m did)
+directory_refuses m did cause is =
+    refused_by_width (not (is_too_wide (levels_of (mode_of m.registers)) did)) (wide.Directory did)
+    (map part.Directory (path_of m.memory m.registers did)) (path_refuses m.memory m.registers did cause is)
+
+-- a walk that doesn't end at a leaf
+abbrev NoLeaf : Outcome → Type 0
+NoLeaf end = (leaf : Leaf) → end ≢ outcome.Leaf leaf
+
+abbrev end_on : Kind → Bool → ℕ → List Entry → Outcome
+end_on kind global address path = conclude_at kind global address (find (λ entry. not (is_pointer (verdict_on kind entry))) path)
+
+-- a row that neither points on nor maps
+abbrev Stops : Kind → Entry → Type 0
+Stops kind entry = ¬ Lets (ruling_of kind entry.level entry.got)
+
+row_stops : (global : Bool) (address : ℕ) (entry : Entry) (row : Ruling) (word : ℕ) → is_pointer (consequence row word) ≡ false →
+    NoLeaf (conclude global address entry (consequence row word)) → ¬ Lets row
+row_stops global address entry row word points maps = λ lets. elim lets [
+  | inl is ↦ let other : is_pointer (consequence row word) ≡ true = rw is refl in absurd (cc)
+  | inr is ↦ maps (leaf_of global address entry.level word) (rw is refl)
+]
+
+-- there is no pointer in a last table
+no_last_pointer : (kind : Kind) (got : Got) → is_pointer (verdict_of kind 0 got) ≡ false
+unfolding verdict_of ruling_of
+no_last_pointer kind got = grind (arith, common_steps)
+
+end_stops : (kind : Kind) (global : Bool) (address : ℕ) (entry : Entry) (rest : List Entry) → is_pointer (verdict_on kind entry) ≡ false →
+    NoLeaf (end_on kind global address (entry ∷ rest)) → Stops kind entry
+unfolding verdict_of
+end_stops kind global address entry rest points no_leaf =
+    let last : NoLeaf (conclude global address entry (verdict_on kind entry)) = rw points at no_leaf in
+    row_stops global address entry (ruling_of kind entry.level entry.got) (word_of entry.got) points last
+
+goes_on : (kind : Kind) (global : Bool) (address : ℕ) (entry : Entry) (rest : List Entry) (pointer : Bool) → is_pointer (verdict_on kind entry) ≡ pointer →
+    (NoLeaf (end_on kind global address rest) → Occurs (Stops kind) rest) →
+    NoLeaf (end_on kind global address (entry ∷ (if pointer then rest else []))) → Occurs (Stops kind) (entry ∷ (if pointer then rest else []))
+goes_on kind global address entry rest true is more no_leaf =
+    let left : NoLeaf (end_on kind global address rest) = rw is at no_leaf in inr (more left)
+goes_on kind global address entry rest false is more no_leaf = inl (end_stops kind global address entry [] is no_leaf)
+
+walk_stops : (at : ℕ → Got) (shape : Shape) (kind : Kind) (global : Bool) (address table count : ℕ) →
+    NoLeaf (end_on kind global address (path_from at shape address table (suc count))) →
+    Occurs (Stops kind) (path_from at shape address table (suc count))
+unfolding path_from
+walk_stops at shape kind global address table zero no_leaf =
+    let entry : Entry = entry_at at shape address table zero in
+    inl (end_stops kind global address entry (if is_pointer (verdict_on Read entry) then path_from at shape address (next_table entry) zero else [])
+    (no_last_pointer kind entry.got) no_leaf)
+walk_stops at shape kind global address table (suc count) no_leaf =
+    let entry : Entry = entry_at at shape address table (suc count) in
+    goes_on kind global address entry (path_from at shape address (next_table entry) (suc count)) (is_pointer (verdict_on Read entry))
+    (sym (pointer_for_each kind (suc count) entry.got)) (walk_stops at shape kind global address (next_table entry) count) no_leaf
+
+root_stops : (at : ℕ → Got) (shape : Shape) (kind : Kind) (global : Bool) (address root count : ℕ) → 0 < count →
+    NoLeaf (end_on kind global address (path_from at shape address root count)) → Occurs (Stops kind) (path_from at shape address root count)
+root_stops at shape kind global address root zero some no_leaf = absurd (omega arith)
+root_stops at shape kind global address root (suc count) some no_leaf = walk_stops at shape kind global address root count no_leaf
+
+some_level : (shape : Shape) → 0 < levels shape
+some_level Sv39 = omega arith
+some_level Sv39x4 = omega arith
+some_level Sv48 = omega arith
+some_level Sv48x4 = omega arith
+
+abbrev IsStop : PathEntry → Type 0
+IsStop entry = ¬ Lets entry.ruling
+
+outcome_stops : (at : ℕ → Got) (shape : Shape) (root address : ℕ) (kind : Kind) → NoLeaf (outcome_of at shape root address kind) →
+    (is_in_width shape address ≡ false) ⊎ Occurs IsStop (path_told at shape root address kind)
+unfolding outcome_of verdict_on_path path_told
+outcome_stops at shape root address kind =
+    let path : List Entry = walk_path_of at shape root address in
+    let Goal : Bool → Type 0 = λ wide. is_in_width shape address ≡ wide → NoLeaf (if wide then verdict_on_path kind address path else outcome.Fault) →
+    (is_in_width shape address ≡ false) ⊎ Occurs IsStop (if wide then map (told kind) path else []) in
+    let by_cases : (wide : Bool) → Goal wide = λ wide. elim wide as Goal [
+      | true ↦ λ is no_leaf. inr (in_mapped (Stops kind) IsStop (told kind) (λ entry is. is) path
+          (root_stops at shape kind _ address root (levels shape) (some_level shape) no_leaf))
+      | false ↦ λ is no_leaf. inl is
+    ] in by_cases (is_in_width shape address) refl
+
+-- the second stage, where it leads an address nowhere
+abbrev LeadsNot : Memory → ℕ → Kind → ℕ → Option Shape → Type 0
+LeadsNot memory root kind guest None = ⊥
+LeadsNot memory root kind guest (Some shape) = NoLeaf (outcome_of (ram_got memory) shape root guest kind)
+
+second_by_stops : (memory : Memory) (root : ℕ) (kind : Kind) (guest : ℕ) (shape : Option Shape) → LeadsNot memory root kind guest shape →
+    Occurs Bars (second_by memory root kind guest shape)
+second_by_stops memory root kind guest None never = absurd never
+second_by_stops memory root kind guest (Some shape) stops =
+    let path : List PathEntry = path_told (ram_got memory) shape root guest kind in
+    refused_by_width (is_in_width shape guest) (wide.Second guest) (map (part.Second guest) path)
+    (elim (outcome_stops (ram_got memory) shape root guest kind stops) [
+      | inl beyond ↦ inl beyond
+      | inr some ↦ inr (in_mapped IsStop Bars (part.Second guest) (λ entry is. is) path some)
+    ])
+
+access_no_leaf : (reached : Reached) (end : Outcome) (failure : Failure) → hit_by reached end ≡ Err failure → NoLeaf end
+access_no_leaf reached (outcome.Leaf leaf) failure is = absurd (cc)
+access_no_leaf reached outcome.Outside failure is = λ leaf other. cc
+access_no_leaf reached (outcome.Guest place) failure is = λ leaf other. cc
+access_no_leaf reached outcome.Fault failure is = λ leaf other. cc
+
+access_leads_not : (memory : Memory) (context : Context) (kind : Kind) (reached : Reached) (shape : Option Shape) (failure : Failure) →
+    second_stage memory context kind shape reached ≡ Err failure → LeadsNot memory context.gppn kind reached.addr shape
+access_leads_not memory context kind reached None failure is = absurd (cc)
+access_leads_not memory context kind reached (Some shape) failure is =
+    access_no_leaf reached (outcome_of (ram_got memory) shape context.gppn reached.addr kind) failure is
+
+access_stops : (memory : Memory) (context : Context) (kind : Kind) (reached : Reached) (failure : Failure) →
+    second_stage memory context kind (second_shape_of context) reached ≡ Err failure →
+    Occurs Bars (access_parts memory context kind (Ok reached))
+unfolding second_parts
+access_stops memory context kind reached failure is =
+    second_by_stops memory context.gppn kind reached.addr (second_shape_of context)
+    (access_leads_not memory context kind reached (second_shape_of context) failure is)
+
+-- the first
+first_no_leaf : (iova : ℕ) (end : Outcome) (failure : Failure) → reached_by iova end ≡ Err failure → NoLeaf end
+first_no_leaf iova (outcome.Leaf leaf) failure is = absurd (cc)
+first_no_leaf iova outcome.Outside failure is = λ leaf other. cc
+first_no_leaf iova (outcome.Guest place) failure is = λ leaf other. cc
+first_no_leaf iova outcome.Fault failure is = λ leaf other. cc
+
+first_by_stops : (memory : Memory) (context : Context) (iova : ℕ) (kind : Kind) (shape : Option Shape) (failure : Failure) →
+    first_stage memory context iova kind shape ≡ Err failure → Occurs Bars (first_by memory context iova kind shape)
+first_by_stops memory context iova kind None failure is = absurd (cc)
+first_by_stops memory context iova kind (Some shape) failure is =
+    let path : List PathEntry = path_told (table_got memory context) shape context.ppn iova kind in
+    refused_by_width (is_in_width shape iova) (wide.First iova) (flat_map (entry_parts memory context) path)
+    (elim (outcome_stops (table_got memory context) shape context.ppn iova kind
+    (first_no_leaf iova (outcome_of (table_got memory context) shape context.ppn iova kind) failure is)) [
+      | inl beyond ↦ inl beyond
+      | inr stops ↦ inr (in_flat IsStop Bars (entry_parts memory context)
+          (λ entry is. in_second Bars (second_parts memory context Read entry.place) (part.First entry (read_at memory context entry.place) ∷ []) (inl is))
+          path stops)
+    ])
+
+-- both stages
+stages_stop : (memory : Memory) (context : Context) (iova : ℕ) (kind : Kind) (reached : Result Reached Failure) (failure : Failure) →
+    first_stage memory context iova kind (first_shape_of context) ≡ reached → behind_first memory context kind reached ≡ Err failure →
+    Occurs Bars (stage_parts memory iova kind (Ok context))
+unfolding first_parts
+stages_stop memory context iova kind (Ok reached) failure is found =
+    let access : Result Reached Failure → List Part = access_parts memory context kind in
+    let first : Result Reached Failure = first_stage memory context iova kind (first_shape_of context) in
+    in_second Bars (first_parts memory context iova kind) (access first)
+    (subst (λ r. Occurs Bars (access r)) (sym is) (access_stops memory context kind reached failure found))
+stages_stop memory context iova kind (Err why) failure is found =
+    in_first Bars (first_parts memory context iova kind)
+    (access_parts memory context kind (first_stage memory context iova kind (first_shape_of context)))
+    (first_by_stops memory context iova kind (first_shape_of context) why is)
+
+failure_of : (kind : Kind) (found : Result Hit Failure) (fault : Fault) → told_of kind found ≡ Err fault → (failure : Failure) × (found ≡ Err failure)
+failure_of kind (Ok hit) fault is = absurd (cc)
+failure_of kind (Err failure) fault is = (failure, refl)
+
+translated_stages_stop : (memory : Memory) (context : Context) (iova : ℕ) (kind : Kind) (fault : Fault) → translation memory context iova kind ≡ Err fault →
+    Occurs Bars (stage_parts memory iova kind (Ok context))
+unfolding translation
+translated_stages_stop memory context iova kind fault is =
+    let f = failure_of kind _ fault is in stages_stop memory context iova kind _ f.0 refl f.1
+
+-- below a context, by the way that is led
+page_refuses : (memory : Memory) (request : Request) (context : Context) (found : Result Hit Fault) →
+    translation memory context request.iova request.kind ≡ found → (IsGranted (way_to context found) → ⊥) →
+    Occurs Bars (stage_parts memory request.iova request.kind (Ok context))
+page_refuses memory request context (Ok hit) is denied = absurd (denied tt)
+page_refuses memory request context (Err fault) is denied = translated_stages_stop memory context request.iova request.kind fault is
+
+under_refuses : (memory : Memory) (request : Request) (context : Context) (bare : Bool) →
+    (IsGranted (under_where bare memory request context).way → ⊥) →
+    Occurs Bars (stage_parts memory request.iova request.kind (Ok context))
+unfolding page_look
+under_refuses memory request context true denied = absurd (denied tt)
+under_refuses memory request context false denied =
+    let told = translation memory context request.iova request.kind in
+    page_refuses memory request context told refl (subst (λ r. IsGranted (way_to context r) → ⊥) (looked_none (request_key request context) told) denied)
+
+pub context_refuses : (memory : Memory) (request : Request) (context : Context) → (IsGranted (led_under memory [] request context).way → ⊥) →
+    Occurs Bars (stage_parts memory request.iova request.kind (Ok context))
+context_refuses memory request context denied = under_refuses memory request context (is_bare context) denied
+
+found_refuses : (m : Machine) (request : Request) (found : Result Context Cause) → located m.memory m.registers request.did ≡ found →
+    (IsGranted (led_by_context (uncached m) request (context_look (uncached m) request.did).filled found).way → ⊥) →
+    Occurs Bars (directory_parts m request.did ++ stage_parts m.memory request.iova request.kind found)
+found_refuses m request (Ok context) is denied =
+    in_second Bars (directory_parts m request.did) (stage_parts m.memory request.iova request.kind (Ok context))
+    (context_refuses m.memory request context denied)
+found_refuses m request (Err why) is denied =
+    in_first Bars (directory_parts m request.did) (stage_parts m.memory request.iova request.kind (Err why))
+    (directory_refuses m request.did why is)
+
+mode_refuses : (m : Machine) (request : Request) (own : Mode) → (IsGranted ((led_by_mode own (uncached m) request).way) → ⊥) →
+    (own ≡ mode.Off) ⊎ Occurs Bars (parts_by own m request)
+mode_refuses m request mode.Off denied = inl refl
+mode_refuses m request mode.Bare denied = absurd (denied tt)
+mode_refuses m request (mode.Levels levels) denied =
+    inr (found_refuses m request (located m.memory m.registers request.did) refl
+    (subst (λ r. IsGranted (led_by_context (uncached m) request (context_look (uncached m) request.did).filled r).way → ⊥) (used_uncached m request.did) denied))
+
+some_refuses : (m : Machine) (request : Request) → (IsGranted (by_tables m request) → ⊥) → Occurs Bars (parts_of m request)
+unfolding parts_of led
+some_refuses m request denied =
+    let end : Part = part.End (by_tables m request) in
+    let between : List Part = parts_by (mode_of m.registers) m request in
+    elim (mode_refuses m request (mode_of m.registers) denied) [
+      | inl off ↦ inl off
+      | inr later ↦ inr (in_first Bars between (end ∷ []) later)
+    ]
+
+-- what is too wide breaks its rule
+refuses : (m : Machine) (request : Request) (one : Part) → IsWide m request one → Bars one → Refuses m request one
+refuses m request (part.Ddtp own root) wide is = is
+refuses m request (part.Directory met) wide is = is
+refuses m request (part.Wide what) wide is = wide
+refuses m request (part.First entry addr) wide is = is
+refuses m request (part.Second guest entry) wide is = is
+refuses m request (part.End end) wide is = is
+
+all_refuse : (m : Machine) (request : Request) (parts : List Part) → All (IsWide m request) parts → Occurs Bars parts → Occurs (Refuses m request) parts
+all_refuse m request [] each is = absurd is
+all_refuse m request (one ∷ more) each is = elim is [
+  | inl here ↦ inl (refuses m request one (All-head (IsWide m request) one more each) here)
+  | inr later ↦ inr (all_refuse m request more (All-tail (IsWide m request) one more each) later)
+]
+
+pub some_refuses_of : (m : Machine) (request : Request) (parts : List Part) → parts ≡ parts_of m request → (IsGranted (by_tables m request) → ⊥) →
+    Any (Refuses m request) parts
+some_refuses_of m request parts are denied =
+    any_of (Refuses m request) parts
+    (subst (Occurs (Refuses m request)) (sym are) (all_refuse m request (parts_of m request) (each_is_wide m request) (some_refuses m request denied)))

@@ -1,0 +1,11 @@
+use Rattle.std.proofs.Common.{◌≡◌, ◌++◌, ◌+◌, ◌≤◌, map, drop}
+use Rattle.arrayvec.specs.ArrayVec.{array_vec_len}
+use Rattle.iom_tables.specs.declared.part.Part.TheVariants.{Directory}
+use Rattle.iom_tables.proofs.listing.push_items.Given as goal
+
+-- what was told, and then what is left, is all that is to be told
+abbrev pub invariant-loop-met : goal.invariant-loop-met
+invariant-loop-met l = record {
+  room : array_vec_len l.out ≤ array_vec_len l.initial.out + l.met-index;
+  left : l.out.items ++ map Directory (drop l.met-index l.met-items) ≡ l.initial.out.items ++ map Directory l.met-items;
+}

@@ -1,0 +1,28 @@
+-- What a part tells of memory is what memory has: the words at the physical address of an item of the directory, of an entry of the
+-- second stage, and the one that an entry of the first stage was read at.
+use Rattle.std.specs.Prelude.{ℕ, ◌≡◌, ◌≢◌, Option, Some, None}
+use Rattle.iom_mem.specs.Memory.{Memory, word, words_at}
+use Rattle.iom_ddt.specs.declared.listing.Met.{Met}
+use Rattle.iom_ddt.specs.declared.listing.Met.TheVariants as met
+use Rattle.iom_walk.specs.declared.source.Got.{Got}
+use Rattle.iom_walk.specs.declared.source.Got.TheVariants as got
+use Rattle.iom_nested.specs.Stages.{ram_got}
+use Rattle.iom_tables.specs.declared.part.Part.{Part}
+use Rattle.iom_tables.specs.declared.part.Part.TheVariants as part
+
+abbrev pub IsItem : Memory → Met → Type 0
+IsItem memory (met.Entry place entry) = entry ≡ word memory place
+IsItem memory (met.Leaf place words) = words ≡ words_at memory place 4
+
+-- an entry of the first stage; where its place leads nowhere, no word was read
+abbrev pub IsGot : Memory → Got → Option ℕ → Type 0
+IsGot memory read None = (word : ℕ) → read ≢ got.Word word
+IsGot memory read (Some addr) = read ≡ ram_got memory addr
+
+abbrev pub IsRead : Memory → Part → Type 0
+IsRead memory (part.Ddtp mode root) = Unit {0}
+IsRead memory (part.Directory met) = IsItem memory met
+IsRead memory (part.Wide what) = Unit {0}
+IsRead memory (part.First entry addr) = IsGot memory entry.got addr
+IsRead memory (part.Second guest entry) = entry.got ≡ ram_got memory entry.place
+IsRead memory (part.End way) = Unit {0}
