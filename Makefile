@@ -4,6 +4,7 @@
 #                             first where it is not current, on all cores
 #   make build                build the program where it is not current, likewise
 #   make test                 every proof from nothing, the edits that must be refused, every test
+#   make edits [CRATES=..]    tries the edits of crates/*/edits, or those of the crates that are named, many in one check
 #   make rows                 plays the scripts of crates/iom_rows/data, and prints each answer that is not the expected one
 #   make cost                 processor seconds of what make test does, crate by crate, on a copy
 #   make bench [OTHER=FILE]   lines per second, and images loaded, assembled and listed, beside another program where one is named
@@ -19,6 +20,7 @@ PREFIX = /usr/local
 MINUTES = 1
 SEED = 1
 CASES = 5000
+CRATES =
 program = crates/rviommu/out/rviommu
 player = crates/iom_player/out/iom_player
 library = c/out/lib/librviommu.so
@@ -28,7 +30,7 @@ sources = $(shell find crates -name out -prune -o -type f \( -name '*.rt' -o -na
 has_rt = command -v rt >/dev/null || { echo "rt, the command of the Rattle kit, is not on the path" >&2; exit 1; }
 has_python = command -v python3 >/dev/null || { echo "python3 is not on the path" >&2; exit 1; }
 
-.PHONY: run build test rows cost bench fuzz peer library page install dist deb
+.PHONY: run build test edits rows cost bench fuzz peer library page install dist deb
 
 $(program): crates.txt $(sources)
 	@$(has_rt)
@@ -57,6 +59,7 @@ test:
 	@$(has_rt)
 	@$(has_python)
 	rt ci
+	tests/edits.py
 	sh tests/refused_memory.sh
 	@test -x $(program) || packaging/build.py
 	@test -x $(player) || packaging/build.py iom_player
@@ -65,6 +68,11 @@ test:
 	tests/c_library.py $(program)
 	tests/package.py $(program)
 	@if command -v chromium >/dev/null && test -f web/out/index.html; then set -x; tests/page.py $(program); fi
+
+edits:
+	@$(has_rt)
+	@$(has_python)
+	tests/edits.py $(CRATES)
 
 rows:
 	@$(has_rt)

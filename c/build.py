@@ -37,7 +37,7 @@ def is_current():
         return False
     made = os.path.getmtime(ARCHIVE)
     for folder, folders, files in os.walk(CRATES):
-        folders[:] = [it for it in folders if it not in ("out", "must-fail", "data")]
+        folders[:] = [it for it in folders if it not in ("out", "must-fail", "edits", "data")]
         if any(os.path.getmtime(os.path.join(folder, it)) > made for it in files if it.endswith((".rt", ".antt"))):
             return False
     return True

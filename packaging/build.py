@@ -4,10 +4,10 @@
 All is proved as it is built, and what is current costs a few seconds. Progress is told on standard error; standard output stays empty.
 The status is 1 where something could not be built.
 
-Where the libraries of the crates below haven't been built, the crate and all below it are proved and built as one crate (whole.py): the
-toolchain's libraries are read once, and nothing waits for a crate below. Those that the gate builds don't count, since rt would build them
-again. Where they have, as after checks of single crates, what isn't current is built crate by crate, as many at a time as the
-machine has processors and memory for.
+What isn't current is built crate by crate, as many at a time as the machine has processors and memory for: so the program is the
+gate's, byte for byte. Where nothing below iom_player has been built, it and all below it are proved and built as one crate (whole.py):
+the toolchain's libraries are read once, and nothing waits for a crate below. A static library is built over the libraries that the gate
+left, which rt would build again.
 
 rt locks a crate and all that it stands on for as long as it works on it. So each is built in a tree of its own, in the
 folder out/ at the top: the whole crate, or a crate's sources and those below it as hard links, with what was built of these.
@@ -22,52 +22,20 @@ import sys
 import threading
 import time
 
+import kit
 import whole
+from crates import FOLDER as CRATES, LIST, TOP, below, is_program, listed, stands_on
 
-TOP = os.path.normpath(os.path.join(os.path.dirname(os.path.abspath(__file__)), os.pardir))
-CRATES = os.path.join(TOP, "crates")
-LIST = os.path.join(TOP, "crates.txt")
 TREES = os.path.join(TOP, "out", "build")
 BYTES_A_JOB = 3 << 30
 # A way to the top is long where it has this part of the longest one's bytes.
 LONG = 0.9
 # What a check does before its first function takes as long as that of so many bytes.
 BYTES_OF_A_START = 50_000
+# The program of which the first answer is wanted soon.
+FIRST = "iom_player"
 # One that is shorter by no more bytes than these is begun beside the long ones, with one job.
 NEAR = 120_000
-
-
-def listed():
-    """The crates of crates.txt, each with the words behind its name and the libraries that it uses."""
-    found = {}
-    with open(LIST, encoding="utf-8") as lines:
-        for line in lines:
-            names, colon, uses = line.partition("#")[0].partition(":")
-            if colon:
-                name, *words = names.split()
-                found[name] = (words, uses.split())
-    return found
-
-
-def stands_on():
-    """The crates of crates.txt, each with those of them that it stands on."""
-    found = listed()
-    return {name: [it for it in uses if it in found] for name, (_, uses) in found.items()}
-
-
-def is_program(name):
-    return os.path.isfile(os.path.join(CRATES, name, "src", "main.rt"))
-
-
-def below(crates, top):
-    """The crate and all that it stands on."""
-    wanted, to_do = set(), [top]
-    while to_do:
-        name = to_do.pop()
-        if name not in wanted:
-            wanted.add(name)
-            to_do += crates[name]
-    return {name: crates[name] for name in wanted}
 
 
 def size(name):
@@ -274,6 +242,21 @@ class WholeBuild:
         return 0
 
 
+def build_over_the_gate(top):
+    """Builds a static library over the libraries that the gate left; its own crate is proved once more, as its archive is made."""
+    started = time.monotonic()
+    folder = os.path.join(CRATES, top)
+    made = os.path.join("out", f"lib{top}.a")
+    of_kit = kit.folder()
+    words = [*kit.words("build", top, of_kit), "--toolchain", f"{of_kit}/toolchain", "--jobs", str(at_once()), "-o", made]
+    done = subprocess.run(words, cwd=folder, stdin=subprocess.DEVNULL, stdout=subprocess.PIPE, stderr=subprocess.STDOUT, check=False)
+    if done.returncode:
+        print(f"{done.stdout.decode(errors='replace')}\nbuild: {top} could not be built", file=sys.stderr)
+        return 1
+    print(f"build: {top} ({time.monotonic() - started:.0f} s)", file=sys.stderr)
+    return 0
+
+
 def are_built(names):
     """Whether `rt lib` built a library of each of these crates, perhaps of older sources. Those of `rt ci` lack this stamp, and rt
     builds them again."""
@@ -287,8 +270,12 @@ def main():
         sys.exit(__doc__)
     with open(LIST, encoding="utf-8") as alone:
         fcntl.flock(alone, fcntl.LOCK_EX)
-        has_libraries = are_built(it for it in below(crates, top) if it != top)
-        sys.exit((Build if has_libraries else WholeBuild)(top).run())
+        low = [it for it in below(crates, top) if it != top]
+        if not are_built(low) and top == FIRST:
+            sys.exit(WholeBuild(top).run())
+        if not are_built(low) and "staticlib" in listed()[top][0] and all(kit.is_current(it) for it in low):
+            sys.exit(build_over_the_gate(top))
+        sys.exit(Build(top).run())
 
 
 if __name__ == "__main__":

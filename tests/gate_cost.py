@@ -17,32 +17,12 @@ import tempfile
 import time
 
 TOP = os.path.join(os.path.dirname(os.path.abspath(__file__)), os.pardir)
+sys.path.insert(0, os.path.join(TOP, "packaging"))
+from crates import below, stands_on  # noqa: E402
+
 PROGRAM = "rviommu"
 # Of a check with several jobs each reads the libraries below by itself, which takes more in all.
 ONE_JOB = ("--jobs", "1")
-
-
-def listed(top):
-    """The crates of crates.txt in its order, each with the libraries that it uses."""
-    crates = {}
-    with open(f"{top}/crates.txt", encoding="utf-8") as file:
-        for line in file:
-            name, colon, uses = line.partition("#")[0].partition(":")
-            if colon:
-                crates[name.split()[0]] = uses.split()
-    return crates
-
-
-def below(name, crates):
-    """The crates of the repository that a crate stands on, and itself, lowest first."""
-    seen = set()
-    todo = [name]
-    while todo:
-        one = todo.pop()
-        if one in crates and one not in seen:
-            seen.add(one)
-            todo += crates[one]
-    return [one for one in crates if one in seen]
 
 
 def spent():
@@ -60,8 +40,8 @@ def cost(folder, *words):
     return spent() - before
 
 
-def edits_of(folder):
-    names = os.listdir(f"{folder}/must-fail") if os.path.isdir(f"{folder}/must-fail") else []
+def edits_of(folder, part):
+    names = os.listdir(f"{folder}/{part}") if os.path.isdir(f"{folder}/{part}") else []
     return sum(name.endswith(".edit") for name in names)
 
 
@@ -91,11 +71,11 @@ class Row:
         self.build = 0.0
         self.second = None
         self.tests = None
-        self.edits = None
-        self.edit_count = 0
+        # Those of must-fail/ and those of edits/, each with their number.
+        self.edits = [(0.0, 0), (0.0, 0)]
 
     def total(self):
-        return self.build + (self.second or 0) + (self.tests or 0) + (self.edits or 0)
+        return self.build + (self.second or 0) + (self.tests or 0) + sum(seconds for seconds, _ in self.edits)
 
 
 def measure(top, name, row):
@@ -107,9 +87,9 @@ def measure(top, name, row):
     if has_tests(folder):
         shutil.rmtree(f"{folder}/out/incremental", ignore_errors=True)
         row.tests = cost(folder, "rt", "test", *ONE_JOB)
-    row.edit_count = edits_of(folder)
-    if row.edit_count:
-        row.edits = cost(top, "rt", "must-fail", name)
+    tools = {"must-fail": ("rt", "must-fail"), "edits": ("tests/edits.py",)}
+    counts = [edits_of(folder, part) for part in tools]
+    row.edits = [(cost(top, *words, name) if count else 0.0, count) for words, count in zip(tools.values(), counts)]
 
 
 def shown(seconds):
@@ -117,27 +97,24 @@ def shown(seconds):
 
 
 def print_table(rows, whole):
-    print("| Crate | proof | tests | edits (how many) | an edit |")
+    print("| Crate | proof | tests | `must-fail/` (how many) | `edits/` (how many) |")
     print("|---|---|---|---|---|")
     for row in rows:
         proof = row.build + (row.second or 0)
-        edits = f"{shown(row.edits)} ({row.edit_count})" if row.edits is not None else "-"
-        each = shown(row.edits / row.edit_count) if row.edits is not None else "-"
-        print(f"| `{row.name}` | {shown(proof)} | {shown(row.tests)} | {edits} | {each} |")
+        edits = [f"{shown(seconds)} ({count})" if count else "-" for seconds, count in row.edits]
+        print(f"| `{row.name}` | {shown(proof)} | {shown(row.tests)} | {' | '.join(edits)} |")
     for name, seconds in whole:
         print(f"| `{name}` | - | {shown(seconds)} | - | - |")
     proof = sum(row.build + (row.second or 0) for row in rows)
     tests = sum(row.tests or 0 for row in rows) + sum(seconds for _, seconds in whole)
-    edits = sum(row.edits or 0 for row in rows)
-    count = sum(row.edit_count for row in rows)
-    each = shown(edits / count) if count else "-"
-    print(f"| all | {shown(proof)} | {shown(tests)} | {shown(edits)} ({count}) | {each} |")
+    edits = [[sum(it) for it in zip(*kind)] for kind in zip(*(row.edits for row in rows))]
+    print(f"| all | {shown(proof)} | {shown(tests)} | {' | '.join(f'{shown(seconds)} ({count})' for seconds, count in edits)} |")
     print()
-    print(f"{(proof + tests + edits) / 60:.1f} processor minutes in all.")
+    print(f"{(proof + tests + sum(seconds for seconds, _ in edits)) / 60:.1f} processor minutes in all.")
 
 
 def main():
-    crates = listed(TOP)
+    crates = stands_on()
     named = sys.argv[1:] or list(crates)
     if any(name not in crates for name in named):
         sys.exit("usage: gate_cost.py [CRATE..], of the crates of crates.txt")

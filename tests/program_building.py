@@ -11,8 +11,6 @@ sys.path.insert(0, os.path.join(TOP, "packaging"))
 import build  # noqa: E402
 import whole  # noqa: E402
 
-BUILT = ("iom_player", "rviommu", "iom_c")
-
 
 def in_whole(name, path, top):
     """Where a file of a crate stands in the whole one."""
@@ -50,7 +48,6 @@ def want_whole(top):
     want(f"the rest of the whole crate of {top}", sorted(it for it in files if it != "specs/Lib.antt"), [])
 
 
-@check("build: the whole crate of a program and of the C library has what the crates have, by other paths")
+@check("build: the whole crate has what the crates have, by other paths")
 def _():
-    for top in BUILT:
-        want_whole(top)
+    want_whole(build.FIRST)

@@ -9,7 +9,7 @@ TOP = os.path.normpath(os.path.join(EXAMPLES, os.pardir))
 DOCUMENTS = ["README.md", "CHANGELOG.md", *(f"docs/{name}" for name in sorted(os.listdir(os.path.join(TOP, "docs"))))]
 SUFFIXES = (".rt", ".antt", ".py", ".sh", ".md", ".edit", ".script", ".answers", ".asm", ".txt", ".h", ".1")
 # Folders that each crate may have, and what a build makes.
-OF_EACH = {"src/", "specs/", "proofs/", "must-fail/", "data/", "out/", "proofs/Lib.antt", "dist/", "c/out", "out/build", "out/whole", "web/out", "web/out/index.html", "crates/rviommu/out/rviommu"}
+OF_EACH = {"src/", "specs/", "proofs/", "must-fail/", "edits/", "data/", "out/", "proofs/Lib.antt", "dist/", "c/out", "out/build", "out/whole", "web/out", "web/out/index.html", "crates/rviommu/out/rviommu"}
 WORDS = {"asm", "run", "check", "debug", "list", "upgrade", "bad"}
 
 
@@ -209,7 +209,7 @@ def add_named(document, head=None):
     def _():
         body = dict(sections(text_of(document)))[head] if head else text_of(document)
         python = "".join(text_of(path) for path in names_there("tests/**/*.py"))
-        patterns = ("crates/*/must-fail/*", "crates/iom_rows/data/*", "examples/*")
+        patterns = ("crates/*/must-fail/*", "crates/*/edits/*", "crates/iom_rows/data/*", "examples/*")
         files = {os.path.basename(path).partition(".")[0] for pattern in patterns for path in names_there(pattern)}
         named = {name for name in spans(body) if re.fullmatch(r"[A-Za-z_]\w*(::\w+)*", name) and "NAME" not in name} - set(CRATES) - OTHERS - WORDS
         called = {name for name in named if any(has(crate, name.removeprefix(f"{crate}::")) for crate in CRATES)}
