@@ -54,9 +54,9 @@ def judge_broken_addresses(browser, tally):
         browser.open(f"{PAGE}#{part}")
         tally.judge(f"an address with {part} is told of", told in browser.run('document.getElementById("notice")?.textContent ?? ""'), True)
         tally.judge(f"with {part} it is told which script is shown", '"stale translation"' in browser.run('document.getElementById("notice")?.textContent ?? ""'), True)
+        browser.key(",")
         time.sleep(0.6)
         tally.judge(f"an address with {part} stays", browser.run("location.hash"), f"#{part}")
-        browser.key(",")
         tally.judge(f"what is told of {part} is seen after a step", browser.run(f'{IN_WINDOW}("notice")'), True)
     choose(browser, "disk")
     tally.judge("what was told of an address is gone", browser.run('document.getElementById("notice").hidden && location.hash'), f"#{part}")
@@ -182,11 +182,12 @@ MARKS = """(() => {
 
 def judge_marks(browser, tally):
     """A denial that is wanted, one that isn't told of, and a wish that fails look each another way."""
-    browser.open(address_of("dma read 5 0 1 # => denied 256\ndma read 5 0 1\ndma read 5 0 1 # => done\nreg read 0 8\njump\njump # => bad\n"))
-    tally.judge("answers and how they are marked", browser.run(ANSWERS), ["✓ denied 256", "denied 256", "✗ denied 256  (wanted done)", "0x3810060610", "✗ bad", "✓ bad", ""])
+    browser.open(address_of("dma read 5 0 1 # => denied 256\ndma read 5 0 1\ndma read 5 0 1 # => done\nreg read 0 8\njump\njump # => bad\nreg read 0 8 # => 0x38\n"))
+    wrong = "✗ 0x3810060610  (wanted 0x38)"
+    tally.judge("answers and how they are marked", browser.run(ANSWERS), ["✓ denied 256", "denied 256", "✗ denied 256  (wanted done)", "0x3810060610", "✗ bad", "✓ bad", wrong, ""])
     looks = browser.run(MARKS)
     tally.judge("how they look", len({tuple(it) for it in looks}), 4)
-    tally.judge("how many passed", browser.run('document.getElementById("counts").innerText.split(/\\s*\\n\\s*|\\s{2,}/)'), ["2 passed", "2 failed", "0 stale"])
+    tally.judge("how many passed", browser.run('document.getElementById("counts").innerText.split(/\\s*\\n\\s*|\\s{2,}/)'), ["2 passed", "3 failed", "0 stale"])
 
 
 def told_by_check(answers, words):
@@ -260,8 +261,8 @@ def judge_queues(browser, tally):
 
 
 def runs_script(example):
-    """The script of the example disk with its steps of the device, one behind the other, as lines of many steps; after twenty of them a page that
-    the device has used is unmapped, and nothing is invalidated."""
+    """The script of the example disk with its steps of the device, one behind the other, as lines of many steps; after twenty of them the pages
+    that the device uses are unmapped, and nothing is invalidated."""
     lines, steps = [], 0
     for line in [*example, "cmd"]:
         if line.startswith("dev step 0"):
@@ -272,7 +273,7 @@ def runs_script(example):
         lines.append(line)
         steps = 0
     first = lines.index("dev run 0 500")
-    return [*lines[:first], "dev run 0 20", "store 0x80004008 8 0", *lines[first:-1]]
+    return [*lines[:first], "dev run 0 20", "store 0x80004008 8 0", "store 0x80004010 8 0", *lines[first:-1]]
 
 
 def judge_runs(browser, tally, example, image, answers):
@@ -281,7 +282,7 @@ def judge_runs(browser, tally, example, image, answers):
     browser.open(address_of("\n".join(lines) + "\n", image, 1))
     plain = answers(lines)
     runs = [number for number, line in enumerate(lines, 1) if line.startswith("dev run")]
-    most_stale = 0
+    most_stale = all_denied = 0
     tally.judge("lines of many steps", len(runs) > 1 and any(it.endswith("idle") for it in plain), True)
     for number in runs:
         count = int(plain[number - 1].split()[0], 16)
@@ -291,7 +292,7 @@ def judge_runs(browser, tally, example, image, answers):
         accesses = [i for i, (view, *_) in enumerate(around, 1) if re.search("next=(read|write) ", view)]
         denied = sum(answer.startswith("denied") for _, answer, *_ in around)
         stale = sum(" stale " in [it for it in whys if it != "none"][-1] for _, _, *whys in around)
-        most_stale = max(most_stale, stale)
+        most_stale, all_denied = max(most_stale, stale), all_denied + denied
         text = browser.run(f'go({number}), document.getElementById("run-text")?.innerText ?? ""')
         steps = "1 step" if count == 1 else f"{count} steps"
         made = f", {len(accesses)} accesses: {denied} denied, {stale} stale" if accesses else ""
@@ -311,16 +312,17 @@ def judge_runs(browser, tally, example, image, answers):
             if bool(before) != (step in accesses):
                 bad.append((step, "picture"))
         tally.judge(f"the steps of line {number}", bad, [])
-    tally.judge("stale accesses of one line", most_stale > 1, True)
+    tally.judge("stale accesses of one line, and denied ones", [most_stale > 1, all_denied > 0], [True, True])
     browser.run(f"go({runs[0]}, 3), document.getElementById('run-forward').click()")
     tally.judge("the next step of a line", browser.run('Number(document.getElementById("run-step").value)'), 4)
 
 
 def large_script(count):
-    """So many lines, with accesses that are denied, granted and stale, and comments."""
+    """So many lines, with accesses that are denied, granted and stale, and comments, some of which are wrapped."""
     setting = ["reg write 16 8 0x20000402", "store 0x800010a0 8 1", "store 0x800010b0 8 0x3000", "store 0x800010b8 8 0x8000000000080002"]
     setting += ["store 0x80002008 8 0x20000c01", "store 0x80003008 8 0x20001001", "store 0x80004008 8 0x200040d7"]
-    around = ["dma read 5 0x40201abc 8 # the device reads", "store 0x80004008 8 0", "dma read 5 0x40201abc 8", "dma write 5 0x40201abc ff # => denied 15", "store 0x80004008 8 0x200040d7", "load 0x80010abc 8"]
+    around = ["dma read 5 0x40201abc 8 # the device reads", "store 0x80004008 8 0", "dma read 5 0x40201abc 8", "dma write 5 0x40201abc ff # => denied 15", "store 0x80004008 8 0x200040d7"]
+    around.append("load 0x80010abc 8 # the hart reads the page that the device was led to, at the same place")
     return (setting + around * (count // len(around) + 1))[:count]
 
 
@@ -341,6 +343,18 @@ FIRST_ROW = f"""(() => {{
   const row = {ROWS}.find((it) => it.getBoundingClientRect().top >= place.top);
   return row && row.getBoundingClientRect().top < place.top + 60 ? [Number(row.children[0].textContent), row.children[1].textContent] : null;
 }})"""
+
+
+SCROLLED = f"""(async () => {{
+  const place = document.getElementById("editor");
+  const seen = [];
+  for (let i = 0; i < 60; i += 1) {{
+    place.scrollTop += 400;
+    await new Promise((done) => requestAnimationFrame(() => requestAnimationFrame(done)));
+    seen.push(({FIRST_ROW})()?.[0]);
+  }}
+  return seen;
+}})()"""
 
 
 def judge_large(browser, tally, count, most):
@@ -370,6 +384,8 @@ def judge_large(browser, tally, count, most):
     browser.wait(f"{FIRST_ROW}() !== null", 5)
     where = browser.run(f"{FIRST_ROW}()")
     tally.judge(f"a quarter down {count} lines", where and [abs(where[0] / count - 0.25) < 0.02, where[1] == lines[where[0] - 1]], [True, True])
+    seen = browser.run(SCROLLED)
+    tally.judge(f"scrolling through {count} lines goes on", [it for it in zip(seen, seen[1:]) if not (it[0] and it[1] and 8 < it[1] - it[0] < 24)], [])
     print(f"page: {browser.name}: {count} lines are shown after {opened:.1f} s, what holds at the first after {held:.1f} s, at another after {stepped:.1f} s, what is stale after {whole:.1f} s")
     tally.judge(f"a step of {count} lines within {most} s", stepped < most, True)
 
