@@ -338,10 +338,12 @@ fn origin_of(what: &[u8], i: u64) -> Option<Inquiry>
     ensures asks { result ≡ origin_of what.now i }
     ensures range { IfSome result InRange }
 {
-    match what {
-        b"context" => Some(Inquiry::ContextOrigin(i)),
-        b"page" => Some(Inquiry::PageOrigin(i)),
-        _ => None,
+    if what == b"context".as_slice() {
+        Some(Inquiry::ContextOrigin(i))
+    } else if what == b"page".as_slice() {
+        Some(Inquiry::PageOrigin(i))
+    } else {
+        None
     }
 }
 
