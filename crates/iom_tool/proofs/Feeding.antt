@@ -1,5 +1,5 @@
 -- What a feeder keeps true.
-use Rattle.std.proofs.Common.{◌≡◌, ◌==◌, ◌+◌, ◌-◌, ◌^◌, ◌<◌, ◌≤◌, ◌++◌, ℕ, List, [], ◌∷◌, length, take, drop, true, false, Option, Result, Ok, Err, IfErr, OnOk, OnErr, IsOk, ◌↔◌, ◌⊎◌, min, sym, ◌∙◌, ap, subst, refl, inl, inr, lit<, lit≤, arith, append_assoc, append-nil, length-append, length-drop}
+use Rattle.std.proofs.Common.{◌≡◌, ◌==◌, ◌+◌, ◌-◌, ◌^◌, ◌<◌, ◌≤◌, ◌++◌, ℕ, List, [], ◌∷◌, length, take, drop, true, false, Option, Result, Ok, Err, IfErr, OnOk, OnErr, IsOk, ◌↔◌, min, sym, ◌∙◌, ap, subst, refl, inl, inr, lit<, lit≤, arith, append_assoc, append-nil, length-append, length-drop}
 use Rattle.std.specs.List.{list_any}
 use Rattle.std.specs.Io.KnownBytes.{Appends, Keeps}
 use Rattle.std.proofs.KnownBytes.{Appends-nil, Appends-trans, Appends-kept}

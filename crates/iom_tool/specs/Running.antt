@@ -59,9 +59,9 @@ pub record StopsReading (unread left : Option (List ℕ)) (old new : Progress) :
   pub within : IsWithinLimits text
   pub answered : Answered old new (ended_lines text)
 
--- a write failed, or a flush: the steps of the first lines are done. Of a write they are those up to the one whose answer failed,
--- and what was read after it is lost; of a flush all are answered and nothing is lost. They have their end; or all was read, and the last
--- may lack it
+-- a write failed, or a flush: the steps of the first lines are done. Where a write failed they are those up to the one whose answer
+-- failed, and what was read after it is lost. Where a flush failed all are answered, and nothing is lost. They have their end; or all
+-- was read, and the last may lack it
 pub record StopsWriting (unread left : Option (List ℕ)) (old new : Progress) : Type 0 where
   pub text : List ℕ
   pub lost : List ℕ
@@ -100,7 +100,7 @@ is_write (Err fault.Read) = false
 is_write (Err fault.Write) = true
 is_write (Err fault.TooLong) = false
 
--- a read was the reader's or the writer's last call but for what is told at the end
+-- it ended at a read, which met the end or failed
 abbrev pub stops_at_a_read : {A : Type 0} → Result A RunFault → Bool
 stops_at_a_read (Ok done) = true
 stops_at_a_read (Err fault.Read) = true
