@@ -1,5 +1,5 @@
 -- What a script on an image leaves, and its warrants.
-use Rattle.std.proofs.Common.{◌≡◌, ℕ, List, [], take, Option, Result, Ok, Err, ap, subst}
+use Rattle.std.proofs.Common.{◌≡◌, ℕ, List, [], take, Option, Result, Ok, Err, ◌⊎◌, inl, inr, ap, subst}
 use Rattle.iom_core.specs.State.{State}
 use Rattle.iom_core.specs.Run.{end_of}
 use Rattle.iom_core.specs.Warrants.{IsUncached}
@@ -12,14 +12,21 @@ use Rattle.iom_tool.specs.declared.fault.RunFault.{RunFault}
 use Rattle.iom_tool.specs.declared.fault.RunFault.TheVariants as fault
 use Rattle.iom_tool.specs.declared.trace.Entry.{Entry}
 use Rattle.iom_tool.specs.Console.{Console, console}
+use Rattle.iom_tool.specs.Output.{after}
 use Rattle.iom_play.specs.Playing.{Plays, steps_done}
-use Rattle.iom_tool.specs.Running.{Progress, progress, Ends}
+use Rattle.iom_tool.specs.Running.{Progress, progress, Answered, HalfAnswered, Ends}
+
+-- whether a write failed or a flush
+failed : (old new : Progress) (lines : List (List ℕ)) (A : Type 0) → HalfAnswered old new lines ⊎ (A × Answered old new lines) →
+    new.console ≡ after old.console lines
+failed old new lines A (inl half) = half.console
+failed old new lines A (inr all) = all.1.console
 
 leaves : (unread left : Option (List ℕ)) (old new : Progress) (ended : Result (Unit {0}) RunFault) (run : Ends unread left old new ended) →
     new.console.state ≡ end_of old.console.state (steps_done unread left old new ended run)
 leaves unread left old new (Ok done) run = ap (λ now. now.state) run.console
 leaves unread left old new (Err fault.Read) run = ap (λ now. now.state) run.answered.console
-leaves unread left old new (Err fault.Write) run = ap (λ now. now.state) run.answered.console
+leaves unread left old new (Err fault.Write) run = ap (λ now. now.state) (failed old new run.lines (run.lost ≡ []) run.answered)
 leaves unread left old new (Err fault.TooLong) run = ap (λ now. now.state) run.answered.console
 
 uncached : (image : Image) → IsUncached (state_from image)

@@ -6,6 +6,7 @@
 
 use agreement::Met;
 use iom_core::Step;
+use iom_tool::{WatchedReader, WatchedWriter};
 use std::alloc::Global;
 use std::process::ExitCode;
 use std::{env, fs, io};
@@ -18,7 +19,14 @@ mod steps;
 fn written(alloc: Global, image: &[u8], script: &[u8]) -> anyhow::Result<Vec<u8>> {
     let mut reader = script;
     let mut writer = Vec::new(alloc);
-    iom_play::play(alloc, image, &mut reader, &mut writer)?.ended?;
+    let mut watched = WatchedReader::new(&mut reader);
+    iom_play::play(
+        alloc,
+        image,
+        &mut watched,
+        &mut WatchedWriter::new(&mut writer),
+    )?
+    .ended?;
     Ok(writer)
 }
 

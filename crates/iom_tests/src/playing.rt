@@ -2,8 +2,11 @@
 
 use iom_asm::{Item, LoadFault, assemble, built_in};
 use iom_core::Platform;
-use iom_play::play;
+use iom_play::{Played, WRITE_BLOCK, play};
+use iom_tool::{RunFault, WatchedReader, WatchedWriter};
 use std::alloc::Global;
+use std::cell::RefCell;
+use std::io::{self, BufWriter, Error, ErrorKind, Read, Write};
 use std::test::Fail;
 
 // Device 5 with a first stage whose page tables lead page 0x40201 to page 0x80010, where bytes stand.
@@ -34,26 +37,126 @@ fn is_cached(platform: &Platform) -> bool {
     platform.ram().word(0x8000_4008) == Some(0) && platform.contexts().find(5).is_some()
 }
 
+/// What a reader's script leaves on an image, its answers written to a writer.
+pub fn played<R: Read, W: Write>(
+    alloc: Global,
+    image: &[u8],
+    reader: &mut R,
+    writer: &mut W,
+) -> Result<Played, LoadFault> {
+    let mut reader = WatchedReader::new(reader);
+    let mut writer = WatchedWriter::new(writer);
+    play(alloc, image, &mut reader, &mut writer)
+}
+
 // Whether the script is answered on this image, and its context cached at the end.
 fn is_played(alloc: Global, image: &[u8]) -> Result<bool, Fail> {
     let mut script = SCRIPT;
     let mut answers = Vec::new(alloc);
-    let played = play(alloc, image, &mut script, &mut answers)?;
+    let played = played(alloc, image, &mut script, &mut answers)?;
     played.ended?;
     Ok(answers.as_slice() == ANSWERS && is_cached(&played.platform))
+}
+
+// The same by the buffer of the programs, which holds no answer at the end.
+fn is_played_by_blocks(alloc: Global, image: &[u8]) -> Result<bool, Fail> {
+    let mut script = SCRIPT;
+    let mut answers = BufWriter::with_capacity(alloc, WRITE_BLOCK, Vec::new(alloc))?;
+    let played = played(alloc, image, &mut script, &mut answers)?;
+    played.ended?;
+    let are_written = answers.buffer().is_empty() && answers.get_ref().as_slice() == ANSWERS;
+    Ok(script.is_empty() && are_written && is_cached(&played.platform))
 }
 
 #[test]
 fn script_is_played_from_an_image(rt: HostRuntime) -> Result<(), Fail> {
     let image = assemble(rt.alloc(), MAPPED)?;
     assert!(rt; is_played(rt.alloc(), &image)?);
+    assert!(rt; is_played_by_blocks(rt.alloc(), &image)?);
+    Ok(())
+}
+
+// Parts of a script, each with the answers to it.
+const ASKED: &[(&[u8], &[u8])] = &[
+    (b"dma read 5 0x40201abc 2\n", b"denied 256\n"),
+    (b"# nothing\n", b""),
+    (b"reg write 16 8 0x20000402\njump\n", b"done\nbad\n"),
+    (b"dma read 5 0x40201abc 2\n", b"1122\n"),
+];
+
+// That script: a part is given where all answers to those before are seen. Else it ends; behind the last part a read fails.
+#[derive(Drop)]
+struct Asking<'a> {
+    // how many parts are given
+    given: usize,
+    // how many bytes of answers are to be seen
+    wanted: usize,
+    seen: &'a RefCell<Vec<u8>>,
+}
+
+impl Read for Asking<'_> {
+    fn read(&mut self, buf: &mut [u8]) -> io::Result<usize> {
+        let is_seen = match self.seen.try_borrow() {
+            Ok(seen) => seen.len() == self.wanted,
+            Err(_) => false,
+        };
+        if !is_seen {
+            return Ok(0);
+        }
+        let Some((part, answers)) = ASKED.get(self.given) else {
+            return Err(Error::from(ErrorKind::Other));
+        };
+        self.given = self.given.saturating_add(1);
+        self.wanted = self.wanted.saturating_add(answers.len());
+        let mut part = *part;
+        part.read(buf)
+    }
+}
+
+// What is seen of the answers.
+#[derive(Drop)]
+struct Seeing<'a> {
+    seen: &'a RefCell<Vec<u8>>,
+}
+
+impl Write for Seeing<'_> {
+    fn write(&mut self, buf: &[u8]) -> io::Result<usize> {
+        match self.seen.try_borrow_mut() {
+            Ok(mut seen) => seen.write(buf),
+            Err(_) => Err(Error::from(ErrorKind::Other)),
+        }
+    }
+
+    fn flush(&mut self) -> io::Result<()> {
+        Ok(())
+    }
+}
+
+// How a script ends through the buffer of the programs that is given by what is seen of its answers.
+fn asked(alloc: Global, image: &[u8]) -> Result<Result<(), RunFault>, Fail> {
+    let seen = RefCell::new(Vec::new(alloc));
+    let seen = &seen;
+    let mut script = Asking {
+        given: 0,
+        wanted: 0,
+        seen,
+    };
+    let mut answers = BufWriter::with_capacity(alloc, WRITE_BLOCK, Seeing { seen })?;
+    Ok(played(alloc, image, &mut script, &mut answers)?.ended)
+}
+
+// Each part is given, and so is the read that fails.
+#[test]
+fn each_answer_is_seen_before_more_is_read(rt: HostRuntime) -> Result<(), Fail> {
+    let image = assemble(rt.alloc(), MAPPED)?;
+    assert!(rt; asked(rt.alloc(), &image)? == Err(RunFault::Read));
     Ok(())
 }
 
 fn is_refused(alloc: Global, bytes: &[u8], want: LoadFault) -> bool {
     let mut script = SCRIPT;
     let mut answers = Vec::new(alloc);
-    matches!(play(alloc, bytes, &mut script, &mut answers), Err(fault) if fault == want)
+    matches!(played(alloc, bytes, &mut script, &mut answers), Err(fault) if fault == want)
 }
 
 #[test]

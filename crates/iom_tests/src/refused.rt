@@ -4,14 +4,13 @@
 
 use crate::blk_requests::with_disk;
 use crate::devices::devices;
-use crate::first_wrong;
 use crate::warrants::{MAPPED, otherwise, read, started, stored, take, walked, written};
+use crate::{first_wrong, playing};
 use iom_asm::{Item, assemble, list, load, upgrade};
 use iom_blk::Blk;
 use iom_cache::{ContextCache, Place, TransCache};
 use iom_core::{Answer, Platform, Step};
 use iom_mem::Ram;
-use iom_play::play;
 use iom_tool::Trace;
 use std::alloc::{AllocError, Global};
 use std::test::Fail;
@@ -243,7 +242,7 @@ fn is_played_after(alloc: Global, spent: usize) -> Result<bool, Fail> {
     spend(alloc, spent)?;
     let mut script: &[u8] = b"";
     let mut answers = Vec::new(alloc);
-    let played = play(alloc, IMAGE, &mut script, &mut answers)?;
+    let played = playing::played(alloc, IMAGE, &mut script, &mut answers)?;
     Ok(played.ended.is_ok())
 }
 

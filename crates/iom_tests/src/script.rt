@@ -26,6 +26,7 @@ fn feed_pieces(alloc: Global, pieces: &[&[u8]]) -> Result<Fed, Fail> {
     let mut writer = Sink {
         held: Vec::new(alloc),
         calls: MANY,
+        flushes: MANY,
         most: MANY,
     };
     let mut feeder = Feeder::new(&mut platform, &mut trace);
@@ -116,6 +117,7 @@ fn stays_failed(mut feeder: Feeder<'_>, writer: &mut Sink) -> bool {
         && is_write_fault(feeder.finish(writer))
         && writer.held.is_empty()
         && writer.calls == MANY
+        && writer.flushes == MANY
 }
 
 // A feeder whose writer failed refuses each later piece.
@@ -126,6 +128,7 @@ fn refused_from_then_on(rt: HostRuntime) -> Result<(), Fail> {
     let mut writer = Sink {
         held: Vec::new(rt.alloc()),
         calls: 0,
+        flushes: MANY,
         most: MANY,
     };
     let feeder = Feeder::new(&mut platform, &mut trace);

@@ -39,13 +39,15 @@ impl Read for Source<'_> {
     }
 }
 
-/// A writer into memory that fails once so many calls are done, and takes at most so many bytes a call.
+/// A writer into memory of which a call fails once so many are done, and which takes at most so many bytes a call.
 #[derive(Drop)]
 pub struct Sink {
     /// The bytes that were written.
     pub held: Vec<u8>,
-    /// How many calls are done before one fails.
+    /// How many writes are done before one fails.
     pub calls: usize,
+    /// How many flushes are done before one fails.
+    pub flushes: usize,
     /// How many bytes a call takes at most.
     pub most: usize,
 }
@@ -62,10 +64,10 @@ impl Write for Sink {
     }
 
     fn flush(&mut self) -> io::Result<()> {
-        if self.calls == 0 {
+        if self.flushes == 0 {
             return Err(Error::from(ErrorKind::Other));
         }
-        self.calls -= 1;
+        self.flushes -= 1;
         Ok(())
     }
 }
@@ -74,7 +76,7 @@ impl Write for Sink {
 pub const MANY: usize = 100_000_000;
 
 // How many bytes a read gives.
-const PIECES: [usize; 6] = [1, 2, 3, 4, 5, 4096];
+const PIECES: [usize; 6] = [1, 2, 3, 4, 5, 0x8000];
 
 /// Ten lines, of which each has an answer.
 pub const SCRIPT: &[u8] =
@@ -107,10 +109,11 @@ pub const WELL: Limits = Limits {
     reads: MANY,
     piece: MANY,
     writes: MANY,
+    flushes: MANY,
     most: MANY,
 };
 
-/// How many reads and writes are done before one fails, how many bytes a read gives, and how many a write takes.
+/// How many reads, writes and flushes are done before one fails, how many bytes a read gives, and how many a write takes.
 #[derive(Clone, Copy)]
 pub struct Limits {
     /// How many reads are done before one fails.
@@ -119,6 +122,8 @@ pub struct Limits {
     pub piece: usize,
     /// How many writes are done before one fails.
     pub writes: usize,
+    /// How many flushes are done before one fails.
+    pub flushes: usize,
     /// How many bytes a write takes.
     pub most: usize,
 }
@@ -148,6 +153,7 @@ fn run_filled(
     let mut writer = Sink {
         held: Vec::new(alloc),
         calls: limits.writes,
+        flushes: limits.flushes,
         most: limits.most,
     };
     let ended = iom_tool::run(&mut platform, &mut trace, &mut reader, &mut writer);
@@ -231,14 +237,58 @@ fn is_cut_at_write(alloc: Global, writes: usize, piece: usize) -> Result<bool, F
     Ok(is_cut(&part, RunFault::Write, writes, writes.saturating_add(1)))
 }
 
-// The last is the flush.
 #[test]
 fn each_write_fails(rt: HostRuntime) -> Result<(), Fail> {
     for piece in PIECES {
-        for writes in 0..=10 {
+        for writes in 0..10 {
             assert!(rt;
                 is_cut_at_write(rt.alloc(), writes, piece)?,
                 "at write {writes}, {piece} bytes a read"
+            );
+        }
+    }
+    Ok(())
+}
+
+// How many lines are answered before flush number `flush`, the first 0, with so many bytes a read; None where there is no such flush.
+// What was written is flushed before more is read.
+fn answered_before(flush: usize, piece: usize) -> Option<usize> {
+    let mut left = flush;
+    let mut answered = 0;
+    for reads in 1..=SCRIPT.len() {
+        let ended = lines(SCRIPT.get(..reads.saturating_mul(piece)).unwrap_or(SCRIPT));
+        if ended > answered {
+            if left == 0 {
+                return Some(answered);
+            }
+            left -= 1;
+            answered = ended;
+        }
+    }
+    if left == 0 { Some(answered) } else { None }
+}
+
+// A flush that fails is a failed write at once: the lines before are answered and done, and no more is read.
+fn is_cut_at_flush(alloc: Global, flushes: usize, piece: usize) -> Result<bool, Fail> {
+    let limits = Limits {
+        flushes,
+        piece,
+        ..WELL
+    };
+    let part = run(alloc, SCRIPT, limits)?;
+    match answered_before(flushes, piece) {
+        Some(lines) => Ok(is_cut(&part, RunFault::Write, lines, lines)),
+        None => Ok(part.ended.is_ok() && part.written.as_slice() == ANSWERS),
+    }
+}
+
+#[test]
+fn each_flush_fails(rt: HostRuntime) -> Result<(), Fail> {
+    for piece in PIECES {
+        for flushes in 0..=11 {
+            assert!(rt;
+                is_cut_at_flush(rt.alloc(), flushes, piece)?,
+                "at flush {flushes}, {piece} bytes a read"
             );
         }
     }
@@ -305,13 +355,12 @@ pub fn is_whole(alloc: Global, limits: Limits) -> Result<bool, Fail> {
     Ok(all.ended.is_ok() && all.written.as_slice() == ANSWERS)
 }
 
-// The last call is the flush.
 #[test]
 fn each_byte_fails(rt: HostRuntime) -> Result<(), Fail> {
-    for writes in 0..=ANSWERS.len() {
+    for writes in 0..ANSWERS.len() {
         assert!(rt; is_front(rt.alloc(), writes)?, "at byte {writes}");
     }
-    let writes = ANSWERS.len() + 1;
+    let writes = ANSWERS.len();
     let bytes = Limits { most: 1, ..WELL };
     assert!(rt; is_whole(rt.alloc(), Limits { writes, ..bytes })?);
     Ok(())

@@ -1,5 +1,5 @@
 -- What a feeder keeps true.
-use Rattle.std.proofs.Common.{◌≡◌, ◌==◌, ◌+◌, ◌-◌, ◌^◌, ◌<◌, ◌≤◌, ◌++◌, ℕ, List, [], ◌∷◌, length, take, drop, true, false, Option, Result, Ok, Err, IfErr, OnOk, IsOk, ◌↔◌, min, sym, ◌∙◌, ap, subst, refl, inl, inr, lit<, lit≤, arith, append_assoc, append-nil, length-append, length-drop}
+use Rattle.std.proofs.Common.{◌≡◌, ◌==◌, ◌+◌, ◌-◌, ◌^◌, ◌<◌, ◌≤◌, ◌++◌, ℕ, List, [], ◌∷◌, length, take, drop, true, false, Option, Result, Ok, Err, IfErr, OnOk, OnErr, IsOk, ◌↔◌, min, sym, ◌∙◌, ap, subst, refl, inl, inr, lit<, lit≤, arith, append_assoc, append-nil, length-append, length-drop}
 use Rattle.std.specs.List.{list_any}
 use Rattle.std.specs.Io.KnownBytes.{Appends, Keeps}
 use Rattle.std.proofs.KnownBytes.{Appends-nil, Appends-trans, Appends-kept}
@@ -32,14 +32,16 @@ wrote_more a b c text rest count h more = record {
   written = Appends-trans a b c h.front (take count rest) h.written more;
 }
 
-pub front_more : (a b c : Option (List ℕ)) (text : List ℕ) (count : ℕ) → Appends a b (take count text) →
-    WritesFront b c (take (length text - count) (drop count text)) → WritesFront a c text
-front_more a b c text count first more = record {
+pub front_more : (a b c : Option (List ℕ)) (text : List ℕ) (count : ℕ) (result : Result (Unit {0}) RunFault) → Appends a b (take count text) →
+    OnErr result (WritesFront b c (take (length text - count) (drop count text))) → OnErr result (WritesFront a c text)
+front_more a b c text count (Ok done) first more = tt
+front_more a b c text count (Err f) first more = record {
   front = take count text ++ more.front;
   rest = more.rest;
   whole =
       append_assoc (take count text) more.front more.rest
       ∙ ap (λ l. take count text ++ l) (more.whole ∙ take_rest text count) ∙ take-append-drop count text;
+  missing = more.missing;
   written = Appends-trans a b c (take count text) more.front first more.written;
 }
 
@@ -64,18 +66,18 @@ more_answered start now lines more state written h moved wrote = record {
       subst (Appends start.written written) same (Appends-trans _ _ _ _ _ h.written wrote);
 }
 
-half_answered : (start now : Progress) (lines last : List (List ℕ)) (console : Console) (written : Option (List ℕ)) → length last ≤ 1 →
-    Answered start now lines → console ≡ after now.console last → WritesFront now.written written (output_of now.console last) →
-    HalfAnswered start (progress written console) (lines ++ last)
-half_answered start now lines last state written one h moved wrote = record {
+half_answered : (start now : Progress) (lines : List (List ℕ)) (last : List ℕ) (console : Console) (written : Option (List ℕ)) →
+    Answered start now lines → console ≡ after now.console (last ∷ []) → WritesFront now.written written (output_of now.console (last ∷ [])) →
+    HalfAnswered start (progress written console) (lines ++ last ∷ [])
+half_answered start now lines last state written h moved wrote = record {
   whole = lines;
   last = last;
   split = refl;
-  one = one;
-  console = moved ∙ ap (λ s. after s last) h.console ∙ sym (after-append start.console lines last);
+  console = moved ∙ ap (λ s. after s (last ∷ [])) h.console ∙ sym (after-append start.console lines (last ∷ []));
   front = wrote.front;
   rest = wrote.rest;
-  answer = wrote.whole ∙ ap (λ s. output_of s last) h.console;
+  answer = wrote.whole ∙ ap (λ s. output_of s (last ∷ [])) h.console;
+  missing = wrote.missing;
   written = Appends-trans _ _ _ _ _ h.written wrote.written;
 }
 
@@ -227,7 +229,7 @@ pub line_fails : (start now : Progress) (kept said : List ℕ) (lines : ℕ) (te
 line_fails start now kept said lines text part console written h none short few same moved wrote =
     let line : List ℕ = open_line text ++ part in
     let half : HalfAnswered start (progress written console) (ended_lines text ++ line ∷ []) =
-    half_answered start now (ended_lines text) (line ∷ []) console written (lit≤ tt) h.answered
+    half_answered start now (ended_lines text) line console written h.answered
     (moved ∙ said_steps said line now.console same)
     (subst (WritesFront now.written written) (said_output said line now.console same) wrote) in
     record {
@@ -260,14 +262,10 @@ all_lines start now kept lines bytes text h many =
     inr (omega (arith, h.counts_lines, h.within.lines, length-append (ended_lines text) (last_line (open_line text))))
 
 -- the end of the input
-last_fails : (start now : Progress) (kept : List ℕ) (lines bytes : ℕ) (text : List ℕ) (console : Console) (written : Option (List ℕ)) →
-    Fed start now kept lines bytes text → console ≡ after now.console (last_line kept) →
-    WritesFront now.written written (output_of now.console (last_line kept)) →
-    HalfAnswered start (progress written console) (lines_of text)
-last_fails start now kept lines bytes text console written h moved wrote =
-    half_answered start now (ended_lines text) (last_line (open_line text)) console written (last_line-le (open_line text)) h.answered
-    (moved ∙ last_steps kept (open_line text) now.console h.keeps)
-    (subst (WritesFront now.written written) (last_output kept (open_line text) now.console h.keeps) wrote)
+begun_line : (kept line : List ℕ) → kept ≡ take 513 line → false ≡ (length kept == 0) → last_line line ≡ line ∷ []
+begun_line [] line keeps some = absurd (cc some)
+begun_line (first ∷ kept) [] keeps some = absurd (cc keeps)
+begun_line (first ∷ kept) (byte ∷ line) keeps some = refl
 
 last_answered : (start now : Progress) (kept : List ℕ) (lines bytes : ℕ) (text : List ℕ) (console : Console) (written : Option (List ℕ)) →
     Fed start now kept lines bytes text → console ≡ after now.console (last_line kept) →
@@ -283,11 +281,13 @@ pub end_fails : (start now : Progress) (kept : List ℕ) (lines bytes : ℕ) (te
     Fed start now kept lines bytes text → false ≡ (length kept == 0) → console ≡ console_after now.console (steps_of kept) →
     WritesFront now.written written (output_to now.console kept) →
     HalfAnswered start (progress written console) (lines_of text)
-end_fails start now [] lines bytes text console written h some moved wrote = absurd (cc some)
-end_fails start now (byte ∷ more) lines bytes text console written h some moved wrote =
-    last_fails start now (byte ∷ more) lines bytes text console written h
-    (moved ∙ sym (after_one now.console (byte ∷ more)))
-    (subst (WritesFront now.written written) (sym (output_of_one now.console (byte ∷ more))) wrote)
+end_fails start now kept lines bytes text console written h some moved wrote =
+    let line : List ℕ = open_line text in
+    let same : line_of kept ≡ line_of line = kept_line kept line h.keeps in
+    let half : HalfAnswered start (progress written console) (ended_lines text ++ line ∷ []) =
+    half_answered start now (ended_lines text) line console written h.answered (moved ∙ said_steps kept line now.console same)
+    (subst (WritesFront now.written written) (said_output kept line now.console same) wrote) in
+    subst (λ l. HalfAnswered start (progress written console) (ended_lines text ++ l)) (sym (begun_line kept line h.keeps some)) half
 
 pub end_answered : (start now : Progress) (kept : List ℕ) (lines bytes : ℕ) (text : List ℕ) (console : Console) (written : Option (List ℕ)) →
     Fed start now kept lines bytes text → false ≡ (length kept == 0) → console ≡ console_after now.console (steps_of kept) →
@@ -306,21 +306,8 @@ end_is_last start now kept lines bytes text h none =
     (ap (λ k. after now.console (last_line k)) (sym none))
     (subst (λ k. Appends now.written now.written (output_of now.console (last_line k))) (sym none) (Appends-nil now.written))
 
--- a flush that failed left all written
-all_answered : (start now : Progress) (lines : List (List ℕ)) → Answered start now lines → HalfAnswered start now lines
-all_answered start now lines h = record {
-  whole = lines;
-  last = [];
-  split = sym (append-nil lines);
-  one = lit≤ tt;
-  console = h.console;
-  front = [];
-  rest = [];
-  answer = refl;
-  written = subst (Appends start.written now.written) (sym (append-nil (output_of start.console lines))) h.written;
-}
-
-kept_answered : (start now : Progress) (lines : List (List ℕ)) (written : Option (List ℕ)) → Answered start now lines →
+-- a flush leaves all written
+pub kept_answered : (start now : Progress) (lines : List (List ℕ)) (written : Option (List ℕ)) → Answered start now lines →
     Keeps now.written written → Answered start (progress written now.console) lines
 kept_answered start now lines written h kept = record { console = h.console; written = Appends-kept _ _ _ _ h.written kept }
 
@@ -329,8 +316,7 @@ pub flushed : (start now : Progress) (text : List ℕ) (written : Option (List �
     AfterEnd start (progress written now.console) text result
 flushed start now text written (Ok done) h kept is = kept_answered start now (lines_of text) written h kept
 flushed start now text written (Err fault.Read) h kept is = absurd (cc is)
-flushed start now text written (Err fault.Write) h kept is =
-    all_answered start (progress written now.console) (lines_of text) (kept_answered start now (lines_of text) written h kept)
+flushed start now text written (Err fault.Write) h kept is = inr (kept_answered start now (lines_of text) written h kept)
 flushed start now text written (Err fault.TooLong) h kept is = absurd (cc is)
 
 -- the answer to a line is written, or some front of it
@@ -338,8 +324,8 @@ pub line_answered : (start now : Progress) (kept said after : List ℕ) (lines :
     (result : Result (Unit {0}) RunFault) →
     Fed start now kept lines (length text) text → list_any (λ c. c == 10) part ≡ false → length text + length part < 2 ^ 26 → lines < 2 ^ 20 →
     line_of said ≡ line_of (open_line text ++ part) → console ≡ console_after now.console (steps_of said) →
-    OnOk result (Appends now.written written (output_to now.console said)) → WritesFront now.written written (output_to now.console said) →
-    IfErr result (λ f. f ≡ fault.Write) → after ≡ [] →
+    OnOk result (Appends now.written written (output_to now.console said)) →
+    OnErr result (WritesFront now.written written (output_to now.console said)) → IfErr result (λ f. f ≡ fault.Write) → after ≡ [] →
     AfterPiece start (progress written console) after (lines + 1) (length (text ++ (part ++ 10 ∷ []))) text (part ++ 10 ∷ []) result
 line_answered start now kept said after lines text part console written (Ok done) h none short few same moved wrote front is empty =
     rw empty (line_ends start now kept said lines text part console written h none short few same moved wrote)

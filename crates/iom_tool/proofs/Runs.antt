@@ -1,12 +1,13 @@
 -- What a run keeps true between two reads.
-use Rattle.std.proofs.Common.{◌≡◌, ◌+◌, ◌<◌, ◌≤◌, ◌++◌, ℕ, List, [], ◌∷◌, length, false, Option, Result, Ok, Err, sym, ◌∙◌, ap, subst, refl, inl, inr, arith, append_assoc, append-nil, length-append}
+use Rattle.std.proofs.Common.{◌≡◌, ◌+◌, ◌<◌, ◌≤◌, ◌++◌, ℕ, Bool, List, [], ◌∷◌, length, true, false, OnOk, Option, Result, Ok, Err, ◌⊎◌, sym, ◌∙◌, ap, subst, refl, inl, inr, arith, append_assoc, append-nil, length-append}
 use Rattle.std.specs.Io.KnownBytes.{Consumes, IsAtEnd, Keeps}
 use Rattle.std.proofs.KnownBytes.{Consumes-trans, Consumes-kept}
 use Rattle.std.proofs.lemmas.List.{nil_from_length}
 use Rattle.iom_tool.specs.Output.{ended_lines, lines_of}
-use Rattle.iom_tool.specs.Running.{Progress, Fed, AfterPiece, AfterEnd, StopsReading, Ends, is_read}
+use Rattle.iom_tool.specs.Running.{Progress, progress, Answered, HalfAnswered, Fed, AfterPiece, AfterEnd, StopsReading, StopsWriting, Ends, is_read, stops_at_a_read}
 use Rattle.iom_tool.specs.declared.fault.RunFault.{RunFault}
 use Rattle.iom_tool.specs.declared.fault.RunFault.TheVariants as fault
+use Rattle.iom_tool.proofs.Feeding.{kept_answered}
 
 -- after `turns` reads, each of some bytes
 pub record IsRunning (unread left : Option (List ℕ)) (start now : Progress) (kept : List ℕ) (lines bytes turns : ℕ) : Type 0 where
@@ -24,6 +25,41 @@ read_none : (unread left less : Option (List ℕ)) (text piece : List ℕ) → C
 read_none unread left less text piece took more none =
     let empty : piece ≡ [] = nil_from_length piece none in
     subst (Consumes unread less) (ap (λ l. text ++ l) empty ∙ append-nil text) (read_more unread left less text piece took more)
+
+-- a flush keeps what was answered
+pub runs_flushed : (unread left : Option (List ℕ)) (start now : Progress) (written : Option (List ℕ)) (kept : List ℕ) (lines bytes turns : ℕ) →
+    IsRunning unread left start now kept lines bytes turns → Keeps now.written written →
+    IsRunning unread left start (progress written now.console) kept lines bytes turns
+runs_flushed unread left start now written kept lines bytes turns h same = record {
+  text = h.text;
+  took = h.took;
+  fed = record {
+    answered = kept_answered start now (ended_lines h.text) written h.fed.answered same;
+    keeps = h.fed.keeps;
+    counts_lines = h.fed.counts_lines;
+    counts_bytes = h.fed.counts_bytes;
+    within = h.fed.within;
+  };
+  turns_are = h.turns_are;
+}
+
+pub flush_stops : (unread left : Option (List ℕ)) (start now : Progress) (kept : List ℕ) (lines bytes turns : ℕ) →
+    IsRunning unread left start now kept lines bytes turns → StopsWriting unread left start now
+flush_stops unread left start now kept lines bytes turns h = record {
+  text = h.text;
+  lost = [];
+  took = subst (Consumes unread left) (sym (append-nil h.text)) h.took;
+  within = h.fed.within;
+  lines = ended_lines h.text;
+  read = inl refl;
+  answered = inr (refl, h.fed.answered);
+}
+
+-- nothing is lost at the end
+end_loses : (start now : Progress) (lines : List (List ℕ)) (lost : List ℕ) → lost ≡ [] → HalfAnswered start now lines ⊎ Answered start now lines →
+    HalfAnswered start now lines ⊎ ((lost ≡ []) × Answered start now lines)
+end_loses start now lines lost none (inl half) = inl half
+end_loses start now lines lost none (inr all) = inr (none, all)
 
 pub run_stops : (unread left less : Option (List ℕ)) (start now : Progress) (kept : List ℕ) (lines bytes turns : ℕ) →
     IsRunning unread left start now kept lines bytes turns → Keeps left less → StopsReading unread less start now
@@ -53,7 +89,7 @@ run_ends unread left less start now new kept piece lines bytes turns (Err fault.
   within = h.fed.within;
   lines = lines_of h.text;
   read = inr (all, refl, refl);
-  answered = ends;
+  answered = end_loses start new (lines_of h.text) [] refl ends;
 }
 run_ends unread left less start now new kept piece lines bytes turns (Err fault.TooLong) h more none all ends = absurd ends
 
@@ -71,7 +107,7 @@ piece_ends unread left less start now new kept kept' piece lines bytes lines' by
       within = ends.within;
       lines = ended_lines (h.text ++ ends.taken);
       read = inl refl;
-      answered = ends.answered;
+      answered = inl ends.answered;
     }
 piece_ends unread left less start now new kept kept' piece lines bytes lines' bytes' turns fault.TooLong h more ends =
     let split : h.text ++ piece ≡ (h.text ++ ends.taken) ++ ends.byte ∷ ends.left =
@@ -109,3 +145,17 @@ pub piece_is_no_read : (start now : Progress) (kept : List ℕ) (lines bytes : �
 piece_is_no_read start now kept lines bytes text piece fault.Read ends = absurd ends
 piece_is_no_read start now kept lines bytes text piece fault.Write ends = refl
 piece_is_no_read start now kept lines bytes text piece fault.TooLong ends = refl
+
+-- after the end all is flushed, and no piece ends in a failed read
+pub end_flushed : (start now : Progress) (text : List ℕ) (flushed : Bool) (result : Result (Unit {0}) RunFault) → AfterEnd start now text result →
+    OnOk result (flushed ≡ true) → stops_at_a_read result ≡ true → flushed ≡ true
+end_flushed start now text flushed (Ok done) ends is stops = is
+end_flushed start now text flushed (Err fault.Read) ends is stops = absurd ends
+end_flushed start now text flushed (Err fault.Write) ends is stops = absurd (cc stops)
+end_flushed start now text flushed (Err fault.TooLong) ends is stops = absurd ends
+
+pub piece_stops_elsewhere : (start now : Progress) (kept : List ℕ) (lines bytes : ℕ) (text piece : List ℕ) (f : RunFault) (A : Type 0) →
+    AfterPiece start now kept lines bytes text piece (Err f) → stops_at_a_read {A = Unit {0}} (Err f) ≡ true → A
+piece_stops_elsewhere start now kept lines bytes text piece fault.Read A ends stops = absurd ends
+piece_stops_elsewhere start now kept lines bytes text piece fault.Write A ends stops = absurd (cc stops)
+piece_stops_elsewhere start now kept lines bytes text piece fault.TooLong A ends stops = absurd (cc stops)

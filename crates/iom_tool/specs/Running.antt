@@ -1,6 +1,6 @@
 -- What a run over a reader and a writer leaves, however it ends. A reader tells what it has left and a writer what it
 -- holds, or neither: None.
-use Rattle.std.specs.Prelude.{ℕ, ◌≡◌, ◌^◌, ◌≤◌, ◌⊎◌, ◌==◌, ◌++◌, Bool, true, false, List, [], ◌∷◌, length, take, drop, Option, Result, Ok, Err}
+use Rattle.std.specs.Prelude.{ℕ, ◌≡◌, ◌^◌, ◌<◌, ◌≤◌, ◌⊎◌, ◌==◌, ◌++◌, Bool, true, false, List, [], ◌∷◌, length, take, drop, Option, Result, Ok, Err}
 use Rattle.std.specs.List.{list_any}
 use Rattle.std.specs.Io.KnownBytes.{Appends, Consumes, Keeps, IsAtEnd}
 use Rattle.iom_tool.specs.declared.fault.RunFault.{RunFault}
@@ -30,17 +30,17 @@ pub record Answered (old new : Progress) (lines : List (List ℕ)) : Type 0 wher
   pub console : new.console ≡ after old.console lines
   pub written : Appends old.written new.written (output_of old.console lines)
 
--- the steps of these lines are done; the answers to all but the last stand whole, and of the answer to the last stands some
--- front, or all where `last` is empty
+-- the steps of these lines are done; the answers to all but the last stand whole, and of the answer to the last some front, with
+-- bytes missing
 pub record HalfAnswered (old new : Progress) (lines : List (List ℕ)) : Type 0 where
   pub whole : List (List ℕ)
-  pub last : List (List ℕ)
-  pub split : lines ≡ whole ++ last
-  pub one : length last ≤ 1
+  pub last : List ℕ
+  pub split : lines ≡ whole ++ last ∷ []
   pub console : new.console ≡ after old.console lines
   pub front : List ℕ
   pub rest : List ℕ
-  pub answer : front ++ rest ≡ output_of (after old.console whole) last
+  pub answer : front ++ rest ≡ output_of (after old.console whole) (last ∷ [])
+  pub missing : 0 < length rest
   pub written : Appends old.written new.written (output_of old.console whole ++ front)
 
 -- Ok: all that there was to read was read, and answered
@@ -59,8 +59,9 @@ pub record StopsReading (unread left : Option (List ℕ)) (old new : Progress) :
   pub within : IsWithinLimits text
   pub answered : Answered old new (ended_lines text)
 
--- a write or the flush failed: the steps of the first lines are done, up to the one whose answer failed. What was read after
--- it is lost; where it was the last line, which may lack its end, or the flush, all was read
+-- a write failed, or a flush: the steps of the first lines are done. Where a write failed they are those up to the one whose answer
+-- failed, and what was read after it is lost. Where a flush failed all are answered, and nothing is lost. They have their end; or all
+-- was read, and the last may lack it
 pub record StopsWriting (unread left : Option (List ℕ)) (old new : Progress) : Type 0 where
   pub text : List ℕ
   pub lost : List ℕ
@@ -68,7 +69,7 @@ pub record StopsWriting (unread left : Option (List ℕ)) (old new : Progress) :
   pub within : IsWithinLimits text
   pub lines : List (List ℕ)
   pub read : (lines ≡ ended_lines text) ⊎ (IsAtEnd left × (lost ≡ []) × (lines ≡ lines_of text))
-  pub answered : HalfAnswered old new lines
+  pub answered : HalfAnswered old new lines ⊎ ((lost ≡ []) × Answered old new lines)
 
 -- a byte too much was read: the lines before that have their end are answered. What was read after it is lost
 pub record StopsAtLimit (unread left : Option (List ℕ)) (old new : Progress) : Type 0 where
@@ -99,11 +100,19 @@ is_write (Err fault.Read) = false
 is_write (Err fault.Write) = true
 is_write (Err fault.TooLong) = false
 
--- some front of a text stands written
+-- it ended at a read, which met the end or failed
+abbrev pub stops_at_a_read : {A : Type 0} → Result A RunFault → Bool
+stops_at_a_read (Ok done) = true
+stops_at_a_read (Err fault.Read) = true
+stops_at_a_read (Err fault.Write) = false
+stops_at_a_read (Err fault.TooLong) = false
+
+-- some front of a text stands written, with bytes missing
 pub record WritesFront (old new : Option (List ℕ)) (text : List ℕ) : Type 0 where
   pub front : List ℕ
   pub rest : List ℕ
   pub whole : front ++ rest ≡ text
+  pub missing : 0 < length rest
   pub written : Appends old new front
 
 -- A text was fed since `start`, in whatever pieces: its lines that have their end are answered, the line that is open is kept
@@ -150,11 +159,11 @@ AfterLines start now kept lines text piece (Err fault.Read) = ⊥
 AfterLines start now kept lines text piece (Err fault.Write) = FailsInPiece start now text piece
 AfterLines start now kept lines text piece (Err fault.TooLong) = EndsInPiece start now text piece
 
--- after the end of the input
+-- after the end of the input: a write failed, or the flush
 abbrev pub AfterEnd : Progress → Progress → List ℕ → Result (Unit {0}) RunFault → Type 0
 AfterEnd start now text (Ok done) = Answered start now (lines_of text)
 AfterEnd start now text (Err fault.Read) = ⊥
-AfterEnd start now text (Err fault.Write) = HalfAnswered start now (lines_of text)
+AfterEnd start now text (Err fault.Write) = HalfAnswered start now (lines_of text) ⊎ Answered start now (lines_of text)
 AfterEnd start now text (Err fault.TooLong) = ⊥
 
 -- a call after a refusal: the same refusal, nothing is written and nothing changes

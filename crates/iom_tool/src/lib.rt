@@ -6,10 +6,11 @@ pub use fault::RunFault;
 pub use feeder::Feeder;
 pub use reading::step_of;
 pub use rest::Rest;
-pub use running::run;
+pub use running::{run, run_watched};
 pub use session::{Reply, Session};
 pub use told::{answer_text, put_entry};
 pub use trace::{Entry, Trace};
+pub use watched::{WatchedReader, WatchedWriter};
 
 mod answering;
 mod data;

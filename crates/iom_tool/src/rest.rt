@@ -1,9 +1,10 @@
-ghost use Rattle.std.specs.Prelude.{◌≡◌, ◌==◌, ◌+◌, ◌<◌, ◌≤◌, ◌^◌, ◌++◌, ℕ, List, [], ◌∷◌, length, take, is_err, false, true, IfErr, IfOk, OnOk};
+ghost use Rattle.std.specs.Prelude.{◌≡◌, ◌==◌, ◌+◌, ◌<◌, ◌≤◌, ◌^◌, ◌++◌, ℕ, List, [], ◌∷◌, length, take, is_err, false, true, IfErr, IfOk, OnErr, OnOk};
 ghost use Rattle.std.specs.List.{list_any};
 ghost use Rattle.std.specs.Io.KnownBytes.{Appends, Keeps};
 ghost use Rattle.iom_tool.specs.Console.{console, console_after};
 ghost use Rattle.iom_tool.specs.Output.{steps_of, output_to};
 ghost use Rattle.iom_tool.specs.Running.{Progress, progress, WritesFront, Fed, AfterLines, AfterPiece, AfterEnd, is_write};
+ghost use Rattle.iom_tool.specs.Watching.{write_failed, is_flushed};
 
 use crate::answering::{answer_to, cut_line};
 use crate::draft::Draft;
@@ -24,11 +25,12 @@ pub const MOST_BYTES: u64 = 1 << 26;
 // Writes a text with as few calls of the writer as it needs: one where the writer takes it whole.
 #[inline(always)]
 fn write_out<W: Write>(writer: &mut WatchedWriter<'_, W>, text: &[u8]) -> Result<(), RunFault>
-    requires { writer.old.failed ≡ false }
+    requires can { write_failed writer.old ≡ false }
+    requires some { 0 < length text.now }
     ensures ok { OnOk result (Appends (W.contents writer.old.inner.now) (W.contents writer.new.inner.now) text.now) }
-    ensures front { WritesFront (W.contents writer.old.inner.now) (W.contents writer.new.inner.now) text.now }
+    ensures front { OnErr result (WritesFront (W.contents writer.old.inner.now) (W.contents writer.new.inner.now) text.now) }
     ensures fault { IfErr result (λ fault. fault ≡ RunFault.Write) }
-    ensures told { writer.new.failed ≡ is_err result }
+    ensures told { write_failed writer.new ≡ is_err result }
     ensures same_writer { writer.new.inner.ghost_name ≡ writer.old.inner.ghost_name }
 {
     match writer.write(text) {
@@ -41,11 +43,11 @@ fn write_out<W: Write>(writer: &mut WatchedWriter<'_, W>, text: &[u8]) -> Result
 // The same of what a writer left.
 #[inline(never)]
 fn write_rest<W: Write>(writer: &mut WatchedWriter<'_, W>, text: &[u8]) -> Result<(), RunFault>
-    requires { writer.old.failed ≡ false }
+    requires { write_failed writer.old ≡ false }
     ensures ok { OnOk result (Appends (W.contents writer.old.inner.now) (W.contents writer.new.inner.now) text.now) }
-    ensures front { WritesFront (W.contents writer.old.inner.now) (W.contents writer.new.inner.now) text.now }
+    ensures front { OnErr result (WritesFront (W.contents writer.old.inner.now) (W.contents writer.new.inner.now) text.now) }
     ensures fault { IfErr result (λ fault. fault ≡ RunFault.Write) }
-    ensures told { writer.new.failed ≡ is_err result }
+    ensures told { write_failed writer.new ≡ is_err result }
     ensures same_writer { writer.new.inner.ghost_name ≡ writer.old.inner.ghost_name }
 {
     let mut rest = text;
@@ -63,14 +65,14 @@ fn write_answer<W: Write>(
     out: &mut Draft,
     writer: &mut WatchedWriter<'_, W>,
 ) -> Result<(), RunFault>
-    requires can { writer.old.failed ≡ false }
+    requires can { write_failed writer.old ≡ false }
     requires room { length out.old < 320 }
     ensures ok { OnOk result (Appends (W.contents writer.old.inner.now) (W.contents writer.new.inner.now)
         (out.old ++ 10 ∷ [])) }
-    ensures front { WritesFront (W.contents writer.old.inner.now) (W.contents writer.new.inner.now)
-        (out.old ++ 10 ∷ []) }
+    ensures front { OnErr result (WritesFront (W.contents writer.old.inner.now) (W.contents writer.new.inner.now)
+        (out.old ++ 10 ∷ [])) }
     ensures fault { IfErr result (λ fault. fault ≡ RunFault.Write) }
-    ensures told { writer.new.failed ≡ is_err result }
+    ensures told { write_failed writer.new ≡ is_err result }
     ensures same_writer { writer.new.inner.ghost_name ≡ writer.old.inner.ghost_name }
 {
     out.push(b'\n');
@@ -85,16 +87,16 @@ fn answer<W: Write>(
     out: &mut Draft,
     writer: &mut WatchedWriter<'_, W>,
 ) -> Result<(), RunFault>
-    requires can { writer.old.failed ≡ false }
+    requires can { write_failed writer.old ≡ false }
     requires cut { list_any (λ c. c == 10) line.now ≡ false }
     ensures console { console platform.new trace.new
         ≡ console_after (console platform.old trace.old) (steps_of line.now) }
     ensures ok { OnOk result (Appends (W.contents writer.old.inner.now) (W.contents writer.new.inner.now)
         (output_to (console platform.old trace.old) line.now)) }
-    ensures front { WritesFront (W.contents writer.old.inner.now) (W.contents writer.new.inner.now)
-        (output_to (console platform.old trace.old) line.now) }
+    ensures front { OnErr result (WritesFront (W.contents writer.old.inner.now) (W.contents writer.new.inner.now)
+        (output_to (console platform.old trace.old) line.now)) }
     ensures fault { IfErr result (λ fault. fault ≡ RunFault.Write) }
-    ensures told { writer.new.failed ≡ is_err result }
+    ensures told { write_failed writer.new ≡ is_err result }
     ensures same_writer { writer.new.inner.ghost_name ≡ writer.old.inner.ghost_name }
 {
     if !answer_to(platform, trace, line, out) {
@@ -105,11 +107,11 @@ fn answer<W: Write>(
 
 // Flushes the writer.
 fn flush<W: Write>(writer: &mut WatchedWriter<'_, W>) -> Result<(), RunFault>
-    requires { writer.old.failed ≡ false }
+    requires { write_failed writer.old ≡ false }
     ensures kept { Keeps (W.contents writer.old.inner.now) (W.contents writer.new.inner.now) }
     ensures fault { IfErr result (λ fault. fault ≡ RunFault.Write) }
-    ensures told { writer.new.failed ≡ is_err result }
-    ensures flushed { OnOk result (writer.new.flushed ≡ true) }
+    ensures told { write_failed writer.new ≡ is_err result }
+    ensures flushed { OnOk result (is_flushed writer.new ≡ true) }
     ensures same_writer { writer.new.inner.ghost_name ≡ writer.old.inner.ghost_name }
 {
     if writer.flush() {
@@ -164,15 +166,15 @@ impl Rest {
         trace: &mut Trace,
         writer: &mut WatchedWriter<'_, W>,
     ) -> Result<(), RunFault>
-        requires { writer.old.failed ≡ false }
+        requires { write_failed writer.old ≡ false }
         ensures console { console platform.new trace.new
             ≡ console_after (console platform.old trace.old) (steps_of self.old.line.items) }
         ensures ok { OnOk result (Appends (W.contents writer.old.inner.now) (W.contents writer.new.inner.now)
             (output_to (console platform.old trace.old) self.old.line.items)) }
-        ensures front { WritesFront (W.contents writer.old.inner.now) (W.contents writer.new.inner.now)
-            (output_to (console platform.old trace.old) self.old.line.items) }
+        ensures front { OnErr result (WritesFront (W.contents writer.old.inner.now) (W.contents writer.new.inner.now)
+            (output_to (console platform.old trace.old) self.old.line.items)) }
         ensures fault { IfErr result (λ fault. fault ≡ RunFault.Write) }
-        ensures told { writer.new.failed ≡ is_err result }
+        ensures told { write_failed writer.new ≡ is_err result }
         ensures same_writer { writer.new.inner.ghost_name ≡ writer.old.inner.ghost_name }
         ensures line { self.new.line.items ≡ self.old.line.items }
         ensures lines { self.new.lines ≡ self.old.lines }
@@ -190,7 +192,7 @@ impl Rest {
         part: &[u8],
         writer: &mut WatchedWriter<'_, W>,
     ) -> Result<(), RunFault>
-        requires can { writer.old.failed ≡ false }
+        requires can { write_failed writer.old ≡ false }
         requires few { self.old.lines < 2 ^ 20 }
         requires one { list_any (λ c. c == 10) part.now ≡ false }
         ensures fed { (start : Progress) (text : List ℕ)
@@ -201,7 +203,7 @@ impl Rest {
             self.new.line.items self.new.lines (length (text ++ (part.now ++ 10 ∷ []))) text
             (part.now ++ 10 ∷ []) result }
         ensures bytes { self.new.bytes ≡ self.old.bytes }
-        ensures told { writer.new.failed ≡ is_write result }
+        ensures told { write_failed writer.new ≡ is_write result }
         ensures same_writer { writer.new.inner.ghost_name ≡ writer.old.inner.ghost_name }
     {
         self.lines += 1;
@@ -222,7 +224,7 @@ impl Rest {
         part: &[u8],
         writer: &mut WatchedWriter<'_, W>,
     ) -> Result<usize, RunFault>
-        requires { writer.old.failed ≡ false }
+        requires { write_failed writer.old ≡ false }
         ensures fed { (start : Progress) (text : List ℕ)
             → Fed start (progress (W.contents writer.old.inner.now) (console platform.old trace.old))
             self.old.line.items self.old.lines (length text) text
@@ -231,7 +233,7 @@ impl Rest {
             self.new.line.items self.new.lines text part.now result }
         ensures within { IfOk result (λ count. count ≤ length part.now) }
         ensures bytes { self.new.bytes ≡ self.old.bytes }
-        ensures told { writer.new.failed ≡ is_write result }
+        ensures told { write_failed writer.new ≡ is_write result }
         ensures same_writer { writer.new.inner.ghost_name ≡ writer.old.inner.ghost_name }
     {
         let mut from = 0;
@@ -254,13 +256,13 @@ impl Rest {
         piece: &[u8],
         writer: &mut WatchedWriter<'_, W>,
     ) -> Result<(), RunFault>
-        requires { writer.old.failed ≡ false }
+        requires { write_failed writer.old ≡ false }
         ensures fed { (start : Progress) (text : List ℕ)
             → Fed start (progress (W.contents writer.old.inner.now) (console platform.old trace.old))
             self.old.line.items self.old.lines self.old.bytes text
             → AfterPiece start (progress (W.contents writer.new.inner.now) (console platform.new trace.new))
             self.new.line.items self.new.lines self.new.bytes text piece.now result }
-        ensures told { writer.new.failed ≡ is_write result }
+        ensures told { write_failed writer.new ≡ is_write result }
         ensures same_writer { writer.new.inner.ghost_name ≡ writer.old.inner.ghost_name }
     {
         let room = MOST_BYTES.saturating_sub(self.bytes);
@@ -284,13 +286,13 @@ impl Rest {
         trace: &mut Trace,
         writer: &mut WatchedWriter<'_, W>,
     ) -> Result<(), RunFault>
-        requires { writer.old.failed ≡ false }
+        requires { write_failed writer.old ≡ false }
         ensures fed { (start : Progress) (text : List ℕ)
             → Fed start (progress (W.contents writer.old.inner.now) (console platform.old trace.old))
             self.old.line.items self.old.lines self.old.bytes text
             → AfterEnd start (progress (W.contents writer.new.inner.now) (console platform.new trace.new)) text result }
-        ensures told { writer.new.failed ≡ is_write result }
-        ensures flushed { OnOk result (writer.new.flushed ≡ true) }
+        ensures told { write_failed writer.new ≡ is_write result }
+        ensures flushed { OnOk result (is_flushed writer.new ≡ true) }
         ensures same_writer { writer.new.inner.ghost_name ≡ writer.old.inner.ghost_name }
     {
         if self.line.as_slice().is_empty() {

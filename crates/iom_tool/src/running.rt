@@ -1,6 +1,7 @@
-ghost use Rattle.std.specs.Prelude.{◌≡◌, false, true, OnOk};
+ghost use Rattle.std.specs.Prelude.{◌≡◌, false, true};
 ghost use Rattle.iom_tool.specs.Console.{console};
-ghost use Rattle.iom_tool.specs.Running.{progress, Ends, is_read, is_write};
+ghost use Rattle.iom_tool.specs.Running.{progress, Ends, is_read, is_write, stops_at_a_read};
+ghost use Rattle.iom_tool.specs.Watching.{read_failed, write_failed, is_flushed};
 
 use crate::fault::RunFault;
 use crate::rest::{MOST_BYTES, Rest};
@@ -10,12 +11,12 @@ use iom_core::Platform;
 use std::io::{Read, Write};
 
 /// The most bytes that are asked of a reader at once.
-const MOST_BYTES_OF_A_PIECE: usize = 4096;
+const MOST_BYTES_OF_A_PIECE: usize = 0x8000;
 
 /// Carries out the script that `reader` gives, and writes the answers to `writer`: those to the lines of what was read
-/// before it reads on. At the end it flushes.
+/// are written and flushed before it reads on, and at the end.
 ///
-/// It reads pieces of at most 4096 bytes. A script has at most 2^20 lines and 2^26 bytes: with the first byte beyond it
+/// It reads pieces of at most 32 KiB. A script has at most 2^20 lines and 2^26 bytes: with the first byte beyond it
 /// ends with `TooLong`. A read that fails or is interrupted is `Read`. A write that fails, is interrupted or takes no
 /// byte, and a flush that fails, are `Write`. Of the lines before, the answers are written and the steps are done; after
 /// `Write` the steps of the lines up to the one whose answer failed are done. `trace` keeps the steps.
@@ -34,29 +35,32 @@ pub fn run<R: Read, W: Write>(
     run_watched(platform, trace, &mut reader, &mut writer)
 }
 
-// The same over a reader and a writer that are watched: each fault is answered only where it happened, and Ok only where
-// all is flushed.
-fn run_watched<R: Read, W: Write>(
+/// The same over a reader and a writer that are watched: each fault is answered only where it happened, and all is flushed at
+/// the end, and where a read failed.
+pub fn run_watched<R: Read, W: Write>(
     platform: &mut Platform,
     trace: &mut Trace,
     reader: &mut WatchedReader<'_, R>,
     writer: &mut WatchedWriter<'_, W>,
 ) -> Result<(), RunFault>
-    requires can_read { reader.old.failed ≡ false }
-    requires can_write { writer.old.failed ≡ false }
+    requires can_read { read_failed reader.old ≡ false }
+    requires can_write { write_failed writer.old ≡ false }
     ensures ends { Ends (R.remaining reader.old.inner.now) (R.remaining reader.new.inner.now)
         (progress (W.contents writer.old.inner.now) (console platform.old trace.old))
         (progress (W.contents writer.new.inner.now) (console platform.new trace.new)) result }
-    ensures read_told { reader.new.failed ≡ is_read result }
-    ensures write_told { writer.new.failed ≡ is_write result }
-    ensures flushed { OnOk result (writer.new.flushed ≡ true) }
+    ensures read_told { read_failed reader.new ≡ is_read result }
+    ensures write_told { write_failed writer.new ≡ is_write result }
+    ensures flushed { stops_at_a_read result ≡ true → is_flushed writer.new ≡ true }
     ensures same_reader { reader.new.inner.ghost_name ≡ reader.old.inner.ghost_name }
     ensures same_writer { writer.new.inner.ghost_name ≡ writer.old.inner.ghost_name }
 {
     let mut rest = Rest::new();
     let mut piece = [0; MOST_BYTES_OF_A_PIECE];
     for _turn in 0..=MOST_BYTES {
-        let Some(count) = reader.read(&mut piece) else {
+        if !writer.flush() {
+            return Err(RunFault::Write);
+        }
+        let Some(count) = reader.read(&mut piece, writer) else {
             return Err(RunFault::Read);
         };
         if count == 0 {

@@ -3,21 +3,27 @@ use Rattle.std.proofs.lemmas.List.{length-take-le}
 use Rattle.std.proofs.lemmas.Result.{err_from_is_err_and}
 use Rattle.iom_tool.specs.Console.{console}
 use Rattle.iom_tool.specs.Running.{progress}
-use Rattle.iom_tool.proofs.Runs.{run_stops, run_ends, piece_ends, runs_on, end_is_no_read, piece_is_no_read}
+use Rattle.iom_tool.proofs.Runs.{run_stops, runs_flushed, flush_stops, run_ends, piece_ends, runs_on, end_is_no_read, piece_is_no_read, end_flushed, piece_stops_elsewhere}
 use Rattle.iom_tool.proofs.running.run_watched.Goals as goal
 
+pub returns-then-not-flush-clause-ends : goal.returns-then-not-flush-clause-ends
+returns-then-not-flush-clause-ends g c =
+    flush_stops _ _ _ _ _ _ _ _ (runs_flushed _ _ _ _ _ _ _ _ _ c.loop-turn.invariant.runs c.flush.ensures.bytes)
+
 pub returns-in_default-clause-ends : goal.returns-in_default-clause-ends
-returns-in_default-clause-ends g c = run_stops _ _ _ _ _ _ _ _ _ c.loop-turn.invariant.runs c.in_default.ensures.bytes
+returns-in_default-clause-ends g c =
+    let h = runs_flushed _ _ _ _ _ _ _ _ _ c.loop-turn.invariant.runs c.flush.ensures.bytes in
+    run_stops _ _ _ _ _ _ _ _ _ h c.in_default.ensures.bytes
 
 pub returns-in_default-clause-read_told : goal.returns-in_default-clause-read_told
 returns-in_default-clause-read_told g c = c.in_default.ensures.failed
 
 pub returns-in_default-clause-write_told : goal.returns-in_default-clause-write_told
-returns-in_default-clause-write_told g c = c.loop-turn.invariant.can_write
+returns-in_default-clause-write_told g c = c.if-not-flush.ensures.failed
 
 pub returns-then-count-eq0-clause-ends : goal.returns-then-count-eq0-clause-ends
 returns-then-count-eq0-clause-ends g c =
-    let h = c.loop-turn.invariant.runs in
+    let h = runs_flushed _ _ _ _ _ _ _ _ _ c.loop-turn.invariant.runs c.flush.ensures.bytes in
     let room : 0 < length c.read.new.piece = omega arith in
     run_ends _ _ _ _ _ _ _ _ _ _ _ c.finish.result h c.in-Some.ensures.bytes
     (length-take-le c.in-Some.count c.read.new.piece c.in-Some.ensures.bound ∙ c.if-count-eq0.true)
@@ -25,12 +31,12 @@ returns-then-count-eq0-clause-ends g c =
 
 pub returns-then-count-eq0-clause-read_told : goal.returns-then-count-eq0-clause-read_told
 returns-then-count-eq0-clause-read_told g c =
-    let h = c.loop-turn.invariant.runs in
+    let h = runs_flushed _ _ _ _ _ _ _ _ _ c.loop-turn.invariant.runs c.flush.ensures.bytes in
     c.in-Some.ensures.failed ∙ end_is_no_read _ _ h.text c.finish.result (c.finish.ensures.fed _ h.text h.fed)
 
 pub returns-in_err-feed-clause-ends : goal.returns-in_err-feed-clause-ends
 returns-in_err-feed-clause-ends g c =
-    let h = c.loop-turn.invariant.runs in
+    let h = runs_flushed _ _ _ _ _ _ _ _ _ c.loop-turn.invariant.runs c.flush.ensures.bytes in
     let p = err_from_is_err_and c.from_residual.result c.from_residual.ensures.1 in
     rw (p.1, p.2) (
     piece_ends _ _ _ _ _ _ _ c.feed.new.self.line.items _ _ _ c.feed.new.self.lines c.feed.new.self.bytes _ c.in_err-feed.field-0.0
@@ -38,7 +44,7 @@ returns-in_err-feed-clause-ends g c =
 
 pub returns-in_err-feed-clause-read_told : goal.returns-in_err-feed-clause-read_told
 returns-in_err-feed-clause-read_told g c =
-    let h = c.loop-turn.invariant.runs in
+    let h = runs_flushed _ _ _ _ _ _ _ _ _ c.loop-turn.invariant.runs c.flush.ensures.bytes in
     let p = err_from_is_err_and c.from_residual.result c.from_residual.ensures.1 in
     rw (p.1, p.2) (
     c.in-Some.ensures.failed
@@ -47,9 +53,24 @@ returns-in_err-feed-clause-read_told g c =
     c.feed.new.self.line.items c.feed.new.self.lines c.feed.new.self.bytes h.text (take c.in-Some.count c.read.new.piece) c.in_err-feed.field-0.0
     (c.in_err-feed.ensures.fed _ h.text h.fed))
 
+pub returns-then-count-eq0-clause-flushed : goal.returns-then-count-eq0-clause-flushed
+returns-then-count-eq0-clause-flushed g c =
+    let h = runs_flushed _ _ _ _ _ _ _ _ _ c.loop-turn.invariant.runs c.flush.ensures.bytes in
+    end_flushed _ _ h.text _ c.finish.result (c.finish.ensures.fed _ h.text h.fed) c.finish.ensures.flushed
+
+pub returns-in_err-feed-clause-flushed : goal.returns-in_err-feed-clause-flushed
+returns-in_err-feed-clause-flushed g c =
+    let h = runs_flushed _ _ _ _ _ _ _ _ _ c.loop-turn.invariant.runs c.flush.ensures.bytes in
+    let p = err_from_is_err_and c.from_residual.result c.from_residual.ensures.1 in
+    rw (p.1, p.2) (
+    piece_stops_elsewhere (progress (g.W.Write.contents c.args.writer.now.inner.now) (console c.args.platform.now c.args.trace.now))
+    (progress (g.W.Write.contents c.feed.new.writer.inner.now) (console c.feed.new.platform c.feed.new.trace))
+    c.feed.new.self.line.items c.feed.new.self.lines c.feed.new.self.bytes h.text (take c.in-Some.count c.read.new.piece) c.in_err-feed.field-0.0
+    _ (c.in_err-feed.ensures.fed _ h.text h.fed))
+
 pub loop-turn-preserved : goal.loop-turn-preserved
 loop-turn-preserved g c =
-    let h = c.loop-turn.invariant.runs in
+    let h = runs_flushed _ _ _ _ _ _ _ _ _ c.loop-turn.invariant.runs c.flush.ensures.bytes in
     let some : 0 < length (take c.in-Some.count c.read.new.piece) =
     omega (arith, length-take-le c.in-Some.count c.read.new.piece c.in-Some.ensures.bound, c.if-count-eq0.false) in
     record {
@@ -57,5 +78,5 @@ loop-turn-preserved g c =
       can_read = c.in-Some.ensures.failed;
       can_write = c.in_ok-feed.ensures.told;
       same_reader = c.in-Some.ensures.same_reader ∙ c.loop-turn.invariant.same_reader;
-      same_writer = c.in_ok-feed.ensures.same_writer ∙ c.loop-turn.invariant.same_writer;
+      same_writer = c.in_ok-feed.ensures.same_writer ∙ c.flush.ensures.same_writer ∙ c.loop-turn.invariant.same_writer;
     }

@@ -1,4 +1,4 @@
-use Rattle.std.proofs.Common.{◌≡◌, ◌==◌, true, false, length, subst}
+use Rattle.std.proofs.Common.{◌≡◌, ◌==◌, true, false, inl, length, subst}
 use Rattle.std.proofs.lemmas.Result.{err_from_is_err_and}
 use Rattle.iom_tool.proofs.Feeding.{none_kept, end_is_last, end_answered, end_fails, flushed}
 use Rattle.iom_tool.proofs.rest.Rest.finish.Goals as goal
@@ -14,7 +14,7 @@ returns-in_err-answer_kept-clause-fed g c start text h =
     let some = subst (λ kept. false ≡ (length kept == 0)) c.as_slice.ensures.value c.if-is_empty.ensures in
     let p = err_from_is_err_and c.from_residual.result c.from_residual.ensures.1 in
     rw (p.1, p.2, c.in_err-answer_kept.ensures.fault) (
-    end_fails _ _ _ _ _ _ _ _ h some c.in_err-answer_kept.ensures.console c.in_err-answer_kept.ensures.front)
+    inl (end_fails _ _ _ _ _ _ _ _ h some c.in_err-answer_kept.ensures.console c.in_err-answer_kept.ensures.front))
 
 pub returns-clause-fed : goal.returns-clause-fed
 returns-clause-fed g c start text h =
