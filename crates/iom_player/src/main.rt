@@ -3,14 +3,12 @@
 #![tactic(auto)]
 
 use iom_image::{LoadFault, built_in};
-use iom_play::play;
-use iom_streams::{READ_BLOCK, Shared, Tied, WRITE_BLOCK};
-use iom_tool::RunFault;
+use iom_play::{WRITE_BLOCK, play};
+use iom_tool::{RunFault, WatchedReader, WatchedWriter};
 use std::alloc::Global;
-use std::cell::RefCell;
 use std::env;
 use std::fmt::Display;
-use std::io::{BufReader, BufWriter, Read, Write};
+use std::io::{BufWriter, Read, Write};
 use std::process::ExitCode;
 use std::rt::Env;
 
@@ -20,20 +18,15 @@ const BAD_WORDS: u8 = 2;
 // Plays the script of an input, and says how it ended. Its answers are written by blocks, but before it waits for input.
 fn played(
     alloc: Global,
-    input: impl Read + Drop,
+    mut input: impl Read + Drop,
     output: impl Write + Drop,
 ) -> Result<Result<(), RunFault>, LoadFault> {
-    let Ok(writer) = BufWriter::with_capacity(alloc, WRITE_BLOCK, output) else {
+    let Ok(mut writer) = BufWriter::with_capacity(alloc, WRITE_BLOCK, output) else {
         return Err(LoadFault::OutOfMemory);
     };
-    let output = RefCell::new(writer);
-    let output = &output;
-    let tied = Tied { input, output };
-    let Ok(mut reader) = BufReader::with_capacity(alloc, READ_BLOCK, tied) else {
-        return Err(LoadFault::OutOfMemory);
-    };
-    let mut writer = Shared { output };
-    let played = play(alloc, &built_in(), &mut reader, &mut writer);
+    let mut reader = WatchedReader::new(&mut input);
+    let mut answers = WatchedWriter::new(&mut writer);
+    let played = play(alloc, &built_in(), &mut reader, &mut answers);
     // The answers before a fault are written too.
     if writer.flush().is_err() {
         return Ok(Err(RunFault::Write));

@@ -59,7 +59,7 @@ fn carried_out<R: BufRead, W: Write>(
     progress: &mut Progress<'_, impl Clock + Eprint + Files>,
 ) -> Result<(), Fault<'static>> {
     for number in 1..=TOO_MANY {
-        let Some(line) = lines.next_line(number)? else {
+        let Some(line) = lines.next_line(number, writer)? else {
             break;
         };
         let reply = debugger.line(number, line);

@@ -224,7 +224,7 @@ fn carried_out<R: BufRead, W: Write>(
     progress: &mut Progress<'_, impl Clock + Eprint + Files>,
 ) -> Result<(), Fault<'static>> {
     for number in 1..=TOO_MANY {
-        let Some(line) = lines.next_line(number)? else {
+        let Some(line) = lines.next_line(number, account.writer)? else {
             break;
         };
         account.line(debugger, number, line)?;

@@ -4,7 +4,7 @@ use crate::fault::Fault;
 use iom_text::line_end;
 use iom_tool::RunFault;
 use std::alloc::Global;
-use std::io::{BufRead, Error, ErrorKind, Read, Take};
+use std::io::{BufRead, Error, ErrorKind, Read, Take, Write};
 
 /// The most lines of a script.
 const MOST_LINES: u64 = 1 << 20;
@@ -25,6 +25,8 @@ pub struct Lines<R> {
     reader: Take<R>,
     // how many bytes that the reader holds the last line took
     passed: usize,
+    // how many bytes the reader holds at least
+    held: usize,
     // a line that the reader doesn't hold as a whole
     line: Vec<u8>,
 }
@@ -43,6 +45,7 @@ impl<R: BufRead> Lines<R> {
         Lines {
             reader: reader.take(MOST_BYTES + 1),
             passed: 0,
+            held: 0,
             line: Vec::new(alloc),
         }
     }
@@ -53,11 +56,20 @@ impl<R: BufRead> Lines<R> {
         read.saturating_add(self.passed as u64)
     }
 
-    /// The next line, which has this number, from 1 on, without its line end, of a longer one its first 513 bytes; None at the end. The
-    /// faults are those of `run`, `TooLong` of a line that a script may not have among them, and `OutOfMemory`.
-    pub fn next_line(&mut self, number: u64) -> Result<Option<&[u8]>, Fault<'static>> {
+    /// The next line, which has this number, from 1 on, without its line end, of a longer one its first 513 bytes; None at the end. What
+    /// tells of the lines is flushed before more is waited for. The faults are those of `run`, `TooLong` of a line that a script may not
+    /// have among them, and `OutOfMemory`.
+    pub fn next_line(
+        &mut self,
+        number: u64,
+        writer: &mut impl Write,
+    ) -> Result<Option<&[u8]>, Fault<'static>> {
         self.reader.consume(self.passed);
+        self.held = self.held.saturating_sub(self.passed);
         self.passed = 0;
+        if self.held == 0 {
+            writer.flush().map_err(|_| RunFault::Write)?;
+        }
         if let Some(end) = self.held_line().map_err(fault_of)?
             && number <= MOST_LINES
         {
@@ -65,6 +77,8 @@ impl<R: BufRead> Lines<R> {
             let held = self.reader.fill_buf().map_err(fault_of)?;
             return Ok(held.get(..end));
         }
+        self.held = 0;
+        writer.flush().map_err(|_| RunFault::Write)?;
         self.gathered_line(number)
     }
 
@@ -72,7 +86,10 @@ impl<R: BufRead> Lines<R> {
     fn held_line(&mut self) -> Result<Option<usize>, Error> {
         let left = self.reader.limit();
         match self.reader.fill_buf() {
-            Ok(held) => Ok(line_end(held).filter(|end| *end < KEPT && *end as u64 + 1 < left)),
+            Ok(held) => {
+                self.held = held.len();
+                Ok(line_end(held).filter(|end| *end < KEPT && *end as u64 + 1 < left))
+            }
             Err(error) if error.kind() == ErrorKind::Interrupted => Ok(None),
             Err(error) => Err(error),
         }

@@ -7,14 +7,13 @@ use explaining::explain;
 use fault::Fault;
 use iom_asm::Item;
 use iom_cli::{How, Task, WordsFault, task_of};
-use iom_streams::{READ_BLOCK, Shared, Tied, WRITE_BLOCK};
-use iom_tool::RunFault;
+use iom_play::WRITE_BLOCK;
+use iom_tool::{RunFault, WatchedReader, WatchedWriter};
 use progress::Progress;
 use std::alloc::Global;
-use std::cell::RefCell;
 use std::env;
 use std::fs::Files;
-use std::io::{self, BufRead, BufReader, BufWriter, IsTerminal, Read, Write};
+use std::io::{self, BufReader, BufWriter, IsTerminal, Read, Write};
 use std::process::ExitCode;
 use std::rt::Env;
 use std::time::Clock;
@@ -31,6 +30,9 @@ mod summary;
 mod text;
 mod walk;
 
+/// The bytes of input that are read at once, where lines are looked at one by one; their room is cleared at the start.
+const READ_BLOCK: usize = 0x8000;
+
 // What the program reads and writes.
 #[derive(Drop)]
 struct Streams<I, O> {
@@ -40,23 +42,39 @@ struct Streams<I, O> {
     has_terminal: bool,
 }
 
-// Runs, debugs, checks or explains the script that a reader gives.
-fn play<'a, R: BufRead, W: Write>(
+// Runs the script that an input gives.
+fn run<'a, R: Read, W: Write>(
+    alloc: Global,
+    image: &[u8],
+    input: &mut R,
+    writer: &mut W,
+) -> Result<(), Fault<'a>> {
+    let mut reader = WatchedReader::new(input);
+    let mut writer = WatchedWriter::new(writer);
+    Ok(iom_play::play(alloc, image, &mut reader, &mut writer)?.ended?)
+}
+
+// Runs, debugs, checks or explains the script that an input gives.
+fn play<'a, R: Read, W: Write>(
     alloc: Global,
     image: &[u8],
     how: How,
-    reader: &mut R,
+    input: &mut R,
     writer: &mut W,
     progress: &mut Progress<'_, impl Clock + Eprint + Files>,
 ) -> Result<(), Fault<'a>> {
-    match how {
-        How::Run => Ok(iom_play::play(alloc, image, reader, writer)?.ended?),
-        How::Explain => explain(alloc, image, reader, writer, progress),
-        How::Debug => carry_out(alloc, image, Telling::Answers, reader, writer, progress),
-        How::Check { is_stale_told } => {
-            let telling = Telling::Failures(Tally::new(is_stale_told));
-            carry_out(alloc, image, telling, reader, writer, progress)
-        }
+    let telling = match how {
+        How::Run => return run(alloc, image, input, writer),
+        How::Explain => None,
+        How::Debug => Some(Telling::Answers),
+        How::Check { is_stale_told } => Some(Telling::Failures(Tally::new(is_stale_told))),
+    };
+    let mut reader = BufReader::with_capacity(alloc, READ_BLOCK, input).map_err(
+        |_| Fault::OutOfMemory,
+    )?;
+    match telling {
+        Some(telling) => carry_out(alloc, image, telling, &mut reader, writer, progress),
+        None => explain(alloc, image, &mut reader, writer, progress),
     }
 }
 
@@ -66,23 +84,20 @@ fn played<'a>(
     alloc: Global,
     image: &[u8],
     how: How,
-    streams: Streams<impl Read + Drop, impl Write + Drop>,
+    mut streams: Streams<impl Read + Drop, impl Write + Drop>,
 ) -> Result<(), Fault<'a>> {
     let mut progress = Progress::new(rt, how.word(), streams.has_terminal);
-    let writer = BufWriter::with_capacity(alloc, WRITE_BLOCK, streams.output).map_err(
+    let mut writer = BufWriter::with_capacity(alloc, WRITE_BLOCK, streams.output).map_err(
         |_| Fault::OutOfMemory,
     )?;
-    let output = RefCell::new(writer);
-    let output = &output;
-    let tied = Tied {
-        input: streams.input,
-        output,
-    };
-    let mut reader = BufReader::with_capacity(alloc, READ_BLOCK, tied).map_err(
-        |_| Fault::OutOfMemory,
-    )?;
-    let mut writer = Shared { output };
-    let ended = play(alloc, image, how, &mut reader, &mut writer, &mut progress);
+    let ended = play(
+        alloc,
+        image,
+        how,
+        &mut streams.input,
+        &mut writer,
+        &mut progress,
+    );
     progress.clear();
     // The answers before a fault are written too.
     writer.flush().map_err(|_| RunFault::Write)?;
