@@ -237,6 +237,7 @@ fn is_cut_at_write(alloc: Global, writes: usize, piece: usize) -> Result<bool, F
     Ok(is_cut(&part, RunFault::Write, writes, writes.saturating_add(1)))
 }
 
+// A run of which each write in turn fails, by pieces of each size.
 #[test]
 fn each_write_fails(rt: HostRuntime) -> Result<(), Fail> {
     for piece in PIECES {
@@ -282,6 +283,7 @@ fn is_cut_at_flush(alloc: Global, flushes: usize, piece: usize) -> Result<bool, 
     }
 }
 
+// A run of which each flush in turn fails, by pieces of each size.
 #[test]
 fn each_flush_fails(rt: HostRuntime) -> Result<(), Fail> {
     for piece in PIECES {
@@ -355,6 +357,7 @@ pub fn is_whole(alloc: Global, limits: Limits) -> Result<bool, Fail> {
     Ok(all.ended.is_ok() && all.written.as_slice() == ANSWERS)
 }
 
+// A run of which the write of each byte in turn fails.
 #[test]
 fn each_byte_fails(rt: HostRuntime) -> Result<(), Fail> {
     for writes in 0..ANSWERS.len() {
