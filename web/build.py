@@ -193,12 +193,14 @@ def write_tree(files):
 def builder():
     """packaging/build.py, for the copy's crates."""
     packaging = os.path.join(TOP, "packaging")
-    # It imports a file that stands beside it.
+    # It imports files that stand beside it.
     sys.path.append(packaging)
     spec = importlib.util.spec_from_file_location("build", os.path.join(packaging, "build.py"))
     build = importlib.util.module_from_spec(spec)
     spec.loader.exec_module(build)
     build.CRATES, build.LIST, build.TREES = (os.path.join(COPY, *it) for it in (["crates"], ["crates.txt"], ["out", "build"]))
+    crates = sys.modules["crates"]
+    crates.FOLDER, crates.LIST = build.CRATES, build.LIST
     return build
 
 
