@@ -145,7 +145,8 @@ impl Caches {
             _ => {}
         }
         if let Some(addr) = self.addr {
-            push_hexed(out, b", addr=", addr);
+            out.append(b", addr=");
+            out.append_hexed(addr);
         }
         out.push(b'\n');
     }

@@ -7,8 +7,9 @@ ghost use Rattle.iom_tables.specs.Bounds.{PartFits};
 use crate::text::Text;
 use arrayvec::ArrayVec;
 use iom_core::{Platform, Request, Seen, Source};
-use iom_ddt::Context;
+use iom_ddt::{Context, locate};
 use iom_debug::{is_told_alike, put_cached, put_part};
+use iom_regs::Mode;
 use iom_tables::{Part, Parts, put_parts, put_parts_under};
 use iom_tool::Draft;
 use std::alloc::{AllocError, Global};
@@ -93,9 +94,12 @@ impl Walk {
 fn is_current(platform: &Platform, request: &Request, context: &Context) -> bool
     requires { request.now.did < 2 ^ 24 }
 {
-    match platform.seen_uncached(request).context {
-        Some((_, now)) => now == *context,
-        None => false,
+    match platform.registers().mode() {
+        Mode::Off | Mode::Bare => false,
+        Mode::Levels(_) => match locate(platform.ram(), platform.registers(), request.did) {
+            Ok(now) => now == *context,
+            Err(_) => false,
+        },
     }
 }
 
