@@ -166,7 +166,7 @@ def _():
 
 @check("README: the examples that it says are explained are")
 def _():
-    named = re.search(r"The whole of it is `examples/(\w+)\.explained`; `(\w+)` and `(\w+)` have theirs too", text_of("README.md"))
+    named = re.search(r"The whole of it is `examples/(\w+)\.explained`; `(\w+)`, `(\w+)` and `(\w+)` have theirs too", text_of("README.md"))
     there = [os.path.basename(path).partition(".")[0] for path in glob.glob(os.path.join(EXAMPLES, "*.explained"))]
     want("the examples that are explained", sorted(named.groups()) if named else None, sorted(there))
 
