@@ -1,5 +1,5 @@
 -- What is looked up where nothing is cached: what its source tells.
-use Rattle.std.proofs.Common.{◌≡◌, ℕ, Bool, true, false, None, Result, Ok, Err, if◌then◌else◌, refl}
+use Rattle.std.proofs.Common.{◌≡◌, ℕ, true, false, None, Result, Ok, Err, if◌then◌else◌, refl}
 use Rattle.iom_regs.specs.Views.{mode_of}
 use Rattle.iom_ddt.specs.Directory.{is_too_wide, levels_of, located}
 use Rattle.iom_cache.specs.Places.{look}

@@ -38,8 +38,6 @@ use Rattle.iom_nested.specs.Stages.{first_shape_of, got_behind, ram_got, second_
 use Rattle.iom_nested.specs.declared.translation.Fault.{Fault}
 use Rattle.iom_nested.specs.declared.translation.Hit.{Hit}
 use Rattle.iom_nested.specs.declared.translation.Reached.{Reached}
-use Rattle.iom_cache.specs.Places.{look}
-use Rattle.iom_cache.specs.declared.key.Key.{Key}
 use Rattle.iom_core.specs.State.{Machine}
 use Rattle.iom_core.specs.Access.{Under, context_look, led, led_by_context, led_by_mode, led_under, page_look, request_key, way_to}
 use Rattle.iom_core.specs.declared.way.Way.TheVariants.{Context as ByContext}

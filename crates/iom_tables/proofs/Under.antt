@@ -1,5 +1,5 @@
 -- What is said of each part below a context that is cached.
-use Rattle.std.proofs.Common.{◌≡◌, ◌++◌, [], ◌∷◌, List, Ok, sym, subst}
+use Rattle.std.proofs.Common.{◌≡◌, [], ◌∷◌, List, Ok, sym, subst}
 use Rattle.std.specs.Prelude.{All}
 use Rattle.std.proofs.lemmas.List.Elements.{All-nil, All-cons, All-append}
 use Rattle.iom_mem.specs.Memory.{Memory}

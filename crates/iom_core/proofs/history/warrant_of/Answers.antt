@@ -1,4 +1,4 @@
-use Rattle.std.proofs.Common.{◌≡◌, ◌∙◌, sym, subst}
+use Rattle.std.proofs.Common.{◌∙◌, sym, subst}
 use Rattle.iom_cache.specs.Origins.{IsLast}
 use Rattle.iom_cache.specs.declared.key.Key.{Key}
 use Rattle.iom_core.specs.Access.{request_key}
