@@ -45,23 +45,36 @@ class Function:
 HEAD = re.compile(r'( *)(?:pub(?:\([a-z ]+\))? )?(?:const )?(?:unsafe )?(?:extern "C" )?fn (\w+)')
 CONSTANT = re.compile(r"^(?:pub(?:\([a-z ]+\))? )?(?:const|static) (\w+):.*?;$", re.MULTILINE | re.DOTALL)
 CLAUSE = re.compile(r" *(?:requires|ensures|ghost|impl|match|if|for|while|loop)\b")
+TYPE = re.compile(r"^(?:pub(?:\([a-z ]+\))? )?(?:struct|enum|union) (\w+)", re.MULTILINE)
 IMPL = re.compile(r"impl(?:<[^{]*?>)? (?:(\w+)(?:<[^{]*?>)? for )?(\w+)")
 
 
-def functions_of(file, text):
+class Texts(dict):
+    """The texts of a crate by their files, and the module of each of its types."""
+
+    def __init__(self, texts, modules=None):
+        super().__init__(texts)
+        self.modules = modules or {name: module_of(file) for file in texts if file.startswith("src/") for name in TYPE.findall(texts[file])}
+
+
+def module_of(file):
+    return [it for it in file[len("src/") : -len(".rt")].split("/") if it not in ("lib", "main", "mod")]
+
+
+def functions_of(file, texts):
     """The functions of a file of src/ in its layout: each begins with the attributes and comments above its head, and ends with the brace below its
-    first column."""
-    module = [it for it in file[len("src/") : -len(".rt")].split("/") if it not in ("lib", "main", "mod")]
-    found, owner, head, at, above = [], "", None, 0, None
-    for line in text.splitlines(keepends=True):
+    first column. A method is named by the module of its type."""
+    found, owner, head, at, above = [], [], None, 0, None
+    for line in texts[file].splitlines(keepends=True):
         if head is None and line.startswith("impl"):
             named = IMPL.match(line)
-            owner = named[2] + (named[1] or "") if named else ""
+            owner = [*texts.modules.get(named[2], module_of(file)), named[2] + (named[1] or "")] if named else []
         elif head is None and line.startswith("}"):
-            owner = ""
+            owner = []
         begins = HEAD.match(line) if head is None else None
         if begins:
-            head = (begins[1], "::".join([*module, *([owner] if owner and begins[1] else []), begins[2]]), at if above is None else above)
+            path = [*(owner if owner and begins[1] else module_of(file)), begins[2]]
+            head = (begins[1], "::".join(path), at if above is None else above)
         is_above = re.match(r" *(#\[|//)", line)
         above = (at if above is None else above) if is_above else None
         at += len(line)
@@ -79,8 +92,10 @@ def functions_with(constant, texts):
         met = [] if file.startswith("proofs/") else [it.start() for it in word.finditer(text)]
         if met and file.startswith("specs/"):
             return None
+        if not met:
+            continue
         lines = [text[text.rfind("\n", 0, at) + 1 : text.find("\n", at)] for at in met]
-        within = [[it.path for it in functions_of(file, text) if it.start <= at < it.end] for at in met]
+        within = [[it.path for it in functions_of(file, texts) if it.start <= at < it.end] for at in met]
         for line, paths in zip(lines, within):
             if paths and not re.match(r" *(requires|ensures|ghost)\b", line):
                 found.add(paths[0])
@@ -100,7 +115,7 @@ def put(file, old, new, texts):
     count = texts.get(file, "").count(old) if old else 0
     if count != 1:
         raise BadEdit(f"an old text stands in {file} {count} times, and not once")
-    return {**texts, file: texts[file].replace(old, new)}
+    return Texts({**texts, file: texts[file].replace(old, new)}, texts.modules)
 
 
 class Edit:
@@ -125,7 +140,7 @@ def changed_at(file, old, texts):
         return set()
     if not file.startswith("src/"):
         return None
-    met = {it.path for it in functions_of(file, text) if it.start <= place < it.end}
+    met = {it.path for it in functions_of(file, texts) if it.start <= place < it.end} if text else set()
     constant = next((it[1] for it in CONSTANT.finditer(text) if it.start() <= place < it.end()), None)
     return met or (functions_with(constant, texts) if constant else None)
 
@@ -155,7 +170,7 @@ def harmless(texts, edits):
     """An edit without meaning: of the first function that no edit changes, or else of the first one."""
     found, taken = [], set().union(*(it.functions or () for it in edits))
     for file in sorted(it for it in texts if it.startswith("src/")):
-        for one in functions_of(file, texts[file]):
+        for one in functions_of(file, texts):
             lines = texts[file][one.start : one.end].split("\n")
             bodies = [at for at, line in enumerate(lines[:-2]) if re.fullmatch(r" *(?:[^/]* )?\{", line) and not CLAUSE.match(line)]
             old = "\n".join(lines[: bodies[-1] + 1]) if bodies else ""
@@ -171,7 +186,7 @@ def read_texts(folder):
             for name in names:
                 with open(os.path.join(at, name), encoding="utf-8") as file:
                     texts[os.path.relpath(os.path.join(at, name), folder)] = file.read()
-    return texts
+    return Texts(texts)
 
 
 class Verdicts:
@@ -201,7 +216,7 @@ class Verdicts:
         if not file.startswith("src/"):
             return file.startswith("proofs/" + name.replace("::", "/") + "/")
         at = sum(len(it) for it in texts[file].splitlines(keepends=True)[: int(line) - 1])
-        return any(it.path == function and it.start <= at < it.end for it in functions_of(file, texts[file]))
+        return any(it.path == function and it.start <= at < it.end for it in functions_of(file, texts))
 
     def is_proved(self, functions):
         return all(it in self.of and all(self.of[name] == "proved" for name in self.with_closures(it)) for it in functions)
