@@ -44,7 +44,6 @@ class Function:
 
 HEAD = re.compile(r'( *)(?:pub(?:\([a-z ]+\))? )?(?:const )?(?:unsafe )?(?:extern "C" )?fn (\w+)')
 CONSTANT = re.compile(r"^(?:pub(?:\([a-z ]+\))? )?(?:const|static) (\w+):.*?;$", re.MULTILINE | re.DOTALL)
-CLAUSE = re.compile(r" *(?:requires|ensures|ghost|impl|match|if|for|while|loop)\b")
 TYPE = re.compile(r"^(?:pub(?:\([a-z ]+\))? )?(?:struct|enum|union) (\w+)", re.MULTILINE)
 IMPL = re.compile(r"impl(?:<[^{]*?>)? (?:(\w+)(?:<[^{]*?>)? for )?(\w+)")
 
@@ -166,16 +165,20 @@ def read_edit(name, text, texts):
     return Edit(name, changes, functions, at)
 
 
+def opened(text):
+    """A function's text up to the brace that opens its body, which stands alone below clauses."""
+    brace = re.search(r"^ *\{\n", text, re.MULTILINE)
+    return text[: brace.end()] if brace else ""
+
+
 def harmless(texts, edits):
-    """An edit without meaning: of the first function that no edit changes, or else of the first one."""
+    """An edit without meaning: of the first function with a contract that no edit changes, or else of the first one."""
     found, taken = [], set().union(*(it.functions or () for it in edits))
     for file in sorted(it for it in texts if it.startswith("src/")):
         for one in functions_of(file, texts):
-            lines = texts[file][one.start : one.end].split("\n")
-            bodies = [at for at, line in enumerate(lines[:-2]) if re.fullmatch(r" *(?:[^/]* )?\{", line) and not CLAUSE.match(line)]
-            old = "\n".join(lines[: bodies[-1] + 1]) if bodies else ""
-            if bodies and texts[file].count(old) == 1:
-                found.append(Edit(HARMLESS, [(file, old, old + "\n        let _without_meaning = 0u8;")], {one.path}))
+            old = opened(texts[file][one.start : one.end])
+            if old and texts[file].count(old) == 1:
+                found.append(Edit(HARMLESS, [(file, old, f"{old}let _without_meaning = 0u8;\n")], {one.path}))
     return next((it for it in found if not it.functions & taken), found[0])
 
 
