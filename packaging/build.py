@@ -5,7 +5,7 @@ All is proved as it is built, and what is current costs a few seconds. Progress 
 The status is 1 where something could not be built.
 
 What isn't current is built crate by crate, as many at a time as the machine has processors and memory for: so the program is the
-gate's, byte for byte. Where nothing below iom_player has been built, it and all below it are proved and built as one crate (whole.py):
+gate's. Where nothing below iom_player has been built, it and all below it are proved and built as one crate (whole.py):
 the toolchain's libraries are read once, and nothing waits for a crate below. A static library is built over the libraries that the gate
 left, which rt would build again.
 
@@ -248,6 +248,7 @@ def build_over_the_gate(top):
     folder = os.path.join(CRATES, top)
     made = os.path.join("out", f"lib{top}.a")
     of_kit = kit.folder()
+    os.makedirs(os.path.join(folder, "out"), exist_ok=True)
     words = [*kit.words("build", top, of_kit), "--toolchain", f"{of_kit}/toolchain", "--jobs", str(at_once()), "-o", made]
     done = subprocess.run(words, cwd=folder, stdin=subprocess.DEVNULL, stdout=subprocess.PIPE, stderr=subprocess.STDOUT, check=False)
     if done.returncode:
