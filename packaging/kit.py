@@ -38,7 +38,7 @@ def words(verb, name, kit):
     of_kit = [it for it in uses if it not in below]
     root = "main" if crates.is_program(name) else "lib"
     found = [os.path.join(kit, "bin", "rattle"), verb, "--crate-name", name, f"src/{root}.rt"]
-    for it in [*([] if "core" in of_kit else ["std"]), *of_kit]:
+    for it in ["std", *of_kit]:
         found += ["--extern", f"{it}={kit}/rlibs/{it}.rlib"]
     for it in below:
         found += ["--extern", f"{it}={library(it)}"] * (it in uses)
