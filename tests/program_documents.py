@@ -475,7 +475,8 @@ def _():
     for statement, wanted in [
         *((line, True) for line in lines), ("context jump=0", False), ("fault jump=0", False), ("dir ppn=1", True), ("dir flags=1", False),
         ("pte ppn=1 flags=1", True), ("u64 1 2 3 4 5 6 7 8", True), ("u64 1 2 3 4 5 6 7 8 9", False), ("u64", False), ("bytes aabb", True),
-        ("bytes abc", False), ("disk 5 1 aabb", True), ("disk 5 1 abc", False), ("rodisk 5 1 aabb", True), ("ram 0x90000000 0x1000", False),
+        ("bytes abc", False), ("disk 5 1 aabb", True), ("disk 5 1 abc", False), ("rodisk 5 1 aabb", True), ("capabilities", True), ("capabilities nl=1 vectors=3", False),
+        *((f"capabilities {key}=1", True) for key in ("sv57", "sv57x4", "svpbmt", "nl", "s", "vectors")), ("ram 0x90000000 0x1000", False),
         *((f"context mode={mode}", mode in (0, 8, 9)) for mode in range(16)), *((f"context gmode={mode}", mode in (0, 8, 9)) for mode in range(16)),
     ]:
         want(f"whether {statement!r} is assembled", is_assembled(f"{IMAGE}{statement}\n"), wanted)

@@ -8,6 +8,7 @@ from checks import ANSWER, ASK, EXAMPLES, PROGRAM, READ_FAILED, RUN_SECONDS, WEL
 BUILT_IN = b"RVIOMMU1" + (0x80000000).to_bytes(8, "little") + (0x100000).to_bytes(8, "little") + bytes(8)
 READ_ONLY = b"RVIOMMU2" + (0x80000000).to_bytes(8, "little") + (0x1000).to_bytes(8, "little") + bytes(4) + b"".join(
     number.to_bytes(4, "little") for number in (1, 5, 1, 1, 1)) + b"\xaa"
+WITHOUT_SVNAPOT = b"RVIOMMU3" + (1 << 56).to_bytes(8, "little")
 TEXT = b"ram 0x80000000 0x1000 # a page\nat 0x80000ff0\ncmd iodir dv=1 did=5\n"
 COMMAND = b"cmd iodir dv=0x1 did=0x5\n"
 
@@ -69,24 +70,27 @@ def upgraded(here, image):
     return read(new), read(twice)
 
 
-@check("upgrade: version 1 gets another magic and flags, version 2 comes back, and a file may be upgraded in place")
+@check("upgrade: versions 1 and 2 get another magic, the word of a machine without Svnapot, and flags; version 3 comes back, and a file may be upgraded in place")
 def _():
     with folder() as here:
-        wanted = BUILT_IN[:7] + b"2" + BUILT_IN[8:]
+        wanted = WITHOUT_SVNAPOT + BUILT_IN[8:]
         want("the built-in image", upgraded(here, BUILT_IN), (wanted, wanted))
-        want("a read-only disk", upgraded(here, READ_ONLY), (READ_ONLY, READ_ONLY))
+        read_only = WITHOUT_SVNAPOT + READ_ONLY[8:]
+        want("a read-only disk", upgraded(here, READ_ONLY), (read_only, read_only))
         one = b"RVIOMMU1" + READ_ONLY[8:40] + READ_ONLY[44:]
-        two = READ_ONLY[:40] + bytes(4) + READ_ONLY[44:]
-        want("a disk", upgraded(here, one), (two, two))
+        three = read_only[:48] + bytes(4) + read_only[52:]
+        want("a disk", upgraded(here, one), (three, three))
         image = put(here, "image", one)
         want_words(["upgrade", image, image], b"")
-        want("the image", read(image), two)
+        want("the image", read(image), three)
 
 
-@check("asm: a text with rodisk gives version 2, any other version 1")
+@check("asm: a text with capabilities gives version 3, another with rodisk version 2, any other version 1")
 def _():
     with folder() as here:
-        for word, wanted in ((b"rodisk", READ_ONLY), (b"disk", b"RVIOMMU1" + READ_ONLY[8:40] + READ_ONLY[44:])):
+        third = b"RVIOMMU3" + (1 << 42 | 2 << 57).to_bytes(8, "little") + READ_ONLY[8:]
+        one = b"RVIOMMU1" + READ_ONLY[8:40] + READ_ONLY[44:]
+        for word, wanted in ((b"rodisk", READ_ONLY), (b"disk", one), (b"capabilities vectors=4 nl=1\nrodisk", third)):
             source, image = put(here, "source", b"ram 0x80000000 0x1000\n" + word + b" 5 1 aa\n"), os.path.join(here, "image")
             want_words(["asm", source, image], b"")
             want("the image", read(image), wanted)
@@ -103,7 +107,7 @@ def _():
             image, new, given = os.path.join(here, "image"), os.path.join(here, "new"), read(script)
             want_words(["asm", text, image], b"")
             want_words(["upgrade", image, new], b"")
-            want(f"the version of {text}", read(new)[:8], b"RVIOMMU2")
+            want(f"the version of {text}", read(new)[:8], b"RVIOMMU3")
             want(f"the answers to {script}", run(["run", new], given), run(["run", image], given))
             played += 1
     want("whether there were some", played > 20, True)
@@ -159,7 +163,8 @@ def add_bad_image(name, image, text):
 add_bad_image("an empty file", b"", b"truncated")
 add_bad_image("an image that ends early", BUILT_IN[:31], b"truncated")
 add_bad_image("another magic", b"S" + BUILT_IN[1:], b"bad magic")
-add_bad_image("a version that there is not", BUILT_IN[:7] + b"3" + BUILT_IN[8:], b"bad magic")
+add_bad_image("a version that there is not", BUILT_IN[:7] + b"4" + BUILT_IN[8:], b"bad magic")
+add_bad_image("a capability that there is not", b"RVIOMMU3" + (1 << 9).to_bytes(8, "little") + BUILT_IN[8:], b"bad capabilities")
 add_bad_image("a flag that there is not", READ_ONLY[:40] + b"\2" + READ_ONLY[41:], b"bad device")
 add_bad_image("a disk that ends in its flags", READ_ONLY[:43], b"truncated")
 add_bad_image("bytes after the image", BUILT_IN + b"\0", b"trailing bytes")
@@ -246,7 +251,7 @@ def add_word_help(word, parts, ending=0):
             want("status and standard output", (ended.returncode, ended.stdout.decode()), (ending, answers))
 
 
-STATEMENTS = [b"ram BASE SIZE", b"at ADDR", b"u64 VALUE", b"bytes HEX", b"cmd NAME", b"context KEY", b"dir ppn", b"pte ppn", b"fault KEY", b"disk DID SECTORS", b"rodisk DID SECTORS"]
+STATEMENTS = [b"ram BASE SIZE", b"at ADDR", b"u64 VALUE", b"bytes HEX", b"cmd NAME", b"context KEY", b"dir ppn", b"pte ppn", b"fault KEY", b"disk DID SECTORS", b"rodisk DID SECTORS", b"capabilities [KEY=NUMBER"]
 add_word_help("asm", [b"<SOURCE>", b"<IMAGE>", *STATEMENTS])
 add_word_help("run", [b"<IMAGE>"])
 add_word_help("check", [b"[IMAGE]", b"--stale"], ending=1)

@@ -12,7 +12,7 @@ WIDTH = 80
 ANSWERS = ["done", "idle", "denied", "bus error", "bad access", "no device", "misuse", "outside", "none", "empty", "bad"]
 TEXTS = [
     *("line N: bad line", "line N: overlap", "line N: outside memory", "bad magic", "truncated", "trailing bytes"),
-    *("bad memory", "bad chunk", "bad device", "outside memory", "read failed", "write failed", "script too long"),
+    *("bad memory", "bad chunk", "bad device", "bad capabilities", "outside memory", "read failed", "write failed", "script too long"),
     *("out of memory", "cannot read FILE", "cannot write FILE"),
 ]
 

@@ -1,10 +1,11 @@
 -- The platform that an image starts.
-use Rattle.std.specs.Prelude.{ℕ, ◌-◌, ◌*◌, ◌++◌, Bool, false, List, [], ◌∷◌, length, map, replicate, Result, Ok}
+use Rattle.std.specs.Prelude.{ℕ, ◌-◌, ◌*◌, ◌++◌, Bool, List, [], ◌∷◌, length, map, replicate, Result, Ok}
 use Rattle.iom_mem.specs.Memory.{Memory, put}
 use Rattle.iom_mem.specs.Sizes.{zeroed}
 use Rattle.iom_blk.specs.Device.{Device, at_reset}
 use Rattle.iom_core.specs.State.{State, opening}
 use Rattle.iom_image.specs.declared.fault.LoadFault.{LoadFault}
+use Rattle.iom_image.specs.declared.version.Version.TheVariants.{First}
 use Rattle.iom_image.specs.Image.{Chunk, Disk, Image}
 use Rattle.iom_image.specs.Reading.{◌>>=◌, Read}
 
@@ -49,4 +50,4 @@ joined before read = read >>= λ x. Ok (before ++ devices_of (map started x.0))
 
 -- 1 MiB of memory at 0x80000000, all 0, and no block device
 abbrev pub built_in : Image
-built_in = record { has_flags = false; base = 2147483648; size = 1048576; chunks = []; disks = [] }
+built_in = record { version = First; base = 2147483648; size = 1048576; chunks = []; disks = [] }

@@ -22,7 +22,7 @@ fn build(alloc: Global, bytes: &[u8]) -> Result<Platform, LoadFault>
     let (header, rest) = header_of(bytes)?;
     let mut ram = zeros(alloc, header.base, header.size)?;
     let rest = fill(&mut ram, &header, rest)?;
-    let devices = make_devices(alloc, header.has_flags, header.disks, rest)?;
+    let devices = make_devices(alloc, header.version.is_flagged(), header.disks, rest)?;
     Ok(Platform::new(alloc, ram, devices)?)
 }
 
