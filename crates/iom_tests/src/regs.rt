@@ -1,3 +1,4 @@
+use iom_bits::Features;
 use iom_regs::{Mode, Queue, Regs, Which};
 
 // A read's number; 0 for a write that is taken; None for what is refused.
@@ -163,7 +164,7 @@ fn is_seen_so(regs: &Regs) -> bool {
 
 #[test]
 fn registers_are_as_in_the_table(rt: HostRuntime) {
-    let mut regs = Regs::reset();
+    let mut regs = Regs::reset(Features::none());
     assert_eq!(rt; otherwise_written(&mut regs, WRITES), None);
     assert_eq!(rt; taken(&mut regs, REFUSED), None);
     assert_eq!(rt; otherwise_shown(&mut regs, EVENTS), None);
