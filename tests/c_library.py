@@ -79,6 +79,31 @@ def calls(place, checker=()):
     passes([*checker, compiled(place, "gcc", "calls", ["tests/c/calls.c"], "-Wl,--wrap=malloc,--wrap=realloc")])
 
 
+def record_is_played(place):
+    """What a handle's record says is answered so by the program, and `explain` tells of it."""
+    record = compiled(place, "gcc", "record", ["tests/c/record.c"])
+    text = os.path.join(place.here, "record.asm")
+    with open(text, "w", encoding="utf-8") as file:
+        file.write("ram 0x80000000 0x100000\ndisk 5 1 aabb\n")
+    image, script = os.path.join(place.here, "record.image"), os.path.join(place.here, "record.script")
+    run([place.program, "asm", text, image])
+    for images in ([], [image]):
+        passes([record, script, *images])
+        with open(script, encoding="utf-8") as file:
+            lines = file.read().splitlines()
+        if len(lines) < 3000:
+            raise Failure(f"the record has {len(lines)} steps")
+        told = [line.partition(" # => ") for line in lines]
+        with open(script, "rb") as file:
+            if run([place.program, *run_words(*images)], stdin=file).decode().splitlines() != [it[2] for it in told]:
+                raise Failure("the program answers a record otherwise")
+        with open(script, "rb") as file:
+            run([place.program, "check", *images], stdin=file)
+        with open(script, "rb") as file:
+            if b"granted" not in run([place.program, "explain", *images], stdin=file):
+                raise Failure("explain tells nothing of a record")
+
+
 def from_cpp(place, compiler):
     if run([compiled(place, compiler, "header", ["examples/c/header.cpp"])]) != b"0x3810060610\n":
         raise Failure("examples/c/header.cpp prints something else")
@@ -112,7 +137,7 @@ def image_of(place, script):
     return [image]
 
 
-def run_words(image):
+def run_words(*image):
     return ["run", *image] if image else []
 
 
@@ -124,7 +149,7 @@ def is_told_alike(place):
         with open(script, "rb") as file:
             lines = file.read().split(b"\n")[:-1]
         plain = b"".join(line + b"\n" for line in lines)
-        if run([place.program, "debug", *image], input=plain) != run([place.program, *run_words(image)], input=plain):
+        if run([place.program, "debug", *image], input=plain) != run([place.program, *run_words(*image)], input=plain):
             continue
         asking = b"".join(line + b"\n" + b"".join(b"why %d\n" % step for step in range(32)) for line in lines)
         if run([play, "why", *image], input=plain) != run([place.program, "debug", *image], input=asking):
@@ -139,7 +164,7 @@ def is_played_alike(place, how):
     for script in scripts():
         image = image_of(place, script)
         with open(script, "rb") as lines:
-            wanted = run([place.program, *run_words(image)], stdin=lines)
+            wanted = run([place.program, *run_words(*image)], stdin=lines)
         with open(script, "rb") as lines:
             seen = run([play, how, *image], stdin=lines)
         if seen != wanted:
@@ -197,10 +222,13 @@ def has_all_functions(place):
     from rviommu._library import FUNCTIONS
 
     with open(os.path.join(place.include, "rviommu.h"), encoding="utf-8") as header:
-        named = {line.split("(")[0].split()[-1] for line in header if line.startswith(("uint32_t rviommu_", "void rviommu_"))}
+        named = set(re.findall(r"^(?:enum )?\w+ (rviommu_\w+)\(", header.read(), re.MULTILINE))
     needs("nm")
     defined = {line.split()[-1] for line in run(["nm", "--defined-only", "--extern-only", place.archive]).decode().splitlines() if " T rviommu_" in line}
     bound = {"rviommu_" + name for name in FUNCTIONS}
+    own = {line.split()[-1] for line in run(["nm", "--defined-only", "--dynamic", os.environ["RVIOMMU_LIBRARY"]]).decode().splitlines()}
+    if own != named:
+        raise Failure(f"the shared object has other functions: {sorted(named ^ own)}")
     if not named == defined == bound:
         raise Failure(f"functions differ: {sorted(named ^ defined | named ^ bound)}")
 
@@ -266,6 +294,7 @@ CHECKS = [
     ("the lines of C in README.md", top_readme),
     ("refusals, refused memory and copies", calls),
     ("valgrind finds nothing in them", lambda place: calls(place, VALGRIND)),
+    ("a record of a handle's steps is played by the program alike", record_is_played),
     ("pkg-config finds the library, and the shared object is used", by_pkg_config),
     ("each script is played alike, line by line", lambda place: is_played_alike(place, "text")),
     ("each script is played alike, by numbers", lambda place: is_played_alike(place, "numbers")),
