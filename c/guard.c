@@ -60,9 +60,12 @@ ANSWER rviommu_reg_read(rviommu_t *handle, uint64_t offset, uint64_t size, uint6
 }
 
 ANSWER rviommu_dma_read(rviommu_t *handle, uint64_t did, uint64_t iova, uint8_t *bytes, size_t length, uint64_t *cause) {
-    uint8_t unwanted[64];
+    uint8_t unwanted[65]; /* a longer read is refused whatever its length */
     WANTED(uint64_t, cause)
-    return iom_c_dma_read(handle, did, iova, bytes != NULL ? bytes : unwanted, length, cause);
+    if (bytes == NULL) {
+        return iom_c_dma_read(handle, did, iova, unwanted, length < sizeof unwanted ? length : sizeof unwanted, cause);
+    }
+    return iom_c_dma_read(handle, did, iova, bytes, length, cause);
 }
 
 ANSWER rviommu_dma_write(rviommu_t *handle, uint64_t did, uint64_t iova, const uint8_t *bytes, size_t length, uint64_t *cause) {

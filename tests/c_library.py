@@ -239,16 +239,39 @@ def python_tests(place):
         env={**os.environ, "RVIOMMU_LIBRARY": library})
 
 
-def python_package(place):
-    """pip installs the module without the net, and it is used from there."""
-    needs("pip")
-    site = os.path.join(place.here, "site")
-    env = {**os.environ, "RVIOMMU_LIBRARY": os.path.join(place.prefix, "lib", "librviommu.so"), "PIP_NO_INDEX": "1"}
-    run([sys.executable, "-m", "pip", "install", "--quiet", "--no-deps", "--target", site, os.path.join(TOP, "python")], env=env)
-    used = "import rviommu; print(rviommu.__file__.startswith(__import__('os').environ['PYTHONPATH']), rviommu.Platform().line('reg read 0 8'))"
-    env = {name: value for name, value in os.environ.items() if name != "RVIOMMU_LIBRARY"} | {"PYTHONPATH": site}
-    if run([sys.executable, "-B", "-c", used], env=env, cwd=place.here) != b"True 0x3810060610\n":
+USED = "import rviommu; print(rviommu.__file__.startswith(__import__('os').environ['WANTED']), rviommu.Platform().line('reg read 0 8'))"
+
+
+def is_used(python, wanted, here, **more):
+    """A Python finds the module below a folder, and its library without being told of it."""
+    env = {name: value for name, value in os.environ.items() if name not in ("RVIOMMU_LIBRARY", "PYTHONPATH")} | {"WANTED": wanted, **more}
+    if run([python, "-B", "-c", USED], env=env, cwd=here) != b"True 0x3810060610\n":
         raise Failure("the installed module answers otherwise")
+
+
+def python_package(place):
+    """pip installs the module without the net, from its folder and from the file of a wheel, and it is used from there."""
+    needs("pip")
+    packed = os.path.join(TOP, run([os.path.join(TOP, "packaging", "package.py"), "wheel", place.program, place.prefix]).decode().strip())
+    env = {**os.environ, "RVIOMMU_LIBRARY": os.path.join(place.prefix, "lib", "librviommu.so"), "PIP_NO_INDEX": "1"}
+    for name, source in (("folder", os.path.join(TOP, "python")), ("wheel", packed)):
+        site = os.path.join(place.here, name)
+        run([sys.executable, "-m", "pip", "install", "--quiet", "--no-deps", "--target", site, source], env=env)
+        if not os.path.exists(os.path.join(site, "rviommu", "py.typed")):
+            raise Failure("the installed module has no py.typed")
+        is_used(sys.executable, site, place.here, PYTHONPATH=site)
+
+
+def python_editable(place):
+    """An editable install leads to the module where it stands."""
+    needs("pip")
+    if place.prefix != os.path.join(TOP, "c", "out"):
+        raise Skip("the library isn't in c/out")
+    room = os.path.join(place.here, "venv")
+    run([sys.executable, "-m", "venv", room])
+    python = os.path.join(room, "bin", "python")
+    run([python, "-m", "pip", "install", "--quiet", "--no-deps", "--editable", os.path.join(TOP, "python")], env={**os.environ, "PIP_NO_INDEX": "1"})
+    is_used(python, os.path.join(TOP, "python"), place.here)
 
 
 def readme(place):
@@ -304,7 +327,8 @@ CHECKS = [
     ("the same by numbers under valgrind", lambda place: is_generated_alike(place, "numbers", VALGRIND)),
     ("the Python module's tests", python_tests),
     ("the test in python/README.md", python_readme),
-    ("the Python module is installed by pip and used", python_package),
+    ("the Python module is installed by pip, from its folder and as a wheel, and used", python_package),
+    ("an editable install of it is used", python_editable),
 ]
 
 

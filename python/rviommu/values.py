@@ -13,12 +13,12 @@ class Value(Structure):
 
     KINDS: ClassVar[dict[str, type[IntEnum]]] = {}
 
-    def _shown(self, name: str) -> object:
+    def _shown(self, name: str) -> str:
         value = getattr(self, name)
-        return self.KINDS[name](value) if name in self.KINDS else value
+        return self.KINDS[name](value).name if name in self.KINDS else repr(value)
 
     def __repr__(self) -> str:
-        fields = ", ".join(f"{name}={self._shown(name)!s}" for name, *_ in self._fields_ if not name.startswith("_"))
+        fields = ", ".join(f"{name}={self._shown(name)}" for name, *_ in self._fields_ if not name.startswith("_"))
         return f"{type(self).__name__}({fields})"
 
     def __eq__(self, other: object) -> bool:

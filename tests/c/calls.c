@@ -406,6 +406,84 @@ static void test_lengths(void) {
     rviommu_close(&platform);
 }
 
+/* An output that isn't wanted may be NULL, and what a call leaves is the same without it. */
+static void test_unwanted(void) {
+    rviommu_t platform = {NULL};
+    uint8_t bytes[4] = {1, 2, 3, 4};
+    char words[321];
+    want("opened", rviommu_open(image, image_length, &platform), RVIOMMU_OK);
+    want("a load", rviommu_load(&platform, RAM, 8, NULL), RVIOMMU_VALUE);
+    want("a read of a register", rviommu_reg_read(&platform, 0, 8, NULL), RVIOMMU_VALUE);
+    want("a denied read", rviommu_dma_read(&platform, 5, RAM, bytes, 4, NULL), RVIOMMU_DENIED);
+    want("a denied write", rviommu_dma_write(&platform, 5, RAM, bytes, 4, NULL), RVIOMMU_DENIED);
+    want("ddtp: Bare", rviommu_reg_write(&platform, 0x10, 8, 1), RVIOMMU_DONE);
+    want("a write", rviommu_dma_write_all(&platform, 5, RAM, bytes, 4, NULL, NULL), RVIOMMU_DONE);
+    want("a read of no bytes' buffer", rviommu_dma_read(&platform, 5, RAM, NULL, 64, NULL), RVIOMMU_BYTES);
+    want("a longer one", rviommu_dma_read(&platform, 5, RAM, NULL, 65, NULL), RVIOMMU_MISUSE);
+    want("one over pages", rviommu_dma_read_all(&platform, 5, RAM + 8, NULL, 4000, NULL, NULL), RVIOMMU_BYTES);
+    want("a device's register", rviommu_dev_read(&platform, 0, 0, 4, NULL), RVIOMMU_VALUE);
+    want("a device's step", rviommu_dev_step(&platform, 0, NULL), RVIOMMU_IDLE);
+    want("a line", rviommu_line(&platform, "load 0x80000000 4", 17, words, sizeof words, NULL), RVIOMMU_OK);
+    want_text("its answer", words, "0x4030201");
+    rviommu_memory_place(&platform, NULL, NULL);
+    want("a look at a register", rviommu_reg_look(&platform, 0, 8, NULL), RVIOMMU_OK);
+    want("a disk's size", rviommu_disk_size(&platform, 0, NULL), RVIOMMU_OK);
+    want("a page", rviommu_page(&platform, 0, NULL), RVIOMMU_BEYOND);
+    want("a context", rviommu_context(&platform, 0, NULL), RVIOMMU_BEYOND);
+    want("a part", rviommu_part(&platform, 5, RAM, false, 0, NULL), RVIOMMU_OK);
+    want("a stale request", rviommu_stale(&platform, 5, RAM, false, NULL), RVIOMMU_CURRENT);
+    want("a stale page", rviommu_stale_page(&platform, 0, NULL), RVIOMMU_NO_SUCH);
+    want("a stale context", rviommu_stale_context(&platform, 0, NULL), RVIOMMU_NO_SUCH);
+    want("why", rviommu_why(&platform, 0, NULL), RVIOMMU_OK);
+    want("a page's origin", rviommu_page_origin(&platform, 0, NULL, NULL), RVIOMMU_NOT_THERE);
+    want("a context's origin", rviommu_context_origin(&platform, 0, NULL), RVIOMMU_NOT_THERE);
+    want("an assembly", rviommu_assemble("no", 2, bytes, sizeof bytes, NULL, NULL), RVIOMMU_BAD_LINE);
+    want("words", rviommu_text(RVIOMMU_OK, words, sizeof words, NULL), RVIOMMU_OK);
+    rviommu_close(&platform);
+    rviommu_close(&platform);
+    want("a handle that was closed twice", platform.own == NULL, true);
+    rviommu_close(NULL);
+}
+
+/* Accesses of any length, over pages, and how far they came. Two pages are mapped side by side, the third isn't. */
+static void test_pieces(void) {
+    static uint8_t data[8192], seen[8192];
+    rviommu_t platform = {NULL};
+    uint64_t cause = 77, before;
+    size_t done = 77;
+    for (size_t i = 0; i < sizeof data; i++) {
+        data[i] = (uint8_t)(i * 7 + i / 256);
+    }
+    want("opened", rviommu_open_built_in(&platform), RVIOMMU_OK);
+    map(&platform);
+    want("another leaf", rviommu_store(&platform, 0x80004010, 8, 0x200080d7), RVIOMMU_DONE);
+    before = rviommu_steps(&platform);
+    want("a write over two pages", rviommu_dma_write_all(&platform, 5, 0x40201c01, data, 0x1300, &done, &cause), RVIOMMU_DONE);
+    want("how far it came", done, 0x1300);
+    want("its steps", rviommu_steps(&platform) - before, 16 + 61);
+    want("the first page", rviommu_memory(&platform, 0x80010c01, seen, 0x3ff), RVIOMMU_OK);
+    want("the second", rviommu_memory(&platform, 0x80020000, seen + 0x3ff, 0xf01), RVIOMMU_OK);
+    want("the bytes", memcmp(seen, data, 0x1300), 0);
+    memset(seen, 9, sizeof seen);
+    want("a read of them", rviommu_dma_read_all(&platform, 5, 0x40201c01, seen, 0x1300, &done, &cause), RVIOMMU_BYTES);
+    want("the bytes", memcmp(seen, data, 0x1300), 0);
+    want("no cause yet", cause, 77);
+    memset(seen, 9, sizeof seen);
+    want("a read into the third page", rviommu_dma_read_all(&platform, 5, 0x40202fa0, seen, 200, &done, &cause), RVIOMMU_DENIED);
+    want("how far it came", done, 0x60);
+    want("its cause", cause, 13);
+    want("the byte after it", seen[0x60], 9);
+    want("a write into it", rviommu_dma_write_all(&platform, 5, 0x40202fa0, data, 200, &done, &cause), RVIOMMU_DENIED);
+    want("how far it came", done, 0x60);
+    before = rviommu_steps(&platform);
+    want("no byte", rviommu_dma_write_all(&platform, 5, 0x40201000, data, 0, &done, &cause), RVIOMMU_MISUSE);
+    want("how far it came", done, 0);
+    want("past the last IOVA", rviommu_dma_read_all(&platform, 5, UINT64_MAX, seen, 2, &done, &cause), RVIOMMU_MISUSE);
+    want("no step of these", rviommu_steps(&platform), before);
+    want("the last IOVA", rviommu_dma_read_all(&platform, 5, UINT64_MAX, seen, 1, &done, &cause), RVIOMMU_DENIED);
+    rviommu_close(&platform);
+}
+
 static void test_version(void) {
     char number[24];
     uint32_t told = rviommu_version();
@@ -457,6 +535,8 @@ int main(void) {
     test_kept_reasons();
     test_interrupt();
     test_lengths();
+    test_unwanted();
+    test_pieces();
     test_version();
     test_words();
     printf(failed ? "failed\n" : "passed\n");

@@ -96,7 +96,7 @@ pub extern "C" fn rviommu_reg_look(
 ) -> u32
     ghost own: { Owned }
     requires open { handle.old.held ≡ Some own }
-    ensures value { ReadTold (read own.platform.machine.regs off size) result value.old value.new }
+    ensures value { ReadTold (read own.platform.machine.registers off size) result value.old value.new }
     ensures same { handle.new.held ≡ Some own }
 {
     let owned = handle.take(alloc);
@@ -111,7 +111,7 @@ pub extern "C" fn rviommu_reg_look(
 pub extern "C" fn rviommu_interrupt(alloc: Global, handle: &mut Handle) -> u64
     ghost own: { Owned }
     requires open { handle.old.held ≡ Some own }
-    ensures pending { Some result ≡ read own.platform.machine.regs 84 4 }
+    ensures pending { Some result ≡ read own.platform.machine.registers 84 4 }
     ensures same { handle.new.held ≡ Some own }
 {
     let owned = handle.take(alloc);

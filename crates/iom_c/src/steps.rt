@@ -1,6 +1,6 @@
 //! Steps by numbers.
 
-ghost use Rattle.std.specs.Prelude.{◌≡◌, ¬◌, length, Some, IsSome, IfSome, IsSomeAnd};
+ghost use Rattle.std.specs.Prelude.{◌≡◌, length, Some, IsSome, IfSome, IsSomeAnd};
 ghost use Rattle.iom_core.specs.Table.{next};
 ghost use Rattle.iom_core.specs.declared.step.Step.TheVariants as step;
 ghost use Rattle.iom_c.specs.Answers.{bytes_in, code_of, HasLength, IsOneStep, misuse, number_in, writing};
