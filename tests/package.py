@@ -31,10 +31,14 @@ def files_of(root):
 
 
 class Packages(frame.Case):
-    def pack(self, kind):
+    def pack_all(self, kind):
         if kind == "deb":
             self.needs("dpkg-deb")
-        return TOP / run([TOP / "packaging/package.py", kind, program()]).decode().strip()
+        return [TOP / path for path in run([TOP / "packaging/package.py", kind, program()]).decode().split()]
+
+    def pack(self, kind):
+        """The archive, or the program's Debian package, which is the first of three."""
+        return self.pack_all(kind)[0]
 
     def folder_of(self, name):
         os.makedirs(self.path(name))
@@ -92,10 +96,11 @@ class Packages(frame.Case):
             self.assertLessEqual(max(asked), oldest, path)
 
     def test_packed_alike(self):
-        """the archive, and the Debian package, are packed alike twice"""
+        """the archive, and the Debian packages, are packed alike twice"""
         for kind in ("dist", "deb"):
             with self.subTest(kind):
-                self.assertTrue(self.pack(kind).read_bytes() == self.pack(kind).read_bytes())
+                first, second = ([path.read_bytes() for path in self.pack_all(kind)] for _ in range(2))
+                self.assertTrue(first == second)
 
     def test_archive(self):
         """the archive's program, examples, man page and C library are used"""
@@ -104,19 +109,22 @@ class Packages(frame.Case):
         self.want_used(top / "rviommu", top / "rviommu.1", top / "examples", top)
 
     def test_package(self):
-        """the Debian package is installed into an empty root, with completions, used and removed"""
+        """the Debian packages are installed into an empty root, with completions, used and removed"""
         self.needs("dpkg")
-        package, root = self.pack("deb"), self.folder_of("root")
+        packages, root = self.pack_all("deb"), self.folder_of("root")
+        names = [path.name.partition("_")[0] for path in packages]
+        number = re.search(r"(?m)^#define RVIOMMU_ABI (\d+)$", text_of("include/rviommu.h"))[1]
+        self.assertEqual(names, ["rviommu", f"librviommu{number}", "librviommu-dev"])
         for folder in ("info", "updates", "triggers"):
             os.makedirs(root / "var/lib/dpkg" / folder)
         for file in ("status", "available"):
             (root / "var/lib/dpkg" / file).touch()
         dpkg = ["dpkg", f"--root={root}", f"--log={root}/dpkg.log", "--force-not-root", "--force-depends"]
         before = files_of(root)
-        run([*dpkg, "--install", package])
+        run([*dpkg, "--install", *packages])
         self.want_completions(root / "usr", "vendor-completions")
         self.want_used(root / "usr/bin/rviommu", root / "usr/share/man/man1/rviommu.1.gz", root / "usr/share/doc/rviommu/examples", root)
-        run([*dpkg, "--purge", "rviommu"])
+        run([*dpkg, "--purge", *names])
         self.assertEqual([name for name in files_of(root) if name not in before and not name.startswith(("var/", "dpkg.log"))], [])
 
     def test_page(self):
@@ -131,9 +139,11 @@ class Packages(frame.Case):
             self.want_same((PAGE / it, folder / it) for it in wanted)
 
     def test_lintian(self):
-        """lintian finds no error in the Debian package, and warns of nothing"""
+        """lintian finds no error in the Debian packages, and warns of nothing, and none has it look away"""
         self.needs("lintian")
-        run(["lintian", "--allow-root", "--fail-on", "error,warning", self.pack("deb")])
+        packages = self.pack_all("deb")
+        run(["lintian", "--allow-root", "--fail-on", "error,warning", *packages])
+        self.assertEqual([path.name for path in packages if b"lintian" in run(["dpkg-deb", "--contents", path])], [])
 
 
 if __name__ == "__main__":

@@ -23,7 +23,7 @@ NUMBERS = [
     ("docs/PROMISES.md", "beyond 2^20 lines or 2^26 bytes", "crates/iom_tool/specs/Running.antt", "(length text ≡ 2 ^ 26) ⊎ (length (ended_lines text) ≡ 2 ^ 20)"),
     ("docs/CONTRIBUTING.md", "the 320 bytes of a `Reply`", "crates/iom_tool/src/draft.rt", "bytes: [u8; 320],"),
     ("README.md", "each process with 2 to 3 GB of memory", "packaging/build.py", "BYTES_A_JOB = 3 << 30"),
-    ("README.md", "glibc 2.36 or later", "packaging/package.py", "Depends: libc6 (>= 2.36)"),
+    ("README.md", "glibc 2.36 or later", "packaging/package.py", 'LIBC = "libc6 (>= 2.36)"'),
     ("README.md", "A file that the program reads has at most 2^30 bytes", "crates/rviommu/src/files.rt", "MOST_BYTES: u64 = 1 << 30;"),
     ("docs/PROMISES.md", "and of 200 lists of steps made at random", "crates/iom_rows/src/generated.rt", "SCRIPTS: u64 = 200;"),
     ("docs/GATE.md", "and of 200 lists of steps made at random", "crates/iom_rows/src/generated.rt", "SCRIPTS: u64 = 200;"),
@@ -83,6 +83,8 @@ def names_of(crate):
 
 
 NAMES = {crate: names_of(crate) for crate in CRATES}
+# What C has beside the functions of the crate.
+NAMES["iom_c"].update(re.findall(r"rviommu_\w+", text_of("c/guard.c") + text_of("include/rviommu_record.h")))
 
 
 def has(crate, name):
@@ -119,7 +121,7 @@ def promised():
 def public(crate):
     """The names that a library gives to those above it; the functions of the C library."""
     if crate == "iom_c":
-        return set(re.findall(r"(?m)^\w+ (rviommu_\w+)\(", text_of("include/rviommu.h")))
+        return set(re.findall(r"(?m)^(?:enum )?\w+ (rviommu_\w+)\(", text_of("include/rviommu.h")))
     path = f"crates/{crate}/src/lib.rt"
     text = text_of(path) if is_there(path, [""]) else ""
     used = [group or name for group, name in re.findall(r"(?m)^pub use (?:[\w:]+::)?(?:\{([^}]*)\}|(\w+));", text)]
