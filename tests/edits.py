@@ -221,7 +221,7 @@ class Crate:
 
     def __init__(self, name, of_kit):
         self.name, self.words = name, kit.words("check", name, of_kit)
-        self.texts = Texts(whole.texts(CRATES / name))
+        self.texts = Texts(dict(whole.texts(CRATES / name)))
         self.told, self.edits = [], []
         for file in edits_in(name):
             try:
