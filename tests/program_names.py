@@ -42,7 +42,7 @@ def defined(path):
     """The names that a file gives to items, cases, fields, operands and clauses; in a file of definitions to these and to fields."""
     text = text_of(path)
     if path.endswith(".antt"):
-        return set(re.findall(r"(?m)^\s*(?:\w+ )?(?:pub )?(?:data |record )?([^\s:()]+)(?: \(.*\))? :", text))
+        return set(re.findall(r"(?m)^\s*(?:\w+ )?(?:pub )?(?:data |record )?([^\s:()]+)(?: [({].*[)}])? :", text))
     text = re.sub(r"//.*", "", text)
     items = re.findall(r"\b(?:fn|struct|enum|trait|const|type|mod|impl|for)\s+(\w+)", text)
     return {*items, *re.findall(r"\b(\w+): ", text), *re.findall(r"(?m)^\s+(\w+)(?:,|\(.*\),| \{.*)$", text), *clauses(text)}
