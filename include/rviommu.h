@@ -352,7 +352,7 @@ enum rviommu_status rviommu_disk(const rviommu_t *handle, uint64_t device, uint6
 enum rviommu_place rviommu_page(const rviommu_t *handle, uint64_t place, struct rviommu_page_place *page);
 enum rviommu_place rviommu_context(const rviommu_t *handle, uint64_t place, struct rviommu_context_place *context);
 
-/* One of the parts of a walk, at most 29: all that is looked at to lead a request of a device for an IOVA where nothing is cached, in
+/* One of the parts of a walk, at most 40: all that is looked at to lead a request of a device for an IOVA where nothing is cached, in
  * order ("Process to translate an IOVA"). Part 0 is ddtp, the last is the end. Answers RVIOMMU_OK; or RVIOMMU_NOT_THERE where there are
  * fewer parts or the device id isn't below 2^24, and `part` is unchanged then. */
 enum rviommu_status rviommu_part(const rviommu_t *handle, uint64_t did, uint64_t iova, bool is_write, uint64_t number, struct rviommu_walk_part *part);
