@@ -131,6 +131,7 @@ def serves_c(root):
         run(["gcc", "-std=c11", "-o", made, *sources, *flags])
         if run([made], env={**os.environ, "LD_LIBRARY_PATH": os.path.dirname(folder)}) != b"passed\n":
             raise Failure("the driver's test fails on the shared object")
+        run(["gcc", "-std=c11", "-fsyntax-only", os.path.join(TOP, "tests/c/record.c"), *flags[:1]])
         run(["gcc", "-std=c11", "-o", made, *sources, *flags[:1], os.path.join(os.path.dirname(folder), "librviommu.a")])
         if run([made]) != b"passed\n":
             raise Failure("the driver's test fails on the archive")
