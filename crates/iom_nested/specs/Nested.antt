@@ -42,10 +42,6 @@ first_stage memory context iova kind None = Ok (record { addr = iova; level = 0;
 first_stage memory context iova kind (Some shape) =
     reached_by iova (outcome_of (table_got memory context) shape context.ppn iova kind)
 
--- the bounds of a hit
-abbrev pub HitFits : Hit → Type 0
-HitFits hit = (hit.frame < 2 ^ 44) × (hit.level < 4)
-
 -- the second stage's frame, for the access's own kind; the first stage's level and global
 abbrev pub hit_by : Reached → Outcome → Result Hit Failure
 hit_by reached (outcome.Leaf leaf) = Ok (record { frame = leaf.frame; level = reached.level; global = reached.global })

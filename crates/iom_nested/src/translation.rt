@@ -1,9 +1,9 @@
 ghost use Rattle.std.specs.Prelude.{◌≡◌, ◌≢◌, ◌<◌, ◌≤◌, ◌^◌, [], false, None, IfOk};
 ghost use Rattle.arrayvec.specs.ArrayVec.{array_vec_len};
-ghost use Rattle.iom_ddt.specs.Contexts.{is_bare, IsWellFormed};
+ghost use Rattle.iom_ddt.specs.Contexts.{is_bare};
 ghost use Rattle.iom_nested.specs.Stages.{first_shape_of, second_shape_of};
 ghost use Rattle.iom_nested.specs.Faults.{fault_of, EntryOutside};
-ghost use Rattle.iom_nested.specs.Nested.{HitFits, LeafReaches, first_path, first_stage, reached_by, second_stage, told_of, translation};
+ghost use Rattle.iom_nested.specs.Nested.{LeafReaches, first_path, first_stage, reached_by, second_stage, told_of, translation};
 ghost use Rattle.iom_nested.specs.Pages.{OneHitAPage};
 
 use crate::physical::Physical;
@@ -12,6 +12,7 @@ use iom_bits::{Cause, Kind};
 use iom_ddt::Context;
 use iom_mem::Ram;
 use iom_walk::{Outcome, PathEntries, Shape, walk, walk_listed};
+use std::marker::Model;
 
 /// Where a page of IOVAs leads: what an entry of the translation cache, the IOTLB, says.
 #[derive(Clone, Copy, PartialEq)]
@@ -22,6 +23,18 @@ pub struct Hit {
     pub level: u8,
     /// Whether the first stage's mapping is global; false where that stage is Bare.
     pub global: bool,
+}
+
+impl Model for Hit {
+    ghost use Rattle.iom_nested.specs.Hits.{Page, HitFits};
+
+    ghost Value = { Page };
+
+    ghost view = { λ hit. record { frame = hit.frame; level = hit.level; global = hit.global } };
+
+    ghost inverse = { λ page. record { frame = page.frame; level = page.level; global = page.global } };
+
+    ghost invariant = { λ hit. HitFits (record { frame = hit.frame; level = hit.level; global = hit.global }) };
 }
 
 /// Why an IOVA leads nowhere.
@@ -54,10 +67,8 @@ pub struct Reached {
 #[inline(always)]
 #[tactic(auto, unfolding(crate::specs::Nested::translation))]
 pub fn translate(ram: &Ram, context: &Context, iova: u64, kind: Kind) -> Result<Hit, Fault>
-    requires well_formed { IsWellFormed context.now }
     requires translated { is_bare context.now ≡ false }
     ensures translation { result ≡ translation ram.now context.now iova kind }
-    ensures fits { IfOk result HitFits }
 {
     let reached = first_stage(ram, context, iova, kind)?;
     second_stage(ram, context, reached, kind)
@@ -74,7 +85,6 @@ pub fn one_hit_a_page()
 /// itself.
 #[inline(always)]
 pub fn first_stage(ram: &Ram, context: &Context, iova: u64, kind: Kind) -> Result<Reached, Fault>
-    requires well_formed { IsWellFormed context.now }
     ensures reached { result
         ≡ told_of kind (first_stage ram.now context.now iova kind (first_shape_of context.now)) }
     ensures fits { IfOk result
@@ -84,8 +94,8 @@ pub fn first_stage(ram: &Ram, context: &Context, iova: u64, kind: Kind) -> Resul
         return Ok(unmoved(iova));
     };
     let outcome = match second_shape(context) {
-        Some(_) => walk(&Second::new(ram, context), shape, context.ppn, iova, kind),
-        None => walk(&Physical { ram }, shape, context.ppn, iova, kind),
+        Some(_) => walk(&Second::new(ram, context), shape, context.fields.ppn, iova, kind),
+        None => walk(&Physical { ram }, shape, context.fields.ppn, iova, kind),
     };
     reached_by(outcome, iova, kind)
 }
@@ -99,7 +109,6 @@ pub fn first_stage_listed(
     iova: u64,
     kind: Kind,
 ) -> Result<Reached, Fault>
-    requires well_formed { IsWellFormed context.now }
     requires empty { met.old.items ≡ [] }
     ensures entries { met.new.items ≡ first_path ram.now context.now iova kind (first_shape_of context.now) }
     ensures few { array_vec_len met.new ≤ 4 }
@@ -111,7 +120,7 @@ pub fn first_stage_listed(
     let Some(shape) = first_shape(context) else {
         return Ok(unmoved(iova));
     };
-    let (root, bare) = (context.ppn, Physical { ram });
+    let (root, bare) = (context.fields.ppn, Physical { ram });
     let outcome = match second_shape(context) {
         Some(_) => walk_listed(met, &Second::new(ram, context), shape, root, iova, kind),
         None => walk_listed(met, &bare, shape, root, iova, kind),
@@ -164,16 +173,14 @@ pub fn second_stage(
     reached: Reached,
     kind: Kind,
 ) -> Result<Hit, Fault>
-    requires well_formed { IsWellFormed context.now }
     requires level { reached.level < 4 }
     requires inside { second_shape_of context.now ≡ None → reached.addr < 2 ^ 56 }
     ensures hit { result
         ≡ told_of kind (second_stage ram.now context.now kind (second_shape_of context.now) reached) }
-    ensures fits { IfOk result HitFits }
 {
     let frame = match second_shape(context) {
         None => reached.addr / 4096,
-        Some(shape) => match walk(&Physical { ram }, shape, context.gppn, reached.addr, kind) {
+        Some(shape) => match walk(&Physical { ram }, shape, context.fields.gppn, reached.addr, kind) {
             Outcome::Leaf(leaf) => leaf.frame,
             Outcome::Outside => return Err(entry_outside(kind)),
             Outcome::Guest(_) | Outcome::Fault => {
@@ -205,7 +212,7 @@ fn entry_outside(kind: Kind) -> Fault
 pub fn first_shape(context: &Context) -> Option<Shape>
     ensures { result ≡ first_shape_of context.now }
 {
-    match context.mode {
+    match context.fields.mode {
         0 => None,
         8 => Some(Shape::Sv39),
         _ => Some(Shape::Sv48),
