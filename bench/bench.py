@@ -1,4 +1,4 @@
-#!/usr/bin/env python3
+#!/usr/bin/env -S python3 -B
 """bench.py PROGRAM [OTHER]    Lines per second of PROGRAM, and of OTHER beside it, on six scripts.
 
 Five scripts have 1,000,000 lines: mode Bare, and one stage and both with 24 pages (all found in the translation cache once it

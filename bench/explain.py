@@ -1,4 +1,4 @@
-#!/usr/bin/env python3
+#!/usr/bin/env -S python3 -B
 """explain.py PROGRAM    Lines per second of `explain` beside those of a run, on 300,000 device reads in 24 and in 176 pages.
 
 The reads are those of the scripts of bench.py, behind the lines that set the IOMMU up: one stage and both, with 24 pages (all found in the

@@ -1,4 +1,4 @@
-#!/usr/bin/env python3
+#!/usr/bin/env -S python3 -B
 """generate.py STAGES PAGES LINES SEED    Writes a script of LINES lines to standard output, the same one for the same words.
 
 The first lines set the IOMMU up: mode Bare where STAGES is 0; else device 5 with a first stage alone (1), or both (2), each

@@ -1,4 +1,4 @@
-#!/usr/bin/env python3
+#!/usr/bin/env -S python3 -B
 """images.py PROGRAM [OTHER]    Seconds that PROGRAM, and OTHER beside it, take to load, to assemble and to list.
 
 Loaded, for an empty script, is an image of 64 MiB whose one chunk fills its memory. Assembled are texts of 10,000, 100,000 and

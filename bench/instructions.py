@@ -1,4 +1,4 @@
-#!/usr/bin/env python3
+#!/usr/bin/env -S python3 -B
 """instructions.py PROGRAM [OTHER]    Instructions of PROGRAM, and of OTHER beside it, counted by callgrind: no clock is read.
 
 The scripts are those of bench.py, shorter: what a line takes is the difference of two lengths, divided by the lines between
