@@ -238,7 +238,7 @@ NUMBERS = [
     ("docs/PROMISES.md", "there are at most 64 places, or 16", "crates/iom_cache/src/translations.rt", "ensures within { length self.now ≤ 64 }"),
     ("docs/PROMISES.md", "there are at most 64 places, or 16", "crates/iom_cache/src/contexts.rt", "ensures within { length self.now ≤ 16 }"),
     ("docs/PROMISES.md", "at most 64 * (2^32 - 1) (`few`)", "crates/iom_virtq/src/chain.rt", "ensures few { result ≤ 64 * 4294967295 }"),
-    ("docs/PROMISES.md", "There are 2 to 29 parts (`some`, `most`)", "crates/iom_tables/src/listing.rt", "ensures most { array_vec_len result ≤ 29 }"),
+    ("docs/PROMISES.md", "There are 2 to 40 parts (`some`, `most`)", "crates/iom_tables/src/listing.rt", "ensures most { array_vec_len result ≤ 40 }"),
     ("docs/PROMISES.md", "keeps the last 32", "crates/iom_tool/src/trace.rt", "MOST_ENTRIES: usize = 32;"),
     ("docs/PROMISES.md", "beyond 2^20 lines or 2^26 bytes", "crates/iom_tool/specs/Running.antt", "(length text ≡ 2 ^ 26) ⊎ (length (ended_lines text) ≡ 2 ^ 20)"),
     ("docs/PROMISES.md", "answers the 32 bytes of the image of 1 MiB", "crates/iom_image/src/image.rt", "pub fn built_in() -> [u8; 32]"),
