@@ -258,11 +258,6 @@ def _():
     want("the documents", sorted(it for it in spans(rows) if it.endswith(".md")), sorted([*there, "CHANGELOG.md"]))
 
 
-@check("DECISIONS has fewer than 3,500 words")
-def _():
-    want("whether it has", len(text_of("docs/DECISIONS.md").split()) < 3500, True)
-
-
 @check("GATE: it names each part of `make test`, in their order")
 def _():
     recipe = re.search(r"(?m)^test:\n((?:\t.*\n)+)", text_of("Makefile"))[1]

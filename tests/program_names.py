@@ -42,7 +42,7 @@ def defined(path):
     """The names that a file gives to items, cases, fields, operands and clauses; in a file of definitions to these and to fields."""
     text = text_of(path)
     if path.endswith(".antt"):
-        return set(re.findall(r"(?m)^\s*(?:\w+ )?(?:pub )?(?:data |record )?([^\s:()]+)(?: \(.*\))? :", text))
+        return set(re.findall(r"(?m)^\s*(?:\w+ )?(?:pub )?(?:data |record )?([^\s:()]+)(?: [({].*[)}])? :", text))
     text = re.sub(r"//.*", "", text)
     items = re.findall(r"\b(?:fn|struct|enum|trait|const|type|mod|impl|for)\s+(\w+)", text)
     return {*items, *re.findall(r"\b(\w+): ", text), *re.findall(r"(?m)^\s+(\w+)(?:,|\(.*\),| \{.*)$", text), *clauses(text)}
@@ -185,7 +185,7 @@ def _():
         want(f"the clauses and functions that {crate} doesn't have", sorted(named - there), [])
 
 
-@check("PROMISES: the tests and the files of tests that it names are there")
+@check("PROMISES: the tests that it names are there")
 def _():
     promises = dict(sections(text_of("docs/PROMISES.md")))
     refused = defined("crates/iom_tests/src/refused.rt")
@@ -193,9 +193,6 @@ def _():
     want("the tests of refused memory that are not there", [name for name in named if name not in refused], [])
     calls = [name for cells in rows(promises["Calls that take memory"]) for name in spans(cells[0])]
     want("the calls that are not there", [name for name in calls if not any(has(crate, name) for crate in CRATES)], [])
-    files = {spans(cells[0])[0] for cells in rows(promises["`iom_tests` and `iom_rows`"])}
-    there = {os.path.basename(path)[: -len(".rt")] for path in names_there("crates/iom_tests/src/*.rt")}
-    want("the files of tests", sorted(files), sorted(there - {"lib", "tape"}))
 
 
 @check("PROMISES: all tests of the libraries stand in iom_tests")
@@ -232,16 +229,7 @@ add_named("docs/MODEL.md")
 
 # What a document says of a number, and where the code or a clause has it.
 NUMBERS = [
-    ("docs/PROMISES.md", "the first eleven words", "crates/iom_text/src/reading.rt", "MOST_WORDS: usize = 11;"),
-    ("docs/PROMISES.md", "of at most 20 and 18 bytes", "crates/iom_text/src/writing.rt", "result.items ≤ 18 }"),
-    ("docs/PROMISES.md", "at the front of 16 places", "crates/iom_text/src/writing.rt", "length places.old ≡ 16 }"),
-    ("docs/PROMISES.md", "there are at most 64 places, or 16", "crates/iom_cache/src/translations.rt", "ensures within { length self.now ≤ 64 }"),
-    ("docs/PROMISES.md", "there are at most 64 places, or 16", "crates/iom_cache/src/contexts.rt", "ensures within { length self.now ≤ 16 }"),
-    ("docs/PROMISES.md", "at most 64 * (2^32 - 1) (`few`)", "crates/iom_virtq/src/chain.rt", "ensures few { result ≤ 64 * 4294967295 }"),
-    ("docs/PROMISES.md", "There are 2 to 40 parts (`some`, `most`)", "crates/iom_tables/src/listing.rt", "ensures most { array_vec_len result ≤ 40 }"),
-    ("docs/PROMISES.md", "keeps the last 32", "crates/iom_tool/src/trace.rt", "MOST_ENTRIES: usize = 32;"),
     ("docs/PROMISES.md", "beyond 2^20 lines or 2^26 bytes", "crates/iom_tool/specs/Running.antt", "(length text ≡ 2 ^ 26) ⊎ (length (ended_lines text) ≡ 2 ^ 20)"),
-    ("docs/PROMISES.md", "answers the 32 bytes of the image of 1 MiB", "crates/iom_image/src/image.rt", "pub fn built_in() -> [u8; 32]"),
     ("docs/CONTRIBUTING.md", "the 320 bytes of a `Reply`", "crates/iom_tool/src/draft.rt", "bytes: [u8; 320],"),
     ("README.md", "each process with 2 to 3 GB of memory", "packaging/build.py", "BYTES_A_JOB = 3 << 30"),
     ("README.md", "glibc 2.36 or later", "packaging/package.py", "Depends: libc6 (>= 2.36)"),
