@@ -7,7 +7,6 @@ use Rattle.iom_bits.specs.declared.causes.Cause.TheVariants.{TooWide}
 use Rattle.iom_bits.specs.declared.causes.Kind.{Kind}
 use Rattle.iom_bits.specs.declared.causes.Kind.TheVariants.{Read}
 use Rattle.iom_bits.specs.declared.features.Features.{Features}
-use Rattle.iom_bits.specs.Features.{no_features}
 use Rattle.iom_mem.specs.Memory.{Memory, word, words_at}
 use Rattle.iom_regs.specs.Table.{Registers}
 use Rattle.iom_regs.specs.Views.{mode_of, root_of}
@@ -357,11 +356,11 @@ context_passes memory features request context granted = under_passes memory fea
 
 found_passes : (m : Machine) (request : Request) (found : Result Context Cause) → located m.memory m.registers request.did ≡ found →
     IsGranted (led_by_context (uncached m) request (context_look (uncached m) request.did).filled found).way →
-    All Passes (directory_parts m request.did ++ stage_parts m.memory no_features request.iova request.kind found)
+    All Passes (directory_parts m request.did ++ stage_parts m.memory m.registers.features request.iova request.kind found)
 found_passes m request (Ok context) is granted =
-    All-append Passes (directory_parts m request.did) (stage_parts m.memory no_features request.iova request.kind (Ok context))
+    All-append Passes (directory_parts m request.did) (stage_parts m.memory m.registers.features request.iova request.kind (Ok context))
     (directory_passes m request.did context is)
-    (context_passes m.memory no_features request context granted)
+    (context_passes m.memory m.registers.features request context granted)
 found_passes m request (Err why) is granted = absurd granted
 
 mode_passes : (m : Machine) (request : Request) (own : Mode) → IsGranted ((led_by_mode own (uncached m) request).way) →

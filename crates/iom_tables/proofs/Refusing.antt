@@ -8,7 +8,6 @@ use Rattle.iom_bits.specs.declared.causes.Cause.TheVariants.{TooWide}
 use Rattle.iom_bits.specs.declared.causes.Kind.{Kind}
 use Rattle.iom_bits.specs.declared.causes.Kind.TheVariants.{Read}
 use Rattle.iom_bits.specs.declared.features.Features.{Features}
-use Rattle.iom_bits.specs.Features.{no_features}
 use Rattle.iom_mem.specs.Memory.{Memory, word, words_at}
 use Rattle.iom_regs.specs.Table.{Registers}
 use Rattle.iom_regs.specs.Views.{mode_of, root_of}
@@ -333,12 +332,12 @@ context_refuses memory features request context denied = under_refuses memory fe
 
 found_refuses : (m : Machine) (request : Request) (found : Result Context Cause) → located m.memory m.registers request.did ≡ found →
     (IsGranted (led_by_context (uncached m) request (context_look (uncached m) request.did).filled found).way → ⊥) →
-    Occurs Bars (directory_parts m request.did ++ stage_parts m.memory no_features request.iova request.kind found)
+    Occurs Bars (directory_parts m request.did ++ stage_parts m.memory m.registers.features request.iova request.kind found)
 found_refuses m request (Ok context) is denied =
-    in_second Bars (directory_parts m request.did) (stage_parts m.memory no_features request.iova request.kind (Ok context))
-    (context_refuses m.memory no_features request context denied)
+    in_second Bars (directory_parts m request.did) (stage_parts m.memory m.registers.features request.iova request.kind (Ok context))
+    (context_refuses m.memory m.registers.features request context denied)
 found_refuses m request (Err why) is denied =
-    in_first Bars (directory_parts m request.did) (stage_parts m.memory no_features request.iova request.kind (Err why))
+    in_first Bars (directory_parts m request.did) (stage_parts m.memory m.registers.features request.iova request.kind (Err why))
     (directory_refuses m request.did why is)
 
 mode_refuses : (m : Machine) (request : Request) (own : Mode) → (IsGranted ((led_by_mode own (uncached m) request).way) → ⊥) →

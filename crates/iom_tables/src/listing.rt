@@ -5,7 +5,6 @@ ghost use Rattle.arrayvec.specs.ArrayVec.{array_vec_len};
 ghost use Rattle.iom_regs.specs.Views.{mode_of};
 ghost use Rattle.iom_ddt.specs.Contexts.{IsWellFormed};
 ghost use Rattle.iom_ddt.specs.Directory.{levels_of, located, path_of};
-ghost use Rattle.iom_bits.specs.Features.{no_features};
 ghost use Rattle.iom_bits.specs.declared.causes.Kind.TheVariants.{Read};
 ghost use Rattle.iom_nested.specs.Faults.{Failure};
 ghost use Rattle.iom_nested.specs.Nested.{first_stage, told_of};
@@ -85,9 +84,9 @@ pub fn put_parts(out: &mut Parts, platform: &Platform, request: &Request)
 #[tactic(auto, unfolding(crate::specs::Parts::parts_under))]
 pub fn put_parts_under(out: &mut Parts, platform: &Platform, request: &Request, context: &Context)
     requires { IsWellFormed context.now }
-    ensures parts { out.new.items ≡ parts_under platform.now.machine.memory no_features request.now context.now }
+    ensures parts { out.new.items ≡ parts_under platform.now.machine.memory platform.now.machine.registers.features request.now context.now }
     ensures read { All (IsRead platform.now.machine.memory) out.new.items }
-    ensures passed { IsGranted (led_under platform.now.machine.memory no_features [] request.now context.now).way → All Passes out.new.items }
+    ensures passed { IsGranted (led_under platform.now.machine.memory platform.now.machine.registers.features [] request.now context.now).way → All Passes out.new.items }
     ensures fits { All PartFits out.new.items }
 {
     out.clear();
@@ -144,10 +143,10 @@ fn push_located(out: &mut Parts, platform: &Platform, request: &Request)
     requires directory { 1 ≤ levels_of (mode_of platform.now.machine.registers) }
     requires width { request.now.did < 2 ^ 24 }
     requires room { array_vec_len out.old ≤ 5 }
-    ensures items { out.new.items ≡ out.old.items ++ stage_parts platform.now.machine.memory no_features request.now.iova request.now.kind
+    ensures items { out.new.items ≡ out.old.items ++ stage_parts platform.now.machine.memory platform.now.machine.registers.features request.now.iova request.now.kind
         (located platform.now.machine.memory platform.now.machine.registers request.now.did) }
     ensures len { array_vec_len out.new ≤ array_vec_len out.old + 35 }
-    ensures fits { All PartFits (stage_parts platform.now.machine.memory no_features request.now.iova request.now.kind
+    ensures fits { All PartFits (stage_parts platform.now.machine.memory platform.now.machine.registers.features request.now.iova request.now.kind
         (located platform.now.machine.memory platform.now.machine.registers request.now.did)) }
 {
     if let Ok(context) = &locate(platform.ram(), platform.registers(), request.did) {
@@ -160,13 +159,13 @@ fn push_stages(out: &mut Parts, platform: &Platform, request: &Request, context:
     requires well_formed { IsWellFormed context.now }
     requires room { array_vec_len out.old ≤ 5 }
     ensures items { out.new.items ≡ out.old.items
-        ++ stage_parts platform.now.machine.memory no_features request.now.iova request.now.kind (Ok context.now) }
+        ++ stage_parts platform.now.machine.memory platform.now.machine.registers.features request.now.iova request.now.kind (Ok context.now) }
     ensures len { array_vec_len out.new ≤ array_vec_len out.old + 35 }
-    ensures fits { All PartFits (stage_parts platform.now.machine.memory no_features request.now.iova request.now.kind (Ok context.now)) }
+    ensures fits { All PartFits (stage_parts platform.now.machine.memory platform.now.machine.registers.features request.now.iova request.now.kind (Ok context.now)) }
 {
-    let ram = platform.ram();
-    let reached = push_first(out, ram, Features::none(), context, request.iova, request.kind);
-    push_access(out, ram, Features::none(), context, reached, request.kind);
+    let (ram, features) = (platform.ram(), platform.registers().features());
+    let reached = push_first(out, ram, features, context, request.iova, request.kind);
+    push_access(out, ram, features, context, reached, request.kind);
 }
 
 // The first stage, entry by entry, or an IOVA that is too wide for it, and where it leads.
