@@ -202,7 +202,7 @@ directory_passes m did context found =
     (path_passes m.memory m.registers did context found)
 
 -- the second stage, where it leads an address
-abbrev Leads : Memory → ℕ → Kind → ℕ → Option Shape → Type 0
+abbrev Leads : Memory → Features → ℕ → Kind → ℕ → Option Shape → Type 0
 Leads memory features root kind guest None = Unit {0}
 Leads memory features root kind guest (Some shape) = (leaf : Leaf) × (outcome_of (ram_got memory) (format_of features shape) root guest kind ≡ outcome.Leaf leaf)
 

@@ -229,7 +229,7 @@ outcome_stops at format root address kind =
     ] in by_cases (is_in_width format.shape address) refl
 
 -- the second stage, where it leads an address nowhere
-abbrev LeadsNot : Memory → ℕ → Kind → ℕ → Option Shape → Type 0
+abbrev LeadsNot : Memory → Features → ℕ → Kind → ℕ → Option Shape → Type 0
 LeadsNot memory features root kind guest None = ⊥
 LeadsNot memory features root kind guest (Some shape) = NoLeaf (outcome_of (ram_got memory) (format_of features shape) root guest kind)
 

@@ -3,7 +3,6 @@
 ghost use Rattle.std.specs.Prelude.{◌≡◌, ◌++◌, ◌+◌, ◌<◌, ◌≤◌, ◌^◌, ◌-◌, [], map, flat_map, slice_get, All, Any, IfOk, None, Ok, Result, Some, ◌≢◌};
 ghost use Rattle.arrayvec.specs.ArrayVec.{array_vec_len};
 ghost use Rattle.iom_regs.specs.Views.{mode_of};
-ghost use Rattle.iom_ddt.specs.Contexts.{IsWellFormed};
 ghost use Rattle.iom_ddt.specs.Directory.{levels_of, located, path_of};
 ghost use Rattle.iom_bits.specs.declared.causes.Kind.TheVariants.{Read};
 ghost use Rattle.iom_nested.specs.Faults.{Failure};
@@ -38,9 +37,8 @@ pub type Parts = ArrayVec<Part, 40>;
 /// second stage that translate the entry's place, for a read. The second stage for the access itself is next, for the access's kind,
 /// and the end is the way that the request is led. A device id that is too wide stands in place of the directory, and an address that
 /// breaks the width rule of a stage in place of its entries. Where the request is granted no part refuses it; where it is denied one does.
-/// Each PPN told is below 2^44, and each address of an entry below 2^56. The device id is below 2^24, the IOVA any. No memory is taken.
+/// Each PPN told is below 2^44, and each address of an entry below 2^56. Any request has parts. No memory is taken.
 pub fn parts(platform: &Platform, request: &Request) -> Parts
-    requires { request.now.did < 2 ^ 24 }
     ensures parts { result.items ≡ parts_of platform.now.machine request.now }
     ensures read { All (IsRead platform.now.machine.memory) result.items }
     ensures passed { IsGranted (by_tables platform.now.machine request.now) → All Passes result.items }
@@ -59,7 +57,6 @@ pub fn parts(platform: &Platform, request: &Request) -> Parts
 /// Puts the same in place of what a list holds.
 #[tactic(auto, unfolding(crate::specs::Parts::parts_of))]
 pub fn put_parts(out: &mut Parts, platform: &Platform, request: &Request)
-    requires { request.now.did < 2 ^ 24 }
     ensures parts { out.new.items ≡ parts_of platform.now.machine request.now }
     ensures read { All (IsRead platform.now.machine.memory) out.new.items }
     ensures passed { IsGranted (by_tables platform.now.machine request.now) → All Passes out.new.items }
@@ -83,7 +80,6 @@ pub fn put_parts(out: &mut Parts, platform: &Platform, request: &Request)
 /// stages, as the tables stand now, and the end, which is the way that they lead it. It takes the place of what the list holds.
 #[tactic(auto, unfolding(crate::specs::Parts::parts_under))]
 pub fn put_parts_under(out: &mut Parts, platform: &Platform, request: &Request, context: &Context)
-    requires { IsWellFormed context.now }
     ensures parts { out.new.items ≡ parts_under platform.now.machine.memory platform.now.machine.registers.features request.now context.now }
     ensures read { All (IsRead platform.now.machine.memory) out.new.items }
     ensures passed { IsGranted (led_under platform.now.machine.memory platform.now.machine.registers.features [] request.now context.now).way → All Passes out.new.items }
@@ -96,7 +92,6 @@ pub fn put_parts_under(out: &mut Parts, platform: &Platform, request: &Request, 
 
 // What is behind ddtp, where its mode has a directory.
 fn push_walk(out: &mut Parts, platform: &Platform, request: &Request)
-    requires width { request.now.did < 2 ^ 24 }
     requires room { array_vec_len out.old ≤ 1 }
     ensures items { out.new.items ≡ out.old.items
         ++ parts_by (mode_of platform.now.machine.registers) platform.now.machine request.now }
@@ -112,7 +107,6 @@ fn push_walk(out: &mut Parts, platform: &Platform, request: &Request)
 // The items of the directory, or a device id that is too wide for it.
 fn push_directory(out: &mut Parts, platform: &Platform, did: u32)
     requires directory { 1 ≤ levels_of (mode_of platform.now.machine.registers) }
-    requires width { did < 2 ^ 24 }
     requires room { array_vec_len out.old ≤ 37 }
     ensures items { out.new.items ≡ out.old.items ++ directory_parts platform.now.machine did }
     ensures len { array_vec_len out.new ≤ array_vec_len out.old + 3 }
@@ -127,7 +121,6 @@ fn push_directory(out: &mut Parts, platform: &Platform, did: u32)
 // The items of the directory.
 fn push_items(out: &mut Parts, platform: &Platform, did: u32)
     requires directory { 1 ≤ levels_of (mode_of platform.now.machine.registers) }
-    requires width { did < 2 ^ 24 }
     requires room { array_vec_len out.old ≤ 37 }
     ensures items { out.new.items ≡ out.old.items ++ map part.Directory (path_of platform.now.machine.memory platform.now.machine.registers did) }
     ensures len { array_vec_len out.new ≤ array_vec_len out.old + 3 }
@@ -141,7 +134,6 @@ fn push_items(out: &mut Parts, platform: &Platform, did: u32)
 // Both stages of the context that the directory has for the request.
 fn push_located(out: &mut Parts, platform: &Platform, request: &Request)
     requires directory { 1 ≤ levels_of (mode_of platform.now.machine.registers) }
-    requires width { request.now.did < 2 ^ 24 }
     requires room { array_vec_len out.old ≤ 5 }
     ensures items { out.new.items ≡ out.old.items ++ stage_parts platform.now.machine.memory platform.now.machine.registers.features request.now.iova request.now.kind
         (located platform.now.machine.memory platform.now.machine.registers request.now.did) }
@@ -156,13 +148,13 @@ fn push_located(out: &mut Parts, platform: &Platform, request: &Request)
 
 // Both stages of a context.
 fn push_stages(out: &mut Parts, platform: &Platform, request: &Request, context: &Context)
-    requires well_formed { IsWellFormed context.now }
     requires room { array_vec_len out.old ≤ 5 }
     ensures items { out.new.items ≡ out.old.items
         ++ stage_parts platform.now.machine.memory platform.now.machine.registers.features request.now.iova request.now.kind (Ok context.now) }
     ensures len { array_vec_len out.new ≤ array_vec_len out.old + 35 }
     ensures fits { All PartFits (stage_parts platform.now.machine.memory platform.now.machine.registers.features request.now.iova request.now.kind (Ok context.now)) }
 {
+    let _ = &context.fields;
     let (ram, features) = (platform.ram(), platform.registers().features());
     let reached = push_first(out, ram, features, context, request.iova, request.kind);
     push_access(out, ram, features, context, reached, request.kind);
@@ -178,7 +170,6 @@ fn push_first(
     iova: u64,
     kind: Kind,
 ) -> Result<Reached, Fault>
-    requires well_formed { IsWellFormed context.now }
     requires room { array_vec_len out.old ≤ 10 }
     ensures items { out.new.items ≡ out.old.items ++ first_parts ram.now features context.now iova kind }
     ensures len { array_vec_len out.new ≤ array_vec_len out.old + 30 }
@@ -199,7 +190,6 @@ fn push_first(
 
 // Entries of the first stage, each behind those of the second.
 fn push_entries(out: &mut Parts, ram: &Ram, features: Features, context: &Context, entries: &PathEntries)
-    requires well_formed { IsWellFormed context.now }
     requires few { array_vec_len entries.now ≤ 5 }
     requires room { array_vec_len out.old ≤ 10 }
     ensures items { out.new.items ≡ out.old.items ++ flat_map (entry_parts ram.now features context.now) entries.now.items }
@@ -221,7 +211,6 @@ fn push_access(
     reached: Result<Reached, Fault>,
     kind: Kind,
 )
-    requires well_formed { IsWellFormed context.now }
     requires room { array_vec_len out.old ≤ 35 }
     ensures items { (found : Result Reached Failure) → reached ≡ told_of kind found →
         out.new.items ≡ out.old.items ++ access_parts ram.now features context.now kind found }
@@ -235,7 +224,6 @@ fn push_access(
 // The second stage from a guest-physical address on, entry by entry, or that address where it is too wide for it; and where it leads.
 #[tactic(auto, unfolding(crate::specs::Parts::second_parts, crate::specs::Parts::read_at, iom_walk::specs::Outcome::outcome_of))]
 fn push_second(out: &mut Parts, ram: &Ram, features: Features, context: &Context, guest: u64, kind: Kind) -> Option<u64>
-    requires well_formed { IsWellFormed context.now }
     requires room { array_vec_len out.old ≤ 35 }
     ensures items { out.new.items ≡ out.old.items ++ second_parts ram.now features context.now kind guest }
     ensures len { array_vec_len out.new ≤ array_vec_len out.old + 5 }
@@ -253,7 +241,7 @@ fn push_second(out: &mut Parts, ram: &Ram, features: Features, context: &Context
         &mut entries,
         &Physical { ram },
         Format { shape, features },
-        context.gppn,
+        context.fields.gppn,
         guest,
         kind,
     );
