@@ -17,7 +17,7 @@ ghost use Rattle.iom_tables.specs.declared.part.Part.TheVariants as part;
 ghost use Rattle.iom_core.specs.Access.{led_under};
 ghost use Rattle.iom_core.specs.Looking.{by_tables};
 
-use crate::{Part, Wide};
+use crate::{Part, Way, Wide};
 use arrayvec::ArrayVec;
 use iom_bits::{Features, Kind};
 use iom_core::{Platform, Request};
@@ -90,6 +90,9 @@ pub fn put_parts_under(out: &mut Parts, platform: &Platform, request: &Request, 
     out.push(Part::End(platform.way_under(request, context)));
 }
 
+// A function that pushes a part names `Way`, which a part has: what is proved of a list of parts rests on the modules of the types that
+// the function names.
+
 // What is behind ddtp, where its mode has a directory.
 fn push_walk(out: &mut Parts, platform: &Platform, request: &Request)
     requires room { array_vec_len out.old ≤ 1 }
@@ -111,6 +114,7 @@ fn push_directory(out: &mut Parts, platform: &Platform, did: u32)
     ensures items { out.new.items ≡ out.old.items ++ directory_parts platform.now.machine did }
     ensures len { array_vec_len out.new ≤ array_vec_len out.old + 3 }
 {
+    let _: Option<Way> = None;
     if is_too_wide(platform.registers(), did) {
         out.push(Part::Wide(Wide::Directory { did }));
     } else {
@@ -125,6 +129,7 @@ fn push_items(out: &mut Parts, platform: &Platform, did: u32)
     ensures items { out.new.items ≡ out.old.items ++ map part.Directory (path_of platform.now.machine.memory platform.now.machine.registers did) }
     ensures len { array_vec_len out.new ≤ array_vec_len out.old + 3 }
 {
+    let _: Option<Way> = None;
     let path = iom_ddt::path(platform.ram(), platform.registers(), did);
     for met in path.iter() {
         out.push(Part::Directory(*met));
@@ -178,6 +183,7 @@ fn push_first(
     ensures fits { IfOk result
         (λ reached. (first_shape_of context.now ≢ None → reached.addr < 2 ^ 56) × (reached.level < 5)) }
 {
+    let _: Option<Way> = None;
     let mut entries = PathEntries::new();
     let reached = first_stage_listed(&mut entries, ram, features, context, iova, kind);
     match first_shape(context) {
@@ -195,6 +201,7 @@ fn push_entries(out: &mut Parts, ram: &Ram, features: Features, context: &Contex
     ensures items { out.new.items ≡ out.old.items ++ flat_map (entry_parts ram.now features context.now) entries.now.items }
     ensures len { array_vec_len out.new ≤ array_vec_len out.old + 30 }
 {
+    let _: Option<Way> = None;
     for entry in entries.iter() {
         let addr = push_second(out, ram, features, context, entry.place, Kind::Read);
         let entry = *entry;
@@ -216,6 +223,7 @@ fn push_access(
         out.new.items ≡ out.old.items ++ access_parts ram.now features context.now kind found }
     ensures len { array_vec_len out.new ≤ array_vec_len out.old + 5 }
 {
+    let _: Option<Way> = None;
     if let Ok(reached) = reached {
         let _addr = push_second(out, ram, features, context, reached.addr, kind);
     }
@@ -229,6 +237,7 @@ fn push_second(out: &mut Parts, ram: &Ram, features: Features, context: &Context
     ensures len { array_vec_len out.new ≤ array_vec_len out.old + 5 }
     ensures addr { kind ≡ Read → result ≡ read_at ram.now features context.now guest }
 {
+    let _: Option<Way> = None;
     let Some(shape) = second_shape(context) else {
         return Some(guest);
     };
@@ -259,6 +268,7 @@ fn push_path(out: &mut Parts, entries: &PathEntries, guest: u64)
     ensures items { out.new.items ≡ out.old.items ++ map (part.Second guest) entries.now.items }
     ensures len { array_vec_len out.new ≤ array_vec_len out.old + array_vec_len entries.now }
 {
+    let _: Option<Way> = None;
     for met in entries.iter() {
         out.push(Part::Second { guest, entry: *met });
     }
