@@ -41,7 +41,7 @@ pub type Parts = ArrayVec<Part, 40>;
 pub fn parts(platform: &Platform, request: &Request) -> Parts
     ensures parts { result.items ≡ parts_of platform.now.machine request.now }
     ensures read { All (IsRead platform.now.machine.memory) result.items }
-    ensures passed { IsGranted (by_tables platform.now.machine request.now) → All Passes result.items }
+    ensures passed { IsGranted (by_tables platform.now.machine request.now) → All (Passes platform.now.machine.registers.features) result.items }
     ensures refused { (IsGranted (by_tables platform.now.machine request.now) → ⊥) →
         Any (Refuses platform.now.machine request.now) result.items }
     ensures end { slice_get result.items (array_vec_len result - 1) ≡ Some (part.End (by_tables platform.now.machine request.now)) }
@@ -59,7 +59,7 @@ pub fn parts(platform: &Platform, request: &Request) -> Parts
 pub fn put_parts(out: &mut Parts, platform: &Platform, request: &Request)
     ensures parts { out.new.items ≡ parts_of platform.now.machine request.now }
     ensures read { All (IsRead platform.now.machine.memory) out.new.items }
-    ensures passed { IsGranted (by_tables platform.now.machine request.now) → All Passes out.new.items }
+    ensures passed { IsGranted (by_tables platform.now.machine request.now) → All (Passes platform.now.machine.registers.features) out.new.items }
     ensures refused { (IsGranted (by_tables platform.now.machine request.now) → ⊥) →
         Any (Refuses platform.now.machine request.now) out.new.items }
     ensures end { slice_get out.new.items (array_vec_len out.new - 1) ≡ Some (part.End (by_tables platform.now.machine request.now)) }
@@ -82,7 +82,7 @@ pub fn put_parts(out: &mut Parts, platform: &Platform, request: &Request)
 pub fn put_parts_under(out: &mut Parts, platform: &Platform, request: &Request, context: &Context)
     ensures parts { out.new.items ≡ parts_under platform.now.machine.memory platform.now.machine.registers.features request.now context.now }
     ensures read { All (IsRead platform.now.machine.memory) out.new.items }
-    ensures passed { IsGranted (led_under platform.now.machine.memory platform.now.machine.registers.features [] request.now context.now).way → All Passes out.new.items }
+    ensures passed { IsGranted (led_under platform.now.machine.memory platform.now.machine.registers.features [] request.now context.now).way → All (Passes platform.now.machine.registers.features) out.new.items }
     ensures fits { All PartFits out.new.items }
 {
     out.clear();
