@@ -48,10 +48,11 @@ class Context:
         reserved = tc & ~(1 | 1 << 4 | 0xFF << 24), ta & ~(1 | 0xFFFFF << 12), field(fsc, 59, 44)
         is_aligned = self.second == 0 or self.guest_root % 4 == 0
         has_modes = (self.first != 10 or "sv57" in features) and (self.second != 10 or "sv57x4" in features)
-        self.is_good = not any(reserved) and is_aligned and has_modes and {self.first, self.second} <= {0, *LEVELS}
+        self.is_formed = self.is_valid and not any(reserved) and is_aligned and {self.first, self.second} <= {0, *LEVELS}
+        self.is_good = self.is_formed and has_modes
 
     def line(self):
-        if not self.is_valid or not self.is_good:
+        if not self.is_formed:
             return numbers(self.words)
         return " ".join(["context", *(f"{name}={value:#x}" for name, value in self.fields.items())])
 
@@ -78,7 +79,7 @@ def located(memory, ddtp, did, features):
         return told + [f"context at={place:#x} outside"], DIR_ACCESS
     context = Context(words, features)
     told.append(f"context at={place:#x} {context.line()}")
-    return told, context if context.is_valid and context.is_good else DIR_BAD if context.is_valid else DIR_INVALID
+    return told, context if context.is_good else DIR_BAD if context.is_valid else DIR_INVALID
 
 
 def judged(got, level, is_write, features):
