@@ -81,7 +81,7 @@ impl Witness for Seen {
 
 impl Platform {
     /// What leads a request now, from the caches first and else from the tables, as a step leads it ("Process to translate an
-    /// IOVA"). Nothing is cached, reported or changed. The device id is below 2^24, the IOVA any.
+    /// IOVA"). Nothing is cached, reported or changed. The IOVA may be any.
     pub fn seen(&self, request: &Request) -> Seen
         ensures seen { result ≡ seen_in self.now.machine request.now }
     {

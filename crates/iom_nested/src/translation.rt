@@ -28,7 +28,8 @@ pub struct Hit {
 }
 
 impl Model for Hit {
-    ghost use Rattle.iom_nested.specs.Hits.{Page, HitFits};
+    ghost use Rattle.std.specs.Prelude.{◌<◌, ◌^◌};
+    ghost use Rattle.iom_nested.specs.Hits.{Page};
 
     ghost Value = { Page };
 
@@ -36,7 +37,7 @@ impl Model for Hit {
 
     ghost inverse = { λ page. record { frame = page.frame; level = page.level; global = page.global; napot = page.napot } };
 
-    ghost invariant = { λ hit. HitFits (record { frame = hit.frame; level = hit.level; global = hit.global; napot = hit.napot }) };
+    ghost invariant = { λ hit. (hit.frame < 2 ^ 44) × (hit.level < 5) };
 }
 
 /// Why an IOVA leads nowhere.
