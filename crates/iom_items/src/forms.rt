@@ -22,7 +22,7 @@ fn vma(words: &[&[u8]]) -> Option<Command>
     ensures value { result ≡ vma (map (λ word. word.now) words.now) }
     ensures fits { IfSome result CommandFits }
 {
-    if !are_operands(&[b"av", b"page", b"pscv", b"pscid", b"gv", b"gscid"], words) {
+    if !are_operands(&[b"av", b"page", b"pscv", b"pscid", b"gv", b"gscid", b"nl", b"s"], words) {
         return None;
     }
     Some(Command::Vma {
@@ -32,6 +32,8 @@ fn vma(words: &[&[u8]]) -> Option<Command>
         pscid: limited(b"pscid", 1 << 20, words)? as u32,
         gv: flag_for(b"gv", words)?,
         gscid: limited(b"gscid", 1 << 16, words)? as u16,
+        nl: flag_for(b"nl", words)?,
+        s: flag_for(b"s", words)?,
     })
 }
 
@@ -41,7 +43,7 @@ fn gvma(words: &[&[u8]]) -> Option<Command>
     ensures value { result ≡ gvma (map (λ word. word.now) words.now) }
     ensures fits { IfSome result CommandFits }
 {
-    if !are_operands(&[b"av", b"page", b"pscid", b"gv", b"gscid"], words) {
+    if !are_operands(&[b"av", b"page", b"pscid", b"gv", b"gscid", b"nl", b"s"], words) {
         return None;
     }
     Some(Command::Gvma {
@@ -50,6 +52,8 @@ fn gvma(words: &[&[u8]]) -> Option<Command>
         pscid: limited(b"pscid", 1 << 20, words)? as u32,
         gv: flag_for(b"gv", words)?,
         gscid: limited(b"gscid", 1 << 16, words)? as u16,
+        nl: flag_for(b"nl", words)?,
+        s: flag_for(b"s", words)?,
     })
 }
 
