@@ -72,11 +72,7 @@ fn vma_page(av: bool, s: bool, page: u64, own: u64, width: u32) -> bool
 fn range_width(s: bool, page: u64) -> u32
     ensures { result ≡ range_width s page }
 {
-    if s {
-        page.trailing_ones() + 1
-    } else {
-        0
-    }
+    if s { page.trailing_ones() + 1 } else { 0 }
 }
 
 // How many of the lowest bits of a page's number the leaf of an entry's first stage leaves out.
@@ -90,11 +86,7 @@ fn leaf_width(hit: &Hit) -> u32
 fn meets(page: u64, width: u32, own: u64, own_width: u32) -> bool
     ensures { result ≡ meets page width own own_width }
 {
-    let wider = if width <= own_width {
-        own_width
-    } else {
-        width
-    };
+    let wider = if width <= own_width { own_width } else { width };
     above(own, wider) == above(page, wider)
 }
 

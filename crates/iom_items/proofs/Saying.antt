@@ -1,5 +1,5 @@
 -- What a statement's operands say: for each key its number.
-use Rattle.std.proofs.Common.{◌≡◌, ℕ, ◌%◌, ◌<◌, ◌^◌, ◌==◌, if◌then◌else◌, Bool, true, false, nat_lt, List, [], ◌∷◌, map, codes, bytes_eq, Option, Some, None, zero, suc, refl, ap, subst, ◌∙◌, arith}
+use Rattle.std.proofs.Common.{◌≡◌, ℕ, ◌%◌, ◌<◌, ◌^◌, ◌==◌, if◌then◌else◌, Bool, true, false, nat_lt, List, [], ◌∷◌, ◌++◌, map, codes, bytes_eq, Option, Some, None, zero, suc, refl, ap, subst, ◌∙◌, arith}
 use Rattle.std.specs.Prelude.{IfSome}
 use Rattle.std.specs.List.{AllByRecursion}
 use Rattle.std.proofs.lemmas.Bool.{cond_both, lt-ltb, le-ltb, ltb-true}
@@ -328,7 +328,7 @@ vma_form words =
     where_ Q _ _ (fl Q (codes "av") words _ (λ _ _. op Q (codes "page") (2 ^ 52) words _ (λ _ _.
     fl Q (codes "pscv") words _ (λ _ _. op Q (codes "pscid") (2 ^ 20) words _ (λ _ _.
     fl Q (codes "gv") words _ (λ _ _. op Q (codes "gscid") (2 ^ 16) words _ (λ _ _.
-    refl)))))))
+    fl Q (codes "nl") words _ (λ _ _. fl Q (codes "s") words _ (λ _ _. refl)))))))))
 
 gvma_form : (words : List (List ℕ)) → IfSome (gvma words) (λ c. codes "gvma" ≡ command_form c)
 unfolding gvma
@@ -336,7 +336,7 @@ gvma_form words =
     let Q : Command → Type 0 = λ c. codes "gvma" ≡ command_form c in
     where_ Q _ _ (fl Q (codes "av") words _ (λ _ _. op Q (codes "page") (2 ^ 52) words _ (λ _ _.
     op Q (codes "pscid") (2 ^ 20) words _ (λ _ _. fl Q (codes "gv") words _ (λ _ _.
-    op Q (codes "gscid") (2 ^ 16) words _ (λ _ _. refl))))))
+    op Q (codes "gscid") (2 ^ 16) words _ (λ _ _. fl Q (codes "nl") words _ (λ _ _. fl Q (codes "s") words _ (λ _ _. refl))))))))
 
 fence_form : (words : List (List ℕ)) → IfSome (fence words) (λ c. codes "fence" ≡ command_form c)
 unfolding fence

@@ -22,7 +22,12 @@ fn vma(words: &[&[u8]]) -> Option<Command>
     ensures value { result ≡ vma (map (λ word. word.now) words.now) }
     ensures fits { IfSome result CommandFits }
 {
-    if !are_operands(&[b"av", b"page", b"pscv", b"pscid", b"gv", b"gscid", b"nl", b"s"], words) {
+    if !are_operands(
+        &[
+            b"av", b"page", b"pscv", b"pscid", b"gv", b"gscid", b"nl", b"s",
+        ],
+        words,
+    ) {
         return None;
     }
     Some(Command::Vma {
@@ -43,7 +48,10 @@ fn gvma(words: &[&[u8]]) -> Option<Command>
     ensures value { result ≡ gvma (map (λ word. word.now) words.now) }
     ensures fits { IfSome result CommandFits }
 {
-    if !are_operands(&[b"av", b"page", b"pscid", b"gv", b"gscid", b"nl", b"s"], words) {
+    if !are_operands(
+        &[b"av", b"page", b"pscid", b"gv", b"gscid", b"nl", b"s"],
+        words,
+    ) {
         return None;
     }
     Some(Command::Gvma {
