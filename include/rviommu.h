@@ -311,7 +311,7 @@ uint32_t rviommu_disk(rviommu_t *handle, size_t device, size_t offset, uint8_t *
 uint32_t rviommu_page(rviommu_t *handle, uint64_t place, struct rviommu_page_place *page);
 uint32_t rviommu_context(rviommu_t *handle, uint64_t place, struct rviommu_context_place *context);
 
-/* One of the parts of a walk, at most 29: all that is looked at to lead a request of a device for an IOVA where nothing is cached, in
+/* One of the parts of a walk, at most 40: all that is looked at to lead a request of a device for an IOVA where nothing is cached, in
  * order ("Process to translate an IOVA"). Part 0 is ddtp, the last is the end. Answers RVIOMMU_OK; or RVIOMMU_NO_SUCH where there are
  * fewer parts or the device id isn't below 2^24, and `part` is unchanged then. */
 uint32_t rviommu_part(rviommu_t *handle, uint64_t did, uint64_t iova, bool is_write, uint64_t number, struct rviommu_walk_part *part);
