@@ -36,9 +36,9 @@ abbrev pub range_width : Bool → ℕ → ℕ
 range_width false page = 0
 range_width true page = trailing_ones w64 page + 1
 
--- the range that the leaf of an entry's first stage maps: a page, or a superpage
+-- the range that the leaf of an entry's first stage maps: a page, a superpage, or with N the 16 pages of 64 KiB ("Svnapot")
 abbrev pub leaf_width : Hit → ℕ
-leaf_width hit = 9 * hit.level
+leaf_width hit = if hit.napot then 4 else 9 * hit.level
 
 -- VMA, with AV 1: those alone whose leaf maps a page of the command's range
 abbrev pub vma_page : Bool → Bool → ℕ → ℕ → ℕ → Bool

@@ -79,7 +79,7 @@ fn range_width(s: bool, page: u64) -> u32
 fn leaf_width(hit: &Hit) -> u32
     ensures { result ≡ leaf_width hit.now }
 {
-    9 * hit.level as u32
+    if hit.napot { 4 } else { 9 * hit.level as u32 }
 }
 
 // Whether two aligned ranges have a page in common: their pages' numbers are equal above the wider one.

@@ -20,6 +20,14 @@ const GLOBAL: Hit = Hit {
     napot: false,
 };
 
+// Of a leaf that maps 64 KiB.
+const NAPOT: Hit = Hit {
+    frame: 0x80010,
+    level: 0,
+    global: false,
+    napot: true,
+};
+
 const SUPERPAGE: Hit = Hit {
     frame: 0x80010,
     level: 1,
@@ -238,6 +246,12 @@ fn drops_by_the_table(rt: HostRuntime) -> Result<(), Fail> {
         // Of 2^27 pages.
         (vma(true, 0x7ff_ffff, false), host, LARGEST, true),
         (vma(true, 0x800_0000, false), host, LARGEST, false),
+        // Of 16 pages.
+        (vma(true, 0x4020f, false), host, NAPOT, true),
+        (vma(true, 0x40210, false), host, NAPOT, false),
+        (vma_range(0x4020c), host, NAPOT, true),
+        (vma_range(0x4020f), host, NAPOT, true),
+        (vma_range(0x40217), host, NAPOT, false),
         // S: 0x40203 is the 8 pages from 0x40200 on, 0x401ff the 1024 from 0x40000 on; all ones are all pages.
         (vma_range(0x40203), host, HIT, true),
         (vma_range(0x40203), process_key(0x40207), HIT, true),
