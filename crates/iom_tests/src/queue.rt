@@ -386,7 +386,7 @@ fn fetched(alloc: Global, features: Features, words: [u64; 2]) -> Result<Fetch, 
     for (i, word) in words.iter().enumerate() {
         let _inside = ram.write(BASE + 8 * i as u64, &word.to_le_bytes());
     }
-    let mut registers = Regs::reset(features);
+    let mut registers = Regs::with_features(features);
     set(&mut registers, 24, 8, 0x2000_0000);
     set(&mut registers, 72, 4, 1);
     set(&mut registers, 36, 4, 1);
