@@ -192,6 +192,7 @@ DEBUG_FORMS = [
     b"dev read N NAME",
     b"dev write N NAME VALUE",
     b"queue cmd",
+    b"vectors",
     b"dump ADDR LEN",
     b"disk N BYTE LEN",
     b"dev show N",

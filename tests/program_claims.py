@@ -96,7 +96,11 @@ BARE = [CACHED[0], b"put 0x800010c0 context", b"dma read 6 0x80000000 1"]
 UNMAPPED = [*CACHED, UNMAP.strip()]
 TO_DDTP = [*CACHED, b"reg write ddtp 1"]
 # Of each row of the table of debug's lines, for each answer that it names the lines that lead there, on an image with tables and a disk.
+# An illegal command with cie set.
+PENDING = [b"reg write cqb 0x20000000", b"reg write cqcsr 3", b"reg write cqt 1", b"cmd"]
+
 DEBUG_SAMPLES = {
+    "vectors": {"0x0": [*PENDING, b"vectors"], "none": [b"vectors"]},
     "dump ADDR LEN": {"outside": [b"dump 0 1"]},
     "disk N BYTE LEN": {"outside": [b"disk 0 1024 1"], "none": [b"disk 1 0 1"]},
     "dev show N": {"none": [b"dev show 1"]},

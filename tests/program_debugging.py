@@ -34,7 +34,7 @@ def _():
     want("status and standard error", (status, errors), WELL)
     seen = out.decode().splitlines()
     want("the answers by names", seen[::2], seen[1::2])
-    want("how many there are", len(seen), 2 * (12 + 23))
+    want("how many there are", len(seen), 2 * (13 + 23))
     want("the names that are none", [it for it in seen if not it.startswith("0x")], [])
 
 
@@ -61,6 +61,16 @@ def _():
         ("dump 0x80000000 0", "bad"), ("dump 0x80000000 65", "bad"),
         ("disk 0 0 4", "c0ffee00"), ("disk 0 1023 1", "00"), ("disk 0 1023 2", "outside"), ("disk 0 0xffffffffffffffff 1", "outside"),
         ("disk 1 0 1", "none"), ("disk 0 0 0", "bad"), ("disk 0 0 65", "bad"), ("queue", "bad"), ("queue cmds", "bad"), ("trace 4", "none"),
+    ])
+
+
+@check("debug: the interrupt line of one vector is high while a cause is pending")
+def _():
+    want_debugged([
+        ("vectors", "none"), ("reg write icvec 0x33", "done"), ("reg read icvec", "0x0"), ("reg write cqb 0x20000003", "done"),
+        ("reg write cqcsr 3", "done"), ("reg write cqt 3", "done"), ("vectors", "none"), ("cmd", "done"), ("vectors", "0x0"),
+        ("reg write ipsr 1", "done"), ("vectors", "0x0"), ("reg write cqcsr 0x403", "done"), ("vectors", "0x0"), ("reg write ipsr 1", "done"),
+        ("vectors", "none"), ("vectors 0", "bad"),
     ])
 
 
