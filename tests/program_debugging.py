@@ -29,7 +29,7 @@ class Debugs(Case):
         self.assertEqual((status, errors), WELL)
         seen = out.decode().splitlines()
         self.assertEqual(seen[::2], seen[1::2])
-        self.assertEqual(len(seen), 2 * (12 + 23))
+        self.assertEqual(len(seen), 2 * (13 + 23))
         self.assertEqual([it for it in seen if not it.startswith("0x")], [])
 
     def test_register_written_name(self):
@@ -54,6 +54,15 @@ class Debugs(Case):
             ("dump 0x80000000 0", "bad"), ("dump 0x80000000 65", "bad"),
             ("disk 0 0 4", "c0ffee00"), ("disk 0 1023 1", "00"), ("disk 0 1023 2", "outside"), ("disk 0 0xffffffffffffffff 1", "outside"),
             ("disk 1 0 1", "none"), ("disk 0 0 0", "bad"), ("disk 0 0 65", "bad"), ("queue", "bad"), ("queue cmds", "bad"), ("trace 4", "none"),
+        ])
+
+    def test_line_of_one_vector(self):
+        """debug: the interrupt line of one vector is high while a cause is pending"""
+        self.want_debugged([
+            ("vectors", "none"), ("reg write icvec 0x33", "done"), ("reg read icvec", "0x0"), ("reg write cqb 0x20000003", "done"),
+            ("reg write cqcsr 3", "done"), ("reg write cqt 3", "done"), ("vectors", "none"), ("cmd", "done"), ("vectors", "0x0"),
+            ("reg write ipsr 1", "done"), ("vectors", "0x0"), ("reg write cqcsr 0x403", "done"), ("vectors", "0x0"), ("reg write ipsr 1", "done"),
+            ("vectors", "none"), ("vectors 0", "bad"),
         ])
 
     def test_steps_again_again_while(self):
