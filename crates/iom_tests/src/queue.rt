@@ -1,5 +1,5 @@
 use crate::first_wrong;
-use iom_bits::{Cause, Kind};
+use iom_bits::{Cause, Features, Kind};
 use iom_mem::Ram;
 use iom_queue::{
     Command, Fetch, Record, decode_command, decode_record, deliver, encode_command, encode_record,
