@@ -49,9 +49,9 @@ pub struct ContextPlace {
     pub pscid: u32,
     /// iohgatp.GSCID, 16 bits.
     pub gscid: u32,
-    /// iohgatp.MODE: 0 Bare, 8 Sv39x4, 9 Sv48x4.
+    /// iohgatp.MODE: 0 Bare, 8 Sv39x4, 9 Sv48x4, 10 Sv57x4.
     pub gmode: u32,
-    /// fsc.MODE: 0 Bare, 8 Sv39, 9 Sv48.
+    /// fsc.MODE: 0 Bare, 8 Sv39, 9 Sv48, 10 Sv57.
     pub mode: u32,
     /// tc bits 31:24.
     pub custom: u32,
