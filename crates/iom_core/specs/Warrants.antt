@@ -129,11 +129,11 @@ is_iodir_of_all (Some (Iodir dv did)) = not dv
 is_iodir_of_all _ = false
 
 abbrev pub is_vma_of_all : Option Command → Bool
-is_vma_of_all (Some (Vma av page pscv pscid gv gscid)) = not av && not pscv && not gv
+is_vma_of_all (Some (Vma av page pscv pscid gv gscid nl s)) = not av && not pscv && not gv
 is_vma_of_all _ = false
 
 abbrev pub is_gvma_of_all : Option Command → Bool
-is_gvma_of_all (Some (Gvma av page pscid gv gscid)) = not av && not gv
+is_gvma_of_all (Some (Gvma av page pscid gv gscid nl s)) = not av && not gv
 is_gvma_of_all _ = false
 
 -- A full invalidation: contexts first, at step i; then translations of both kinds, at steps v and g in either order. Other

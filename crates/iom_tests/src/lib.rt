@@ -10,6 +10,8 @@ mod blk_requests;
 #[cfg(test)]
 mod cache;
 #[cfg(test)]
+mod capabilities;
+#[cfg(test)]
 mod chains;
 #[cfg(test)]
 mod ddt;
