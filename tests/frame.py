@@ -4,6 +4,7 @@ The program is the one that RVIOMMU_PROGRAM names in the environment, else the b
 module, a class or a test by its name.
 """
 import functools
+import importlib.util
 import os
 import re
 import select
@@ -82,6 +83,14 @@ def scripts():
     for path in sorted([*EXAMPLES.glob("*.script"), *ROWS.glob("*.script")]):
         text = path.with_suffix(".asm")
         yield path, path.read_bytes(), text.read_bytes() if text.exists() else None
+
+
+def page_build():
+    """web/build.py, which builds the page."""
+    spec = importlib.util.spec_from_file_location("page_build", TOP / "web/build.py")
+    module = importlib.util.module_from_spec(spec)
+    spec.loader.exec_module(module)
+    return module
 
 
 def words_of(script):

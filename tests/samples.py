@@ -14,6 +14,7 @@ DEBUG_FORMS = [
 STATEMENTS = [
     "ram BASE SIZE", "at ADDR", "u64 VALUE", "bytes HEX", "cmd NAME", "context KEY", "dir ppn", "pte ppn", "fault KEY", "disk DID SECTORS",
     "rodisk DID SECTORS",
+    "capabilities [KEY=NUMBER",
 ]
 KINDS = ["cmd", "fault", "context", "dir", "pte", "u64"]
 

@@ -53,6 +53,8 @@ after 0x.
   fault KEY=NUMBER ..           a fault record
   disk DID SECTORS [HEX]        a block device and the first bytes of its disk
   rodisk DID SECTORS [HEX]      the same with a disk that is only read
+  capabilities [KEY=NUMBER ..]  a machine with Svnapot and: sv57, sv57x4,
+                                svpbmt, nl or s 1, vectors 1, 2 or 4
 
 An example:
 
@@ -157,7 +159,7 @@ listed as u64. An example:
 
 /// What stands at the end of the help of `upgrade`.
 pub const UPGRADE: &str = "\
-The new image starts the same platform. One of version 2 comes back as it is.
+The new image starts the same platform. One of version 3 comes back as it is.
 An example:
 
   $ rviommu upgrade seven.image new.image
