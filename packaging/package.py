@@ -21,7 +21,8 @@ import sys
 import tarfile
 import tempfile
 
-TOP = os.path.normpath(os.path.join(os.path.dirname(os.path.abspath(__file__)), os.pardir))
+from crates import TOP
+
 MADE = os.path.join(TOP, "dist")
 MAINTAINER = "rviommu maintainers <maintainers@users.noreply.lacingprune.example>"
 
