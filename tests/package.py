@@ -69,6 +69,7 @@ class Packages(frame.Case):
         for ends, env in ((flags, {**os.environ, "LD_LIBRARY_PATH": str(lib)}), ([*flags[:1], lib / "librviommu.a"], None)):
             run(["gcc", "-std=c11", "-o", made, EXAMPLES / "c/iommu.c", EXAMPLES / "c/test_driver.c", *ends])
             self.assertEqual(run([made], env=env), b"passed\n")
+        run(["gcc", "-std=c11", "-fsyntax-only", TOP / "tests/c/record.c", *flags[:1]])
 
     def want_same(self, files):
         """Wants each of these to have the same bytes as the other."""

@@ -87,16 +87,16 @@ pub fn context_of(did: u32, context: Context) -> ContextPlace
     ensures { result ≡ context_of did context }
 {
     ContextPlace {
-        gppn: context.gppn,
-        ppn: context.ppn,
+        gppn: context.fields.gppn,
+        ppn: context.fields.ppn,
         did,
-        pscid: context.pscid,
-        gscid: u32::from(context.gscid),
-        gmode: u32::from(context.gmode),
-        mode: u32::from(context.mode),
-        custom: u32::from(context.custom),
-        dtf: context.dtf,
-        tav: context.tav,
+        pscid: context.fields.pscid,
+        gscid: u32::from(context.fields.gscid),
+        gmode: u32::from(context.fields.gmode),
+        mode: u32::from(context.fields.mode),
+        custom: u32::from(context.fields.custom),
+        dtf: context.fields.dtf,
+        tav: context.fields.tav,
         reserved: [0; 2],
     }
 }

@@ -15,7 +15,7 @@ use Rattle.iom_regs.specs.declared.views.Mode.TheVariants as mode
 use Rattle.iom_ddt.specs.Contexts.{is_bare}
 use Rattle.iom_ddt.specs.Directory.{is_too_wide, levels_of, located}
 use Rattle.iom_ddt.specs.declared.context.Context.{Context}
-use Rattle.iom_nested.specs.Nested.{HitFits, translation}
+use Rattle.iom_nested.specs.Nested.{translation}
 use Rattle.iom_nested.specs.declared.translation.Fault.{Fault}
 use Rattle.iom_nested.specs.declared.translation.Hit.{Hit}
 use Rattle.iom_queue.specs.Delivery.{Delivery, delivered}
@@ -80,13 +80,6 @@ refused why fill = record { way = Denied (plain why); by = None; context = fill;
 abbrev pub way_to : Context → Result Hit Fault → Way
 way_to context (Ok hit) = Walked context hit
 way_to context (Err fault) = Denied (translating context fault)
-
--- a hit that it leads by has the bounds of one
-abbrev pub Fits : Way → Type 0
-Fits ByRegister = Unit {0}
-Fits (ByContext context) = Unit {0}
-Fits (Walked context hit) = HitFits hit
-Fits (Denied denial) = Unit {0}
 
 -- below a context: the way, and the page that is filled
 pub record Under : Type 0 where

@@ -1,6 +1,5 @@
 use Rattle.iom_bits.specs.Features.{no_features}
-use Rattle.iom_core.specs.Access.{Fits}
-use Rattle.std.proofs.Common.{rules, subst}
+use Rattle.std.proofs.Common.{rules}
 use Rattle.iom_tables.specs.Parts.{parts_under}
 use Rattle.iom_tables.proofs.Under.{under_fits, under_passes, under_read}
 use Rattle.iom_tables.proofs.listing.put_parts_under.Goals as goal
@@ -18,4 +17,4 @@ returns-clause-passed c = under_passes c.args.platform.now.machine.memory no_fea
 pub returns-clause-fits : goal.returns-clause-fits
 returns-clause-fits c =
     under_fits c.args.platform.now.machine.memory no_features c.args.request.now c.args.context.now _ (returns-clause-parts c)
-    c.push_stages.ensures.fits (subst Fits c.way_under.ensures.way c.way_under.ensures.fits)
+    c.push_stages.ensures.fits
