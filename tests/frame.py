@@ -8,6 +8,7 @@ import importlib.util
 import os
 import re
 import select
+import shlex
 import shutil
 import subprocess
 import sys
@@ -167,7 +168,7 @@ class Case(unittest.TestCase):
 
     def shell(self, command):
         """What a shell writes in the test's folder, where `rviommu` is the program; and how it ends."""
-        os.chmod(self.put("rviommu", f'#!/bin/sh\nexec {program()} "$@"\n'), 0o755)
+        os.chmod(self.put("rviommu", f'#!/bin/sh\nexec {shlex.quote(program())} "$@"\n'), 0o755)
         how = {"cwd": self.folder, "env": {**os.environ, "PATH": f"{self.folder}:{os.environ['PATH']}"}, "stdout": subprocess.PIPE}
         ended = subprocess.run(["sh", "-c", command], timeout=RUN_SECONDS, **how)
         return ended.returncode, ended.stdout.decode()
