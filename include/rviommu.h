@@ -103,8 +103,8 @@ struct rviommu_context_place {
     uint32_t did;    /* the device id */
     uint32_t pscid;  /* ta.PSCID */
     uint32_t gscid;  /* iohgatp.GSCID */
-    uint32_t gmode;  /* iohgatp.MODE: 0 Bare, 8 Sv39x4, 9 Sv48x4 */
-    uint32_t mode;   /* fsc.MODE: 0 Bare, 8 Sv39, 9 Sv48 */
+    uint32_t gmode;  /* iohgatp.MODE: 0 Bare, 8 Sv39x4, 9 Sv48x4, 10 Sv57x4 */
+    uint32_t mode;   /* fsc.MODE: 0 Bare, 8 Sv39, 9 Sv48, 10 Sv57 */
     uint32_t custom; /* tc bits 31:24 */
     bool dtf;        /* tc.DTF */
     bool tav;        /* ta bit 0 */

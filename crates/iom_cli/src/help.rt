@@ -97,6 +97,7 @@ The lines of a script are those of `rviommu --help` and these:
   dev read N NAME               a register of block device N, as Status
   dev write N NAME VALUE
   queue cmd, queue fault        where a queue stands, and whether it is on
+  vectors                       which interrupt lines are high
   dump ADDR LEN                 1 to 64 bytes of memory
   disk N BYTE LEN               1 to 64 bytes of the disk of block device N
   dev show N                    what block device N does next

@@ -24,6 +24,8 @@ mod mem;
 #[cfg(test)]
 mod nested;
 #[cfg(test)]
+mod offered;
+#[cfg(test)]
 mod playing;
 #[cfg(test)]
 mod queue;
