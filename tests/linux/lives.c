@@ -593,7 +593,7 @@ int main(int count, char **words) {
                 interrupts();
         }
         ends(below(2));
-        if (!done.refused && (!done.unmaps || !done.lazy || !done.freed))
+        if (most >= 1000 && !done.refused && (!done.unmaps || !done.lazy || !done.freed))
             fails("too little was done");
     }
     printf("%llu calls, %llu maps, %llu unmaps, %llu lazy, %llu attached, %llu read, %llu denied, %llu released, %llu domains freed, %llu refused; the driver told %llu errors, %llu warnings: %llu failures\n",

@@ -51,6 +51,7 @@ impl Version {
     }
 }
 
+// There are 2 to this power of vectors.
 fn vectors_power(vectors: Vectors) -> u64
     ensures { result ≡ vectors_power vectors }
 {
@@ -74,6 +75,7 @@ pub fn features_word(features: &Features) -> u64
         + (vectors_power(features.vectors) << 57)
 }
 
+// The vectors that the bits of a word state.
 fn vectors_in(word: u64) -> Vectors
     ensures { result ≡ vectors_in word }
 {
