@@ -116,7 +116,7 @@ leaf_refuses features place (Some words) cause is = rw is (λ never. never)
 entry_refuses : (features : Features) (place : ℕ) (entry : Option ℕ) (pointed : Result ℕ Cause) (from : ℕ → List Met) (cause : Cause) → pointed_by entry ≡ pointed →
     ((table : ℕ) → directory.verdict_on features (from table) ≡ Err cause → Occurs (Faults features) (from table)) →
     directory.verdict_on features (met.Entry place entry ∷ behind pointed from) ≡ Err cause →
-    Occurs Faults features (met.Entry place entry ∷ behind pointed from)
+    Occurs (Faults features) (met.Entry place entry ∷ behind pointed from)
 unfolding directory.verdict_on
 entry_refuses features place entry (Ok table) from cause is more found =
     let left : directory.verdict_on features (from table) ≡ Err cause = rw is at found in inr (more table left)
