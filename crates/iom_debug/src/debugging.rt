@@ -1,0 +1,1 @@
+//! The word `debug`: each line is answered.
