@@ -3,11 +3,11 @@ use Rattle.std.proofs.Common.{◌≡◌, ◌++◌, ◌==◌, ℕ, Bool, List, []
 use Rattle.std.specs.Io.KnownBytes.{Appends, Keeps}
 use Rattle.std.proofs.KnownBytes.{Appends-nil, Appends-trans}
 use Rattle.std.proofs.lemmas.List.{nil_from_length}
-use Rattle.iom_reader.specs.Answering.{Progress, progress, AnswersNext}
+use Rattle.iom_reader.specs.Answering.{Progress, progress, AnswersNext, IsAnswering}
 use Rattle.iom_reader.specs.Running.{Ends, WritesFront}
 use Rattle.iom_reader.specs.Speaking.{by_lines}
 use Rattle.iom_reader.specs.declared.fault.RunFault.{RunFault}
-use Rattle.iom_reader.proofs.Chains.{spoken, broken}
+use Rattle.iom_reader.proofs.Chains.{spoken, broken, lawful as by_lines_lawful}
 use Rattle.iom_debug.specs.Telling.{Checked, IsChecked, at_once, by_check, tally_text}
 
 pub nothing_written : (a : Option (List ℕ)) (text : List ℕ) → length text ≡ 0 → Appends a a text
@@ -34,3 +34,6 @@ checked unread left old new holds passed h wrote is = record {
   written = Appends-trans _ _ _ _ _ h.answered.written wrote;
   passed = is;
 }
+
+pub lawful : (S : Type 0) (says : S → List ℕ → List ℕ → S → Type 0) → IsAnswering (by_lines (at_once S says))
+lawful S says = by_lines_lawful (at_once S says)

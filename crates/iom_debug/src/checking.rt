@@ -1,19 +1,18 @@
 //! The word `check`: lines that name the answers that they want.
 
-ghost use Rattle.std.specs.Prelude.{◌≡◌, ◌+◌, ◌*◌, ◌++◌, ◌<◌, ◌≤◌, ◌==◌, take, length, OnOk, OnErr, IfErr};
-ghost use Rattle.std.specs.Io.KnownBytes.{Appends};
-ghost use Rattle.std.specs.List.{position_or_len};
+ghost use Rattle.std.specs.Prelude.{◌≡◌, ◌++◌, ◌≤◌, false, length, IfOk, IfSome};
 ghost use Rattle.std.specs.Option.{option_map};
-ghost use Rattle.iom_tool.specs.Running.{WritesFront, is_write};
-ghost use Rattle.iom_tool.specs.Watching.{write_failed};
-ghost use Rattle.iom_debug.specs.Telling.{before_comment, fails, misses, passes, report, tables_text, tally_text, wish_text};
-ghost use Rattle.iom_debug.specs.Wanted.{wanted as wish_of};
+ghost use Rattle.iom_reader.specs.Watching.{read_failed, write_failed};
+ghost use Rattle.iom_debug.specs.Taking.{desk};
+ghost use Rattle.iom_debug.specs.Telling.{IsChecked, fails, misses, passes, report, tables_text, tally_text, verdict, wish_text};
 
 use crate::debugger::Debugger;
-use crate::page::{Page, put, put_escaped, put_number};
+use crate::page::{Page, first_bytes, put, put_escaped, put_number, write_told};
+use crate::summary::and_one;
 use crate::wanting::{before_comment, wanted};
-use iom_tool::{Answerer, Reply, RunFault, WatchedWriter, write_out};
-use std::io::Write;
+use iom_reader::{Answerer, RunFault, WatchedReader, WatchedWriter, answer_all};
+use iom_tool::Reply;
+use std::io::{Read, Write};
 
 // Whether an answer isn't the wanted one, or is `bad` where none is wanted.
 fn misses(wish: Option<&[u8]>, answer: &[u8]) -> bool
@@ -102,11 +101,8 @@ pub struct Checking<'a> {
 }
 
 impl<'a> Checking<'a> {
-    ghost use Rattle.std.specs.Prelude.{◌≡◌, ◌∷◌, [], ◌==◌, ◌++◌, ◌≤◌, length, if◌then◌else◌};
-    ghost use Rattle.iom_debug.specs.Taking.{desk};
-    ghost use Rattle.iom_debug.specs.Telling.{Checked, fails, passes, report, tables_at, tally_text};
-    ghost use Rattle.iom_debug.specs.Summary.{and_one};
-    ghost use Rattle.iom_debug.specs.Wanted.{wanted};
+    ghost use Rattle.std.specs.Prelude.{◌≡◌};
+    ghost use Rattle.iom_debug.specs.Telling.{tables_told};
 
     /// A check of what this debugger drives, of no line yet. If `is_stale_told`, a line fails also where an access of it was stale.
     pub fn new(debugger: Debugger<'a>, is_stale_told: bool) -> Checking<'a>
@@ -127,11 +123,104 @@ impl<'a> Checking<'a> {
     }
 
     // What the tables said of the last line's last access that was stale, where that is told.
-    fn tables(&self) -> Reply {
+    fn tables(&self) -> Reply
+        ensures { result.items ≡ tables_told self.now.is_stale_told self.now.debugger.reasons.now.stale }
+    {
         if self.is_stale_told {
             self.debugger.stale_told()
         } else {
             Reply::new()
         }
     }
+}
+
+impl Answerer for Checking<'_> {
+    ghost use Rattle.std.specs.Prelude.{◌∷◌, []};
+    ghost use Rattle.iom_debug.specs.Taking.{desk};
+    ghost use Rattle.iom_debug.specs.Telling.{by_check};
+
+    ghost answering = { by_check };
+
+    ghost state = { λ c. record {
+      desk = desk c.debugger.platform.now c.debugger.trace.now c.debugger.reasons.now;
+      number = c.number;
+      is_stale_told = c.is_stale_told;
+      passed = c.passed;
+      failed = c.failed;
+    } };
+
+    ghost names = { λ c. c.debugger.platform.ghost_name ∷ c.debugger.trace.ghost_name ∷ c.debugger.reasons.ghost_name ∷ [] };
+
+    fn answer<W: Write>(
+        &mut self,
+        line: &[u8],
+        writer: &mut WatchedWriter<'_, W>,
+    ) -> Result<(), RunFault> {
+        let line = first_bytes(line);
+        self.number = self.number.saturating_add(1);
+        let answer = self.debugger.line(self.number, line);
+        let tables = self.tables();
+        self.page.clear();
+        put_verdict(&mut self.page, self.number, line, answer.as_slice(), tables.as_slice());
+        self.passed = and_one(
+            passes(wanted(line), answer.as_slice(), tables.as_slice()),
+            self.passed,
+        );
+        self.failed = and_one(
+            fails(wanted(line), answer.as_slice(), tables.as_slice()),
+            self.failed,
+        );
+        write_told(writer, self.page.as_slice())
+    }
+}
+
+// Puts what is told of a line, if it fails.
+fn put_verdict(out: &mut Page, number: u64, line: &[u8], answer: &[u8], tables: &[u8])
+    requires empty { length out.old.items ≡ 0 }
+    requires line { length line.now ≤ 513 }
+    requires answer { length answer.now ≤ 320 }
+    requires tables { length tables.now ≤ 320 }
+    ensures { out.new.items ≡ out.old.items ++ verdict number line.now answer.now tables.now }
+{
+    if fails(wanted(line), answer, tables) {
+        put_report(out, number, line, answer, tables);
+    }
+}
+
+// Puts how many lines passed, and how many failed.
+fn put_tally(out: &mut Page, passed: u64, failed: u64)
+    requires { length out.old.items ≡ 0 }
+    ensures { out.new.items ≡ out.old.items ++ tally_text passed failed }
+{
+    put_number(out, passed);
+    put(out, b" passed, ");
+    put_number(out, failed);
+    put(out, b" failed\n");
+}
+
+/// Checks the script that `reader` gives: tells each line that fails, and at the end how many lines passed and how many failed. It answers
+/// whether none failed. The faults are those of `run`.
+#[tactic(auto, using(crate::proofs::Telling::lawful, crate::proofs::Telling::checked))]
+pub fn check<R: Read, W: Write>(
+    checking: &mut Checking<'_>,
+    reader: &mut WatchedReader<'_, R>,
+    writer: &mut WatchedWriter<'_, W>,
+) -> Result<bool, RunFault>
+    requires can_read { read_failed reader.old ≡ false }
+    requires can_write { write_failed writer.old ≡ false }
+    ensures checked { IfOk result (λ passed. IsChecked (record {
+          desk = desk checking.old.debugger.platform.now checking.old.debugger.trace.now checking.old.debugger.reasons.now;
+          number = checking.old.number;
+          is_stale_told = checking.old.is_stale_told;
+          passed = checking.old.passed;
+          failed = checking.old.failed;
+        }) (R.remaining reader.old.inner.now) (R.remaining reader.new.inner.now)
+        (W.contents writer.old.inner.now) (W.contents writer.new.inner.now) passed) }
+{
+    answer_all(checking, reader, writer)?;
+    let (passed, failed) = (checking.passed, checking.failed);
+    checking.page.clear();
+    put_tally(&mut checking.page, passed, failed);
+    write_told(writer, checking.page.as_slice())?;
+    Ok(failed == 0)
 }

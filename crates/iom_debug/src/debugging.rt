@@ -1,1 +1,74 @@
 //! The word `debug`: each line is answered.
+
+ghost use Rattle.std.specs.Prelude.{◌≡◌, ◌≤◌, ◌++◌, length};
+ghost use Rattle.iom_debug.specs.Telling.{line_told};
+
+use crate::debugger::Debugger;
+use crate::page::{Page, first_bytes, put, write_told};
+use iom_reader::{Answerer, RunFault, WatchedWriter};
+use std::io::Write;
+
+/// A script of `debug`.
+#[derive(Drop)]
+pub struct Debugging<'a> {
+    /// What its lines drive.
+    pub debugger: Debugger<'a>,
+    // how many lines were read
+    number: u64,
+    page: Page,
+}
+
+impl<'a> Debugging<'a> {
+    ghost use Rattle.std.specs.Prelude.{◌≡◌};
+
+    /// A script of `debug` for what this debugger drives, of no line yet.
+    pub fn new(debugger: Debugger<'a>) -> Debugging<'a>
+        ensures debugger { result.debugger ≡ debugger }
+        ensures number { result.number ≡ 0 }
+    {
+        Debugging {
+            debugger,
+            number: 0,
+            page: Page::new(),
+        }
+    }
+}
+
+impl Answerer for Debugging<'_> {
+    ghost use Rattle.std.specs.Prelude.{◌∷◌, []};
+    ghost use Rattle.iom_debug.specs.Taking.{desk};
+    ghost use Rattle.iom_debug.specs.Telling.{by_debug};
+
+    ghost answering = { by_debug };
+
+    ghost state = { λ d. record {
+      desk = desk d.debugger.platform.now d.debugger.trace.now d.debugger.reasons.now;
+      number = d.number;
+    } };
+
+    ghost names = { λ d. d.debugger.platform.ghost_name ∷ d.debugger.trace.ghost_name ∷ d.debugger.reasons.ghost_name ∷ [] };
+
+    fn answer<W: Write>(
+        &mut self,
+        line: &[u8],
+        writer: &mut WatchedWriter<'_, W>,
+    ) -> Result<(), RunFault> {
+        self.number = self.number.saturating_add(1);
+        let answer = self.debugger.line(self.number, first_bytes(line));
+        self.page.clear();
+        put_line(&mut self.page, answer.as_slice());
+        write_told(writer, self.page.as_slice())
+    }
+}
+
+// Puts an answer with its line end, where there is one.
+fn put_line(out: &mut Page, answer: &[u8])
+    requires empty { length out.old.items ≡ 0 }
+    requires short { length answer.now ≤ 320 }
+    ensures { out.new.items ≡ out.old.items ++ line_told answer.now }
+{
+    if !answer.is_empty() {
+        put(out, answer);
+        put(out, b"\n");
+    }
+}
