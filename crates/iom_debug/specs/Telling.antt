@@ -48,10 +48,10 @@ at_once S says = record {
 }
 
 -- `debug` answers each line
-pub record DebugSays (before : Debugged) (line text : List ℕ) (after : Debugged) : Type 0 where
+pub record DebugSays (before : Debugged) (line said : List ℕ) (after : Debugged) : Type 0 where
   pub number : after.number ≡ up_to_64_bits (before.number + 1)
   pub left : Leaves before.desk line after.number after.desk
-  pub text : text ≡ line_told (answer_at before.desk line)
+  pub text : said ≡ line_told (answer_at before.desk line)
 
 abbrev pub by_debug : Answering
 by_debug = by_lines (at_once Debugged DebugSays)
@@ -124,7 +124,7 @@ abbrev pub tables_at : Bool → Desk → List ℕ → List ℕ
 tables_at is_told desk line = tables_told is_told (last_stale None desk.state (debug_steps_of desk.state line))
 
 -- `check` tells each line that fails, and counts
-pub record CheckSays (before : Checked) (line text : List ℕ) (after : Checked) : Type 0 where
+pub record CheckSays (before : Checked) (line said : List ℕ) (after : Checked) : Type 0 where
   pub number : after.number ≡ up_to_64_bits (before.number + 1)
   pub left : Leaves before.desk line after.number after.desk
   pub same : after.is_stale_told ≡ before.is_stale_told
@@ -132,7 +132,7 @@ pub record CheckSays (before : Checked) (line text : List ℕ) (after : Checked)
       ≡ and_one (passes (wanted line) (answer_at before.desk line) (tables_at before.is_stale_told before.desk line)) before.passed
   pub failed : after.failed
       ≡ and_one (fails (wanted line) (answer_at before.desk line) (tables_at before.is_stale_told before.desk line)) before.failed
-  pub text : text ≡ verdict after.number line (answer_at before.desk line) (tables_at before.is_stale_told before.desk line)
+  pub text : said ≡ verdict after.number line (answer_at before.desk line) (tables_at before.is_stale_told before.desk line)
 
 -- what it tells at the end
 abbrev pub tally_text : ℕ → ℕ → List ℕ
@@ -143,7 +143,7 @@ by_check = by_lines (at_once Checked CheckSays)
 
 -- A whole script was checked: what was written is what is told of its lines, one after the other, and the tally. It passed where no line
 -- failed.
-pub record IsChecked (start : Checked) (unread left written holds : Option (List ℕ)) (passed : Bool) : Type 0 where
+pub record IsChecked (start : Checked) (unread left held holds : Option (List ℕ)) (all_passed : Bool) : Type 0 where
   pub script : List ℕ
   pub took : Consumes unread left script
   pub all : IsAtEnd left
@@ -151,5 +151,5 @@ pub record IsChecked (start : Checked) (unread left written holds : Option (List
   pub text : List ℕ
   pub end : Checked
   pub said : Speaks (at_once Checked CheckSays) start (lines_of script) text end
-  pub written : Appends written holds (text ++ tally_text end.passed end.failed)
-  pub passed : passed ≡ (end.failed == 0)
+  pub written : Appends held holds (text ++ tally_text end.passed end.failed)
+  pub verdict : all_passed ≡ (end.failed == 0)

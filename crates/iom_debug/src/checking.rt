@@ -1,10 +1,10 @@
 //! The word `check`: lines that name the answers that they want.
 
-ghost use Rattle.std.specs.Prelude.{◌≡◌, ◌++◌, ◌≤◌, false, length, IfOk, IfSome};
+ghost use Rattle.std.specs.Prelude.{◌≡◌, ◌++◌, ◌≤◌, false, codes, length, IfOk, IfSome};
 ghost use Rattle.std.specs.Option.{option_map};
 ghost use Rattle.iom_reader.specs.Watching.{read_failed, write_failed};
 ghost use Rattle.iom_debug.specs.Taking.{desk};
-ghost use Rattle.iom_debug.specs.Telling.{IsChecked, fails, misses, passes, report, tables_text, tally_text, verdict, wish_text};
+ghost use Rattle.iom_debug.specs.Telling.{IsChecked, escaped, fails, misses, passes, report, tables_text, tally_text, verdict, wish_text};
 
 use crate::debugger::Debugger;
 use crate::page::{Page, first_bytes, put, put_escaped, put_number, write_told};
@@ -16,7 +16,7 @@ use std::io::{Read, Write};
 
 // Whether an answer isn't the wanted one, or is `bad` where none is wanted.
 fn misses(wish: Option<&[u8]>, answer: &[u8]) -> bool
-    ensures { result ≡ misses (option_map (λ wish. wish.now) wish) answer.now }
+    ensures { result ≡ misses (option_map (λ wish. wish.now) wish.entry) answer.now }
 {
     match wish {
         Some(wish) => wish != answer,
@@ -26,14 +26,14 @@ fn misses(wish: Option<&[u8]>, answer: &[u8]) -> bool
 
 // Whether a line fails.
 fn fails(wish: Option<&[u8]>, answer: &[u8], tables: &[u8]) -> bool
-    ensures { result ≡ fails (option_map (λ wish. wish.now) wish) answer.now tables.now }
+    ensures { result ≡ fails (option_map (λ wish. wish.now) wish.entry) answer.now tables.now }
 {
     !answer.is_empty() && (!tables.is_empty() || misses(wish, answer))
 }
 
 // Whether a line passes.
 fn passes(wish: Option<&[u8]>, answer: &[u8], tables: &[u8]) -> bool
-    ensures { result ≡ passes (option_map (λ wish. wish.now) wish) answer.now tables.now }
+    ensures { result ≡ passes (option_map (λ wish. wish.now) wish.entry) answer.now tables.now }
 {
     !answer.is_empty() && wish.is_some() && !fails(wish, answer, tables)
 }
@@ -42,7 +42,7 @@ fn passes(wish: Option<&[u8]>, answer: &[u8], tables: &[u8]) -> bool
 fn put_wish(out: &mut Page, wish: Option<&[u8]>, answer: &[u8])
     requires short { IfSome wish (λ wish. length wish.now ≤ 513) }
     requires room { length out.old.items ≤ 4096 }
-    ensures text { out.new.items ≡ out.old.items ++ wish_text (option_map (λ wish. wish.now) wish) answer.now }
+    ensures text { out.new.items ≡ out.old.items ++ wish_text (option_map (λ wish. wish.now) wish.entry) answer.now }
     ensures room { length out.new.items ≤ 8192 }
 {
     if let Some(wish) = wish
@@ -61,9 +61,19 @@ fn put_tables(out: &mut Page, tables: &[u8])
     ensures room { length out.new.items ≤ 12288 }
 {
     if !tables.is_empty() {
-        put(out, b", stale: the tables now say ");
-        put_escaped(out, tables);
+        put_stale(out, tables);
     }
+}
+
+// Appends what the tables say now.
+fn put_stale(out: &mut Page, tables: &[u8])
+    requires short { length tables.now ≤ 320 }
+    requires room { length out.old.items ≤ 8192 }
+    ensures text { out.new.items ≡ out.old.items ++ (codes ", stale: the tables now say " ++ escaped tables.now) }
+    ensures room { length out.new.items ≤ 12288 }
+{
+    put(out, b", stale: the tables now say ");
+    put_escaped(out, tables);
 }
 
 // Puts what is told of a line of this number that fails.
@@ -106,7 +116,7 @@ impl<'a> Checking<'a> {
 
     /// A check of what this debugger drives, of no line yet. If `is_stale_told`, a line fails also where an access of it was stale.
     pub fn new(debugger: Debugger<'a>, is_stale_told: bool) -> Checking<'a>
-        ensures debugger { result.debugger ≡ debugger }
+        ensures debugger { result.debugger ≡ debugger.entry }
         ensures number { result.number ≡ 0 }
         ensures stale { result.is_stale_told ≡ is_stale_told }
         ensures passed { result.passed ≡ 0 }

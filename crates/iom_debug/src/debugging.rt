@@ -1,12 +1,16 @@
 //! The word `debug`: each line is answered.
 
-ghost use Rattle.std.specs.Prelude.{◌≡◌, ◌≤◌, ◌++◌, length};
-ghost use Rattle.iom_debug.specs.Telling.{line_told};
+ghost use Rattle.std.specs.Prelude.{◌≡◌, ◌≤◌, ◌++◌, false, length};
+ghost use Rattle.iom_reader.specs.Answering.{progress};
+ghost use Rattle.iom_reader.specs.Running.{Ends};
+ghost use Rattle.iom_reader.specs.Watching.{read_failed, write_failed};
+ghost use Rattle.iom_debug.specs.Taking.{desk};
+ghost use Rattle.iom_debug.specs.Telling.{by_debug, line_told};
 
 use crate::debugger::Debugger;
 use crate::page::{Page, first_bytes, put, write_told};
-use iom_reader::{Answerer, RunFault, WatchedWriter};
-use std::io::Write;
+use iom_reader::{Answerer, RunFault, WatchedReader, WatchedWriter, answer_all};
+use std::io::{Read, Write};
 
 /// A script of `debug`.
 #[derive(Drop)]
@@ -23,7 +27,7 @@ impl<'a> Debugging<'a> {
 
     /// A script of `debug` for what this debugger drives, of no line yet.
     pub fn new(debugger: Debugger<'a>) -> Debugging<'a>
-        ensures debugger { result.debugger ≡ debugger }
+        ensures debugger { result.debugger ≡ debugger.entry }
         ensures number { result.number ≡ 0 }
     {
         Debugging {
@@ -71,4 +75,26 @@ fn put_line(out: &mut Page, answer: &[u8])
         put(out, answer);
         put(out, b"\n");
     }
+}
+
+/// Answers each line of the script that `reader` gives, as `run` does. The faults are those of `run`.
+#[tactic(auto, using(crate::proofs::Telling::lawful))]
+pub fn debug<R: Read, W: Write>(
+    debugging: &mut Debugging<'_>,
+    reader: &mut WatchedReader<'_, R>,
+    writer: &mut WatchedWriter<'_, W>,
+) -> Result<(), RunFault>
+    requires can_read { read_failed reader.old ≡ false }
+    requires can_write { write_failed writer.old ≡ false }
+    ensures ends { Ends by_debug (R.remaining reader.old.inner.now) (R.remaining reader.new.inner.now)
+        (progress (W.contents writer.old.inner.now) (record {
+          desk = desk debugging.old.debugger.platform.now debugging.old.debugger.trace.now debugging.old.debugger.reasons.now;
+          number = debugging.old.number;
+        }))
+        (progress (W.contents writer.new.inner.now) (record {
+          desk = desk debugging.new.debugger.platform.now debugging.new.debugger.trace.now debugging.new.debugger.reasons.now;
+          number = debugging.new.number;
+        })) result }
+{
+    answer_all(debugging, reader, writer)
 }

@@ -3,7 +3,7 @@
 
 pub use checking::{Checking, check};
 pub use debugger::{Debugger, repeated};
-pub use debugging::Debugging;
+pub use debugging::{Debugging, debug};
 pub use iom_account::Reason;
 pub use iom_tool::Reply;
 pub use page::{Page, first_bytes, put, put_escaped, put_number, write_told};

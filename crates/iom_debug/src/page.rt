@@ -14,6 +14,9 @@ use iom_reader::{RunFault, WatchedWriter, write_out};
 use iom_text::decimal;
 use std::io::Write;
 
+/// How many bytes of a line are kept: one more than a line may have.
+const KEPT: usize = 513;
+
 /// Room for it.
 pub type Page = ArrayVec<u8, 16384>;
 
@@ -81,7 +84,8 @@ pub fn first_bytes(line: &[u8]) -> &[u8]
     ensures bytes { result.now ≡ take 513 line.now }
     ensures short { length result.now ≤ 513 }
 {
-    if line.len() > 513 { &line[..513] } else { line }
+    let count = line.len().min(KEPT);
+    &line[..count]
 }
 
 /// Writes what is told, where it has a byte. The fault is `Write`.
