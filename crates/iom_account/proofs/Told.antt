@@ -1,6 +1,6 @@
 -- What a history tells of a step explains it.
 use Rattle.std.proofs.Common.{◌≡◌, ◌∙◌, ℕ, suc, List, Option, Some, None, refl, sym, ap, subst}
-use Rattle.std.specs.Prelude.{slice_get}
+use Rattle.std.specs.Prelude.{IfSome, slice_get}
 use Rattle.std.specs.Option.{option_and_then}
 use Rattle.iom_ddt.specs.declared.context.Context.{Context}
 use Rattle.iom_nested.specs.declared.translation.Hit.{Hit}
@@ -15,19 +15,17 @@ use Rattle.iom_cache.proofs.Stamped.{Stamped}
 use Rattle.iom_core.specs.Access.{request_key}
 use Rattle.iom_core.specs.declared.way.Way.TheVariants.{Register as ByRegister, Context as ByContext, Walked, Denied}
 use Rattle.iom_core.specs.declared.way.Way.{Way}
-use Rattle.iom_core.specs.Histories.{fills_at}
 use Rattle.iom_core.specs.State.{State, context_room, page_room}
 use Rattle.iom_core.specs.Table.{executed, next, request_of_step}
-use Rattle.iom_core.specs.Warrants.{HasNone, IsDenied, IsUncached, context_filled, context_filled_at, executed_at, moment, page_filled, page_filled_at, request_at, way_at}
+use Rattle.iom_core.specs.Warrants.{HasNone, IsDenied, IsUncached, context_filled, context_filled_at, executed_at, fills_context, fills_page, moment, page_filled, page_filled_at, request_at, way_at}
 use Rattle.iom_core.specs.declared.access.Request.{Request}
-use Rattle.iom_core.specs.declared.history.Entry.TheVariants as entry
 use Rattle.iom_core.specs.declared.step.Step.{Step}
 use Rattle.iom_core.specs.declared.warrant.Warrant.TheVariants as warrant
 use Rattle.iom_core.proofs.Found.{by_context, by_register, by_walk, context_with, walk_with}
 use Rattle.iom_core.proofs.Moments.{context_filled-unused, moment-suc, next-contexts, next-pages, next_by, page_filled-unused}
 use Rattle.iom_core.proofs.Ways.{FilledPage, filled_page}
 use Rattle.iom_account.specs.Beside.{beside, noted_at}
-use Rattle.iom_account.specs.Following.{ComesFrom, Notes, base_at, base_by, bases_at, contexts_at, number_of, origin_on, told, walks_at}
+use Rattle.iom_account.specs.Following.{ComesFrom, Notes, base_at, base_by, bases_at, contexts_at, number_of, notes_at, origin_on, origin_so, told, walks_at}
 use Rattle.iom_account.specs.declared.origin.Origin.TheVariants as origin
 use Rattle.iom_account.proofs.Accessed.{accessed_contexts, accessed_pages, found_context, found_led, found_page, leading}
 use Rattle.iom_account.proofs.Noted.{LastNoted, Noted, Noted-always, last_noted}
@@ -63,13 +61,6 @@ filler state (Some request) key hit filled = record { request = request; is = re
 module _ (start : State) (steps : List Step) (numbers : List ℕ) (none : IsUncached start) where
   abbrev after : ℕ → State
   after k = moment start steps (suc k)
-
-  abbrev pub notes_at : ℕ → Notes
-  notes_at k = record {
-    contexts = contexts_at start steps numbers k;
-    walks = walks_at start steps numbers k;
-    bases = bases_at start steps numbers k;
-  }
 
   abbrev ContextNoted : ℕ → ℕ × Context → ℕ → Type 0
   ContextNoted = Noted same_did drops_context (context_filled_at start steps) (executed_at start steps) (number_of numbers)
@@ -136,7 +127,7 @@ module _ (start : State) (steps : List Step) (numbers : List ℕ) (none : IsUnca
   -- the base of a walk is the number of the last step that filled the device's context up to then
   pub record BaseTold (w did : ℕ) : Type 0 where
     pub c : ℕ
-    pub last : IsLast (fills_at start steps (entry.Context did)) w c
+    pub last : IsLast (fills_context start steps did) w c
     pub told : base_at start steps numbers w ≡ number_of numbers c
 
   pub base_told : (w : ℕ) (key : Key) (hit : Hit) → page_filled_at start steps w ≡ Some (key, hit) → BaseTold w key.did
@@ -203,10 +194,10 @@ module _ (start : State) (steps : List Step) (numbers : List ℕ) (none : IsUnca
         let walk = last_page (number_of numbers) n d key hit page in
         let base = last_page (base_at start steps numbers) n d key hit page in
         let current = last_context n request.did d context (found_there context (ap leading is)) in
-        let same : base.c ≡ walk.c = IsLast-unique (fills_at start steps (entry.Page key)) n base.c walk.c base.last walk.last in
+        let same : base.c ≡ walk.c = IsLast-unique (fills_page start steps key) n base.c walk.c base.last walk.last in
         let b = base_told walk.c key hit walk.source in
-        let old : IsLast (fills_at start steps (entry.Context request.did)) walk.c b.c =
-        subst (λ (did : ℕ). IsLast (fills_at start steps (entry.Context did)) walk.c b.c) (device_of request context) b.last in
+        let old : IsLast (fills_context start steps request.did) walk.c b.c =
+        subst (λ (did : ℕ). IsLast (fills_context start steps did) walk.c b.c) (device_of request context) b.last in
         let base_is = told_with base.c walk.c b.c same
         (beside (same_key key) (after n).machine.pages (bases_at start steps numbers (suc n)) d) base.told b.told in
         record {
@@ -215,8 +206,8 @@ module _ (start : State) (steps : List Step) (numbers : List ℕ) (none : IsUnca
           told = λ i. Some (origin.Walked (base_is i) (walk.told i) (current.told i));
         }
 
-    pub by_way : (way : Way) → way_at start steps n request ≡ way →
-        ComesFrom start steps numbers n (origin_on (notes_at (suc n)) (after n) request d way)
+    by_way : (way : Way) → way_at start steps n request ≡ way →
+        ComesFrom start steps numbers n (origin_on (notes_at start steps numbers (suc n)) (after n) request d way)
     by_way ByRegister is = by_ddtp is
     by_way (ByContext context) is = by_bare context is
     by_way (Walked context hit) is = by_pages context hit is
@@ -225,3 +216,10 @@ module _ (start : State) (steps : List Step) (numbers : List ℕ) (none : IsUnca
       explains = subst (HasNone start steps n) (sym asked) (subst IsDenied (sym is) tt);
       told = refl;
     }
+
+  -- and of a step that asks nothing
+  pub by_asked : (n d : ℕ) (asked : Option Request) (way : Way) → request_at start steps n ≡ asked →
+      IfSome asked (λ request. way_at start steps n request ≡ way) →
+      ComesFrom start steps numbers n (origin_so (notes_at start steps numbers (suc n)) (after n) asked d way)
+  by_asked n d None way is led = record { warrant = None; explains = subst (HasNone start steps n) (sym is) tt; told = refl }
+  by_asked n d (Some request) way is led = by_way n request d is way led

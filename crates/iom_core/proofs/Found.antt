@@ -10,9 +10,7 @@ use Rattle.iom_core.specs.declared.way.Way.{Way}
 use Rattle.iom_core.specs.declared.way.Way.TheVariants.{Register as ByRegister, Context as ByContext, Walked}
 use Rattle.iom_nested.specs.declared.translation.Hit.{Hit}
 use Rattle.iom_core.specs.declared.access.Request.{Request}
-use Rattle.iom_core.specs.Histories.{fills_at}
-use Rattle.iom_core.specs.Warrants.{IsByContext, IsByRegister, IsUncached, IsWalked, moment, request_at, way_at}
-use Rattle.iom_core.specs.declared.history.Entry.TheVariants as entry
+use Rattle.iom_core.specs.Warrants.{IsByContext, IsByRegister, IsUncached, IsWalked, fills_context, fills_page, moment, request_at, way_at}
 use Rattle.iom_core.specs.declared.step.Step.{Step}
 use Rattle.iom_core.proofs.Fresh.{context_of, fresh_context, walked}
 use Rattle.iom_core.proofs.Ways.{WasOff, WasByRegister, WasNowhere, WasByContext, WasWalked, WasFault, how_led}
@@ -81,34 +79,31 @@ module _ (start : State) (steps : List Step) (n : ℕ) (request : Request) where
       ]
 
   -- the moments are the last that filled
-  pub context_last : (f : ContextFound start steps n request) → IsLast (fills_at start steps (entry.Context request.did)) n f.k
-  context_last f = f.is.fresh.origin
-
-  pub context_with : (f : ContextFound start steps n request) (k : ℕ) → IsLast (fills_at start steps (entry.Context request.did)) n k → IsByContext start steps n request k
+  pub context_with : (f : ContextFound start steps n request) (k : ℕ) → IsLast (fills_context start steps request.did) n k → IsByContext start steps n request k
   context_with f k last =
-      subst (IsByContext start steps n request) (IsLast-unique (fills_at start steps (entry.Context request.did)) n f.k k f.is.fresh.origin last) f.is
+      subst (IsByContext start steps n request) (IsLast-unique (fills_context start steps request.did) n f.k k f.is.fresh.origin last) f.is
 
-  pub walk_last : (now : Context) (f : WalkFound start steps n request now) → IsLast (fills_at start steps (entry.Page (request_key request now))) n f.w
+  walk_last : (now : Context) (f : WalkFound start steps n request now) → IsLast (fills_page start steps (request_key request now)) n f.w
   walk_last now f =
       let key : request_key request f.is.old ≡ request_key request now = sym f.is.same_key ∙ ap (λ (c : Context). request_key request c) f.same in
-      subst (λ (k : Key). IsLast (fills_at start steps (entry.Page k)) n f.w) key f.is.page.origin
+      subst (λ (k : Key). IsLast (fills_page start steps k) n f.w) key f.is.page.origin
 
-  pub current_last : (now : Context) (f : WalkFound start steps n request now) → IsLast (fills_at start steps (entry.Context request.did)) n f.current
+  current_last : (now : Context) (f : WalkFound start steps n request now) → IsLast (fills_context start steps request.did) n f.current
   current_last now f = f.is.now_context.origin
 
-  pub old_last : (now : Context) (f : WalkFound start steps n request now) (w : ℕ) → IsLast (fills_at start steps (entry.Page (request_key request now))) n w →
-      IsLast (fills_at start steps (entry.Context request.did)) w f.c
+  old_last : (now : Context) (f : WalkFound start steps n request now) (w : ℕ) → IsLast (fills_page start steps (request_key request now)) n w →
+      IsLast (fills_context start steps request.did) w f.c
   old_last now f w last =
-      let same = IsLast-unique (fills_at start steps (entry.Page (request_key request now))) n f.w w (walk_last now f) last in
-      subst (λ (w : ℕ). IsLast (fills_at start steps (entry.Context request.did)) w f.c) same f.is.old_context.origin
+      let same = IsLast-unique (fills_page start steps (request_key request now)) n f.w w (walk_last now f) last in
+      subst (λ (w : ℕ). IsLast (fills_context start steps request.did) w f.c) same f.is.old_context.origin
 
   pub walk_with : (now : Context) (f : WalkFound start steps n request now) (c w current : ℕ) →
-      IsLast (fills_at start steps (entry.Page (request_key request now))) n w →
-      IsLast (fills_at start steps (entry.Context request.did)) n current →
-      IsLast (fills_at start steps (entry.Context request.did)) w c → IsWalked start steps n request c w current
+      IsLast (fills_page start steps (request_key request now)) n w →
+      IsLast (fills_context start steps request.did) n current →
+      IsLast (fills_context start steps request.did) w c → IsWalked start steps n request c w current
   walk_with now f c w current walk_is current_is old_is =
-      let test = fills_at start steps (entry.Context request.did) in
-      let same_w = IsLast-unique (fills_at start steps (entry.Page (request_key request now))) n f.w w (walk_last now f) walk_is in
+      let test = fills_context start steps request.did in
+      let same_w = IsLast-unique (fills_page start steps (request_key request now)) n f.w w (walk_last now f) walk_is in
       let same_current = IsLast-unique test n f.current current (current_last now f) current_is in
       let same_c = IsLast-unique test w f.c c (old_last now f w walk_is) old_is in
       subst (λ (k : ℕ). IsWalked start steps n request k w current) same_c

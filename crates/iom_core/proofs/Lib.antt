@@ -13,6 +13,5 @@ pub mod Slots
 pub mod Effects
 pub mod Moved
 pub mod Reaches
-pub mod Search
 pub mod Filled
 pub mod Found
