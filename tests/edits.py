@@ -166,8 +166,8 @@ def read_edit(name, text, texts):
 
 
 def opened(text):
-    """A function's text up to the brace that opens its body, which stands alone below clauses."""
-    brace = re.search(r"^ *\{\n", text, re.MULTILINE)
+    """A function's text up to the brace that opens its body, which stands alone below clauses, or before that of an empty body."""
+    brace = re.search(r"^ *\{(?=\n|\})", text, re.MULTILINE)
     return text[: brace.end()] if brace else ""
 
 
@@ -178,7 +178,7 @@ def harmless(texts, edits):
         for one in functions_of(file, texts):
             old = opened(texts[file][one.start : one.end])
             if old and texts[file].count(old) == 1:
-                found.append(Edit(HARMLESS, [(file, old, f"{old}let _without_meaning = 0u8;\n")], {one.path}))
+                found.append(Edit(HARMLESS, [(file, old, f"{old}\nlet _without_meaning = 0u8;\n")], {one.path}))
     return next((it for it in found if not it.functions & taken), found[0])
 
 

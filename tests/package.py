@@ -33,8 +33,13 @@ def run(words, **how):
     return done.stdout
 
 
+def pack_all(kind, program):
+    return [os.path.join(TOP, path) for path in run([PACKAGE, kind, program]).decode().split()]
+
+
 def pack(kind, program):
-    return os.path.join(TOP, run([PACKAGE, kind, program]).decode().strip())
+    """The archive, or the program's Debian package, which is the first of three."""
+    return pack_all(kind, program)[0]
 
 
 def needs(name):
@@ -44,8 +49,11 @@ def needs(name):
 
 def is_packed_alike(kind, program):
     def data():
-        with open(pack(kind, program), "rb") as file:
-            return file.read()
+        found = []
+        for path in pack_all(kind, program):
+            with open(path, "rb") as file:
+                found.append(file.read())
+        return found
 
     if data() != data():
         raise Failure("two packings of one program differ")
@@ -167,7 +175,12 @@ def files_of(root):
 
 def package_is_installed_and_removed(program):
     needs("dpkg")
-    package = pack("deb", program)
+    packages = pack_all("deb", program)
+    names = [os.path.basename(path).partition("_")[0] for path in packages]
+    with open(os.path.join(TOP, "include/rviommu.h"), encoding="utf-8") as header:
+        number = re.search(r"^#define RVIOMMU_ABI (\d+)$", header.read(), re.MULTILINE)[1]
+    if names != ["rviommu", f"librviommu{number}", "librviommu-dev"]:
+        raise Failure(f"the packages are {names}")
     with tempfile.TemporaryDirectory() as root:
         admin = os.path.join(root, "var/lib/dpkg")
         for folder in ("info", "updates", "triggers"):
@@ -177,13 +190,13 @@ def package_is_installed_and_removed(program):
         log = os.path.join(root, "dpkg.log")
         dpkg = ["dpkg", f"--root={root}", f"--log={log}", "--force-not-root", "--force-depends"]
         before = files_of(root)
-        run([*dpkg, "--install", package])
+        run([*dpkg, "--install", *packages])
         docs = os.path.join(root, "usr/share/doc/rviommu/examples")
         answers_an_example(os.path.join(root, "usr/bin/rviommu"), docs)
         shows_its_page(os.path.join(root, "usr/share/man/man1/rviommu.1.gz"))
         serves_c(root)
         has_completions(os.path.join(root, "usr"), "vendor-completions")
-        run([*dpkg, "--purge", "rviommu"])
+        run([*dpkg, "--purge", *names])
         left = [name for name in files_of(root) if name not in before and not name.startswith(("var/", "dpkg.log"))]
         if left:
             raise Failure(f"removed, it leaves {left}")
@@ -191,7 +204,10 @@ def package_is_installed_and_removed(program):
 
 def lintian_finds_nothing(program):
     needs("lintian")
-    run(["lintian", "--allow-root", "--fail-on", "error,warning", pack("deb", program)])
+    run(["lintian", "--allow-root", "--fail-on", "error,warning", *pack_all("deb", program)])
+    for path in pack_all("deb", program):
+        if b"lintian" in run(["dpkg-deb", "--contents", path]):
+            raise Failure(f"{os.path.basename(path)} has lintian look away from something")
 
 
 CHECKS = [
@@ -199,10 +215,10 @@ CHECKS = [
     ("the program and the shared object run with the glibc that README names", runs_on_the_oldest_libc),
     ("the archive is packed alike twice", lambda program: is_packed_alike("dist", program)),
     ("the archive's program, examples, man page and C library are used", archive_is_used),
-    ("the Debian package is packed alike twice", lambda program: (needs("dpkg-deb"), is_packed_alike("deb", program))),
-    ("the Debian package is installed into an empty root, with completions, used and removed", package_is_installed_and_removed),
+    ("the Debian packages are packed alike twice", lambda program: (needs("dpkg-deb"), is_packed_alike("deb", program))),
+    ("the Debian packages are installed into an empty root, with completions, used and removed", package_is_installed_and_removed),
     ("the page is in both packages as it was built", page_is_packed),
-    ("lintian finds no error in the Debian package, and warns of nothing", lintian_finds_nothing),
+    ("lintian finds no error in the Debian packages, and warns of nothing", lintian_finds_nothing),
 ]
 
 

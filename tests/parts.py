@@ -1,11 +1,11 @@
-"""The parts of a device's access where nothing is cached, by a plain program: RISC-V IOMMU Architecture 1.0, and the Sv39, Sv48, Sv39x4 and Sv48x4
-of RISC-V Privileged Architecture 1.12. `parts` tells them as `walk read` and `walk write` of a debugger do, part by part; program_parts.py compares
-the two. Nothing here is taken from the program.
+"""The parts of a device's access where nothing is cached, by a plain program: RISC-V IOMMU Architecture 1.0, and Sv39, Sv48, Sv57, Sv39x4, Sv48x4,
+Sv57x4, Svnapot and Svpbmt of RISC-V Privileged Architecture. `parts` tells them as `walk read` and `walk write` of a debugger do, part by part, for an
+IOMMU with the features of a set: "svnapot", "svpbmt", "sv57", "sv57x4". program_parts.py compares the two. Nothing here is taken from the program.
 """
 PAGE = 4096
 OUTSIDE, GUEST = "outside memory", "guest fault"
 # Modes of a stage, and how many levels they have.
-LEVELS = {8: 3, 9: 4}
+LEVELS = {8: 3, 9: 4, 10: 5}
 DIR_ACCESS, DIR_INVALID, DIR_BAD, TOO_WIDE, OFF = 257, 258, 259, 260, 256
 
 
@@ -36,8 +36,8 @@ def entry_line(word):
 class Context:
     """A device context's four words: "Base-format device-context"."""
 
-    def __init__(self, words):
-        self.words = words
+    def __init__(self, words, features):
+        self.words, self.features = words, features
         tc, iohgatp, ta, fsc = words
         self.is_valid = tc & 1
         self.fields = {"dtf": field(tc, 4, 4), "custom": field(tc, 31, 24)}
@@ -47,7 +47,8 @@ class Context:
         self.second, self.guest_root = self.fields["gmode"], self.fields["gppn"]
         reserved = tc & ~(1 | 1 << 4 | 0xFF << 24), ta & ~(1 | 0xFFFFF << 12), field(fsc, 59, 44)
         is_aligned = self.second == 0 or self.guest_root % 4 == 0
-        self.is_good = not any(reserved) and is_aligned and {self.first, self.second} <= {0, *LEVELS}
+        has_modes = (self.first != 10 or "sv57" in features) and (self.second != 10 or "sv57x4" in features)
+        self.is_good = not any(reserved) and is_aligned and has_modes and {self.first, self.second} <= {0, *LEVELS}
 
     def line(self):
         if not self.is_valid or not self.is_good:
@@ -55,7 +56,7 @@ class Context:
         return " ".join(["context", *(f"{name}={value:#x}" for name, value in self.fields.items())])
 
 
-def located(memory, ddtp, did):
+def located(memory, ddtp, did, features):
     """The entries of the directory, and the context or the cause of the fault: "Process to locate the Device-context"."""
     levels, table, told = field(ddtp, 3, 0) - 1, field(ddtp, 53, 10) * PAGE, []
     indices = [field(did, 6, 0), field(did, 15, 7), field(did, 23, 16)]
@@ -75,13 +76,14 @@ def located(memory, ddtp, did):
     words = [memory.word(place + 8 * at) for at in range(4)]
     if None in words:
         return told + [f"context at={place:#x} outside"], DIR_ACCESS
-    context = Context(words)
+    context = Context(words, features)
     told.append(f"context at={place:#x} {context.line()}")
     return told, context if context.is_valid and context.is_good else DIR_BAD if context.is_valid else DIR_INVALID
 
 
-def judged(got, level, is_write):
-    """What an entry says: "Virtual Address Translation Process", steps 2 to 7; every access is one of user mode, and none sets A or D."""
+def judged(got, level, is_write, features):
+    """What an entry says: "Virtual Address Translation Process", steps 2 to 7, "Svnapot" and "Svpbmt"; every access is one of user mode, and none sets
+    A or D."""
     if isinstance(got, str):
         return got
     valid, read, write, execute, user, _, accessed, dirty = (got >> bit & 1 for bit in range(8))
@@ -89,9 +91,12 @@ def judged(got, level, is_write):
         return "V=0"
     if write and not read:
         return "R=0 W=1"
-    if got >> 54:
+    is_leaf, memory_type = read or write or execute, field(got, 62, 61)
+    may_be_napot = "svnapot" in features and is_leaf and level == 0 and field(got, 13, 10) == 8
+    may_be_typed = "svpbmt" in features and is_leaf and memory_type != 3
+    if field(got, 60, 54) or got >> 63 and not may_be_napot or memory_type and not may_be_typed:
         return "reserved bits"
-    if not (read or write or execute):
+    if not is_leaf:
         return "reserved in pointer" if accessed or dirty or user else "pointer" if level else "last level"
     if field(got, 53, 10) % (1 << 9 * level):
         return "misaligned"
@@ -101,7 +106,7 @@ def judged(got, level, is_write):
     return "leaf"
 
 
-def walked(read, levels, widening, root, address, is_write):
+def walked(read, levels, widening, root, address, is_write, features):
     """The entries that a walk meets, each with its level, its place, what was read there and how it is judged; and the address that it leads to,
     or how its last entry is judged."""
     met, table = [], root * PAGE
@@ -109,14 +114,15 @@ def walked(read, levels, widening, root, address, is_write):
         width = 9 + (widening if level == levels - 1 else 0)
         place = table + 8 * field(address, 11 + 9 * level + width, 12 + 9 * level)
         got = read(place)
-        judgement = judged(got, level, is_write)
+        judgement = judged(got, level, is_write, features)
         met.append((level, place, got, judgement))
         if judgement != "pointer":
             break
         table = field(got, 53, 10) * PAGE
     if judgement != "leaf":
         return met, judgement
-    return met, field(got, 53, 10) * PAGE | address & (1 << 12 + 9 * level) - 1
+    offset = (1 << (16 if got >> 63 else 12 + 9 * level)) - 1
+    return met, field(got, 53, 10) * PAGE & ~offset | address & offset
 
 
 def is_led(end):
@@ -135,7 +141,7 @@ def second_stage(memory, context, guest, is_write):
     if guest >> 12 + 9 * levels + 2:
         return [f"second guest={guest:#x} width"], "too wide"
     read = lambda place: OUTSIDE if memory.word(place) is None else memory.word(place)
-    met, end = walked(read, levels, 2, context.guest_root, guest, is_write)
+    met, end = walked(read, levels, 2, context.guest_root, guest, is_write, context.features)
     return [f"second of={guest:#x} level={level:#x} at={place:#x}{read_text(got)} {judgement}" for level, place, got, judgement in met], end
 
 
@@ -157,7 +163,7 @@ def first_stage(memory, context, iova, is_write):
             return OUTSIDE if end == OUTSIDE else GUEST
         return OUTSIDE if memory.word(end) is None else memory.word(end)
 
-    met, end = walked(read, levels, 0, context.root, iova, is_write)
+    met, end = walked(read, levels, 0, context.root, iova, is_write, context.features)
     told = []
     for (level, place, got, judgement), (before, where) in zip(met, ways):
         told += [*before, f"first level={level:#x} at={place:#x} in={where}{read_text(got)} {judgement}"]
@@ -184,14 +190,14 @@ def denial(cause, iotval2=0):
     return f"denied {cause} iotval2={iotval2:#x}"
 
 
-def parts(memory, ddtp, did, iova, is_write):
-    """All parts of a device's access to an IOVA, in order, by the value of ddtp."""
+def parts(memory, ddtp, did, iova, is_write, features=frozenset()):
+    """All parts of a device's access to an IOVA, in order, by the value of ddtp and the features of the IOMMU."""
     mode = field(ddtp, 3, 0)
     told = [f"ddtp mode={mode:#x} root={field(ddtp, 53, 10):#x}"]
     if mode == 0:
         return told + [denial(OFF)]
     if mode == 1:
         return told + [f"register addr={iova:#x}"]
-    entries, found = located(memory, ddtp, did)
+    entries, found = located(memory, ddtp, did, features)
     told += entries
     return told + ([denial(found)] if isinstance(found, int) else staged(memory, found, iova, is_write))

@@ -3,7 +3,7 @@ import random
 import re
 from collections import Counter
 
-from checks import Failure, check, run, want
+from frame import WELL, Case, run
 from parts import GUEST, OUTSIDE, Memory, parts
 from walks import BASE, PAGES, SIZE, World
 
@@ -99,24 +99,24 @@ class Play:
         self.wide.update(f"{part}, {behind}" for part, behind in zip(told, told[1:]) if part.endswith(" width"))
 
 
-@check("walk: the parts of walks are those of a plain program, on tables with defects at random")
-def _():
-    rng = random.Random(SEED)
-    play = Play(rng)
-    for _ in range(WORLDS):
-        world = World(rng)
-        for place, word in world.words.items():
-            play.store(place, word)
-        for first, second, iova, _ in world.walks:
-            bare = play.chance(0.03)
-            play.walk(0 if bare else first, 0 if bare else second, iova, play.chance(0.5))
-    status, out, errors = run(["debug"], "".join(line + "\n" for line in play.lines).encode())
-    want("status and standard error", (status, errors), (0, b""))
-    answers = out.decode().splitlines()
-    want("how many answers there are", len(answers), len(play.wanted))
-    for line, wanted, answer in zip(play.lines, play.wanted, answers):
-        want(f"the answer to {line}", answer, wanted)
-    want("what no walk met", TO_MEET - play.met, set())
-    want("what is too wide, and too seldom met", [it for it in WIDE if play.wide[it] < LEAST_WIDE], [])
-    if play.walks < LEAST:
-        raise Failure(f"there are {play.walks} walks, fewer than {LEAST}")
+class Parts(Case):
+    def test_parts(self):
+        """walk: the parts of walks are those of a plain program, on tables with defects at random"""
+        rng = random.Random(SEED)
+        play = Play(rng)
+        for _ in range(WORLDS):
+            world = World(rng)
+            for place, word in world.words.items():
+                play.store(place, word)
+            for first, second, iova, _ in world.walks:
+                bare = play.chance(0.03)
+                play.walk(0 if bare else first, 0 if bare else second, iova, play.chance(0.5))
+        status, out, errors = run(["debug"], "".join(line + "\n" for line in play.lines).encode())
+        self.assertEqual((status, errors), WELL)
+        answers = out.decode().splitlines()
+        self.assertEqual(len(answers), len(play.wanted))
+        for line, wanted, answer in zip(play.lines, play.wanted, answers):
+            self.assertEqual(answer, wanted, line)
+        self.assertEqual(TO_MEET - play.met, set(), "what no walk met")
+        self.assertEqual([it for it in WIDE if play.wide[it] < LEAST_WIDE], [], "what is too wide, and too seldom met")
+        self.assertGreaterEqual(play.walks, LEAST)

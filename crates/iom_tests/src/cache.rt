@@ -10,24 +10,28 @@ const HIT: Hit = Hit {
     frame: 0x80010,
     level: 0,
     global: false,
+    napot: false,
 };
 
 const GLOBAL: Hit = Hit {
     frame: 0x80010,
     level: 0,
     global: true,
+    napot: false,
 };
 
 const SUPERPAGE: Hit = Hit {
     frame: 0x80010,
     level: 1,
     global: false,
+    napot: false,
 };
 
 const LARGEST: Hit = Hit {
     frame: 0x80010,
     level: 3,
     global: false,
+    napot: false,
 };
 
 const CONTEXT: Context = Context {

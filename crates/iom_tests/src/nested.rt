@@ -1,7 +1,7 @@
 ghost use Rattle.std.specs.Prelude.{Ok, Err};
 
 use crate::first_wrong;
-use iom_bits::{Cause, Kind};
+use iom_bits::{Cause, Features, Kind};
 use iom_ddt::{Context, ContextFields};
 use iom_mem::{MemFault, Ram};
 use iom_nested::{Fault, Hit, Second, second_shape, translate};
@@ -77,7 +77,7 @@ fn led(ram: &Ram, fields: &ContextFields, iova: u64, kind: Kind) -> Option<Resul
     if context.is_bare() {
         return None;
     }
-    Some(translate(ram, &context, iova, kind))
+    Some(translate(ram, Features::none(), &context, iova, kind))
 }
 
 // The number of the first that is otherwise.
@@ -344,7 +344,7 @@ fn guest_word(ram: &Ram, addr: u64) -> Option<Got> {
     if second_shape(&context).is_none() {
         return None;
     }
-    Some(Second::new(ram, &context).word(addr))
+    Some(Second::new(ram, Features::none(), &context).word(addr))
 }
 
 // A word of the guest's memory, one outside memory and one that the second stage doesn't map.
