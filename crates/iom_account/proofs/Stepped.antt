@@ -1,23 +1,24 @@
--- What a step of a history that follows a platform keeps and tells.
+-- What a step of a history that goes along with a platform keeps and tells.
 use Rattle.std.proofs.Common.{◌≡◌, ◌∙◌, ◌++◌, ℕ, suc, List, [], ◌∷◌, length, Option, Some, None, refl, sym, ap, subst}
-use Rattle.std.specs.Prelude.{◌↔◌}
-use Rattle.std.specs.Option.{option_map}
+use Rattle.std.specs.Prelude.{◌↔◌, IfSome, slice_get}
+use Rattle.std.specs.Option.{option_and_then, option_map}
 use Rattle.iom_core.specs.Access.{led}
 use Rattle.iom_core.specs.Looking.{nothing_seen, noticed}
 use Rattle.iom_core.specs.State.{State}
 use Rattle.iom_core.specs.Table.{Asking, asked, next, request_in, request_of_step, told_by_step}
-use Rattle.iom_core.specs.Warrants.{HasNone, IsDenied, moment, request_at, way_at}
+use Rattle.iom_core.specs.Warrants.{IsDenied, IsUncached, moment, request_at, way_at}
 use Rattle.iom_core.specs.declared.access.Request.{Request}
 use Rattle.iom_core.specs.declared.looking.Seen.{Seen}
 use Rattle.iom_core.specs.declared.step.Step.{Step}
 use Rattle.iom_core.specs.declared.way.Way.{Way}
 use Rattle.iom_core.specs.declared.way.Way.TheVariants.{Context as ByContext, Register as ByRegister, Denied, Walked}
-use Rattle.iom_account.specs.Following.{ComesFrom, Follows, HasNoAccess, Notes, noted, noted_so, origin_on, origin_so}
+use Rattle.iom_core.proofs.Moments.{moment-suc, next_by}
+use Rattle.iom_account.specs.Following.{ComesFrom, Follows, HasNoAccess, Notes, noted, noted_so, notes_at, number_of, origin_on, origin_so}
 use Rattle.iom_account.specs.declared.origin.Origin.{Origin}
 use Rattle.iom_account.proofs.Accessed.{noted_is}
-use Rattle.iom_account.proofs.Followed.{followed}
-use Rattle.iom_account.proofs.Runs.{length_more, moment_all, moment_last, request_last}
-use Rattle.iom_account.proofs.Told.{by_way, notes_at}
+use Rattle.iom_account.proofs.Followed.{bases_kept, contexts_kept, number_last, walks_kept}
+use Rattle.iom_account.proofs.Runs.{end_more, item_last, length_more, moment_last}
+use Rattle.iom_account.proofs.Told.{by_asked}
 
 -- no origin is told where an access is denied, and of no other
 none_denied : (notes : Notes) (after : State) (request : Request) (number : ℕ) (way : Way) →
@@ -37,12 +38,11 @@ none_asked before after (Some asking) notes seen number is =
     subst (λ (w : Way). (origin_on notes after request number w ≡ None) ↔ IsDenied (led before.machine request).way) (sym way)
     (none_denied notes after request number (led before.machine request).way)
 
-pub none_told : (before after : State) (taken : Step) (request : Option Request) (notes : Notes) (seen : Seen) (number : ℕ) (found : Option Origin) →
-    request ≡ request_of_step before taken → seen ≡ told_by_step noticed nothing_seen before.machine (asked before taken) →
-    found ≡ origin_so notes after request number seen.way → (found ≡ None) ↔ HasNoAccess before (request_of_step before taken)
-none_told before after taken request notes seen number found own is told =
-    subst (λ (o : Option Origin). (o ≡ None) ↔ HasNoAccess before (request_of_step before taken))
-    (sym (told ∙ ap (λ (r : Option Request). origin_so notes after r number seen.way) own))
+pub none_told : (before after : State) (taken : Step) (notes : Notes) (seen : Seen) (number : ℕ) (found : Option Origin) →
+    seen ≡ told_by_step noticed nothing_seen before.machine (asked before taken) →
+    found ≡ origin_so notes after (request_of_step before taken) number seen.way → (found ≡ None) ↔ HasNoAccess before (request_of_step before taken)
+none_told before after taken notes seen number found is told =
+    subst (λ (o : Option Origin). (o ≡ None) ↔ HasNoAccess before (request_of_step before taken)) (sym told)
     (none_asked before after (asked before taken) notes seen number is)
 
 -- what a step notes, and the way that it saw
@@ -101,20 +101,44 @@ module _ (history new : Notes) (platform after : State) (taken : Step) (seen : S
     (so : seen ≡ told_by_step noticed nothing_seen platform.machine (asked platform taken))
     (notes : new ≡ noted platform after (request_of_step platform taken) number history)
     (start : State) (steps : List Step) (numbers : List ℕ) (h : Follows history platform start steps numbers) where
-  pub follows_step : Follows new after start (steps ++ taken ∷ []) (numbers ++ number ∷ [])
+  abbrev more : List Step
+  more = steps ++ taken ∷ []
+
+  abbrev told : List ℕ
+  told = numbers ++ number ∷ []
+
+  abbrev n : ℕ
+  n = length steps
+
+  own : number ≡ number_of told n
+  own = sym (number_last start steps taken numbers number h.numbered)
+
+  at : platform ≡ moment start more n
+  at = h.reached ∙ sym (moment_last start steps taken)
+
+  kept : history ≡ notes_at start more told n
+  kept = λ i. record {
+    contexts = (h.contexts ∙ sym (contexts_kept start steps taken numbers number h.numbered)) i;
+    walks = (h.walks ∙ sym (walks_kept start steps taken numbers number h.numbered)) i;
+    bases = (h.bases ∙ sym (bases_kept start steps taken numbers number h.numbered)) i;
+  }
+
+  pub follows_step : Follows new after start more told
   follows_step =
-      let Kept : Notes → State → Type 0 = λ notes s. Follows notes s start (steps ++ taken ∷ []) (numbers ++ number ∷ []) in
-      subst (λ (ns : Notes). Kept ns after) (sym notes)
-      (subst (λ (s : State). Kept (noted platform s (request_of_step platform taken) number history) s) (sym left)
-      (followed history platform start steps numbers taken number h))
+      let is = item_last steps taken in
+      let kept_on : new ≡ notes_at start more told (length more) =
+      leaves_notes start more told n taken number is own history new platform after seen at kept left so notes
+      ∙ ap (notes_at start more told) (sym (length_more steps taken)) in
+      record {
+        uncached = h.uncached;
+        reached = left ∙ ap (λ (s : State). (next s taken).state) h.reached ∙ sym (end_more start steps taken);
+        numbered = length_more numbers number ∙ ap suc h.numbered ∙ sym (length_more steps taken);
+        contexts = ap (λ (ns : Notes). ns.contexts) kept_on;
+        walks = ap (λ (ns : Notes). ns.walks) kept_on;
+        bases = ap (λ (ns : Notes). ns.bases) kept_on;
+      }
 
   pub origin_step : (found : Option Origin) → found ≡ origin_so new after (request_of_step platform taken) number seen.way →
-      ComesFrom start (steps ++ taken ∷ []) (numbers ++ number ∷ []) (length steps) found
-  origin_step found told =
-      let more : List Step = steps ++ taken ∷ [] in
-      let numbered : List ℕ = numbers ++ number ∷ [] in
-      let n : ℕ = length steps in
-      let at : platform ≡ moment start more n = h.reached ∙ sym (moment_last start steps taken) in
-      let kept : history ≡ notes_at start more numbered n = followed_notes history platform start steps numbers taken number h in
-      let own : number ≡ number_of numbered n = number_last numbers number n h.numbered in
-      origin_there start more numbered n taken number (item_last steps taken) own history new platform after seen at kept left so notes h.uncached found told
+      ComesFrom start more told n found
+  origin_step found is =
+      origin_there start more told n taken number (item_last steps taken) own history new platform after seen at kept left so notes h.uncached found is

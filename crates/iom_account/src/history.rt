@@ -6,7 +6,7 @@ ghost use Rattle.iom_core.specs.Looking.{noticed, nothing_seen};
 ghost use Rattle.iom_core.specs.Table.{asked, next, request_of_step, told_by_step};
 ghost use Rattle.iom_core.specs.Warrants.{IsUncached};
 ghost use Rattle.iom_account.specs.Beside.{beside};
-ghost use Rattle.iom_account.specs.Following.{ComesFrom, ContextFrom, Follows, HasNoAccess, PageFrom, context_noted, noted_so, numbers_of, origin_on, origin_so, walk_noted};
+ghost use Rattle.iom_account.specs.Following.{ComesFrom, ContextFrom, Follows, HasNoAccess, PageFrom, context_noted, noted, noted_so, numbers_of, origin_on, origin_so, walk_noted};
 
 use crate::notes::{equal, note, zeros};
 use crate::origin::Origin;
@@ -98,6 +98,8 @@ impl History {
         ensures state { platform.new ≡ (next platform.old step.now).state }
         ensures request { result.request ≡ request_of_step platform.old step.now }
         ensures seen { result.seen ≡ told_by_step noticed nothing_seen platform.old.machine (asked platform.old step.now) }
+        ensures noted { self.new ≡ noted platform.old platform.new (request_of_step platform.old step.now) number self.old }
+        ensures told { result.origin ≡ origin_so self.new platform.new (request_of_step platform.old step.now) number result.seen.way }
         // Whatever the caches held, it tells no origin of a step that made no access or was denied, and one of every other.
         ensures none { (result.origin ≡ None) ↔ HasNoAccess platform.old (request_of_step platform.old step.now) }
 
@@ -110,7 +112,8 @@ impl History {
             ComesFrom start (steps ++ step.now ∷ []) (numbers ++ number ∷ []) (length steps) result.origin }
     {
         let request = platform.request_of(step);
-        let seen = take(platform, step, answer);
+        let mut seen = Seen::nothing();
+        platform.step_told(step, answer, &mut seen);
         let origin = self.note_step(platform, request, &seen, number);
         Taken {
             request,
@@ -242,17 +245,6 @@ impl History {
         let place = platform.contexts().place_of(did);
         number_at(self.contexts.as_slice(), place, number)
     }
-}
-
-// Carries out a step, and says what led its access.
-fn take(platform: &mut Platform, step: &Step, answer: &mut Answer) -> Seen
-    ensures answer { answer.new ≡ (next platform.old step.now).answer }
-    ensures state { platform.new ≡ (next platform.old step.now).state }
-    ensures seen { result ≡ told_by_step noticed nothing_seen platform.old.machine (asked platform.old step.now) }
-{
-    let mut seen = Seen::nothing();
-    platform.step_told(step, answer, &mut seen);
-    seen
 }
 
 // The number beside a place; `number` where there is none.

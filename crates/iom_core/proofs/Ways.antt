@@ -239,8 +239,8 @@ pub context_refused : (m : Machine) (did : ℕ) (why : Cause) → (context_look 
 unfolding context_look
 context_refused m did why used = look_refuses did (live_context m did) (located m.memory m.registers did) why used
 
-pub page_refused : (m : Machine) (request : Request) (context : Context) (fault : Fault) → (page_look m.memory m.pages request context).used ≡ Err fault →
-    (page_look m.memory m.pages request context).filled ≡ None
+pub page_refused : (m : Machine) (request : Request) (context : Context) (fault : Fault) → (page_look m.memory no_features m.pages request context).used ≡ Err fault →
+    (page_look m.memory no_features m.pages request context).filled ≡ None
 unfolding page_look
 page_refused m request context fault used =
     look_refuses (request_key request context) (find (same_key (request_key request context)) m.pages)
