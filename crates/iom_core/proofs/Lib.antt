@@ -14,4 +14,3 @@ pub mod Effects
 pub mod Moved
 pub mod Reaches
 pub mod Filled
-pub mod Found
