@@ -18,7 +18,7 @@ use Rattle.iom_cache.proofs.Stamped.{Stamped}
 use Rattle.iom_core.specs.Access.{request_key}
 use Rattle.iom_core.specs.State.{State}
 use Rattle.iom_core.specs.Table.{request_of_step}
-use Rattle.iom_core.specs.Warrants.{IsFreshContext, IsUncached, context_filled, context_filled_at, executed_at, fills_context, moment, page_filled, page_filled_at, request_at}
+use Rattle.iom_core.specs.Warrants.{IsFreshContext, IsUncached, context_filled, context_filled_at, executed_at, fills_context, fills_page, moment, page_filled, page_filled_at, request_at}
 use Rattle.iom_core.specs.declared.access.Request.{Request}
 use Rattle.iom_core.specs.declared.step.Step.{Step}
 use Rattle.iom_core.proofs.Fresh.{fresh_context}

@@ -158,12 +158,12 @@ module _ (start : State) (steps : List Step) (numbers : List ℕ) (none : IsUnca
     Goal way = ComesFrom start steps numbers n (origin_on (notes_at start steps numbers (suc n)) (after n) request d way)
 
     by_none : (way : Way) → way_at start steps n request ≡ way → IsDenied way → Goal way
-    by_none ByRegister is no = absurd no
-    by_none (ByContext context) is no = absurd no
-    by_none (Walked context hit) is no = absurd no
-    by_none (Denied denial) is no = record {
+    by_none ByRegister is never = absurd never
+    by_none (ByContext context) is never = absurd never
+    by_none (Walked context hit) is never = absurd never
+    by_none (Denied denial) is here = record {
       warrant = None;
-      explains = subst (HasNone start steps n) (sym asked) (subst IsDenied (sym is) no);
+      explains = subst (HasNone start steps n) (sym asked) (subst IsDenied (sym is) here);
       told = refl;
     }
 
@@ -205,7 +205,7 @@ module _ (start : State) (steps : List Step) (numbers : List ℕ) (none : IsUnca
         let old : IsLast (fills_context start steps request.did) w b.c =
         subst (λ (did : ℕ). IsLast (fills_context start steps did) w b.c) (device_of request h.now) b.last in
         let base_is = base.told ∙ ap (base_at start steps numbers) same_base ∙ b.told
-            ∙ ap (number_of numbers) (IsLast-unique (fills_context start steps request.did) w b.c c old h.old_context.origin) in
+        ∙ ap (number_of numbers) (IsLast-unique (fills_context start steps request.did) w b.c c old h.old_context.origin) in
         let walk_is = walk.told ∙ ap (number_of numbers) same in
         let now_is = current_is h.now c' (ap leading h.used) h.now_context.origin in
         record {

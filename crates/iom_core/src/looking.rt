@@ -120,7 +120,14 @@ impl Platform {
         ensures way { result ≡ (led_under self.now.machine.memory no_features [] request.now context.now).way }
     {
         let mut seen = Seen::nothing();
-        let _ = by_context(&self.machine.ram, Features::none(), &mut Nothing, request, context, &mut seen);
+        let _ = by_context(
+            &self.machine.ram,
+            Features::none(),
+            &mut Nothing,
+            request,
+            context,
+            &mut seen,
+        );
         seen.way
     }
 }

@@ -1,4 +1,4 @@
-use Rattle.std.proofs.Common.{◌≡◌, ◌∙◌, ◌<◌, Some, suc, take, refl, sym, ap, subst, arith}
+use Rattle.std.proofs.Common.{◌≡◌, ◌∙◌, ◌+◌, ◌<◌, ℕ, [], Some, suc, take, refl, sym, ap, subst, arith}
 use Rattle.std.specs.Prelude.{slice_get}
 use Rattle.std.proofs.lemmas.Grind.{common_steps}
 use Rattle.std.proofs.lemmas.Option.{slice_get-get_or}
@@ -33,12 +33,14 @@ loop-k-preserved c =
     let is : slice_get steps l.k ≡ Some step = step_at steps c.args.n l.k step there in
     let below : l.k < c.args.n = grind (arith, common_steps) in
     let own : l.k ≡ number_of (counted (suc c.args.n)) l.k = sym (number_counted (suc c.args.n) l.k (omega arith)) in
+    let one : suc l.k ≡ l.k + 1 = omega arith in
     record {
       items = refl;
       at = leaves_moment start steps (counted (suc c.args.n)) l.k step l.k is own l.history c.step.new.self l.platform c.step.new.platform c.step.result.seen
-          l.invariant.at l.invariant.kept c.step.ensures.state c.step.ensures.seen c.step.ensures.noted;
+          l.invariant.at l.invariant.kept c.step.ensures.state c.step.ensures.seen c.step.ensures.noted ∙ ap (moment start steps) one;
       kept = leaves_notes start steps (counted (suc c.args.n)) l.k step l.k is own l.history c.step.new.self l.platform c.step.new.platform c.step.result.seen
-          l.invariant.at l.invariant.kept c.step.ensures.state c.step.ensures.seen c.step.ensures.noted;
+          l.invariant.at l.invariant.kept c.step.ensures.state c.step.ensures.seen c.step.ensures.noted
+          ∙ ap (notes_at start steps (counted (suc c.args.n))) one;
     }
 
 pub returns : goal.returns
