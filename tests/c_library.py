@@ -109,6 +109,11 @@ def from_cpp(place, compiler):
         raise Failure("examples/c/header.cpp prints something else")
 
 
+def types(place, compiler):
+    """The types that the header gives to C++."""
+    passes([compiled(place, compiler, "types", ["tests/c/types.cpp"])])
+
+
 def by_pkg_config(place):
     """The moved library is found and used by pkg-config, as a shared object."""
     needs("pkg-config", "gcc")
@@ -313,6 +318,8 @@ CHECKS = [
     ("valgrind finds nothing in the driver's test", lambda place: driver(place, "gcc", VALGRIND)),
     ("the header is used from C++, with g++", lambda place: from_cpp(place, "g++")),
     ("the header is used from C++, with clang++", lambda place: from_cpp(place, "clang++")),
+    ("its types are those that are promised, with g++", lambda place: types(place, "g++")),
+    ("its types are those that are promised, with clang++", lambda place: types(place, "clang++")),
     ("the program in c/README.md", readme),
     ("the lines of C in README.md", top_readme),
     ("refusals, refused memory and copies", calls),

@@ -120,8 +120,8 @@ class Steps(unittest.TestCase):
 
     def test_more_commands_than_the_queue_has_entries(self):
         platform = with_queues(mapped())
-        platform.send(*[Fence(addr=RAM, data=number) for number in range(1, 101)])
-        self.assertEqual(platform.load(RAM), 100)
+        platform.send(*[Fence(addr=RAM + 4 * number, data=number) for number in range(100)])
+        self.assertEqual([platform.load(RAM + 4 * number, 4) for number in range(100)], list(range(100)))
 
 
 class Pieces(unittest.TestCase):

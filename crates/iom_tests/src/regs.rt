@@ -206,6 +206,7 @@ const TWO_WRITES: &[Written] = &[
     (760, 4, 0x23, 0x1),
 ];
 
+// Registers of IOMMUs with all features, with two vectors, and with none.
 #[test]
 fn features_are_shown(rt: HostRuntime) {
     assert_eq!(rt; otherwise_written(&mut Regs::with_features(ALL), ALL_WRITES), None);
