@@ -2,7 +2,7 @@
 use Rattle.std.specs.Prelude.{ℕ, ◌==◌, ◌&&◌, Bool, true, false, not, Option, Some, None}
 use Rattle.iom_walk.specs.Verdict.{has_no_access}
 use Rattle.iom_queue.specs.declared.command.Command.{Command}
-use Rattle.iom_queue.specs.declared.command.Command.TheVariants.{Vma, Gvma, Fence, Iodir}
+use Rattle.iom_queue.specs.declared.command.Command.TheVariants.{Vma, Gvma, Iodir}
 use Rattle.iom_cache.specs.Drops.{drops_device, drops_page, vma_guest, vma_process}
 use Rattle.iom_every.specs.Entries.{Entry, Held, OfDirectory, OfDevice, OfFirst, OfSecond, OfPage, covers}
 

@@ -1,6 +1,5 @@
 -- Every IOMMU that the standard allows, as a machine that keeps what it likes; and this model as one of them.
-use Rattle.std.specs.Prelude.{ℕ, ◌++◌, Bool, List, [], ◌∷◌, map, filter_map, Option, Some, None, Ok}
-use Rattle.std.specs.Option.{option_map}
+use Rattle.std.specs.Prelude.{ℕ, ◌++◌, Bool, List, [], ◌∷◌, Option, Some, None, Ok}
 use Rattle.iom_ddt.specs.declared.context.Context.{Context}
 use Rattle.iom_nested.specs.declared.translation.Hit.{Hit}
 use Rattle.iom_cache.specs.declared.key.Key.{Key}
@@ -11,7 +10,8 @@ use Rattle.iom_core.specs.declared.step.Answer.{Answer}
 use Rattle.iom_core.specs.declared.step.Step.{Step}
 use Rattle.iom_core.specs.declared.way.Way.{Way as Led}
 use Rattle.iom_choices.specs.Systems.{System}
-use Rattle.iom_choices.specs.Models.{Model}
+use Rattle.iom_choices.specs.Models.{Model, end_of}
+use Rattle.iom_choices.specs.Settled.{MayHold}
 use Rattle.iom_every.specs.Entries.{Entry, OfDevice, OfPage}
 use Rattle.iom_every.specs.Drops.{drops_by}
 use Rattle.iom_every.specs.Uses.{Look, ForDevice, ForPage}
@@ -29,16 +29,24 @@ iommu ahead = record {
   ahead = ahead;
 }
 
--- what stands in a live place, as a use
+-- what stands in the live places, as uses
+abbrev pub uses_in : {K V : Type 0} → (K → V → Look × Entry) → List (Option (K × V)) → List (Look × Entry)
+uses_in as_use [] = []
+uses_in as_use (None ∷ places) = uses_in as_use places
+uses_in as_use (Some entry ∷ places) = as_use entry.0 entry.1 ∷ uses_in as_use places
+
+-- a cached context answers the look-up of its device, and a cached translation that of its key
+abbrev pub context_use : ℕ → Context → Look × Entry
+context_use did context = (ForDevice, OfDevice did (Ok context))
+
+abbrev pub hit_use : Key → Hit → Look × Entry
+hit_use key hit = (ForPage, OfPage key hit)
+
 abbrev pub context_uses : List (Option (ℕ × Context)) → List (Look × Entry)
-context_uses [] = []
-context_uses (None ∷ places) = context_uses places
-context_uses (Some entry ∷ places) = (ForDevice, OfDevice entry.0 (Ok entry.1)) ∷ context_uses places
+context_uses places = uses_in context_use places
 
 abbrev pub page_uses : List (Option (Key × Hit)) → List (Look × Entry)
-page_uses [] = []
-page_uses (None ∷ places) = page_uses places
-page_uses (Some entry ∷ places) = (ForPage, OfPage entry.0 entry.1) ∷ page_uses places
+page_uses places = uses_in hit_use places
 
 -- what this model's next access would use
 abbrev pub cached : State → List (Look × Entry)
@@ -51,3 +59,7 @@ platform = record {
   view = bare;
   uses = cached;
 }
+
+-- what may be held after steps of this model's run, newest first
+abbrev pub May : Bool → State → List Step → Entry → Type 0
+May ahead start steps = MayHold (iommu ahead) (λ steps. bare (end_of platform start steps)) steps

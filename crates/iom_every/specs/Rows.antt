@@ -1,9 +1,8 @@
 -- The rows of the step table for an access that is led some way. A step that makes no access has its row as it stands.
-use Rattle.std.specs.Prelude.{ℕ, List, slice_get, Option, Some, None}
+use Rattle.std.specs.Prelude.{ℕ, slice_get, Option, Some, None}
 use Rattle.iom_blk.specs.Device.{Device}
 use Rattle.iom_blk.specs.Phases.{moved_of, took}
-use Rattle.iom_virtq.specs.Bus.{Ask}
-use Rattle.iom_core.specs.Access.{Effect, Served, address_on, effect_at, request_of}
+use Rattle.iom_core.specs.Access.{Effect, address_on, effect_at, request_of}
 use Rattle.iom_core.specs.Looking.{uncached}
 use Rattle.iom_core.specs.State.{Machine, State, with_device, with_machine}
 use Rattle.iom_core.specs.Table.{Asking, Outcome, answer_by_reply, answer_of, asked, next}

@@ -77,7 +77,7 @@ abbrev pub first_reads : Memory → List (Look × Entry) → Context → ℕ →
 first_reads memory source context iova None = []
 first_reads memory source context iova (Some shape) =
     map (OfFirst (gscid_of context) context.pscid)
-        (held_in (is_global_use (used_by (first_use context shape iova) source)) iova (first_met memory source context iova shape))
+    (held_in (is_global_use (used_by (first_use context shape iova) source)) iova (first_met memory source context iova shape))
     ++ flat_map (reads_for_entry memory source context (second_shape_of context)) (first_met memory source context iova shape)
 
 -- all entries of both stages that the translation reads

@@ -7,7 +7,6 @@ use Rattle.iom_walk.specs.Outcome.{verdict_on_path}
 use Rattle.iom_walk.specs.Path.{Entry, entry_at, next_table, verdict_on}
 use Rattle.iom_walk.specs.Shape.{is_in_width, levels}
 use Rattle.iom_walk.specs.Verdict.{is_global, is_pointer, is_valid, word_of}
-use Rattle.iom_walk.specs.declared.outcome.Leaf.{Leaf}
 use Rattle.iom_walk.specs.declared.outcome.Outcome.{Outcome}
 use Rattle.iom_walk.specs.declared.outcome.Outcome.TheVariants as outcome
 use Rattle.iom_walk.specs.declared.shape.Shape.{Shape}

@@ -1,11 +1,10 @@
 -- The way of a request over a source: RISC-V IOMMU Architecture 1.0, "Process to translate an IOVA". The rows are those of `led`; a look-up may be
 -- answered by an entry of the source, behind all checks that come before it.
-use Rattle.std.specs.Prelude.{ℕ, ◌++◌, ◌-◌, Bool, List, [], ◌∷◌, get_or, Option, Some, None, Result, Ok, Err, if◌then◌else◌}
+use Rattle.std.specs.Prelude.{ℕ, ◌++◌, ◌-◌, List, [], ◌∷◌, get_or, Option, Some, None, Result, Ok, Err, if◌then◌else◌}
 use Rattle.iom_bits.specs.Bits.{has_bit}
 use Rattle.iom_bits.specs.declared.causes.Cause.{Cause}
 use Rattle.iom_bits.specs.declared.causes.Cause.TheVariants as cause
 use Rattle.iom_mem.specs.Memory.{Memory}
-use Rattle.iom_regs.specs.Table.{Registers}
 use Rattle.iom_regs.specs.Views.{mode_of}
 use Rattle.iom_regs.specs.declared.views.Mode.{Mode}
 use Rattle.iom_regs.specs.declared.views.Mode.TheVariants as mode
