@@ -7,3 +7,6 @@ pub mod Emptied
 pub mod Kept
 pub mod Caching
 pub mod Runs
+pub mod Reading
+pub mod Midway
+pub mod Below

@@ -6,3 +6,4 @@ pub mod Stages
 pub mod Ways
 pub mod Rows
 pub mod Every
+pub mod Guards
