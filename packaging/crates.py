@@ -1,9 +1,11 @@
 """The crates of crates.txt."""
 import os
+from pathlib import Path
 
-TOP = os.path.normpath(os.path.join(os.path.dirname(os.path.abspath(__file__)), os.pardir))
-FOLDER = os.path.join(TOP, "crates")
-LIST = os.path.join(TOP, "crates.txt")
+# The repository. The tools and the tests take all paths in it from here.
+TOP = Path(__file__).resolve().parent.parent
+FOLDER = TOP / "crates"
+LIST = TOP / "crates.txt"
 
 
 def listed():

@@ -96,7 +96,7 @@ def judge_built(tally):
     build = importlib.util.module_from_spec(spec)
     spec.loader.exec_module(build)
     tally.judge("the page's files that 'make page' copies", sorted(build.PAGES), sorted(names_there))
-    tally.judge("what 'make page' builds with", hasattr(build.builder(), "Build"), True)
+    tally.judge("what 'make page' builds with", hasattr(build.build, "Build"), True)
 
 
 def judge_answers(browser, tally):

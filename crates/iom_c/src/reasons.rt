@@ -3,6 +3,7 @@
 ghost use Rattle.std.specs.Prelude.{◌≡◌, ◌≤◌, ◌<◌, ◌^◌, slice_get, Some};
 ghost use Rattle.iom_cache.specs.Places.{place_in};
 ghost use Rattle.iom_tables.specs.Parts.{parts_of};
+ghost use Rattle.iom_c.specs.Faults.{not_there};
 ghost use Rattle.iom_c.specs.Reasons.{asking, beyond, ContextStands, PageStands, PartTold, StaleTold};
 ghost use Rattle.iom_c.specs.declared.owned.Owned.{Owned};
 
@@ -38,12 +39,12 @@ fn put_part(platform: &Platform, request: &Request, i: u64, out: &mut WalkPart) 
             *out = part_of(request.did, part);
             0
         }
-        None => 2,
+        None => 13,
     }
 }
 
 /// Part `i`, any number, of all that is looked at to lead a request of device `did` for IOVA `iova` where nothing is cached; the first
-/// is ddtp, part 0, and the last is the way that the request is led ("Process to translate an IOVA"). It answers 0; or 2 where there
+/// is ddtp, part 0, and the last is the way that the request is led ("Process to translate an IOVA"). It answers 0; or 13 if there
 /// are fewer parts, or the device id isn't below 2^24, and `part` is unchanged then.
 #[unsafe(no_mangle)]
 pub extern "C" fn rviommu_part(
@@ -59,11 +60,11 @@ pub extern "C" fn rviommu_part(
     requires open { handle.old.held ≡ Some own }
     ensures part { did < 2 ^ 24 →
         PartTold did (slice_get (parts_of own.platform.machine (asking did iova is_write)) i) result part.old part.new }
-    ensures wide { 2 ^ 24 ≤ did → (result ≡ beyond) × (part.new ≡ part.old) }
+    ensures wide { 2 ^ 24 ≤ did → (result ≡ not_there) × (part.new ≡ part.old) }
     ensures same { handle.new.held ≡ Some own }
 {
     if did >= 1 << 24 {
-        return 2;
+        return 13;
     }
     let owned = handle.take(alloc);
     let told = put_part(&owned.platform, &asking(did, iova, is_write), i, part);

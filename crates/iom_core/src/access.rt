@@ -20,7 +20,7 @@ use crate::caches::Caches;
 use crate::machine::Machine;
 use crate::way::Way;
 use crate::witness::{Event, Source, Witness};
-use iom_bits::{Cause, Kind};
+use iom_bits::{Cause, Features, Kind};
 use iom_cache::{Key, key_of};
 use iom_ddt::{Context, is_too_wide, locate};
 use iom_mem::Ram;
@@ -242,7 +242,7 @@ fn by_directory<C: Caches, W: Witness>(
     match caches.context(request.did) {
         Some(context) => {
             witness.tell(Event::Context(Source::Found, request.did, context));
-            by_context(ram, caches, request, &context, witness)
+            by_context(ram, Features::none(), caches, request, &context, witness)
         }
         None => by_new_context(ram, registers, caches, request, witness),
     }
@@ -288,7 +288,7 @@ fn by_new_context<C: Caches, W: Witness>(
     match locate(ram, registers, request.did) {
         Ok(context) => {
             witness.tell(Event::Context(Source::Read, request.did, context));
-            let reached = by_context(ram, caches, request, &context, witness);
+            let reached = by_context(ram, Features::none(), caches, request, &context, witness);
             caches.fill_context(request.did, context);
             reached
         }
@@ -301,6 +301,7 @@ fn by_new_context<C: Caches, W: Witness>(
 #[tactic(auto, unfolding(crate::specs::Access::page_look))]
 pub(crate) fn by_context<C: Caches, W: Witness>(
     ram: &Ram,
+    features: Features,
     caches: &mut C,
     request: &Request,
     context: &Context,
@@ -308,13 +309,13 @@ pub(crate) fn by_context<C: Caches, W: Witness>(
 ) -> Result<u64, Denial>
     requires well_formed { IsWellFormed context.now }
     requires pages_fit { EachLive HoldsHit (C.pages caches.old) }
-    ensures address { result ≡ address_on (led_under ram.now (C.pages caches.old) request.now context.now).way request.now.iova }
+    ensures address { result ≡ address_on (led_under ram.now features (C.pages caches.old) request.now context.now).way request.now.iova }
     ensures contexts { C.contexts caches.new ≡ C.contexts caches.old }
     ensures pages { C.pages caches.new ≡ filled_where C.fills page_room
-        (led_under ram.now (C.pages caches.old) request.now context.now).page (C.pages caches.old) }
+        (led_under ram.now features (C.pages caches.old) request.now context.now).page (C.pages caches.old) }
     ensures pages_fit { EachLive HoldsHit (C.pages caches.new) }
-    ensures told { witness.new ≡ under_told W.next witness.old request.now (led_under ram.now (C.pages caches.old) request.now context.now) }
-    ensures fits { Fits (led_under ram.now (C.pages caches.old) request.now context.now).way }
+    ensures told { witness.new ≡ under_told W.next witness.old request.now (led_under ram.now features (C.pages caches.old) request.now context.now) }
+    ensures fits { Fits (led_under ram.now features (C.pages caches.old) request.now context.now).way }
 {
     if context.is_bare() {
         witness.tell(Event::Way(Way::Context(*context)));
@@ -327,7 +328,7 @@ pub(crate) fn by_context<C: Caches, W: Witness>(
             witness.tell(Event::Way(Way::Walked(*context, hit)));
             Ok(in_frame(&hit, request.iova))
         }
-        None => by_walk(ram, caches, request, context, key, witness),
+        None => by_walk(ram, features, caches, request, context, key, witness),
     }
 }
 
@@ -336,6 +337,7 @@ pub(crate) fn by_context<C: Caches, W: Witness>(
 #[tactic(auto, unfolding(crate::specs::Access::page_look))]
 fn by_walk<C: Caches, W: Witness>(
     ram: &Ram,
+    features: Features,
     caches: &mut C,
     request: &Request,
     context: &Context,
@@ -347,15 +349,15 @@ fn by_walk<C: Caches, W: Witness>(
     requires key { key ≡ request_key request.now context.now }
     requires new { find (same_key key) (C.pages caches.old) ≡ None }
     requires pages_fit { EachLive HoldsHit (C.pages caches.old) }
-    ensures address { result ≡ address_on (led_under ram.now (C.pages caches.old) request.now context.now).way request.now.iova }
+    ensures address { result ≡ address_on (led_under ram.now features (C.pages caches.old) request.now context.now).way request.now.iova }
     ensures contexts { C.contexts caches.new ≡ C.contexts caches.old }
     ensures pages { C.pages caches.new ≡ filled_where C.fills page_room
-        (led_under ram.now (C.pages caches.old) request.now context.now).page (C.pages caches.old) }
+        (led_under ram.now features (C.pages caches.old) request.now context.now).page (C.pages caches.old) }
     ensures pages_fit { EachLive HoldsHit (C.pages caches.new) }
-    ensures told { witness.new ≡ under_told W.next witness.old request.now (led_under ram.now (C.pages caches.old) request.now context.now) }
-    ensures fits { Fits (led_under ram.now (C.pages caches.old) request.now context.now).way }
+    ensures told { witness.new ≡ under_told W.next witness.old request.now (led_under ram.now features (C.pages caches.old) request.now context.now) }
+    ensures fits { Fits (led_under ram.now features (C.pages caches.old) request.now context.now).way }
 {
-    match translate(ram, context, request.iova, request.kind) {
+    match translate(ram, features, context, request.iova, request.kind) {
         Ok(hit) => {
             caches.fill_page(key, hit);
             witness.tell(Event::Page(Source::Read, key, hit));

@@ -1,6 +1,7 @@
 //! What a request would do as the next access, with nothing changed.
 
 ghost use Rattle.std.specs.Prelude.{◌≡◌, ◌<◌, ◌^◌, [], IfSome};
+ghost use Rattle.iom_bits.specs.Features.{no_features};
 ghost use Rattle.iom_ddt.specs.Contexts.{IsWellFormed};
 ghost use Rattle.iom_core.specs.Access.{Fits, led_under};
 ghost use Rattle.iom_core.specs.Looking.{nothing_seen, seen_in, uncached};
@@ -10,6 +11,7 @@ use crate::caches::{Looking, Nothing};
 use crate::platform::Platform;
 use crate::way::Way;
 use crate::witness::{Event, Source, Witness};
+use iom_bits::Features;
 use iom_ddt::Context;
 
 /// What leads an access, as it was told of it.
@@ -123,11 +125,11 @@ impl Platform {
     /// The way of a request below this context of its device, as the tables lead it now.
     pub fn way_under(&self, request: &Request, context: &Context) -> Way
         requires { IsWellFormed context.now }
-        ensures way { result ≡ (led_under self.now.machine.memory [] request.now context.now).way }
+        ensures way { result ≡ (led_under self.now.machine.memory no_features [] request.now context.now).way }
         ensures fits { Fits result }
     {
         let mut seen = Seen::nothing();
-        let _ = by_context(&self.machine.ram, &mut Nothing, request, context, &mut seen);
+        let _ = by_context(&self.machine.ram, Features::none(), &mut Nothing, request, context, &mut seen);
         seen.way
     }
 }

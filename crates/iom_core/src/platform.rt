@@ -76,7 +76,7 @@ impl Platform {
         let pages = TransCache::new(alloc)?;
         let machine = Machine {
             ram,
-            registers: Regs::reset(features),
+            registers: Regs::with_features(features),
             lines: Lines { contexts, pages },
         };
         Ok(Platform { machine, devices })

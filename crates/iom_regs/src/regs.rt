@@ -1,5 +1,6 @@
 ghost use Rattle.std.specs.Prelude.{◌≡◌, ◌+◌, ◌^◌, ◌<◌, ◌≤◌};
 ghost use Rattle.std.specs.Bool.{OnTrue, OnFalse};
+ghost use Rattle.iom_bits.specs.Features.{no_features};
 ghost use Rattle.iom_regs.specs.Table.{is_legal};
 
 use crate::mapped::MappedRegisters;
@@ -34,9 +35,16 @@ impl Regs {
     ghost use Rattle.iom_regs.specs.Sound.{IsSound};
     ghost use Rattle.iom_regs.specs.Views.{command_errors_of, fault_errors_of, mode_of, root_of, queue_of};
 
-    /// The registers of an IOMMU with these features, at reset: ddtp's mode is Off, and both queues are off. Every register that
-    /// can change is 0.
-    pub fn reset(features: Features) -> Self
+    /// The registers of an IOMMU without any of the features that `Features` names, at reset: ddtp's mode is Off, and both queues
+    /// are off. Every register that can change is 0.
+    pub fn reset() -> Self
+        ensures { result ≡ reset no_features }
+    {
+        Regs::with_features(Features::none())
+    }
+
+    /// As `reset`, of an IOMMU with these features.
+    pub fn with_features(features: Features) -> Self
         ensures { result ≡ reset features }
     {
         Regs {

@@ -10,24 +10,28 @@ const HIT: Hit = Hit {
     frame: 0x80010,
     level: 0,
     global: false,
+    napot: false,
 };
 
 const GLOBAL: Hit = Hit {
     frame: 0x80010,
     level: 0,
     global: true,
+    napot: false,
 };
 
 const SUPERPAGE: Hit = Hit {
     frame: 0x80010,
     level: 1,
     global: false,
+    napot: false,
 };
 
 const LARGEST: Hit = Hit {
     frame: 0x80010,
     level: 3,
     global: false,
+    napot: false,
 };
 
 const CONTEXT: Context = Context {
@@ -89,7 +93,7 @@ fn gvma(gv: bool, gscid: u16) -> Command {
 
 // Fills where no live place has the key, with a hit that fits.
 fn fill(cache: &mut TransCache, key: Key, hit: Hit) {
-    if cache.find(&key).is_none() && hit.frame < 1 << 44 && hit.level < 4 {
+    if cache.find(&key).is_none() && hit.frame < 1 << 44 && hit.level < 5 {
         cache.fill(key, hit);
     }
 }

@@ -1,7 +1,7 @@
 ghost use Rattle.std.specs.Prelude.{Ok, Err};
 
 use crate::first_wrong;
-use iom_bits::{Cause, Kind};
+use iom_bits::{Cause, Features, Kind};
 use iom_ddt::Context;
 use iom_mem::{MemFault, Ram};
 use iom_nested::{Fault, Hit, Second, translate};
@@ -76,7 +76,7 @@ fn led(ram: &Ram, context: &Context, iova: u64, kind: Kind) -> Option<Result<Hit
     if !context.is_well_formed() || context.is_bare() {
         return None;
     }
-    Some(translate(ram, context, iova, kind))
+    Some(translate(ram, Features::none(), context, iova, kind))
 }
 
 // The number of the first that is otherwise.
@@ -86,6 +86,7 @@ fn found_otherwise(ram: &Ram, cases: &[Found]) -> Option<usize> {
             frame: *frame,
             level: *level,
             global: *global,
+            napot: false,
         };
         if led(ram, context, *iova, *kind) != Some(Ok(hit)) {
             return Some(i);
@@ -344,7 +345,7 @@ fn each_stage_has_its_own_levels(rt: HostRuntime) -> Result<(), Fail> {
 // What the guest has at an address, under a context that has a second stage.
 fn guest_word(ram: &Ram, addr: u64) -> Option<Got> {
     if BOTH.is_well_formed() {
-        Some(Second::new(ram, &BOTH).word(addr))
+        Some(Second::new(ram, Features::none(), &BOTH).word(addr))
     } else {
         None
     }

@@ -1,5 +1,5 @@
 use crate::first_wrong;
-use iom_bits::{Cause, Features, Kind};
+use iom_bits::{Cause, Kind};
 use iom_mem::Ram;
 use iom_queue::{
     Command, Fetch, Record, decode_command, decode_record, deliver, encode_command, encode_record,
@@ -270,7 +270,7 @@ const STORED: &[u64] = &[
 #[test]
 fn records_are_delivered(rt: HostRuntime) -> Result<(), Fail> {
     let mut ram = Ram::new(rt.alloc(), BASE, 0x1000)?;
-    let mut registers = Regs::reset(Features::none());
+    let mut registers = Regs::reset();
     assert_eq!(rt; otherwise_shown(&mut registers, &mut ram, EVENTS), None);
     assert_eq!(rt; otherwise_stored(&ram, STORED), None);
     Ok(())
@@ -337,7 +337,7 @@ const CHANGES: &[(Change, Fetch)] = &[
 fn commands_are_fetched(rt: HostRuntime) -> Result<(), Fail> {
     let mut ram = Ram::new(rt.alloc(), BASE, 0x1000)?;
     assert!(rt; ram.write(BASE + 0xff0, &[3, 0, 0, 0, 2, 5]));
-    let mut registers = Regs::reset(Features::none());
+    let mut registers = Regs::reset();
     // 512 entries at the base of memory, of which 256 are in it
     set(&mut registers, 24, 8, 0x2000_0008);
     set(&mut registers, 36, 4, 300);

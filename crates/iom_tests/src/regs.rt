@@ -164,7 +164,7 @@ fn is_seen_so(regs: &Regs) -> bool {
 
 #[test]
 fn registers_are_as_in_the_table(rt: HostRuntime) {
-    let mut regs = Regs::reset(Features::none());
+    let mut regs = Regs::reset();
     assert_eq!(rt; otherwise_written(&mut regs, WRITES), None);
     assert_eq!(rt; taken(&mut regs, REFUSED), None);
     assert_eq!(rt; otherwise_shown(&mut regs, EVENTS), None);
@@ -206,12 +206,13 @@ const TWO_WRITES: &[Written] = &[
     (760, 4, 0x23, 0x1),
 ];
 
+// Registers of IOMMUs with all features, with two vectors, and with none.
 #[test]
 fn features_are_shown(rt: HostRuntime) {
-    assert_eq!(rt; otherwise_written(&mut Regs::reset(ALL), ALL_WRITES), None);
-    assert_eq!(rt; otherwise_written(&mut Regs::reset(TWO), TWO_WRITES), None);
+    assert_eq!(rt; otherwise_written(&mut Regs::with_features(ALL), ALL_WRITES), None);
+    assert_eq!(rt; otherwise_written(&mut Regs::with_features(TWO), TWO_WRITES), None);
     assert_eq!(rt;
-        otherwise_written(&mut Regs::reset(Features::none()), &[(760, 8, 0x2310, 0)]),
+        otherwise_written(&mut Regs::reset(), &[(760, 8, 0x2310, 0)]),
         None
     );
 }

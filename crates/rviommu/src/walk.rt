@@ -14,8 +14,8 @@ use iom_tables::{Part, Parts, put_parts, put_parts_under};
 use iom_tool::Draft;
 use std::alloc::{AllocError, Global};
 
-/// How many bytes the lines of a walk take: 29 parts at most, each a text of at most 320 bytes behind a word, and a line end.
-pub const WALK_ROOM: usize = 29 * 331;
+/// How many bytes the lines of a walk take: 40 parts at most, each a text of at most 320 bytes behind a word, and a line end.
+pub const WALK_ROOM: usize = 40 * 331;
 
 /// The lines of the last walk that was told, one for each part. Walks begin alike most times, and so do their lines: of the next walk
 /// only those from the first part on that is another are told anew.
@@ -33,7 +33,7 @@ pub struct Walk {
 struct Told {
     lines: Text,
     // Where each of them ends.
-    ends: ArrayVec<usize, 29>,
+    ends: ArrayVec<usize, 40>,
 }
 
 impl Walk {
