@@ -1,6 +1,7 @@
 -- What this model caches after a step was cached before it or read by its access, and isn't dropped.
 use Rattle.std.proofs.Common.{◌≡◌, ◌∙◌, ◌++◌, ◌⊎◌, ◌-◌, ℕ, Bool, true, false, List, [], Option, Some, None, Result, Ok, Err, if◌then◌else◌, refl, ap, sym, subst, inl, inr}
 use Rattle.std.specs.Option.{option_map}
+use Rattle.iom_bits.specs.Features.{no_features}
 use Rattle.iom_bits.specs.declared.causes.Cause.{Cause}
 use Rattle.iom_regs.specs.Views.{mode_of}
 use Rattle.iom_regs.specs.declared.views.Mode.{Mode}
@@ -83,26 +84,26 @@ context_read m did filled is =
     (subst (λ (found : Option Entered). IsAmong (directory_reads (uncached m) did found) (OfDevice did (Ok t.value))) (sym enters) has)
 
 -- so is a page
-page_read : (m : Machine) (request : Request) (context : Context) (filled : Key × Hit) → (page_look m.memory m.pages request context).filled ≡ Some filled → IsAmong (page_way m.memory (uses_of m) request context).reads (OfPage filled.0 filled.1)
+page_read : (m : Machine) (request : Request) (context : Context) (filled : Key × Hit) → (page_look m.memory no_features m.pages request context).filled ≡ Some filled → IsAmong (page_way m.memory (uses_of m) request context).reads (OfPage filled.0 filled.1)
 unfolding page_look
 page_read m request context filled is =
     let key : Key = request_key request context in
     let live : Option Hit = find (same_key key) m.pages in
-    let t : WasTold key live (translation m.memory context request.iova request.kind) filled = was_told key live (translation m.memory context request.iova request.kind) filled is in
+    let t : WasTold key live (translation m.memory no_features context request.iova request.kind) filled = was_told key live (translation m.memory no_features context request.iova request.kind) filled is in
     let none : used_by (page_use key) (uses_of m) ≡ None = used_page key m.contexts m.pages ∙ t.none in
-    let hits : translation_by m.memory (uses_of m) context request.iova request.kind ≡ Ok t.value =
-    translation_is m.memory (uses_of m) context (no_stage m context) request.iova request.kind ∙ t.told_so in
-    let stages : List Entry = stage_reads m.memory (uses_of m) context request.iova request.kind in
-    let has : IsAmong (stages ++ whole_of request context (translation_by m.memory (uses_of m) context request.iova request.kind)) (OfPage key t.value) =
-    among-right stages (whole_of request context (translation_by m.memory (uses_of m) context request.iova request.kind)) (OfPage key t.value)
+    let hits : translation_by m.memory no_features (uses_of m) context request.iova request.kind ≡ Ok t.value =
+    translation_is m.memory no_features (uses_of m) context (no_stage m context) request.iova request.kind ∙ t.told_so in
+    let stages : List Entry = stage_reads m.memory no_features (uses_of m) context request.iova request.kind in
+    let has : IsAmong (stages ++ whole_of request context (translation_by m.memory no_features (uses_of m) context request.iova request.kind)) (OfPage key t.value) =
+    among-right stages (whole_of request context (translation_by m.memory no_features (uses_of m) context request.iova request.kind)) (OfPage key t.value)
     (subst (λ (found : Result Hit Fault). IsAmong (whole_of request context found) (OfPage key t.value)) (sym hits) (inl refl)) in
     subst (λ (filled : Key × Hit). IsAmong (page_way m.memory (uses_of m) request context).reads (OfPage filled.0 filled.1)) t.is
     (subst (λ (found : Option Hit). IsAmong (page_by m.memory (uses_of m) request context found).reads (OfPage key t.value)) (sym none) has)
 
-under_read : (m : Machine) (request : Request) (context : Context) (filled : Key × Hit) → (led_under m.memory m.pages request context).page ≡ Some filled → IsAmong (under m.memory (uses_of m) request context).reads (OfPage filled.0 filled.1)
+under_read : (m : Machine) (request : Request) (context : Context) (filled : Key × Hit) → (led_under m.memory no_features m.pages request context).page ≡ Some filled → IsAmong (under m.memory (uses_of m) request context).reads (OfPage filled.0 filled.1)
 under_read m request context filled =
     let ours : Way Entry Led = record { led = way_to context (page_way m.memory (uses_of m) request context).led; reads = (page_way m.memory (uses_of m) request context).reads } in
-    let standing : Under = record { way = way_to context (page_look m.memory m.pages request context).used; page = (page_look m.memory m.pages request context).filled } in
+    let standing : Under = record { way = way_to context (page_look m.memory no_features m.pages request context).used; page = (page_look m.memory no_features m.pages request context).filled } in
     let direct : Way Entry Led = record { led = ByContext context; reads = [] } in
     let direct_under : Under = record { way = ByContext context; page = None } in
     let reads : Way Entry Led → List Entry = λ way. way.reads in

@@ -1,26 +1,29 @@
 -- What an IOMMU may keep of what it reads in memory: RISC-V IOMMU Architecture 1.0, "Caching in-memory data structures". Each entry has all
 -- that a look-up or a command looks at. An entry whose V is 0 may not be kept.
-use Rattle.std.specs.Prelude.{ℕ, ◌*◌, ◌/◌, ◌^◌, ◌==◌, Bool, Option, Result, zero, suc}
+use Rattle.std.specs.Prelude.{ℕ, zero, suc, ◌*◌, ◌/◌, ◌^◌, ◌==◌, ◌&&◌, Bool, Option, Result, if◌then◌else◌}
 use Rattle.iom_bits.specs.declared.causes.Cause.{Cause}
+use Rattle.iom_bits.specs.declared.features.Features.{Features}
 use Rattle.iom_ddt.specs.declared.context.Context.{Context}
+use Rattle.iom_walk.specs.Verdict.{is_napot}
 use Rattle.iom_nested.specs.declared.translation.Hit.{Hit}
 use Rattle.iom_cache.specs.declared.key.Key.{Key}
 
--- An entry of a stage's tables, pointer or leaf: its level, the number of the page that it was read for without the 9 * level bits below it, its
--- word, and whether it or an entry above it has G set.
+-- An entry of a stage's tables, pointer or leaf: its level, how many pages it stands for, the number of the page that it was read for divided by
+-- that, its word, and whether it or an entry above it has G set.
 pub record Held : Type 0 where
   pub level : ℕ
+  pub pages : ℕ
   pub part : ℕ
   pub word : ℕ
   pub global : Bool
 
--- the part of a page's number that an entry of a level stands for
-abbrev pub part_of : ℕ → ℕ → ℕ
-part_of level page = page / 2 ^ (9 * level)
+-- an entry of a level stands for 2 ^ (9 * level) pages; under Svnapot one at level 0 whose N is set for sixteen
+abbrev pub pages_at : Features → ℕ → ℕ → ℕ
+pages_at features level word = if features.svnapot && level == 0 && is_napot word then 2 ^ 4 else 2 ^ (9 * level)
 
 -- it is an entry for this page
 abbrev pub covers : Held → ℕ → Bool
-covers held page = held.part == part_of held.level page
+covers held page = held.part == page / held.pages
 
 -- the part of a device id that a non-leaf entry of the directory stands for: all bits from its own index on
 abbrev pub id_part : ℕ → ℕ → ℕ

@@ -2,6 +2,7 @@
 -- answered by an entry of the source, behind all checks that come before it.
 use Rattle.std.specs.Prelude.{ℕ, ◌++◌, ◌-◌, List, [], ◌∷◌, get_or, Option, Some, None, Result, Ok, Err, if◌then◌else◌}
 use Rattle.iom_bits.specs.Bits.{has_bit}
+use Rattle.iom_bits.specs.Features.{no_features}
 use Rattle.iom_bits.specs.declared.causes.Cause.{Cause}
 use Rattle.iom_bits.specs.declared.causes.Cause.TheVariants as cause
 use Rattle.iom_mem.specs.Memory.{Memory}
@@ -67,9 +68,9 @@ whole_of request context (Err fault) = []
 abbrev pub page_by : Memory → List (Look × Entry) → Request → Context → Option Hit → Way Entry (Result Hit Fault)
 page_by memory source request context (Some hit) = record { led = Ok hit; reads = [] }
 page_by memory source request context None = record {
-  led = translation_by memory source context request.iova request.kind;
-  reads = stage_reads memory source context request.iova request.kind
-      ++ whole_of request context (translation_by memory source context request.iova request.kind);
+  led = translation_by memory no_features source context request.iova request.kind;
+  reads = stage_reads memory no_features source context request.iova request.kind
+      ++ whole_of request context (translation_by memory no_features source context request.iova request.kind);
 }
 
 abbrev pub page_way : Memory → List (Look × Entry) → Request → Context → Way Entry (Result Hit Fault)

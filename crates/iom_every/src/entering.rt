@@ -1,6 +1,6 @@
 ghost use Rattle.std.specs.Prelude.{◌≡◌, ◌<◌, ℕ, true, false, Some, None};
 ghost use Rattle.iom_bits.specs.declared.causes.Kind.{Kind};
-ghost use Rattle.iom_walk.specs.declared.shape.Shape.{Shape};
+ghost use Rattle.iom_walk.specs.declared.shape.Format.{Format};
 ghost use Rattle.iom_walk.specs.declared.source.Got.{Got};
 ghost use Rattle.iom_core.specs.State.{Machine};
 ghost use Rattle.iom_choices.specs.Systems.{IsAmong};
@@ -14,9 +14,9 @@ ghost use Rattle.iom_every.specs.Ways.{depth_of, directory_reads};
 /// of a stage (`stage`) and of the directory (`directory`). So what is held makes a difference only where memory has changed, or where it
 /// is used for something else.
 pub fn fresh_entries_lead_alike()
-    ensures stage { (at : ℕ → ℕ → Got) (shape : Shape) (root address : ℕ) (kind : Kind) (held : Held) →
-        IsAmong (held_in false address (met at shape root address None)) held →
-        (is_for shape address held ≡ true) × (outcome_by at shape root address kind (Some held) ≡ outcome_by at shape root address kind None) }
+    ensures stage { (at : ℕ → ℕ → Got) (format : Format) (root address : ℕ) (kind : Kind) (held : Held) →
+        IsAmong (held_in format.features false address (met at format root address None)) held →
+        (is_for format.shape address held ≡ true) × (outcome_by at format root address kind (Some held) ≡ outcome_by at format root address kind None) }
     ensures directory { (m : Machine) (did : ℕ) (entry : Entry) → 0 < depth_of m →
         IsAmong (directory_reads m did None) entry → IsEnteredAlike m did entry }
 {}

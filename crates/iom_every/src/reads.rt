@@ -1,5 +1,7 @@
 ghost use Rattle.std.specs.Prelude.{◌≡◌, ℕ, Bool, true, false, List, Option, Some, None, Ok};
 ghost use Rattle.iom_bits.specs.declared.causes.Kind.{Kind};
+ghost use Rattle.iom_bits.specs.Features.{no_features};
+ghost use Rattle.iom_bits.specs.declared.features.Features.{Features};
 ghost use Rattle.iom_mem.specs.Memory.{Memory};
 ghost use Rattle.iom_regs.specs.Views.{mode_of};
 ghost use Rattle.iom_regs.specs.declared.views.Mode.TheVariants.{Levels};
@@ -8,7 +10,7 @@ ghost use Rattle.iom_ddt.specs.declared.context.Context.{Context};
 ghost use Rattle.iom_walk.specs.Path.{Entry as Met};
 ghost use Rattle.iom_walk.specs.Verdict.{is_valid, word_of};
 ghost use Rattle.iom_walk.specs.declared.shape.Shape.{Shape};
-ghost use Rattle.iom_nested.specs.Stages.{first_shape_of, second_shape_of};
+ghost use Rattle.iom_nested.specs.Stages.{first_shape_of, format_of, second_shape_of};
 ghost use Rattle.iom_nested.specs.declared.translation.Hit.{Hit};
 ghost use Rattle.iom_nested.specs.declared.translation.Reached.{Reached};
 ghost use Rattle.iom_cache.specs.Keys.{gscid_of};
@@ -33,19 +35,19 @@ pub fn valid_entries_alone()
 /// Each valid entry that a translation meets is among what it reads, with the ids of its context: those of the first stage, those of the
 /// second for each of them, and those of the second for the access.
 pub fn met_entries_are_read()
-    ensures first { (memory : Memory) (source : List (Look × Entry)) (context : Context) (iova : ℕ) (kind : Kind) (shape : Shape) (entry : Met) →
-        first_shape_of context ≡ Some shape → IsAmong (first_met memory source context iova shape) entry → is_valid (word_of entry.got) ≡ true →
-        IsReadAs (OfFirst (gscid_of context) context.pscid) iova entry (stage_reads memory source context iova kind) }
-    ensures second { (memory : Memory) (source : List (Look × Entry)) (context : Context) (iova : ℕ) (kind : Kind) (shape second : Shape) (first entry : Met) →
-        first_shape_of context ≡ Some shape → second_shape_of context ≡ Some second → IsAmong (first_met memory source context iova shape) first →
-        IsAmong (met (in_memory memory) second context.gppn first.place (used_by (entry_use context second first.level first.place) source)) entry →
+    ensures first { (memory : Memory) (features : Features) (source : List (Look × Entry)) (context : Context) (iova : ℕ) (kind : Kind) (shape : Shape) (entry : Met) →
+        first_shape_of context ≡ Some shape → IsAmong (first_met memory features source context iova shape) entry → is_valid (word_of entry.got) ≡ true →
+        IsReadAs features (OfFirst (gscid_of context) context.pscid) iova entry (stage_reads memory features source context iova kind) }
+    ensures second { (memory : Memory) (features : Features) (source : List (Look × Entry)) (context : Context) (iova : ℕ) (kind : Kind) (shape second : Shape) (first entry : Met) →
+        first_shape_of context ≡ Some shape → second_shape_of context ≡ Some second → IsAmong (first_met memory features source context iova shape) first →
+        IsAmong (met (in_memory memory) (format_of features second) context.gppn first.place (used_by (entry_use context second first.level first.place) source)) entry →
         is_valid (word_of entry.got) ≡ true →
-        IsReadAs (OfSecond context.gscid) first.place entry (stage_reads memory source context iova kind) }
-    ensures access { (memory : Memory) (source : List (Look × Entry)) (context : Context) (iova : ℕ) (kind : Kind) (second : Shape) (reached : Reached) (entry : Met) →
-        second_shape_of context ≡ Some second → first_by memory source context iova kind (first_shape_of context) ≡ Ok reached →
-        IsAmong (met (in_memory memory) second context.gppn reached.addr (used_by (access_use context second reached.addr) source)) entry →
+        IsReadAs features (OfSecond context.gscid) first.place entry (stage_reads memory features source context iova kind) }
+    ensures access { (memory : Memory) (features : Features) (source : List (Look × Entry)) (context : Context) (iova : ℕ) (kind : Kind) (second : Shape) (reached : Reached) (entry : Met) →
+        second_shape_of context ≡ Some second → first_by memory features source context iova kind (first_shape_of context) ≡ Ok reached →
+        IsAmong (met (in_memory memory) (format_of features second) context.gppn reached.addr (used_by (access_use context second reached.addr) source)) entry →
         is_valid (word_of entry.got) ≡ true →
-        IsReadAs (OfSecond context.gscid) reached.addr entry (stage_reads memory source context iova kind) }
+        IsReadAs features (OfSecond context.gscid) reached.addr entry (stage_reads memory features source context iova kind) }
 {}
 
 /// A request under a directory reads what is met of the directory; and below a context with a stage, where no whole translation is used,
@@ -57,10 +59,10 @@ pub fn requests_read()
     ensures stages { (state : State) (source : List (Look × Entry)) (request : Request) (context : Context) (levels : ℕ) → mode_of state.machine.registers ≡ Levels levels →
         located_by state.machine request.did (entered state.machine source request.did) ≡ Ok context → is_bare context ≡ false →
         used_by (page_use (request_key request context)) source ≡ None →
-        (entry : Entry) → IsAmong (stage_reads state.machine.memory source context request.iova request.kind) entry → IsAmong (way_of state source request).reads entry }
+        (entry : Entry) → IsAmong (stage_reads state.machine.memory no_features source context request.iova request.kind) entry → IsAmong (way_of state source request).reads entry }
     ensures whole { (state : State) (source : List (Look × Entry)) (request : Request) (context : Context) (levels : ℕ) (hit : Hit) → mode_of state.machine.registers ≡ Levels levels →
         located_by state.machine request.did (entered state.machine source request.did) ≡ Ok context → is_bare context ≡ false →
         used_by (page_use (request_key request context)) source ≡ None →
-        translation_by state.machine.memory source context request.iova request.kind ≡ Ok hit →
+        translation_by state.machine.memory no_features source context request.iova request.kind ≡ Ok hit →
         IsAmong (way_of state source request).reads (OfPage (request_key request context) hit) }
 {}
