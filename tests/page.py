@@ -14,7 +14,6 @@ one. The picture web/page.png, which README shows, is that of stale_translation.
 import filecmp
 import functools
 import http.server
-import importlib.util
 import json
 import os
 import re
@@ -76,9 +75,7 @@ def judge_built(tally):
     names_there = [it for it in os.listdir(WEB) if it.endswith((".html", ".css", ".js"))]
     others = [it for it in names_there if not filecmp.cmp(os.path.join(WEB, it), os.path.join(WEB, "out", it), shallow=False)]
     tally.judge("the files of web/out that 'make page' has yet to copy", others, [])
-    spec = importlib.util.spec_from_file_location("page_build", os.path.join(WEB, "build.py"))
-    build = importlib.util.module_from_spec(spec)
-    spec.loader.exec_module(build)
+    build = frame.page_build()
     tally.judge("the page's files that 'make page' copies", sorted(build.PAGES), sorted(names_there))
     tally.judge("what 'make page' builds with", hasattr(build.build, "Build"), True)
 

@@ -1,5 +1,5 @@
 -- The texts of answers.
-use Rattle.std.specs.Prelude.{ℕ, ◌+◌, ◌*◌, ◌++◌, nat_le, List, [], ◌∷◌, length, take, drop, codes, Option, Some, None, if◌then◌else◌}
+use Rattle.std.specs.Prelude.{ℕ, ◌+◌, ◌*◌, ◌++◌, ◌==◌, nat_le, List, [], length, take, drop, codes, Option, Some, None, if◌then◌else◌}
 use Rattle.hex.specs.Hex.{encode_lower}
 use Rattle.iom_bits.specs.Bits.{flag}
 use Rattle.iom_text.specs.Texts.{hexed}
@@ -41,15 +41,13 @@ queue_text r which = view_text (queue_of r which) ++ codes " stop=" ++ stop_text
 
 -- the lines in a text, with a blank between two; line `vector` behind them where it is high
 abbrev pub with_blank : List ℕ → List ℕ
-with_blank [] = []
-with_blank (c ∷ text) = (c ∷ text) ++ codes " "
+with_blank text = if length text == 0 then text else text ++ codes " "
 
 abbrev pub with_line : Registers → ℕ → List ℕ → List ℕ
 with_line r vector text = if is_high r vector then with_blank text ++ hexed vector else text
 
 abbrev pub or_none : List ℕ → List ℕ
-or_none [] = codes "none"
-or_none (c ∷ text) = c ∷ text
+or_none text = if length text == 0 then codes "none" else text
 
 -- the interrupt lines that are high: there are four at most
 abbrev pub vectors_text : Registers → List ℕ
