@@ -27,8 +27,7 @@ use Rattle.iom_core.specs.declared.step.Step.{Step}
 use Rattle.iom_core.specs.declared.step.Step.TheVariants as step
 use Rattle.iom_core.proofs.Filled.{found_after}
 use Rattle.iom_core.proofs.Moments.{next-contexts, next-pages}
-use Rattle.iom_core.proofs.Search.{context_refused, page_refused}
-use Rattle.iom_core.proofs.Ways.{WasOff, WasByRegister, WasNowhere, WasByContext, WasWalked, WasFault, context_used-cached, how_led, look_of_context}
+use Rattle.iom_core.proofs.Ways.{WasOff, WasByRegister, WasNowhere, WasByContext, WasWalked, WasFault, context_refused, context_used-cached, how_led, look_of_context, page_refused}
 use Rattle.iom_account.specs.Beside.{beside}
 use Rattle.iom_account.specs.Following.{Notes, context_noted, noted, noted_so, walk_noted}
 

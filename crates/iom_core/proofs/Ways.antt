@@ -17,7 +17,7 @@ use Rattle.iom_cache.specs.Places.{find, Look, look}
 use Rattle.iom_cache.specs.declared.key.Key.{Key}
 use Rattle.iom_cache.proofs.Origins.{look-unused}
 use Rattle.iom_core.specs.State.{Machine}
-use Rattle.iom_core.specs.Access.{Led, Under, context_look, led, led_by_context, led_by_mode, page_look, request_key, plain, refused, translating, way_to}
+use Rattle.iom_core.specs.Access.{Led, Under, context_look, led, live_context, led_by_context, led_by_mode, page_look, request_key, plain, refused, translating, way_to}
 use Rattle.iom_core.specs.declared.way.Way.TheVariants.{Register as ByRegister, Context as ByContext, Walked, Denied}
 use Rattle.iom_core.specs.declared.access.Request.{Request}
 use Rattle.iom_core.proofs.Wide.{too_wide_located}
@@ -226,3 +226,21 @@ filled_page m request key hit filled =
       | WasWalked c h used bare page is ↦ by_look c used (ap (λ (l : Led). l.context) is) (ap P is)
       | WasFault c fault used bare page is ↦ by_look c used (ap (λ (l : Led). l.context) is) (ap P is)
     ]
+
+-- what a look-up refuses, it doesn't fill
+look_refuses : {K V E : Type 0} → (key : K) (held : Option V) (told : Result V E) (why : E) → (look key held told).used ≡ Err why →
+    (look key held told).filled ≡ None
+look_refuses key (Some own) told why used = refl
+look_refuses key None (Ok own) why used = absurd (cc)
+look_refuses key None (Err own) why used = refl
+
+pub context_refused : (m : Machine) (did : ℕ) (why : Cause) → (context_look m did).used ≡ Err why → (context_look m did).filled ≡ None
+unfolding context_look
+context_refused m did why used = look_refuses did (live_context m did) (located m.memory m.registers did) why used
+
+pub page_refused : (m : Machine) (request : Request) (context : Context) (fault : Fault) → (page_look m.memory m.registers.features m.pages request context).used ≡ Err fault →
+    (page_look m.memory m.registers.features m.pages request context).filled ≡ None
+unfolding page_look
+page_refused m request context fault used =
+    look_refuses (request_key request context) (find (same_key (request_key request context)) m.pages)
+    (translation m.memory m.registers.features context request.iova request.kind) fault used

@@ -52,6 +52,13 @@ context_filled_at start steps k = context_filled (moment start steps k) (request
 abbrev pub page_filled_at : State → List Step → ℕ → Option (Key × Hit)
 page_filled_at start steps k = page_filled (moment start steps k) (request_at start steps k)
 
+-- whether step k filled the context of a device, or the page of a key
+abbrev pub fills_context : State → List Step → ℕ → ℕ → Bool
+fills_context start steps did k = fills same_did did (context_filled_at start steps k)
+
+abbrev pub fills_page : State → List Step → Key → ℕ → Bool
+fills_page start steps key k = fills same_key key (page_filled_at start steps k)
+
 -- the way that a request was led at moment n
 abbrev pub way_at : State → List Step → ℕ → Request → Way
 way_at start steps n request = (led (moment start steps n).machine request).way
@@ -59,14 +66,14 @@ way_at start steps n request = (led (moment start steps n).machine request).way
 -- Step k is the last up to n that filled the device's context; the directory gave this context then; and no step from k to
 -- n - 1 executed an IODIR that drops it.
 pub record IsFreshContext (start : State) (steps : List Step) (did n k : ℕ) (context : Context) : Type 0 where
-  pub origin : IsLast (λ j. fills same_did did (context_filled_at start steps j)) n k
+  pub origin : IsLast (fills_context start steps did) n k
   pub located : located (moment start steps k).machine.memory (moment start steps k).machine.registers did ≡ Ok context
   pub kept : (j : ℕ) → k ≤ j → j < n → drops_at drops_context (executed_at start steps j) did context ≡ false
 
 -- Step k is the last up to n that filled the request's key under this context; the page tables of then lead the request to
 -- this hit; and no step from k to n - 1 executed an IOTINVAL that drops it.
 pub record IsFreshPage (start : State) (steps : List Step) (request : Request) (context : Context) (hit : Hit) (n k : ℕ) : Type 0 where
-  pub origin : IsLast (λ j. fills same_key (request_key request context) (page_filled_at start steps j)) n k
+  pub origin : IsLast (fills_page start steps (request_key request context)) n k
   pub translated : translation (moment start steps k).machine.memory (moment start steps k).machine.registers.features context request.iova request.kind ≡ Ok hit
   pub kept : (j : ℕ) → k ≤ j → j < n → drops_at drops_page (executed_at start steps j) (request_key request context) hit ≡ false
 

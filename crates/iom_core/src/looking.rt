@@ -119,10 +119,11 @@ impl Platform {
     {
         let mut seen = Seen::nothing();
         let machine = &self.machine;
+        let mut none = Nothing;
         let _ = by_context(
             &machine.ram,
             machine.registers.features(),
-            &mut Nothing,
+            &mut none,
             request,
             context,
             &mut seen,

@@ -51,7 +51,6 @@ impl Version {
     }
 }
 
-// There are 2 to this power of vectors.
 fn vectors_power(vectors: Vectors) -> u64
     ensures { result ≡ vectors_power vectors }
 {
@@ -75,7 +74,7 @@ pub fn features_word(features: &Features) -> u64
         + (vectors_power(features.vectors) << 57)
 }
 
-// The vectors that the bits of a word state.
+// How many vectors bits 58:57 of a word state.
 fn vectors_in(word: u64) -> Vectors
     ensures { result ≡ vectors_in word }
 {
