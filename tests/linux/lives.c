@@ -511,7 +511,6 @@ static void storm(void) {
     for (u64 count = below(200); user->space != IDENTITY && count; count--, calls++)
         rviommu_dma_read(&model, user->fwspec.ids[0], below(1ull << 30) * 0x1000 | 0x8000000000ull, (u8 *)&seen, 8, &cause);
 }
-
 static void one(void) {
     int n = below(3);
     switch (below(20)) {
@@ -527,7 +526,6 @@ static void one(void) {
     default: map(n);
     }
 }
-
 static bool begins(const char *path) {
     static u8 image[1 << 16];
     FILE *file = fopen(path, "rb");
