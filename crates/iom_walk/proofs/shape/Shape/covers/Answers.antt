@@ -18,3 +18,11 @@ returns-after-has_bit-2 c = search rules
 pub returns-in-Sv48x4 : goal.returns-in-Sv48x4
 unfolding is_in_width
 returns-in-Sv48x4 c = search rules
+
+pub returns-after-has_bit-3 : goal.returns-after-has_bit-3
+unfolding is_in_width
+returns-after-has_bit-3 c = search rules
+
+pub returns-in-Sv57x4 : goal.returns-in-Sv57x4
+unfolding is_in_width
+returns-in-Sv57x4 c = search rules
