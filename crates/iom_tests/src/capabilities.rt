@@ -58,7 +58,10 @@ fn words_of_capabilities_are_judged(rt: HostRuntime) -> Result<(), Fail> {
 // Texts and their images.
 const TEXTS: &[(&[u8], &[u8])] = &[
     (b"ram 0x80000000 0x1000\ncapabilities", ALONE),
-    (b"ram 0x80000000 0x1000\ncapabilities sv57=0 s=0x0 vectors=1", ALONE),
+    (
+        b"ram 0x80000000 0x1000\ncapabilities sv57=0 s=0x0 vectors=1",
+        ALONE,
+    ),
     (
         b"ram 0x80000000 0x1000\ncapabilities vectors=4 s=1 nl=1 svpbmt=1 sv57x4=1 sv57=1",
         ALL,

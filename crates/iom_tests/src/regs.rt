@@ -209,8 +209,14 @@ const TWO_WRITES: &[Written] = &[
 // Registers of IOMMUs with all features, with two vectors, and with none.
 #[test]
 fn features_are_shown(rt: HostRuntime) {
-    assert_eq!(rt; otherwise_written(&mut Regs::with_features(ALL), ALL_WRITES), None);
-    assert_eq!(rt; otherwise_written(&mut Regs::with_features(TWO), TWO_WRITES), None);
+    assert_eq!(rt;
+        otherwise_written(&mut Regs::with_features(ALL), ALL_WRITES),
+        None
+    );
+    assert_eq!(rt;
+        otherwise_written(&mut Regs::with_features(TWO), TWO_WRITES),
+        None
+    );
     assert_eq!(rt;
         otherwise_written(&mut Regs::reset(), &[(760, 8, 0x2310, 0)]),
         None
