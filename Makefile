@@ -10,6 +10,7 @@
 #   make bench [OTHER=FILE]   lines per second, and images loaded, assembled and listed, beside another program where one is named
 #   make fuzz OTHER=FILE      cases made to harm, beside another program; MINUTES=1 and SEED=1 where they aren't given
 #   make peer                 the program beside QEMU's IOMMU (QEMU 10), 5,000 cases; CASES=5000 and SEED=1 where they aren't given
+#   make linux                lives of the driver of Linux over the C library, 3,000 operations each; OPERATIONS=3000 and SEED=1 where they aren't given
 #   make library              the C library, its header and pkg-config file into c/out; the Python module takes it from there
 #   make page                 the page that shows the model in a browser, into web/out; it proves a copy of the crates (web/build.py)
 #   make install PREFIX=..    copy the program to PREFIX/bin, /usr/local/bin where PREFIX is not given, with its man page and
@@ -21,6 +22,7 @@ PREFIX = /usr/local
 MINUTES = 1
 SEED = 1
 CASES = 5000
+OPERATIONS = 3000
 CRATES =
 program = crates/rviommu/out/rviommu
 player = crates/iom_player/out/iom_player
@@ -31,7 +33,7 @@ sources = $(shell find crates -name out -prune -o -type f \( -name '*.rt' -o -na
 has_rt = command -v rt >/dev/null || { echo "rt, the command of the Rattle kit, is not on the path" >&2; exit 1; }
 has_python = command -v python3 >/dev/null || { echo "python3 is not on the path" >&2; exit 1; }
 
-.PHONY: run build test edits rows cost bench fuzz peer library page install dist deb wheel
+.PHONY: run build test edits rows cost bench fuzz peer linux library page install dist deb wheel
 
 $(program): crates.txt $(sources)
 	@$(has_rt)
@@ -96,6 +98,10 @@ fuzz: $(program)
 peer: $(program)
 	@$(has_python)
 	tests/peer/peer.py $(program) $(CASES) $(SEED)
+
+linux: $(library)
+	@$(has_python)
+	tests/linux/linux.py c/out/lib/librviommu.a $(OPERATIONS) $(SEED)
 
 library:
 	@$(has_rt)

@@ -24,11 +24,11 @@ def as_in_crate(text, name, others, top):
 class Building(Case):
     def test_whole(self):
         """build: the whole crate has what the crates have, by other paths"""
-        top, crates = build.FIRST, TOP / "crates"
-        made = whole.Whole(top, {name: uses for name, (_, uses) in build.listed().items()}, crates)
+        top = build.FIRST
+        made = whole.Whole(top)
         files, others = made.files(), "|".join(made.below)
         for name in [*made.below, top]:
-            for path, text in whole.texts(crates / name):
+            for path, text in whole.texts(TOP / "crates" / name):
                 place = in_whole(name, path, top)
                 self.assertIn(place, files)
                 found = as_in_crate(files.pop(place), name, others, top)

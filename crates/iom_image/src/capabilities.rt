@@ -74,6 +74,7 @@ pub fn features_word(features: &Features) -> u64
         + (vectors_power(features.vectors) << 57)
 }
 
+// How many vectors bits 58:57 of a word state.
 fn vectors_in(word: u64) -> Vectors
     ensures { result ≡ vectors_in word }
 {

@@ -1,0 +1,14 @@
+ram 0x80000000 0x100000
+capabilities
+at 0x800010a0
+context gmode=8 gppn=0x80020
+# level 2, from 0x40000000
+at 0x80020008
+pte ppn=0x80024 flags=1
+at 0x80024008
+pte ppn=0x80025 flags=1
+# level 0, from 0x40210000 on
+at 0x800250a8
+u64 0x80000000200120d7 0x80000000200110d7
+at 0x80045abc
+bytes a1a2a3a4
