@@ -58,7 +58,11 @@ impl Context {
     {
         let fits = fields.gppn >> 44 == 0 && fields.pscid >> 20 == 0 && fields.ppn >> 44 == 0;
         let aligned = fields.gmode == 0 || fields.gppn % 4 == 0;
-        if fits && aligned && matches!(fields.gmode, 0 | 8 | 9 | 10) && matches!(fields.mode, 0 | 8 | 9 | 10) {
+        if fits
+            && aligned
+            && matches!(fields.gmode, 0 | 8 | 9 | 10)
+            && matches!(fields.mode, 0 | 8 | 9 | 10)
+        {
             Some(Context { fields })
         } else {
             None

@@ -195,7 +195,13 @@ fn push_first(
 }
 
 // Entries of the first stage, each behind those of the second.
-fn push_entries(out: &mut Parts, ram: &Ram, features: Features, context: &Context, entries: &PathEntries)
+fn push_entries(
+    out: &mut Parts,
+    ram: &Ram,
+    features: Features,
+    context: &Context,
+    entries: &PathEntries,
+)
     requires few { array_vec_len entries.now ≤ 5 }
     requires room { array_vec_len out.old ≤ 10 }
     ensures items { out.new.items ≡ out.old.items ++ flat_map (entry_parts ram.now features context.now) entries.now.items }
@@ -231,7 +237,14 @@ fn push_access(
 
 // The second stage from a guest-physical address on, entry by entry, or that address where it is too wide for it; and where it leads.
 #[tactic(auto, unfolding(crate::specs::Parts::second_parts, crate::specs::Parts::read_at, iom_walk::specs::Outcome::outcome_of))]
-fn push_second(out: &mut Parts, ram: &Ram, features: Features, context: &Context, guest: u64, kind: Kind) -> Option<u64>
+fn push_second(
+    out: &mut Parts,
+    ram: &Ram,
+    features: Features,
+    context: &Context,
+    guest: u64,
+    kind: Kind,
+) -> Option<u64>
     requires room { array_vec_len out.old ≤ 35 }
     ensures items { out.new.items ≡ out.old.items ++ second_parts ram.now features context.now kind guest }
     ensures len { array_vec_len out.new ≤ array_vec_len out.old + 5 }

@@ -123,7 +123,10 @@ fn five_levels_are_offered_by_stage(rt: HostRuntime) -> Result<(), Fail> {
     let none = Features::none();
     let (first, second) = (
         Features { sv57: true, ..none },
-        Features { sv57x4: true, ..none },
+        Features {
+            sv57x4: true,
+            ..none
+        },
     );
     let bad = Some(Cause::DirBad);
     let facts = [

@@ -411,10 +411,7 @@ fn with_svnapot(ram: &Ram, iova: u64) -> Option<(u64, bool)> {
 #[test]
 fn leaves_of_64_kib(rt: HostRuntime) -> Result<(), Fail> {
     let mut whole = memory(rt.alloc(), TABLES, SECOND_WHOLE)?;
-    put(
-        &mut whole,
-        &[(0x8003_2018, 1 << 63 | 0x48 << 10 | 0xd7)],
-    );
+    put(&mut whole, &[(0x8003_2018, 1 << 63 | 0x48 << 10 | 0xd7)]);
     let behind = (0x8002_62b0, 1 << 63 | 0x80058 << 10 | 0xd7);
     let small = memory(rt.alloc(), SECOND_SMALL, behind)?;
     let facts = [
