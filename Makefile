@@ -14,7 +14,8 @@
 #   make page                 the page that shows the model in a browser, into web/out; it proves a copy of the crates (web/build.py)
 #   make install PREFIX=..    copy the program to PREFIX/bin, /usr/local/bin where PREFIX is not given, with its man page and
 #                             completions for bash and zsh, and the C library to PREFIX/lib and PREFIX/include
-#   make dist, make deb       pack both into dist/, as an archive or as a Debian package
+#   make dist, make deb       pack both into dist/, as an archive or as Debian packages
+#   make wheel                pack the Python module and the library into dist/, as a wheel for pip
 
 PREFIX = /usr/local
 MINUTES = 1
@@ -30,7 +31,7 @@ sources = $(shell find crates -name out -prune -o -type f \( -name '*.rt' -o -na
 has_rt = command -v rt >/dev/null || { echo "rt, the command of the Rattle kit, is not on the path" >&2; exit 1; }
 has_python = command -v python3 >/dev/null || { echo "python3 is not on the path" >&2; exit 1; }
 
-.PHONY: run build test edits rows cost bench fuzz peer library page install dist deb
+.PHONY: run build test edits rows cost bench fuzz peer library page install dist deb wheel
 
 $(program): crates.txt $(sources)
 	@$(has_rt)
@@ -44,7 +45,7 @@ $(player): crates.txt $(sources)
 	@packaging/build.py iom_player
 	@touch $@
 
-$(library): crates.txt $(sources) c/build.py include/rviommu.h
+$(library): crates.txt $(sources) c/build.py c/guard.c include/rviommu.h include/rviommu_record.h
 	@$(has_rt)
 	@$(has_python)
 	@c/build.py >/dev/null
@@ -116,7 +117,7 @@ install: $(program) $(library)
 	install -d $(DESTDIR)$(PREFIX)/share/zsh/site-functions
 	install -m 644 completions/_rviommu $(DESTDIR)$(PREFIX)/share/zsh/site-functions/_rviommu
 	install -d $(DESTDIR)$(PREFIX)/include
-	install -m 644 include/rviommu.h $(DESTDIR)$(PREFIX)/include/rviommu.h
+	install -m 644 include/rviommu.h include/rviommu_record.h $(DESTDIR)$(PREFIX)/include
 	install -d $(DESTDIR)$(PREFIX)/lib/pkgconfig
 	install -m 644 c/out/lib/librviommu.a $(DESTDIR)$(PREFIX)/lib
 	cp -P c/out/lib/librviommu.so c/out/lib/librviommu.so.* $(DESTDIR)$(PREFIX)/lib
@@ -127,3 +128,6 @@ dist: $(program) $(library)
 
 deb: $(program) $(library)
 	@packaging/package.py deb $(program)
+
+wheel: $(library)
+	@packaging/package.py wheel

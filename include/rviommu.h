@@ -2,13 +2,14 @@
  * rviommu: a proved platform model of the RISC-V IOMMU, for tests of drivers and of hardware.
  *
  * A handle owns a platform (physical memory, one IOMMU of the RISC-V IOMMU Architecture 1.0 and up to eight virtio 1.2 block
- * devices), the trace of its last 32 steps, and an account of them: why each went as it did, and which steps filled what the caches
- * hold. There a step is told by its number: how many steps the handle was given with it, from 1 on. Each function here does what the
+ * devices), the trace of its last 32 steps, and an account of them: why the last ones went as they did, and which steps filled what the
+ * caches hold. There a step is told by its number: how many steps the handle was given with it, from 1 on. Each function here does what the
  * call of the proved library does that it stands on; that is proved of the function itself, as far as its caller does what is said
  * beside it.
  *
  * What the caller owes, for every function:
- * - No pointer is NULL, also where the length beside it is 0. A buffer has as many bytes as the length beside it says.
+ * - No pointer is NULL, but one to an output that isn't wanted: a number, a length, a struct, or the bytes of a device's read. A buffer
+ *   has as many bytes as the length beside it says, and isn't NULL where that is 0.
  * - Two pointers of one call don't overlap, unless both are const.
  * - A handle is open where it is called so: rviommu_open, rviommu_open_built_in or rviommu_copy answered RVIOMMU_OK for it, and
  *   rviommu_close was not called for it since. It may be moved, but no two copies of it may be used.
@@ -17,7 +18,8 @@
  * Memory is taken by malloc and given back by free, in rviommu_open, rviommu_open_built_in, rviommu_copy, rviommu_close and
  * rviommu_assemble alone.
  *
- * Addresses and lengths are in bytes. Numbers in memory have their lowest byte first.
+ * Addresses and lengths are in bytes. Numbers in memory have their lowest byte first. The length of a buffer is a size_t; every other
+ * number, also of a device, a place or a step, is a uint64_t. What a function answers is an enum of its own; each has numbers from 0 on.
  */
 #ifndef RVIOMMU_H
 #define RVIOMMU_H
@@ -26,7 +28,10 @@
 #include <stddef.h>
 #include <stdint.h>
 
-#define RVIOMMU_VERSION "0.3.0"
+#define RVIOMMU_VERSION "0.4.0"
+/* The number of the binary interface, which is in the shared object's name. It grows where a program that was built before would not
+ * go on. Functions, and members in the room of the structs' `reserved`, are added without that. */
+#define RVIOMMU_ABI 1
 
 #ifdef __cplusplus
 extern "C" {
@@ -64,7 +69,8 @@ enum rviommu_status {
     RVIOMMU_OVERLAP = 9,       /* of a text: a byte stands where an earlier line put one */
     RVIOMMU_OUTSIDE = 10,      /* a byte is outside memory, or behind the end of a disk */
     RVIOMMU_LITTLE_ROOM = 11,  /* the buffer is too short */
-    RVIOMMU_NO_DISK = 12       /* no such block device */
+    RVIOMMU_NO_DISK = 12,      /* no such block device */
+    RVIOMMU_NOT_THERE = 13     /* there are fewer parts, steps or places, or the device id isn't below 2^24 */
 };
 
 /* What stands at a place of a cache. */
@@ -86,6 +92,7 @@ struct rviommu_page_place {
     bool has_gscid; /* the second stage isn't Bare */
     bool is_write;  /* it serves writes; else it serves reads */
     bool is_global; /* the first stage's mapping is global */
+    uint64_t reserved[2]; /* room for more members; 0 */
 };
 
 /* An entry of the context cache, in the standard the DDTC ("Device-context fields"). */
@@ -100,13 +107,14 @@ struct rviommu_context_place {
     uint32_t custom; /* tc bits 31:24 */
     bool dtf;        /* tc.DTF */
     bool tav;        /* ta bit 0 */
+    uint64_t reserved[2]; /* room for more members; 0 */
 };
 
 /* What the tables in memory say, beside the caches. */
 enum rviommu_standing {
     RVIOMMU_CURRENT = 0, /* the same as the caches */
     RVIOMMU_NOTHING = 1, /* of a place: no entry stands there */
-    RVIOMMU_NO_SUCH = 2, /* there are fewer places or parts, or the device id isn't below 2^24 */
+    RVIOMMU_NO_SUCH = 2, /* there are fewer places, or the device id isn't below 2^24 */
     RVIOMMU_STALE = 3    /* something else, which is put */
 };
 
@@ -128,6 +136,7 @@ struct rviommu_way {
     uint32_t cause;                       /* the cause of the denial, of TO_NOWHERE */
     bool is_global;                       /* the first stage's mapping is global, of BY_WALK */
     bool is_reported;                     /* the denial makes a fault record, of TO_NOWHERE */
+    uint64_t reserved[2];                 /* room for more members; 0 */
 };
 
 /* What ddtp and the directory say of a device id ("Process to locate the Device-context"). */
@@ -141,6 +150,7 @@ struct rviommu_located {
     struct rviommu_context_place context; /* of HAS_CONTEXT, else 0 */
     uint32_t kind;                        /* an enum rviommu_located_kind */
     uint32_t cause;                       /* why there is none, of NO_CONTEXT, else 0 */
+    uint64_t reserved[2];                 /* room for more members; 0 */
 };
 
 /* What is looked at to lead a request. */
@@ -193,6 +203,7 @@ struct rviommu_walk_part {
     bool has_word;          /* there is a word: no byte of it is outside memory, and its place leads somewhere */
     bool has_read_at;       /* of FIRST and SECOND: there is a physical address that it was read at */
     struct rviommu_way way; /* of END */
+    uint64_t reserved[4];   /* room for more members; 0 */
 };
 
 /* Where the translation came from that a step used. */
@@ -217,7 +228,11 @@ struct rviommu_why {
     uint32_t kind;          /* an enum rviommu_why_kind */
     bool is_write;          /* of its access, of all but NO_ACCESS: it wrote */
     bool is_stale;          /* the caches led its access otherwise than the tables did then */
+    uint64_t reserved[4];   /* room for more members; 0 */
 };
+
+/* The version of the library that runs: its three numbers in bits 23:16, 15:8 and 7:0. */
+uint32_t rviommu_version(void);
 
 /*
  * Start and end. `handle` is closed, or was never used; an open one's memory would be lost.
@@ -226,17 +241,23 @@ struct rviommu_why {
 /* Opens the platform that an image starts: its memory and block devices, the registers at reset, nothing cached. Answers
  * RVIOMMU_OK, RVIOMMU_OUT_OF_MEMORY, or RVIOMMU_BAD_MAGIC to RVIOMMU_BAD_DEVICE for the first check that fails; the handle is
  * closed then. */
-uint32_t rviommu_open(const uint8_t *image, size_t length, rviommu_t *handle);
+enum rviommu_status rviommu_open(const uint8_t *image, size_t length, rviommu_t *handle);
 
 /* Opens 1 MiB of memory at physical address 0x80000000, all 0, with no block device. Answers RVIOMMU_OK, or
  * RVIOMMU_OUT_OF_MEMORY; the handle is closed then. */
-uint32_t rviommu_open_built_in(rviommu_t *handle);
+enum rviommu_status rviommu_open_built_in(rviommu_t *handle);
 
 /* Opens an equal platform with an equal account of the steps, which goes its own way from here and counts its steps on, with an empty
- * trace. `handle` is open and stays as it is; `copy` is closed. Answers RVIOMMU_OK, or RVIOMMU_OUT_OF_MEMORY; `copy` stays closed then. */
-uint32_t rviommu_copy(rviommu_t *handle, rviommu_t *copy);
+ * trace and no reason kept: rviommu_why and the line `trace` tell of the copy's own steps. As many reasons are kept as of the first.
+ * `handle` is open and stays as it is; `copy` is closed. Answers RVIOMMU_OK, or RVIOMMU_OUT_OF_MEMORY; `copy` stays closed then. */
+enum rviommu_status rviommu_copy(const rviommu_t *handle, rviommu_t *copy);
 
-/* Closes an open handle, and gives its memory back. */
+/* Keeps from now on why the last `most` steps went as they did, for rviommu_why, or, if `accesses_only` is true, the last `most` that make
+ * an access of a device. A handle that is opened keeps the last 32. Those kept so far are forgotten. The handle is open. Answers RVIOMMU_OK,
+ * or RVIOMMU_OUT_OF_MEMORY, and nothing changes then. */
+enum rviommu_status rviommu_keep_reasons(rviommu_t *handle, size_t most, bool accesses_only);
+
+/* Closes an open handle, and gives its memory back. A handle whose member is NULL, as that of a closed one is, stays as it is. */
 void rviommu_close(rviommu_t *handle);
 
 /*
@@ -246,96 +267,116 @@ void rviommu_close(rviommu_t *handle);
 /* Carries out one line of the script (README.md), given without its line end, and puts the text of its answer, at most 320
  * bytes, with a 0 behind it, and its length without that. A blank line has an empty answer, and what is no line is answered "bad".
  * Answers RVIOMMU_OK; or RVIOMMU_LITTLE_ROOM where `room` is below 321, and then nothing is done. */
-uint32_t rviommu_line(rviommu_t *handle, const char *line, size_t line_length, char *answer, size_t room, size_t *length);
+enum rviommu_status rviommu_line(rviommu_t *handle, const char *line, size_t line_length, char *answer, size_t room, size_t *length);
 
 /*
- * By numbers. The handle is open. Each is one step, which the trace keeps and the account counts, as they do a line that is a step,
- * and answers an enum rviommu_answer; the answers that a step can have stand beside it. `value` and `bytes` are put for
+ * By numbers. The handle is open. Each is one step, which the trace keeps and the account counts, as they do a line that is a step;
+ * but an access of a device of no byte or of more than 64 is no step. The answers that a step can have stand beside it. `value` and `bytes` are put for
  * RVIOMMU_VALUE and RVIOMMU_BYTES, `cause` for RVIOMMU_DENIED, and unchanged else. A refusal changes nothing, but for a denial's fault
  * record and what was cached on the way.
  */
 
 /* The hart reads `size` bytes, 1, 2, 4 or 8, at a physical address, a multiple of the size: VALUE, BUS_ERROR, MISUSE. */
-uint32_t rviommu_load(rviommu_t *handle, uint64_t address, uint64_t size, uint64_t *value);
+enum rviommu_answer rviommu_load(rviommu_t *handle, uint64_t address, uint64_t size, uint64_t *value);
 
 /* The hart writes the lowest `size` bytes, 1, 2, 4 or 8, of a value there: DONE, BUS_ERROR, MISUSE. */
-uint32_t rviommu_store(rviommu_t *handle, uint64_t address, uint64_t size, uint64_t value);
+enum rviommu_answer rviommu_store(rviommu_t *handle, uint64_t address, uint64_t size, uint64_t value);
 
 /* The hart reads 4 or 8 bytes of the IOMMU's registers at an offset ("Memory-mapped register interface"): VALUE, BAD_ACCESS. */
-uint32_t rviommu_reg_read(rviommu_t *handle, uint64_t offset, uint64_t size, uint64_t *value);
+enum rviommu_answer rviommu_reg_read(rviommu_t *handle, uint64_t offset, uint64_t size, uint64_t *value);
 
 /* The hart writes 4 or 8 bytes of the IOMMU's registers at an offset: DONE, BAD_ACCESS, MISUSE. */
-uint32_t rviommu_reg_write(rviommu_t *handle, uint64_t offset, uint64_t size, uint64_t value);
+enum rviommu_answer rviommu_reg_write(rviommu_t *handle, uint64_t offset, uint64_t size, uint64_t value);
 
 /* A device with an id below 2^24 reads 1 to 64 bytes at an IOVA, all in one page of 4096 bytes: BYTES, all `length` of them,
  * DENIED, BUS_ERROR, MISUSE. */
-uint32_t rviommu_dma_read(rviommu_t *handle, uint64_t did, uint64_t iova, uint8_t *bytes, size_t length, uint64_t *cause);
+enum rviommu_answer rviommu_dma_read(rviommu_t *handle, uint64_t did, uint64_t iova, uint8_t *bytes, size_t length, uint64_t *cause);
 
-/* A device writes 1 to 64 bytes at an IOVA, all in one page: DONE, DENIED, BUS_ERROR, MISUSE. More than 64 bytes are MISUSE, and
- * no step that the trace keeps or the account counts. */
-uint32_t rviommu_dma_write(rviommu_t *handle, uint64_t did, uint64_t iova, const uint8_t *bytes, size_t length, uint64_t *cause);
+/* A device writes 1 to 64 bytes at an IOVA, all in one page: DONE, DENIED, BUS_ERROR, MISUSE. */
+enum rviommu_answer rviommu_dma_write(rviommu_t *handle, uint64_t did, uint64_t iova, const uint8_t *bytes, size_t length, uint64_t *cause);
+
+/* The same of any number of bytes from an IOVA on, over pages: in pieces of at most 64 bytes, each in one page, up to the first that is
+ * refused. Each piece is a step. Puts in `done` how many bytes came before that piece, all of them where none is refused. Answers as the
+ * last piece did; or MISUSE, which is no step, where there is no byte or the last one is past IOVA 2^64 - 1. Of the bytes after a refusal
+ * `bytes` is unchanged. */
+enum rviommu_answer rviommu_dma_read_all(rviommu_t *handle, uint64_t did, uint64_t iova, uint8_t *bytes, size_t length, size_t *done, uint64_t *cause);
+enum rviommu_answer rviommu_dma_write_all(rviommu_t *handle, uint64_t did, uint64_t iova, const uint8_t *bytes, size_t length, size_t *done,
+                                          uint64_t *cause);
 
 /* The command unit takes one command and carries it out ("Command-Queue (CQ)"): DONE, also where it stops the queue, or IDLE. */
-uint32_t rviommu_command(rviommu_t *handle);
+enum rviommu_answer rviommu_command(rviommu_t *handle);
 
 /* The hart reads 1, 2 or 4 bytes of the registers of a block device, counted from 0 (VIRTIO 1.2, "MMIO Device Register Layout"):
  * VALUE, BAD_ACCESS, NO_DEVICE. */
-uint32_t rviommu_dev_read(rviommu_t *handle, uint64_t device, uint64_t offset, uint64_t size, uint64_t *value);
+enum rviommu_answer rviommu_dev_read(rviommu_t *handle, uint64_t device, uint64_t offset, uint64_t size, uint64_t *value);
 
 /* The hart writes 1, 2 or 4 bytes of the registers of a block device: DONE, BAD_ACCESS, NO_DEVICE, MISUSE. */
-uint32_t rviommu_dev_write(rviommu_t *handle, uint64_t device, uint64_t offset, uint64_t size, uint64_t value);
+enum rviommu_answer rviommu_dev_write(rviommu_t *handle, uint64_t device, uint64_t offset, uint64_t size, uint64_t value);
 
 /* A block device goes on by one access: DONE, IDLE, DENIED, BUS_ERROR, NO_DEVICE. */
-uint32_t rviommu_dev_step(rviommu_t *handle, uint64_t device, uint64_t *cause);
+enum rviommu_answer rviommu_dev_step(rviommu_t *handle, uint64_t device, uint64_t *cause);
 
 /*
- * Looking. The handle is open. None of these is a step, and none changes the platform, the trace or the account.
+ * Looking. The handle is open. None of these is a step, and none changes the platform, the trace, the account or the handle; but during
+ * the call the handle is the library's, as in each other.
  */
 
+/* The number of the last step: how many steps the handle was given, those of the handle that it was copied from among them. 0 before the
+ * first. */
+uint64_t rviommu_steps(const rviommu_t *handle);
+
+/* Which interrupts are pending: the value of ipsr, bit 0 that of the command queue, bit 1 that of the fault queue ("Interrupt pending
+ * status register (ipsr)"). 0 while none is. */
+uint64_t rviommu_interrupt(const rviommu_t *handle);
+
+/* The value that rviommu_reg_read would put. Answers RVIOMMU_OK; or RVIOMMU_OUTSIDE if that is no access that the registers take, and
+ * `value` is unchanged then. */
+enum rviommu_status rviommu_reg_look(const rviommu_t *handle, uint64_t offset, uint64_t size, uint64_t *value);
+
 /* The first physical address of memory, and its size. */
-void rviommu_memory_place(rviommu_t *handle, uint64_t *base, uint64_t *size);
+void rviommu_memory_place(const rviommu_t *handle, uint64_t *base, uint64_t *size);
 
 /* Copies `length` bytes of memory from a physical address on. Answers RVIOMMU_OK; or RVIOMMU_OUTSIDE, and `bytes` is unchanged
  * then. */
-uint32_t rviommu_memory(rviommu_t *handle, uint64_t address, uint8_t *bytes, size_t length);
+enum rviommu_status rviommu_memory(const rviommu_t *handle, uint64_t address, uint8_t *bytes, size_t length);
 
 /* The size of the disk of a block device, counted from 0. Answers RVIOMMU_OK; or RVIOMMU_NO_DISK, and `size` is unchanged then. */
-uint32_t rviommu_disk_size(rviommu_t *handle, size_t device, uint64_t *size);
+enum rviommu_status rviommu_disk_size(const rviommu_t *handle, uint64_t device, uint64_t *size);
 
 /* Copies `length` bytes of a block device's disk from an offset on. Answers RVIOMMU_OK; or RVIOMMU_NO_DISK or RVIOMMU_OUTSIDE, and
  * `bytes` is unchanged then. */
-uint32_t rviommu_disk(rviommu_t *handle, size_t device, size_t offset, uint8_t *bytes, size_t length);
+enum rviommu_status rviommu_disk(const rviommu_t *handle, uint64_t device, uint64_t offset, uint8_t *bytes, size_t length);
 
 /* What stands at a place of the translation cache, 64 places at most, or of the context cache, 16; the oldest is place 0.
  * Answers an enum rviommu_place; the entry is put for RVIOMMU_LIVE, and unchanged else. */
-uint32_t rviommu_page(rviommu_t *handle, uint64_t place, struct rviommu_page_place *page);
-uint32_t rviommu_context(rviommu_t *handle, uint64_t place, struct rviommu_context_place *context);
+enum rviommu_place rviommu_page(const rviommu_t *handle, uint64_t place, struct rviommu_page_place *page);
+enum rviommu_place rviommu_context(const rviommu_t *handle, uint64_t place, struct rviommu_context_place *context);
 
-/* One of the parts of a walk, at most 29: all that is looked at to lead a request of a device for an IOVA where nothing is cached, in
- * order ("Process to translate an IOVA"). Part 0 is ddtp, the last is the end. Answers RVIOMMU_OK; or RVIOMMU_NO_SUCH where there are
+/* One of the parts of a walk, at most 40: all that is looked at to lead a request of a device for an IOVA where nothing is cached, in
+ * order ("Process to translate an IOVA"). Part 0 is ddtp, the last is the end. Answers RVIOMMU_OK; or RVIOMMU_NOT_THERE where there are
  * fewer parts or the device id isn't below 2^24, and `part` is unchanged then. */
-uint32_t rviommu_part(rviommu_t *handle, uint64_t did, uint64_t iova, bool is_write, uint64_t number, struct rviommu_walk_part *part);
+enum rviommu_status rviommu_part(const rviommu_t *handle, uint64_t did, uint64_t iova, bool is_write, uint64_t number, struct rviommu_walk_part *part);
 
 /* Whether a request is stale: the caches lead it otherwise than the tables do ("Caching in-memory data structures"). Answers
  * RVIOMMU_CURRENT; RVIOMMU_STALE, and puts the way that the tables say; or RVIOMMU_NO_SUCH where the device id isn't below 2^24. `way` is
  * unchanged unless it is stale. */
-uint32_t rviommu_stale(rviommu_t *handle, uint64_t did, uint64_t iova, bool is_write, struct rviommu_way *way);
+enum rviommu_standing rviommu_stale(const rviommu_t *handle, uint64_t did, uint64_t iova, bool is_write, struct rviommu_way *way);
 
 /* Whether the tables still say what a place of a cache holds. Answers an enum rviommu_standing; of a stale place of the translation cache
  * the way is put that the tables say of a request at the first byte of its page, and of one of the context cache what ddtp and the
  * directory say of its device; unchanged else. */
-uint32_t rviommu_stale_page(rviommu_t *handle, uint64_t place, struct rviommu_way *way);
-uint32_t rviommu_stale_context(rviommu_t *handle, uint64_t place, struct rviommu_located *located);
+enum rviommu_standing rviommu_stale_page(const rviommu_t *handle, uint64_t place, struct rviommu_way *way);
+enum rviommu_standing rviommu_stale_context(const rviommu_t *handle, uint64_t place, struct rviommu_located *located);
 
-/* Why one of the last 32 steps went as it did, the oldest step 0, those of the handle that this one was copied from among them. Answers
- * RVIOMMU_OK; or RVIOMMU_NO_SUCH where there are fewer steps, and `why` is unchanged then. */
-uint32_t rviommu_why(rviommu_t *handle, uint64_t step, struct rviommu_why *why);
+/* Why one of the steps whose reasons are kept went as it did, the oldest step 0. Answers RVIOMMU_OK; or RVIOMMU_NOT_THERE if there are fewer,
+ * and `why` is unchanged then. */
+enum rviommu_status rviommu_why(const rviommu_t *handle, uint64_t step, struct rviommu_why *why);
 
 /* Which step filled a place of a cache: its number; of the translation cache also, in `context`, the number of the step that filled the
  * context under which the place was filled. Where a command dropped what stood at the place, it is the step that filled that. Answers
- * RVIOMMU_OK; or RVIOMMU_NO_SUCH where there are fewer places, and the numbers are unchanged then. */
-uint32_t rviommu_page_origin(rviommu_t *handle, uint64_t place, uint64_t *context, uint64_t *walk);
-uint32_t rviommu_context_origin(rviommu_t *handle, uint64_t place, uint64_t *number);
+ * RVIOMMU_OK; or RVIOMMU_NOT_THERE where there are fewer places, and the numbers are unchanged then. */
+enum rviommu_status rviommu_page_origin(const rviommu_t *handle, uint64_t place, uint64_t *context, uint64_t *walk);
+enum rviommu_status rviommu_context_origin(const rviommu_t *handle, uint64_t place, uint64_t *number);
 
 /*
  * Texts.
@@ -345,11 +386,11 @@ uint32_t rviommu_context_origin(rviommu_t *handle, uint64_t place, uint64_t *num
  * RVIOMMU_LITTLE_ROOM, and `length` is how much there must be; RVIOMMU_OUT_OF_MEMORY; or RVIOMMU_BAD_LINE, RVIOMMU_OVERLAP or
  * RVIOMMU_OUTSIDE, and `line` is the first line with a fault, counted from 1, or 0 where there is no statement. `image` is
  * unchanged but for RVIOMMU_OK. */
-uint32_t rviommu_assemble(const char *text, size_t text_length, uint8_t *image, size_t room, size_t *length, uint64_t *line);
+enum rviommu_status rviommu_assemble(const char *text, size_t text_length, uint8_t *image, size_t room, size_t *length, uint64_t *line);
 
 /* Puts the words of an enum rviommu_status with a 0 behind them, and their length without that. Answers RVIOMMU_OK; or
  * RVIOMMU_LITTLE_ROOM where `room` is below 32, and nothing is put then. */
-uint32_t rviommu_text(uint32_t status, char *words, size_t room, size_t *length);
+enum rviommu_status rviommu_text(enum rviommu_status status, char *words, size_t room, size_t *length);
 
 #ifdef __cplusplus
 }

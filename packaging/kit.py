@@ -22,13 +22,16 @@ def library(name):
     return os.path.join(crates.FOLDER, name, "out", "rlib", f"{name}.rlib")
 
 
+def is_older(name, made):
+    """Whether the sources of a crate are no newer than a file."""
+    when = os.path.getmtime(made)
+    files = (os.path.join(at, it) for part in PARTS for at, _, names in os.walk(os.path.join(crates.FOLDER, name, part)) for it in names)
+    return all(os.path.getmtime(it) <= when for it in files)
+
+
 def is_current(name):
     """Whether the library of a crate lies there, and is no older than the crate's sources."""
-    if not os.path.exists(library(name)):
-        return False
-    made = os.path.getmtime(library(name))
-    files = (os.path.join(at, it) for part in PARTS for at, _, names in os.walk(os.path.join(crates.FOLDER, name, part)) for it in names)
-    return all(os.path.getmtime(it) <= made for it in files)
+    return os.path.exists(library(name)) and is_older(name, library(name))
 
 
 def words(verb, name, kit):

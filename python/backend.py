@@ -8,6 +8,7 @@ import tomllib
 import zipfile
 
 HERE = os.path.dirname(os.path.abspath(__file__))
+MODULE = os.path.join(HERE, "rviommu")
 LIBRARY = os.path.join(HERE, os.pardir, "c", "out", "lib", "librviommu.so")
 TAG = "py3-none-linux_x86_64"
 
@@ -20,7 +21,7 @@ def read(path):
 def project():
     """What pyproject.toml says, and the module's own version."""
     told = tomllib.loads(read(os.path.join(HERE, "pyproject.toml")).decode())["project"]
-    module = read(os.path.join(HERE, "rviommu", "__init__.py")).decode()
+    module = read(os.path.join(MODULE, "__init__.py")).decode()
     return told | {"version": re.search(r'(?m)^__version__ = "(.*)"$', module)[1]}
 
 
@@ -28,8 +29,8 @@ def contents():
     library = os.environ.get("RVIOMMU_LIBRARY", LIBRARY)
     if not os.path.exists(library):
         sys.exit("there is no librviommu.so: build it with c/build.py first, or name it in RVIOMMU_LIBRARY")
-    files = {f"rviommu/{it}": read(os.path.join(HERE, "rviommu", it)) for it in sorted(os.listdir(os.path.join(HERE, "rviommu"))) if it.endswith(".py")}
-    return files | {"rviommu/librviommu.so": read(library)}
+    names = sorted(it for it in os.listdir(MODULE) if it.endswith((".py", ".typed")))
+    return {f"rviommu/{it}": read(os.path.join(MODULE, it)) for it in names} | {"rviommu/librviommu.so": read(library)}
 
 
 def metadata(it):
@@ -37,11 +38,12 @@ def metadata(it):
     return "\n".join(lines + [f"Requires-Python: {it['requires-python']}", ""]).encode()
 
 
-def build_wheel(wheel_directory, config_settings=None, metadata_directory=None):
+def write_wheel(wheel_directory, files):
+    """Writes a wheel of these files; its name. Two of the same files are equal byte for byte."""
     it = project()
     name = f"{it['name']}-{it['version']}"
     info = f"{name}.dist-info"
-    files = contents() | {
+    files = files | {
         f"{info}/METADATA": metadata(it),
         f"{info}/WHEEL": f"Wheel-Version: 1.0\nGenerator: backend\nRoot-Is-Purelib: false\nTag: {TAG}\n".encode(),
     }
@@ -55,6 +57,15 @@ def build_wheel(wheel_directory, config_settings=None, metadata_directory=None):
         for path, data in files.items():
             archive.writestr(zipfile.ZipInfo(path), data, zipfile.ZIP_DEFLATED)
     return wheel
+
+
+def build_wheel(wheel_directory, config_settings=None, metadata_directory=None):
+    return write_wheel(wheel_directory, contents())
+
+
+def build_editable(wheel_directory, config_settings=None, metadata_directory=None):
+    """A wheel that leads to the module where it stands; that takes the library which c/build.py made there."""
+    return write_wheel(wheel_directory, {"rviommu.pth": (HERE + "\n").encode()})
 
 
 def build_sdist(sdist_directory, config_settings=None):

@@ -79,9 +79,39 @@ def calls(place, checker=()):
     passes([*checker, compiled(place, "gcc", "calls", ["tests/c/calls.c"], "-Wl,--wrap=malloc,--wrap=realloc")])
 
 
+def record_is_played(place):
+    """What a handle's record says is answered so by the program, and `explain` tells of it."""
+    record = compiled(place, "gcc", "record", ["tests/c/record.c"])
+    text = os.path.join(place.here, "record.asm")
+    with open(text, "w", encoding="utf-8") as file:
+        file.write("ram 0x80000000 0x100000\ndisk 5 1 aabb\n")
+    image, script = os.path.join(place.here, "record.image"), os.path.join(place.here, "record.script")
+    run([place.program, "asm", text, image])
+    for images in ([], [image]):
+        passes([record, script, *images])
+        with open(script, encoding="utf-8") as file:
+            lines = file.read().splitlines()
+        if len(lines) < 3000:
+            raise Failure(f"the record has {len(lines)} steps")
+        told = [line.partition(" # => ") for line in lines]
+        with open(script, "rb") as file:
+            if run([place.program, *run_words(*images)], stdin=file).decode().splitlines() != [it[2] for it in told]:
+                raise Failure("the program answers a record otherwise")
+        with open(script, "rb") as file:
+            run([place.program, "check", *images], stdin=file)
+        with open(script, "rb") as file:
+            if b"granted" not in run([place.program, "explain", *images], stdin=file):
+                raise Failure("explain tells nothing of a record")
+
+
 def from_cpp(place, compiler):
     if run([compiled(place, compiler, "header", ["examples/c/header.cpp"])]) != b"0x3810060610\n":
         raise Failure("examples/c/header.cpp prints something else")
+
+
+def types(place, compiler):
+    """The types that the header gives to C++."""
+    passes([compiled(place, compiler, "types", ["tests/c/types.cpp"])])
 
 
 def by_pkg_config(place):
@@ -112,7 +142,7 @@ def image_of(place, script):
     return [image]
 
 
-def run_words(image):
+def run_words(*image):
     return ["run", *image] if image else []
 
 
@@ -124,7 +154,7 @@ def is_told_alike(place):
         with open(script, "rb") as file:
             lines = file.read().split(b"\n")[:-1]
         plain = b"".join(line + b"\n" for line in lines)
-        if run([place.program, "debug", *image], input=plain) != run([place.program, *run_words(image)], input=plain):
+        if run([place.program, "debug", *image], input=plain) != run([place.program, *run_words(*image)], input=plain):
             continue
         asking = b"".join(line + b"\n" + b"".join(b"why %d\n" % step for step in range(32)) for line in lines)
         if run([play, "why", *image], input=plain) != run([place.program, "debug", *image], input=asking):
@@ -139,7 +169,7 @@ def is_played_alike(place, how):
     for script in scripts():
         image = image_of(place, script)
         with open(script, "rb") as lines:
-            wanted = run([place.program, *run_words(image)], stdin=lines)
+            wanted = run([place.program, *run_words(*image)], stdin=lines)
         with open(script, "rb") as lines:
             seen = run([play, how, *image], stdin=lines)
         if seen != wanted:
@@ -197,10 +227,13 @@ def has_all_functions(place):
     from rviommu._library import FUNCTIONS
 
     with open(os.path.join(place.include, "rviommu.h"), encoding="utf-8") as header:
-        named = {line.split("(")[0].split()[-1] for line in header if line.startswith(("uint32_t rviommu_", "void rviommu_"))}
+        named = set(re.findall(r"^(?:enum )?\w+ (rviommu_\w+)\(", header.read(), re.MULTILINE))
     needs("nm")
     defined = {line.split()[-1] for line in run(["nm", "--defined-only", "--extern-only", place.archive]).decode().splitlines() if " T rviommu_" in line}
     bound = {"rviommu_" + name for name in FUNCTIONS}
+    own = {line.split()[-1] for line in run(["nm", "--defined-only", "--dynamic", os.environ["RVIOMMU_LIBRARY"]]).decode().splitlines()}
+    if own != named:
+        raise Failure(f"the shared object has other functions: {sorted(named ^ own)}")
     if not named == defined == bound:
         raise Failure(f"functions differ: {sorted(named ^ defined | named ^ bound)}")
 
@@ -211,16 +244,39 @@ def python_tests(place):
         env={**os.environ, "RVIOMMU_LIBRARY": library})
 
 
-def python_package(place):
-    """pip installs the module without the net, and it is used from there."""
-    needs("pip")
-    site = os.path.join(place.here, "site")
-    env = {**os.environ, "RVIOMMU_LIBRARY": os.path.join(place.prefix, "lib", "librviommu.so"), "PIP_NO_INDEX": "1"}
-    run([sys.executable, "-m", "pip", "install", "--quiet", "--no-deps", "--target", site, os.path.join(TOP, "python")], env=env)
-    used = "import rviommu; print(rviommu.__file__.startswith(__import__('os').environ['PYTHONPATH']), rviommu.Platform().line('reg read 0 8'))"
-    env = {name: value for name, value in os.environ.items() if name != "RVIOMMU_LIBRARY"} | {"PYTHONPATH": site}
-    if run([sys.executable, "-B", "-c", used], env=env, cwd=place.here) != b"True 0x3810060610\n":
+USED = "import rviommu; print(rviommu.__file__.startswith(__import__('os').environ['WANTED']), rviommu.Platform().line('reg read 0 8'))"
+
+
+def is_used(python, wanted, here, **more):
+    """A Python finds the module below a folder, and its library without being told of it."""
+    env = {name: value for name, value in os.environ.items() if name not in ("RVIOMMU_LIBRARY", "PYTHONPATH")} | {"WANTED": wanted, **more}
+    if run([python, "-B", "-c", USED], env=env, cwd=here) != b"True 0x3810060610\n":
         raise Failure("the installed module answers otherwise")
+
+
+def python_package(place):
+    """pip installs the module without the net, from its folder and from the file of a wheel, and it is used from there."""
+    needs("pip")
+    packed = os.path.join(TOP, run([os.path.join(TOP, "packaging", "package.py"), "wheel", place.program, place.prefix]).decode().strip())
+    env = {**os.environ, "RVIOMMU_LIBRARY": os.path.join(place.prefix, "lib", "librviommu.so"), "PIP_NO_INDEX": "1"}
+    for name, source in (("folder", os.path.join(TOP, "python")), ("wheel", packed)):
+        site = os.path.join(place.here, name)
+        run([sys.executable, "-m", "pip", "install", "--quiet", "--no-deps", "--target", site, source], env=env)
+        if not os.path.exists(os.path.join(site, "rviommu", "py.typed")):
+            raise Failure("the installed module has no py.typed")
+        is_used(sys.executable, site, place.here, PYTHONPATH=site)
+
+
+def python_editable(place):
+    """An editable install leads to the module where it stands."""
+    needs("pip")
+    if place.prefix != os.path.join(TOP, "c", "out"):
+        raise Skip("the library isn't in c/out")
+    room = os.path.join(place.here, "venv")
+    run([sys.executable, "-m", "venv", room])
+    python = os.path.join(room, "bin", "python")
+    run([python, "-m", "pip", "install", "--quiet", "--no-deps", "--editable", os.path.join(TOP, "python")], env={**os.environ, "PIP_NO_INDEX": "1"})
+    is_used(python, os.path.join(TOP, "python"), place.here)
 
 
 def readme(place):
@@ -262,10 +318,13 @@ CHECKS = [
     ("valgrind finds nothing in the driver's test", lambda place: driver(place, "gcc", VALGRIND)),
     ("the header is used from C++, with g++", lambda place: from_cpp(place, "g++")),
     ("the header is used from C++, with clang++", lambda place: from_cpp(place, "clang++")),
+    ("its types are those that are promised, with g++", lambda place: types(place, "g++")),
+    ("its types are those that are promised, with clang++", lambda place: types(place, "clang++")),
     ("the program in c/README.md", readme),
     ("the lines of C in README.md", top_readme),
     ("refusals, refused memory and copies", calls),
     ("valgrind finds nothing in them", lambda place: calls(place, VALGRIND)),
+    ("a record of a handle's steps is played by the program alike", record_is_played),
     ("pkg-config finds the library, and the shared object is used", by_pkg_config),
     ("each script is played alike, line by line", lambda place: is_played_alike(place, "text")),
     ("each script is played alike, by numbers", lambda place: is_played_alike(place, "numbers")),
@@ -275,7 +334,8 @@ CHECKS = [
     ("the same by numbers under valgrind", lambda place: is_generated_alike(place, "numbers", VALGRIND)),
     ("the Python module's tests", python_tests),
     ("the test in python/README.md", python_readme),
-    ("the Python module is installed by pip and used", python_package),
+    ("the Python module is installed by pip, from its folder and as a wheel, and used", python_package),
+    ("an editable install of it is used", python_editable),
 ]
 
 

@@ -21,14 +21,15 @@ import signal
 import subprocess
 import sys
 import tempfile
+from pathlib import Path
 
-TOP = os.path.normpath(os.path.join(os.path.dirname(os.path.abspath(__file__)), os.pardir))
-CRATES = os.path.join(TOP, "crates")
-sys.path.insert(0, os.path.join(TOP, "packaging"))
-import build  # noqa: E402
-import crates as all_crates  # noqa: E402
-import kit  # noqa: E402
+from frame import TOP
+import build
+import crates as all_crates
+import kit
+import whole
 
+CRATES = TOP / "crates"
 BYTES_A_CHECK = 3 << 30
 HARMLESS = "an edit without meaning"
 # What a proof file says where it names what an edit took away, or a function that isn't proved: of the contract that says nothing.
@@ -166,8 +167,8 @@ def read_edit(name, text, texts):
 
 
 def opened(text):
-    """A function's text up to the brace that opens its body, which stands alone below clauses."""
-    brace = re.search(r"^ *\{\n", text, re.MULTILINE)
+    """A function's text up to the brace that opens its body, which stands alone below clauses, or before that of an empty body."""
+    brace = re.search(r"^ *\{(?=\n|\})", text, re.MULTILINE)
     return text[: brace.end()] if brace else ""
 
 
@@ -178,18 +179,8 @@ def harmless(texts, edits):
         for one in functions_of(file, texts):
             old = opened(texts[file][one.start : one.end])
             if old and texts[file].count(old) == 1:
-                found.append(Edit(HARMLESS, [(file, old, f"{old}let _without_meaning = 0u8;\n")], {one.path}))
+                found.append(Edit(HARMLESS, [(file, old, f"{old}\nlet _without_meaning = 0u8;\n")], {one.path}))
     return next((it for it in found if not it.functions & taken), found[0])
-
-
-def read_texts(folder):
-    texts = {}
-    for part in kit.PARTS:
-        for at, _, names in os.walk(os.path.join(folder, part)):
-            for name in names:
-                with open(os.path.join(at, name), encoding="utf-8") as file:
-                    texts[os.path.relpath(os.path.join(at, name), folder)] = file.read()
-    return Texts(texts)
 
 
 class Verdicts:
@@ -230,15 +221,13 @@ class Crate:
 
     def __init__(self, name, of_kit):
         self.name, self.words = name, kit.words("check", name, of_kit)
-        folder = os.path.join(CRATES, name)
-        self.texts = read_texts(folder)
+        self.texts = Texts(dict(whole.texts(CRATES / name)))
         self.told, self.edits = [], []
-        for file in edits_in(folder):
-            with open(file, encoding="utf-8") as text:
-                try:
-                    self.edits.append(read_edit(os.path.basename(file), text.read(), self.texts))
-                except BadEdit as fault:
-                    self.tell(os.path.basename(file), False, f"BAD EDIT: {fault}")
+        for file in edits_in(name):
+            try:
+                self.edits.append(read_edit(file.name, file.read_text(encoding="utf-8"), self.texts))
+            except BadEdit as fault:
+                self.tell(file.name, False, f"BAD EDIT: {fault}")
 
     def tell(self, name, is_refused, text):
         self.told.append(is_refused)
@@ -247,9 +236,9 @@ class Crate:
     def check(self, texts, kept, only):
         with tempfile.TemporaryDirectory(prefix="edits-") as room:
             for file, text in texts.items():
-                os.makedirs(os.path.dirname(os.path.join(room, file)), exist_ok=True)
-                with open(os.path.join(room, file), "w", encoding="utf-8") as made:
-                    made.write(text)
+                made = Path(room, file)
+                made.parent.mkdir(parents=True, exist_ok=True)
+                made.write_text(text, encoding="utf-8")
             how = {"stdin": subprocess.DEVNULL, "stdout": subprocess.PIPE, "stderr": subprocess.STDOUT}
             words = [*self.words, "--incremental", kept, "--jobs", "1", *(word for it in sorted(only) for word in ("--only", it))]
             # The check ends with this program.
@@ -316,9 +305,8 @@ class Crate:
         return self.told
 
 
-def edits_in(folder):
-    folder = os.path.join(folder, "edits")
-    return [os.path.join(folder, it) for it in sorted(os.listdir(folder)) if it.endswith(".edit")] if os.path.isdir(folder) else []
+def edits_in(name):
+    return sorted((CRATES / name / "edits").glob("*.edit"))
 
 
 def build_below(names, stands_on):
@@ -326,7 +314,7 @@ def build_below(names, stands_on):
     needed = {low for it in names for low in all_crates.below(stands_on, it) if low != it}
     for name in stands_on:
         if name in needed and not kit.is_current(name):
-            subprocess.run(["rt", "lib"], cwd=os.path.join(CRATES, name), stdout=subprocess.DEVNULL, check=True)
+            subprocess.run(["rt", "lib"], cwd=CRATES / name, stdout=subprocess.DEVNULL, check=True)
 
 
 def at_once():
@@ -336,7 +324,7 @@ def at_once():
 
 def main():
     listed = all_crates.listed()
-    named = sys.argv[1:] or [it for it in listed if edits_in(os.path.join(CRATES, it))]
+    named = sys.argv[1:] or [it for it in listed if edits_in(it)]
     if any(it not in listed for it in named):
         sys.exit("usage: edits.py [CRATE..], of the crates of crates.txt")
     for it in (signal.SIGINT, signal.SIGTERM):

@@ -7,7 +7,6 @@ cases, writable disks made read-only, stores into tables, rings and queues betwe
 replaced. What the programs write, the images, upgraded ones too, the statuses and the texts of faults are compared. Prints how many lines were compared for each theme; at the first difference its line and the
 shortest script and text that show it, and the status is 1.
 """
-import glob
 import os
 import random
 import re
@@ -15,8 +14,11 @@ import subprocess
 import sys
 import tempfile
 import time
+from pathlib import Path
 
-TOP = os.path.join(os.path.dirname(os.path.abspath(__file__)), os.pardir)
+from frame import scripts
+from samples import KINDS
+
 SECONDS = 60
 BUILT_IN = "ram 0x80000000 0x100000\n"
 NUMBER = re.compile(r"\b(0x[0-9a-fA-F]+|[0-9]+)\b")
@@ -26,7 +28,6 @@ IOVAS = [0x40201ABC, 0x40202000, 0x8040201ABC, 0xFFFF800080010ABC, 0x2010080010A
 # Of a stage of device 5's context: its modes, one that there isn't, and the PPNs of roots, two of them not aligned.
 MODES = [0, 8, 9, 10]
 ROOTS = [0x30, 0x80002, 0x80005, 0x80020, 0x80024, 0x80030]
-KINDS = ["cmd", "fault", "context", "dir", "pte", "u64"]
 THEMES = {
     "registers": ["registers", "register_table", "identity", "off_"],
     "directory": ["at_one", "at_three", "no_context", "misconfigured", "upper_entries", "too_wide", "first_bit", "directory"],
@@ -41,20 +42,10 @@ THEMES = {
 }
 
 
-def read(path):
-    with open(path) as file:
-        return file.read()
-
-
 def cases():
-    """Each script with the text of its image, by name."""
-    found = {}
-    for path in glob.glob(os.path.join(TOP, "examples", "*.script")) + glob.glob(os.path.join(TOP, "crates", "iom_rows", "data", "*.script")):
-        name = os.path.splitext(path)[0]
-        text = read(name + ".asm") if os.path.isfile(name + ".asm") else BUILT_IN
-        strip = lambda it: [line.split("#")[0].rstrip() for line in it.splitlines()]
-        found[os.path.basename(name)] = ([line for line in strip(text) if line], [line for line in strip(read(path)) if line])
-    return found
+    """Each script with the text of its image, by name, as lines without comments."""
+    lines = lambda text: [line for it in text.splitlines() if (line := it.split("#")[0].rstrip())]
+    return {path.stem: (lines(text.decode() if text else BUILT_IN), lines(script.decode())) for path, script, text in scripts()}
 
 
 class Mutator:
@@ -122,21 +113,13 @@ class Mutator:
             if self.random.random() < 0.15:
                 near = (self.random.choice(addresses) & ~7) + 8 * self.random.randrange(-2, 6)
                 value = self.random.choice([0, self.random.getrandbits(64), (0x80000 + self.random.randrange(256)) << 10 | self.random.choice([0, 1, 0x53, 0xD7])])
-                out.append(
-                    self.random.choice(
-                        [
-                            f"store {near:#x} 8 {value:#x}",
-                            f"show {self.random.choice(KINDS)} {near + self.random.randrange(2):#x}",
-                            f"place {self.random.choice(['page', 'context'])} {self.random.randrange(4)}",
-                            f"trace {self.random.randrange(34)}",
-                            f"reg read {self.random.choice([16, 24, 32, 36, 40, 48, 52, 72, 76, 84])} 4",
-                            "cmd",
-                            "dev step 0",
-                            f"dma read 5 {self.random.choice(IOVAS + [near]):#x} {self.random.choice([1, 8, 64])}",
-                            f"store {self.random.choice([0x800010A8, 0x800010B8]):#x} 8 {self.random.choice(MODES) << 60 | self.random.choice(ROOTS):#x}",
-                        ]
-                    )
-                )
+                out.append(self.random.choice([
+                    f"store {near:#x} 8 {value:#x}", f"show {self.random.choice(KINDS)} {near + self.random.randrange(2):#x}", "cmd", "dev step 0",
+                    f"place {self.random.choice(['page', 'context'])} {self.random.randrange(4)}", f"trace {self.random.randrange(34)}",
+                    f"reg read {self.random.choice([16, 24, 32, 36, 40, 48, 52, 72, 76, 84])} 4",
+                    f"dma read 5 {self.random.choice(IOVAS + [near]):#x} {self.random.choice([1, 8, 64])}",
+                    f"store {self.random.choice([0x800010A8, 0x800010B8]):#x} 8 {self.random.choice(MODES) << 60 | self.random.choice(ROOTS):#x}",
+                ]))
         return out
 
     def bytes(self, image):
@@ -160,18 +143,15 @@ def run(program, words, given=b""):
 
 class Pair:
     def __init__(self, one, other, here):
-        self.programs, self.here = (one, other), here
-
-    def path(self, name):
-        return os.path.join(self.here, name)
+        self.programs, self.here = (one, other), Path(here)
+        self.images = [self.here / f"image{number}" for number in range(2)]
 
     def put(self, name, data):
-        with open(self.path(name), "wb") as file:
-            file.write(data)
-        return self.path(name)
+        (self.here / name).write_bytes(data)
+        return str(self.here / name)
 
     def image(self, number):
-        return open(self.path(f"image{number}"), "rb").read() if os.path.isfile(self.path(f"image{number}")) else None
+        return self.images[number].read_bytes() if self.images[number].is_file() else None
 
     def both(self, words_of, given=b""):
         return [run(program, words_of(number), given) for number, program in enumerate(self.programs)]
@@ -179,15 +159,14 @@ class Pair:
     def difference(self, text, script):
         """What differs on a text and a script, and how many lines were compared."""
         source = self.put("source", "\n".join(text).encode())
-        for number in range(2):
-            if os.path.isfile(self.path(f"image{number}")):
-                os.remove(self.path(f"image{number}"))
-        ended = self.both(lambda number: ["asm", source, self.path(f"image{number}")])
+        for image in self.images:
+            image.unlink(missing_ok=True)
+        ended = self.both(lambda number: ["asm", source, self.images[number]])
         if ended[0] != ended[1] or self.image(0) != self.image(1):
             return f"asm: {ended[0]} and {ended[1]}", 0
         if self.image(0) is None:
             return None, len(text)
-        return self.ran(self.both(lambda number: ["run", self.path(f"image{number}")], "\n".join(script).encode()), len(text))
+        return self.ran(self.both(lambda number: ["run", self.images[number]], "\n".join(script).encode()), len(text))
 
     def ran(self, ended, lines):
         if ended[0] == ended[1]:
@@ -207,9 +186,9 @@ class Pair:
 
     def upgraded(self, path):
         """What differs on an image that is upgraded."""
-        for number in range(2):
-            self.put(f"image{number}", b"before")
-        ended = self.both(lambda number: ["upgrade", path, self.path(f"image{number}")])
+        for image in self.images:
+            image.write_bytes(b"before")
+        ended = self.both(lambda number: ["upgrade", path, self.images[number]])
         if ended[0] != ended[1] or self.image(0) != self.image(1):
             return f"upgrade: {ended[0]} and {ended[1]}, images {self.image(0).hex()} and {self.image(1).hex()}"
         return None

@@ -8,17 +8,16 @@ libraries that these stand on are built first. The status is 1 where a part fail
 
 Other work on the same cores makes each number larger.
 """
-import os
 import resource
 import shutil
 import subprocess
 import sys
 import tempfile
 import time
+from pathlib import Path
 
-TOP = os.path.join(os.path.dirname(os.path.abspath(__file__)), os.pardir)
-sys.path.insert(0, os.path.join(TOP, "packaging"))
-from crates import below, stands_on  # noqa: E402
+from frame import TOP
+from crates import below, stands_on
 
 PROGRAM = "rviommu"
 # Of a check with several jobs each reads the libraries below by itself, which takes more in all.
@@ -40,39 +39,17 @@ def cost(folder, *words):
     return spent() - before
 
 
-def edits_of(folder, part):
-    names = os.listdir(f"{folder}/{part}") if os.path.isdir(f"{folder}/{part}") else []
-    return sum(name.endswith(".edit") for name in names)
-
-
 def words_for(folder):
     """The words that a program is run with: those of its file args, one a line. The gate runs it in its folder data."""
-    if not os.path.isfile(f"{folder}/args"):
-        return []
-    with open(f"{folder}/args", encoding="utf-8") as file:
-        words = file.read().split()
-    return ["--", *("data" if word == "." else word for word in words)]
-
-
-def has_tests(folder):
-    for at, _, names in os.walk(f"{folder}/src"):
-        for name in names:
-            with open(f"{at}/{name}", encoding="utf-8") as file:
-                if "#[test]" in file.read():
-                    return True
-    return False
+    args = folder / "args"
+    return ["--", *("data" if word == "." else word for word in args.read_text().split())] if args.is_file() else []
 
 
 class Row:
-    """The processor seconds of a crate's parts; None where it has no such part."""
+    """The processor seconds of a crate's parts; None where it has no such part. `edits` has those of must-fail/ and of edits/, each with their number."""
 
     def __init__(self, name):
-        self.name = name
-        self.build = 0.0
-        self.second = None
-        self.tests = None
-        # Those of must-fail/ and those of edits/, each with their number.
-        self.edits = [(0.0, 0), (0.0, 0)]
+        self.name, self.build, self.second, self.tests, self.edits = name, 0.0, None, None, [(0.0, 0), (0.0, 0)]
 
     def total(self):
         return self.build + (self.second or 0) + (self.tests or 0) + sum(seconds for seconds, _ in self.edits)
@@ -80,15 +57,15 @@ class Row:
 
 def measure(top, name, row):
     """Measures what comes after a crate's proof. A program that LLVM built stays as NAME at the top."""
-    folder = f"{top}/crates/{name}"
-    if os.path.isfile(f"{folder}/src/main.rt"):
-        shutil.copy2(f"{folder}/out/{name}", f"{top}/{name}")
+    folder = top / "crates" / name
+    if (folder / "src/main.rt").is_file():
+        shutil.copy2(folder / "out" / name, top / name)
         row.second = cost(folder, "rt", "run", "--backend", "rattle", *ONE_JOB, *words_for(folder))
-    if has_tests(folder):
-        shutil.rmtree(f"{folder}/out/incremental", ignore_errors=True)
+    if any("#[test]" in file.read_text(encoding="utf-8") for file in (folder / "src").rglob("*.rt")):
+        shutil.rmtree(folder / "out/incremental", ignore_errors=True)
         row.tests = cost(folder, "rt", "test", *ONE_JOB)
     tools = {"must-fail": ("rt", "must-fail"), "edits": ("tests/edits.py",)}
-    counts = [edits_of(folder, part) for part in tools]
+    counts = [len(list((folder / part).glob("*.edit"))) for part in tools]
     row.edits = [(cost(top, *words, name) if count else 0.0, count) for words, count in zip(tools.values(), counts)]
 
 
@@ -122,14 +99,14 @@ def main():
     rows = {}
     whole = []
     with tempfile.TemporaryDirectory(prefix="gate-cost-") as room:
-        top = f"{room}/repository"
+        top = Path(room, "repository")
         shutil.copytree(TOP, top, ignore=shutil.ignore_patterns("out", ".git", "__pycache__"))
         clock = 0.0
         for name in needed:
-            folder = f"{top}/crates/{name}"
+            folder = top / "crates" / name
             rows[name] = Row(name)
             start = time.monotonic()
-            word = "run" if os.path.isfile(f"{folder}/src/main.rt") else "lib"
+            word = "run" if (folder / "src/main.rt").is_file() else "lib"
             rows[name].build = cost(folder, "rt", word, *ONE_JOB, *words_for(folder))
             if name in below(PROGRAM, crates):
                 clock += time.monotonic() - start

@@ -3,226 +3,149 @@
 
 Where the page is built, it is looked for in both packages.
 
-Prints one line a check, and 'package: N passed, M failed' at the end. The status is 1 where a check failed.
+Prints each test, and 'package: N passed, M failed' at the end. The status is 1 where a test failed.
 """
 import filecmp
 import os
 import re
 import shutil
 import subprocess
-import sys
 import tarfile
-import tempfile
+from pathlib import Path
 
-TOP = os.path.normpath(os.path.join(os.path.dirname(os.path.abspath(__file__)), os.pardir))
-PACKAGE = os.path.join(TOP, "packaging", "package.py")
+import frame
+from frame import EXAMPLES, TOP, program, text_of
 
-
-class Failure(Exception):
-    pass
-
-
-class Skip(Exception):
-    pass
+LIBRARY = TOP / "c/out/lib/librviommu.so"
+PAGE = TOP / "web/out"
 
 
 def run(words, **how):
-    done = subprocess.run(words, stdout=subprocess.PIPE, stderr=subprocess.STDOUT, check=False, **how)
-    if done.returncode:
-        raise Failure(f"{' '.join(words)} ended with {done.returncode}: {done.stdout.decode(errors='replace')[-500:]}")
+    done = subprocess.run(words, stdout=subprocess.PIPE, stderr=subprocess.STDOUT, **how)
+    assert done.returncode == 0, f"{words} ended with {done.returncode}: {done.stdout.decode(errors='replace')[-500:]}"
     return done.stdout
 
 
-def pack(kind, program):
-    return os.path.join(TOP, run([PACKAGE, kind, program]).decode().strip())
-
-
-def needs(name):
-    if not shutil.which(name):
-        raise Skip(f"there is no {name} on the path")
-
-
-def is_packed_alike(kind, program):
-    def data():
-        with open(pack(kind, program), "rb") as file:
-            return file.read()
-
-    if data() != data():
-        raise Failure("two packings of one program differ")
-
-
-def answers_an_example(program, examples):
-    with open(os.path.join(examples, "stale_translation.script"), "rb") as script:
-        seen = run([program], stdin=script)
-    with open(os.path.join(examples, "stale_translation.answers"), "rb") as answers:
-        if seen != answers.read():
-            raise Failure("the installed program answers examples/stale_translation.script differently")
-    with tempfile.TemporaryDirectory() as here:
-        image = os.path.join(here, "disk.image")
-        run([program, "asm", os.path.join(examples, "disk.asm"), image])
-        with open(os.path.join(examples, "disk.script"), "rb") as script:
-            seen = run([program, "run", image], stdin=script)
-    with open(os.path.join(examples, "disk.answers"), "rb") as answers:
-        if seen != answers.read():
-            raise Failure("the installed program answers examples/disk.script differently")
-
-
-def shows_its_page(page):
-    if not shutil.which("man"):
-        return
-    if b"rviommu" not in run(["man", "-l", page], env={**os.environ, "MANPAGER": "cat", "MANWIDTH": "80"}):
-        raise Failure("the man page doesn't name the program")
-
-
-def archive_is_used(program):
-    with tempfile.TemporaryDirectory() as root:
-        with tarfile.open(pack("dist", program)) as archive:
-            archive.extractall(root)
-        (top,) = os.listdir(root)
-        top = os.path.join(root, top)
-        answers_an_example(os.path.join(top, "rviommu"), os.path.join(top, "examples"))
-        shows_its_page(os.path.join(top, "rviommu.1"))
-        serves_c(top)
-        for name in ("README.md", "CHANGELOG.md", "completions/_rviommu", "completions/rviommu.bash"):
-            if not os.path.isfile(os.path.join(top, name)):
-                raise Failure(f"the archive has no {name}")
-
-
-def has_page(folder):
-    """The page stands in a folder as it was built."""
-    made = os.path.join(TOP, "web", "out")
-    if not os.path.isfile(os.path.join(made, "index.html")):
-        raise Skip("the page isn't built ('make page')")
-    wanted = sorted(name for name in os.listdir(made) if not name.endswith(".png"))
-    if files_of(folder) != wanted or not all(filecmp.cmp(os.path.join(made, it), os.path.join(folder, it), shallow=False) for it in wanted):
-        raise Failure("the page is not that of web/out")
-
-
-def page_is_packed(program):
-    with tempfile.TemporaryDirectory() as root:
-        with tarfile.open(pack("dist", program)) as archive:
-            archive.extractall(root)
-        (top,) = os.listdir(root)
-        has_page(os.path.join(root, top, "page"))
-    needs("dpkg-deb")
-    with tempfile.TemporaryDirectory() as root:
-        run(["dpkg-deb", "--extract", pack("deb", program), root])
-        has_page(os.path.join(root, "usr/share/rviommu/page"))
-
-
-def serves_c(root):
-    """The C library below a folder is found by pkg-config, and the driver's test passes on its archive and on its shared object."""
-    needs("pkg-config")
-    needs("gcc")
-    (flags_file,) = [path for path in files_of(root) if path.endswith("rviommu.pc")]
-    folder = os.path.dirname(os.path.join(root, flags_file))
-    flags = run(["pkg-config", "--cflags", "--libs", "rviommu"], env={**os.environ, "PKG_CONFIG_PATH": folder}).decode().split()
-    sources = [os.path.join(TOP, "examples/c", name) for name in ("iommu.c", "test_driver.c")]
-    with tempfile.TemporaryDirectory() as here:
-        made = os.path.join(here, "test")
-        run(["gcc", "-std=c11", "-o", made, *sources, *flags])
-        if run([made], env={**os.environ, "LD_LIBRARY_PATH": os.path.dirname(folder)}) != b"passed\n":
-            raise Failure("the driver's test fails on the shared object")
-        run(["gcc", "-std=c11", "-o", made, *sources, *flags[:1], os.path.join(os.path.dirname(folder), "librviommu.a")])
-        if run([made]) != b"passed\n":
-            raise Failure("the driver's test fails on the archive")
-
-
-def is_installed(program):
-    """What make install copies is used from there."""
-    needs("make")
-    with tempfile.TemporaryDirectory() as root:
-        old = ["-o", program, "-o", "c/out/lib/librviommu.so"]
-        run(["make", "-s", *old, "install", f"program={program}", f"DESTDIR={root}", "PREFIX=/opt/rviommu"], cwd=TOP)
-        top = os.path.join(root, "opt/rviommu")
-        answers_an_example(os.path.join(top, "bin/rviommu"), os.path.join(TOP, "examples"))
-        shows_its_page(os.path.join(top, "share/man/man1/rviommu.1"))
-        serves_c(top)
-        has_completions(top, "site-functions")
-
-
-def has_completions(root, for_zsh):
-    """The completions stand where bash and zsh look for them."""
-    for source, place in (("rviommu.bash", "share/bash-completion/completions/rviommu"), ("_rviommu", f"share/zsh/{for_zsh}/_rviommu")):
-        path = os.path.join(root, place)
-        if not os.path.isfile(path) or not filecmp.cmp(os.path.join(TOP, "completions", source), path, shallow=False):
-            raise Failure(f"{place} is not completions/{source}")
-
-
-def runs_on_the_oldest_libc(program):
-    """No symbol of the program or of the shared object asks for a glibc newer than that which README names."""
-    needs("readelf")
-    with open(os.path.join(TOP, "README.md"), encoding="utf-8") as readme:
-        oldest = re.search(r"glibc (\d+)\.(\d+) or later", readme.read())
-    for path in (program, os.path.join(TOP, "c/out/lib/librviommu.so")):
-        asked = [tuple(map(int, it)) for it in re.findall(r"GLIBC_(\d+)\.(\d+)", run(["readelf", "--version-info", "--wide", path]).decode())]
-        if not asked or max(asked) > tuple(map(int, oldest.groups())):
-            raise Failure(f"{path} asks for glibc {max(asked, default=None)}, and README names {oldest[0]}")
-
-
 def files_of(root):
-    found = (os.path.join(folder, name) for folder, _, files in os.walk(root) for name in files)
-    return sorted(os.path.relpath(path, root) for path in found)
+    return sorted(str(it.relative_to(root)) for it in Path(root).rglob("*") if not it.is_dir() or it.is_symlink())
 
 
-def package_is_installed_and_removed(program):
-    needs("dpkg")
-    package = pack("deb", program)
-    with tempfile.TemporaryDirectory() as root:
-        admin = os.path.join(root, "var/lib/dpkg")
+class Packages(frame.Case):
+    def pack_all(self, kind):
+        if kind == "deb":
+            self.needs("dpkg-deb")
+        return [TOP / path for path in run([TOP / "packaging/package.py", kind, program()]).decode().split()]
+
+    def pack(self, kind):
+        """The archive, or the program's Debian package, which is the first of three."""
+        return self.pack_all(kind)[0]
+
+    def folder_of(self, name):
+        os.makedirs(self.path(name))
+        return Path(self.path(name))
+
+    def unpacked(self):
+        """The folder that the archive has."""
+        root = self.folder_of("archive")
+        with tarfile.open(self.pack("dist")) as archive:
+            archive.extractall(root)
+        (top,) = root.iterdir()
+        return top
+
+    def want_used(self, used, page, examples, library):
+        """The program answers examples, the man page names it, and the C library serves a driver: found by pkg-config, as an archive and as a shared object."""
+        image = self.path("disk.image")
+        run([used, "asm", examples / "disk.asm", image])
+        for words, name in (([], "stale_translation"), (["run", image], "disk")):
+            answers = run([used, *words], input=(examples / f"{name}.script").read_bytes())
+            self.assertEqual(answers, (examples / f"{name}.answers").read_bytes())
+        if shutil.which("man"):
+            self.assertIn(b"rviommu", run(["man", "-l", page], env={**os.environ, "MANPAGER": "cat", "MANWIDTH": "80"}))
+        self.needs("pkg-config", "gcc")
+        (flags_file,) = library.rglob("rviommu.pc")
+        made, lib = self.path("test"), flags_file.parent.parent
+        flags = run(["pkg-config", "--cflags", "--libs", "rviommu"], env={**os.environ, "PKG_CONFIG_PATH": str(flags_file.parent)}).decode().split()
+        for ends, env in ((flags, {**os.environ, "LD_LIBRARY_PATH": str(lib)}), ([*flags[:1], lib / "librviommu.a"], None)):
+            run(["gcc", "-std=c11", "-o", made, EXAMPLES / "c/iommu.c", EXAMPLES / "c/test_driver.c", *ends])
+            self.assertEqual(run([made], env=env), b"passed\n")
+        run(["gcc", "-std=c11", "-fsyntax-only", TOP / "tests/c/record.c", *flags[:1]])
+
+    def want_same(self, files):
+        """Wants each of these to have the same bytes as the other."""
+        self.assertEqual([name for name, other in files if not os.path.isfile(other) or not filecmp.cmp(name, other, shallow=False)], [])
+
+    def want_completions(self, root, for_zsh):
+        places = {"rviommu.bash": "share/bash-completion/completions/rviommu", "_rviommu": f"share/zsh/{for_zsh}/_rviommu"}
+        self.want_same((TOP / "completions" / name, root / place) for name, place in places.items())
+
+    def test_installed(self):
+        """make install's program, man page, completions and C library are used"""
+        self.needs("make")
+        root = self.folder_of("root")
+        old = ["-o", program(), "-o", "c/out/lib/librviommu.so"]
+        run(["make", "-s", *old, "install", f"program={program()}", f"DESTDIR={root}", "PREFIX=/opt/rviommu"], cwd=TOP)
+        top = root / "opt/rviommu"
+        self.want_completions(top, "site-functions")
+        self.want_used(top / "bin/rviommu", top / "share/man/man1/rviommu.1", EXAMPLES, top)
+
+    def test_oldest_libc(self):
+        """the program and the shared object run with the glibc that README names"""
+        self.needs("readelf")
+        oldest = tuple(map(int, re.search(r"glibc (\d+)\.(\d+) or later", text_of("README.md")).groups()))
+        for path in (program(), LIBRARY):
+            asked = [tuple(map(int, it)) for it in re.findall(r"GLIBC_(\d+)\.(\d+)", run(["readelf", "--version-info", "--wide", path]).decode())]
+            self.assertLessEqual(max(asked), oldest, path)
+
+    def test_packed_alike(self):
+        """the archive, and the Debian packages, are packed alike twice"""
+        for kind in ("dist", "deb"):
+            with self.subTest(kind):
+                first, second = ([path.read_bytes() for path in self.pack_all(kind)] for _ in range(2))
+                self.assertTrue(first == second)
+
+    def test_archive(self):
+        """the archive's program, examples, man page and C library are used"""
+        top = self.unpacked()
+        self.want_same((TOP / it, top / it) for it in ("README.md", "CHANGELOG.md", "completions/_rviommu", "completions/rviommu.bash"))
+        self.want_used(top / "rviommu", top / "rviommu.1", top / "examples", top)
+
+    def test_package(self):
+        """the Debian packages are installed into an empty root, with completions, used and removed"""
+        self.needs("dpkg")
+        packages, root = self.pack_all("deb"), self.folder_of("root")
+        names = [path.name.partition("_")[0] for path in packages]
+        number = re.search(r"(?m)^#define RVIOMMU_ABI (\d+)$", text_of("include/rviommu.h"))[1]
+        self.assertEqual(names, ["rviommu", f"librviommu{number}", "librviommu-dev"])
         for folder in ("info", "updates", "triggers"):
-            os.makedirs(os.path.join(admin, folder))
+            os.makedirs(root / "var/lib/dpkg" / folder)
         for file in ("status", "available"):
-            open(os.path.join(admin, file), "w", encoding="utf-8").close()
-        log = os.path.join(root, "dpkg.log")
-        dpkg = ["dpkg", f"--root={root}", f"--log={log}", "--force-not-root", "--force-depends"]
+            (root / "var/lib/dpkg" / file).touch()
+        dpkg = ["dpkg", f"--root={root}", f"--log={root}/dpkg.log", "--force-not-root", "--force-depends"]
         before = files_of(root)
-        run([*dpkg, "--install", package])
-        docs = os.path.join(root, "usr/share/doc/rviommu/examples")
-        answers_an_example(os.path.join(root, "usr/bin/rviommu"), docs)
-        shows_its_page(os.path.join(root, "usr/share/man/man1/rviommu.1.gz"))
-        serves_c(root)
-        has_completions(os.path.join(root, "usr"), "vendor-completions")
-        run([*dpkg, "--purge", "rviommu"])
-        left = [name for name in files_of(root) if name not in before and not name.startswith(("var/", "dpkg.log"))]
-        if left:
-            raise Failure(f"removed, it leaves {left}")
+        run([*dpkg, "--install", *packages])
+        self.want_completions(root / "usr", "vendor-completions")
+        self.want_used(root / "usr/bin/rviommu", root / "usr/share/man/man1/rviommu.1.gz", root / "usr/share/doc/rviommu/examples", root)
+        run([*dpkg, "--purge", *names])
+        self.assertEqual([name for name in files_of(root) if name not in before and not name.startswith(("var/", "dpkg.log"))], [])
 
+    def test_page(self):
+        """the page is in both packages as it was built"""
+        if not (PAGE / "index.html").is_file():
+            self.skipTest("the page isn't built ('make page')")
+        folders, root = [self.unpacked() / "page"], self.folder_of("root")
+        run(["dpkg-deb", "--extract", self.pack("deb"), root])
+        wanted = sorted(it.name for it in PAGE.iterdir() if it.suffix != ".png")
+        for folder in [*folders, root / "usr/share/rviommu/page"]:
+            self.assertEqual(files_of(folder), wanted)
+            self.want_same((PAGE / it, folder / it) for it in wanted)
 
-def lintian_finds_nothing(program):
-    needs("lintian")
-    run(["lintian", "--allow-root", "--fail-on", "error,warning", pack("deb", program)])
-
-
-CHECKS = [
-    ("make install's program, man page, completions and C library are used", is_installed),
-    ("the program and the shared object run with the glibc that README names", runs_on_the_oldest_libc),
-    ("the archive is packed alike twice", lambda program: is_packed_alike("dist", program)),
-    ("the archive's program, examples, man page and C library are used", archive_is_used),
-    ("the Debian package is packed alike twice", lambda program: (needs("dpkg-deb"), is_packed_alike("deb", program))),
-    ("the Debian package is installed into an empty root, with completions, used and removed", package_is_installed_and_removed),
-    ("the page is in both packages as it was built", page_is_packed),
-    ("lintian finds no error in the Debian package, and warns of nothing", lintian_finds_nothing),
-]
-
-
-def main():
-    if len(sys.argv) != 2:
-        sys.exit(__doc__)
-    program, passed, failed = os.path.abspath(sys.argv[1]), 0, 0
-    for name, function in CHECKS:
-        try:
-            function(program)
-            print(f"{name}: ok")
-            passed += 1
-        except Skip as why:
-            print(f"{name}: not tried, {why}")
-        except Failure as why:
-            print(f"{name}: FAILED, {why}")
-            failed += 1
-    print(f"package: {passed} passed, {failed} failed")
-    sys.exit(1 if failed else 0)
+    def test_lintian(self):
+        """lintian finds no error in the Debian packages, and warns of nothing, and none has it look away"""
+        self.needs("lintian")
+        packages = self.pack_all("deb")
+        run(["lintian", "--allow-root", "--fail-on", "error,warning", *packages])
+        self.assertEqual([path.name for path in packages if b"lintian" in run(["dpkg-deb", "--contents", path])], [])
 
 
 if __name__ == "__main__":
-    main()
+    frame.main(__doc__, "package", "package.py")

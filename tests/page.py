@@ -24,11 +24,9 @@ import time
 
 import page_using as using
 from browsers import SECONDS, Chromium, Firefox
+from frame import EXAMPLES
+from page_using import PAGE, WEB
 
-TOP = os.path.normpath(os.path.join(os.path.dirname(os.path.abspath(__file__)), os.pardir))
-PAGE = "file://" + os.path.join(TOP, "web", "out", "index.html")
-WEB = os.path.join(TOP, "web")
-EXAMPLES = os.path.join(TOP, "examples")
 # Of which example a picture is taken, at which of its accesses, and how.
 PICTURES = [("stale_translation", 1, "light"), ("both_stages", -1, "dark"), ("who_refused", 0, "light")]
 WIDE, NARROW = (1440, 1100), (390, 1600)
@@ -49,12 +47,11 @@ class Tally:
 
 
 def read(name, ending):
-    with open(os.path.join(EXAMPLES, f"{name}.{ending}"), encoding="utf-8") as file:
-        return file.read()
+    return (EXAMPLES / f"{name}.{ending}").read_text(encoding="utf-8")
 
 
 def names():
-    return sorted(it[: -len(".script")] for it in os.listdir(EXAMPLES) if it.endswith(".script"))
+    return sorted(it.stem for it in EXAMPLES.glob("*.script"))
 
 
 def answers_of(program, image, lines):
@@ -66,11 +63,8 @@ def answers_of(program, image, lines):
 
 def image_of(program, name, folder):
     """The image of an example, None where it has none."""
-    if not os.path.exists(os.path.join(EXAMPLES, f"{name}.asm")):
-        return None
-    image = os.path.join(folder, f"{name}.image")
-    subprocess.run([program, "asm", os.path.join(EXAMPLES, f"{name}.asm"), image], check=True)
-    return image
+    text, image = EXAMPLES / f"{name}.asm", os.path.join(folder, f"{name}.image")
+    return image if text.exists() and subprocess.run([program, "asm", text, image], check=True) else None
 
 
 def verdicts(browser, lines):
@@ -96,7 +90,7 @@ def judge_built(tally):
     build = importlib.util.module_from_spec(spec)
     spec.loader.exec_module(build)
     tally.judge("the page's files that 'make page' copies", sorted(build.PAGES), sorted(names_there))
-    tally.judge("what 'make page' builds with", hasattr(build.builder(), "Build"), True)
+    tally.judge("what 'make page' builds with", hasattr(build.build, "Build"), True)
 
 
 def judge_answers(browser, tally):

@@ -1,15 +1,9 @@
-"""Checks of the whole crate, as which a program is built from nothing: it has what the crates have, and nothing else, by other paths."""
-import os
+"""The whole crate, as which a program is built from nothing: it has what the crates have, and nothing else, by other paths."""
 import re
-import sys
 
-from checks import EXAMPLES, Failure, check, want
-
-TOP = os.path.normpath(os.path.join(EXAMPLES, os.pardir))
-CRATES = os.path.join(TOP, "crates")
-sys.path.insert(0, os.path.join(TOP, "packaging"))
-import build  # noqa: E402
-import whole  # noqa: E402
+from frame import TOP, Case
+import build
+import whole
 
 
 def in_whole(name, path, top):
@@ -27,27 +21,22 @@ def as_in_crate(text, name, others, top):
     return re.sub(rf"(?<![\w:])crate::(specs::|proofs::)?({others})::", lambda it: f"{'crate' if it[2] == name else it[2]}::{it[1] or ''}", text)
 
 
-def want_whole(top):
-    uses = {name: uses for name, (_, uses) in build.listed().items()}
-    made = whole.Whole(top, uses, CRATES)
-    files = made.files()
-    others = "|".join(made.below)
-    for name in [*made.below, top]:
-        for path, text in whole.texts(os.path.join(CRATES, name)):
-            place = in_whole(name, path, top)
-            if place not in files:
-                raise Failure(f"the whole crate of {top} has no {place}")
-            found = as_in_crate(files.pop(place), name, others, top)
-            if path in ("src/lib.rt", "src/main.rt"):
-                text = text.replace("#![tactic(auto)]\n", "")
-                found = re.sub(rf"^pub mod ({others});\n", "", found, flags=re.MULTILINE).replace("#![tactic(auto)]\n\n", "")
-                found, text = (re.sub(r"^(pub )?mod ", "mod ", it, flags=re.MULTILINE) for it in (found, text))
-            if path == "specs/Lib.antt":
-                found = re.sub(rf"^pub mod ({others})\n", "", found, flags=re.MULTILINE)
-            want(f"{place} of the whole crate of {top}, read as {name}/{path},", found, text)
-    want(f"the rest of the whole crate of {top}", sorted(it for it in files if it != "specs/Lib.antt"), [])
-
-
-@check("build: the whole crate has what the crates have, by other paths")
-def _():
-    want_whole(build.FIRST)
+class Building(Case):
+    def test_whole(self):
+        """build: the whole crate has what the crates have, by other paths"""
+        top, crates = build.FIRST, TOP / "crates"
+        made = whole.Whole(top, {name: uses for name, (_, uses) in build.listed().items()}, crates)
+        files, others = made.files(), "|".join(made.below)
+        for name in [*made.below, top]:
+            for path, text in whole.texts(crates / name):
+                place = in_whole(name, path, top)
+                self.assertIn(place, files)
+                found = as_in_crate(files.pop(place), name, others, top)
+                if path in ("src/lib.rt", "src/main.rt"):
+                    text = text.replace("#![tactic(auto)]\n", "")
+                    found = re.sub(rf"^pub mod ({others});\n", "", found, flags=re.MULTILINE).replace("#![tactic(auto)]\n\n", "")
+                    found, text = (re.sub(r"^(pub )?mod ", "mod ", it, flags=re.MULTILINE) for it in (found, text))
+                if path == "specs/Lib.antt":
+                    found = re.sub(rf"^pub mod ({others})\n", "", found, flags=re.MULTILINE)
+                self.assertEqual(found, text, f"{place}, read as {name}/{path}")
+        self.assertEqual(sorted(it for it in files if it != "specs/Lib.antt"), [])

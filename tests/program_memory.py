@@ -1,14 +1,13 @@
-"""Checks of the program with one of its allocations refused, and of the list of calls that take memory."""
-import glob
+"""The program with one of its allocations refused, and the list of calls that take memory."""
 import os
 import re
 import subprocess
+from pathlib import Path
 
-from checks import ASK, EXAMPLES, OUT_OF_MEMORY, PROGRAM, RUN_SECONDS, Failure, Skip, check, folder, put, want
+from documents import names_there, spans, table_of
+from frame import ASK, OUT_OF_MEMORY, RUN_SECONDS, Case, program, text_of
 
-TOP = os.path.join(EXAMPLES, os.pardir)
 MOST_ALLOCATIONS = 2000
-
 # A library whose malloc and realloc refuse the call of the number REFUSED, and write to the file COUNTED that they did.
 REFUSING = b"""
 #include <errno.h>
@@ -29,111 +28,79 @@ static int is_refused(void) {
 void *malloc(size_t size) { return is_refused() ? NULL : __libc_malloc(size); }
 void *realloc(void *old, size_t size) { return is_refused() ? NULL : __libc_realloc(old, size); }
 """
+RUNS = [
+    [], ["asm", "source", "new"], ["run", "image"], ["check"], ["check", "--stale", "image"], ["debug", "image"], ["explain", "image"],
+    ["list", "image", "u64", "0x80000000", "100"], ["upgrade", "image", "new"],
+]
+# These take none themselves. What `Summary::new` makes takes memory for a line that is stale, in `explain` alone.
+KEEP_AN_ALLOCATOR = {"Summary::new"}
+# Tests, and the words of the command line, whose allocations are refused above.
+NO_LIBRARY = {"iom_tests", "iom_cli"}
 
 
-def library(here):
-    source, path = put(here, "refusing.c", REFUSING), os.path.join(here, "refusing.so")
-    try:
-        subprocess.run(["cc", "-shared", "-fPIC", "-o", path, source], check=True, stderr=subprocess.DEVNULL)
-    except (OSError, subprocess.CalledProcessError):
-        raise Skip("there is no C compiler") from None
-    return path
+class Refused(Case):
+    def ended(self, words, number):
+        """How the program ends with this allocation refused, and whether there was one of this number."""
+        counted = Path(self.path("counted"))
+        counted.unlink(missing_ok=True)
+        how = {**os.environ, "LD_PRELOAD": self.path("refusing.so"), "REFUSED": str(number), "COUNTED": str(counted)}
+        ran = subprocess.run([program(), *words], input=ASK, capture_output=True, env=how, cwd=self.folder, timeout=RUN_SECONDS)
+        return (ran.returncode, ran.stdout, ran.stderr), counted.exists()
 
-
-def ended(words, number, loaded, here):
-    """How the program ends with this allocation refused, and whether there was one of this number."""
-    counted = os.path.join(here, "counted")
-    if os.path.exists(counted):
-        os.remove(counted)
-    how = {**os.environ, "LD_PRELOAD": loaded, "REFUSED": str(number), "COUNTED": counted}
-    all_of = subprocess.run([PROGRAM, *words], input=ASK, capture_output=True, env=how, timeout=RUN_SECONDS)
-    return (all_of.returncode, all_of.stdout, all_of.stderr), os.path.exists(counted)
-
-
-def add_refused(words):
-    @check(f"out of memory: each allocation of `{' '.join(['rviommu', *words])}` refused in turn")
-    def _():
-        with folder() as here:
-            loaded = library(here)
-            put(here, "source", b"ram 0x80000000 0x1000\nu64 1 2 3\ndisk 5 2 c0ffee\n")
-            subprocess.run([PROGRAM, "asm", os.path.join(here, "source"), os.path.join(here, "image")], check=True)
-            given = [os.path.join(here, word) if word in ("source", "image", "new") else word for word in words]
-            ample, _ = ended(given, 0, loaded, here)
-            refused = 0
-            for number in range(1, MOST_ALLOCATIONS):
-                put(here, "new", b"before")
-                seen, there_was = ended(given, number, loaded, here)
-                if not there_was:
-                    break
-                refused += seen == (OUT_OF_MEMORY[0], b"", OUT_OF_MEMORY[1])
-                if seen not in (ample, (OUT_OF_MEMORY[0], b"", OUT_OF_MEMORY[1])) and seen[0] != 2:
-                    raise Failure(f"with allocation {number} refused it ends as {seen}")
-                with open(os.path.join(here, "new"), "rb") as file:
-                    if seen != ample and file.read() != b"before":
-                        raise Failure(f"with allocation {number} refused the image's file was written")
-            if not refused:
-                raise Skip("no allocation could be refused here")
-
-
-add_refused([])
-add_refused(["asm", "source", "new"])
-add_refused(["run", "image"])
-add_refused(["check"])
-add_refused(["check", "--stale", "image"])
-add_refused(["debug", "image"])
-add_refused(["explain", "image"])
-add_refused(["list", "image", "u64", "0x80000000", "100"])
-add_refused(["upgrade", "image", "new"])
+    def test_refused(self):
+        """out of memory: each allocation of a run refused in turn, for each word"""
+        self.needs("cc")
+        subprocess.run(["cc", "-shared", "-fPIC", "-o", self.path("refusing.so"), self.put("refusing.c", REFUSING)], check=True)
+        self.image(b"ram 0x80000000 0x1000\nu64 1 2 3\ndisk 5 2 c0ffee\n")
+        refusal = (OUT_OF_MEMORY[0], b"", OUT_OF_MEMORY[1])
+        for words in RUNS:
+            with self.subTest(words):
+                ample, seen, number = self.ended(words, 0)[0], [], 0
+                while (number := number + 1) < MOST_ALLOCATIONS:
+                    new = self.put("new", b"before")
+                    ended, there_was = self.ended(words, number)
+                    if not there_was:
+                        break
+                    seen.append(ended)
+                    self.assertTrue(ended in (ample, refusal) or ended[0] == 2, f"with allocation {number} refused it ends as {ended}")
+                    if ended != ample:
+                        self.assertEqual(Path(new).read_bytes(), b"before", f"with allocation {number} refused the image's file was written")
+                if refusal not in seen:
+                    self.skipTest("no allocation could be refused here")
 
 
 def exported(crate):
     """The names that a crate's root file gives to others."""
-    with open(os.path.join(crate, "src", "lib.rt")) as file:
-        text = file.read()
+    text = text_of(f"{crate}/src/lib.rt")
     uses = re.findall(r"pub use [\w:]*?(?:\{([^}]*)\}|(\w+));", text)
     names = {name.strip() for many, one in uses for name in (many or one).split(",")}
     return names | set(re.findall(r"pub (?:struct|enum|fn) (\w+)", text))
 
 
-# These take none themselves. What `Summary::new` makes takes memory for a line that is stale, in `explain` alone.
-KEEP_AN_ALLOCATOR = {"Summary::new"}
-
-
-# Tests, and the words of the command line, whose allocations are refused above.
-NO_LIBRARY = {"iom_tests", "iom_cli"}
-
-
 def calls_that_take_memory():
     found = set()
-    for root in sorted(glob.glob(os.path.join(TOP, "crates", "*", "src", "lib.rt"))):
-        crate = os.path.dirname(os.path.dirname(root))
+    for root in names_there("crates/*/src/lib.rt"):
+        crate = root.removesuffix("/src/lib.rt")
         if os.path.basename(crate) in NO_LIBRARY:
             continue
         names = exported(crate)
-        for path in glob.glob(os.path.join(crate, "src", "*.rt")):
+        for path in names_there(f"{crate}/src/*.rt"):
             owner = None
-            with open(path) as file:
-                text = file.read()
-            for match in re.finditer(r"(?m)^impl(?:<[^>]*>)? (?:\w+ for )?(\w+)|^}|^( *)pub fn (\w+)(?:<[^>]*>)?\(([^)]*)\)", text):
-                if match.group(3) is None:
-                    owner = match.group(1)
+            for match in re.finditer(r"(?m)^impl(?:<[^>]*>)? (?:\w+ for )?(\w+)|^}|^( *)pub fn (\w+)(?:<[^>]*>)?\(([^)]*)\)", text_of(path)):
+                if match[3] is None:
+                    owner = match[1]
                     continue
-                name = f"{owner}::{match.group(3)}" if match.group(2) and owner else match.group(3)
-                if "alloc: Global" in match.group(4) and name.split("::")[0] in names:
+                name = f"{owner}::{match[3]}" if match[2] and owner else match[3]
+                if "alloc: Global" in match[4] and name.split("::")[0] in names:
                     found.add(name)
     return found - KEEP_AN_ALLOCATOR
 
 
-@check("documents: the calls that take memory are those that docs/PROMISES.md lists")
-def _():
-    with open(os.path.join(TOP, "docs", "PROMISES.md")) as file:
-        text = file.read()
-    rows = text[text.index("| Call that takes memory |") :].split("\n\n")[0].splitlines()[2:]
-    listed = {name for row in rows for name in re.findall(r"`([\w:]+)`", row.split("|")[1])}
-    want("the calls that take memory", sorted(calls_that_take_memory()), sorted(listed))
-    with open(os.path.join(TOP, "tests", "refused_memory.sh")) as file:
-        tried = file.read()
-    for row in rows:
-        for test in re.findall(r"`(\w+)`", row.split("|")[2]):
-            if not re.search(rf"(?m)^{test} ", tried):
-                raise Failure(f"tests/refused_memory.sh doesn't try {test}")
+class Calls(Case):
+    def test_listed(self):
+        """documents: the calls that take memory are those that docs/PROMISES.md lists, with tests that refused_memory.sh tries"""
+        listed = table_of("docs/PROMISES.md", "Call that takes memory")
+        named = {name for row in listed for name in re.findall(r"`([\w:]+)`", row[0])}
+        self.assertEqual(sorted(calls_that_take_memory()), sorted(named))
+        tried = text_of("tests/refused_memory.sh")
+        self.assertEqual([test for row in listed for test in spans(row[1]) if not re.search(rf"(?m)^{test} ", tried)], [])

@@ -1,314 +1,37 @@
-"""Checks of the names in the documents: each file, crate, definition, call, clause and test that they name is there."""
+"""The names in the documents: each file, crate, definition, call, clause and test that they name is there. And each public item has a docstring."""
 import glob
-import os
 import re
+from pathlib import PurePath
 
-from checks import EXAMPLES, check, want
+from documents import names_there, rows, sections, spans
+from frame import TOP, Case, text_of
+from crates import below, listed, stands_on
 
-TOP = os.path.normpath(os.path.join(EXAMPLES, os.pardir))
-DOCUMENTS = ["README.md", "CHANGELOG.md", *(f"docs/{name}" for name in sorted(os.listdir(os.path.join(TOP, "docs"))))]
+DOCUMENTS = ["README.md", "CHANGELOG.md", *names_there("docs/*")]
 SUFFIXES = (".rt", ".antt", ".py", ".sh", ".md", ".edit", ".script", ".answers", ".asm", ".txt", ".h", ".1")
 # Folders that each crate may have, and what a build makes.
-OF_EACH = {"src/", "specs/", "proofs/", "must-fail/", "edits/", "data/", "out/", "proofs/Lib.antt", "dist/", "c/out", "out/build", "out/whole", "web/out", "web/out/index.html", "crates/rviommu/out/rviommu"}
+OF_EACH = {
+    "src/", "specs/", "proofs/", "must-fail/", "edits/", "data/", "out/", "proofs/Lib.antt", "dist/", "c/out", "out/build", "out/whole", "web/out",
+    "web/out/index.html", "crates/rviommu/out/rviommu",
+}
 WORDS = {"asm", "run", "check", "debug", "list", "upgrade", "bad"}
-
-
-def text_of(name):
-    with open(os.path.join(TOP, name), encoding="utf-8") as file:
-        return file.read()
-
-
-def names_there(pattern):
-    return sorted(os.path.relpath(path, TOP) for path in glob.glob(os.path.join(TOP, pattern), recursive=True))
-
-
-def stands_on():
-    """Each crate with the crates that it stands on, by crates.txt."""
-    lines = [line.partition("#")[0].partition(":") for line in text_of("crates.txt").splitlines()]
-    found = {name.split()[0]: rest.split() for name, colon, rest in lines if colon}
-    return {name: [it for it in rest if it in found] for name, rest in found.items()}
-
-
 CRATES = stands_on()
 # The crates of the toolchain that they stand on.
-OTHERS = {name for line in text_of("crates.txt").splitlines() for name in line.partition("#")[0].partition(":")[2].split()} - set(CRATES)
-
-
-def below(crate):
-    return {crate}.union(*(below(it) for it in CRATES[crate]))
-
-
-def defined(path):
-    """The names that a file gives to items, cases, fields, operands and clauses; in a file of definitions to these and to fields."""
-    text = text_of(path)
-    if path.endswith(".antt"):
-        return set(re.findall(r"(?m)^\s*(?:\w+ )?(?:pub )?(?:data |record )?([^\s:()]+)(?: \(.*\))? :", text))
-    text = re.sub(r"//.*", "", text)
-    items = re.findall(r"\b(?:fn|struct|enum|trait|const|type|mod|impl|for)\s+(\w+)", text)
-    return {*items, *re.findall(r"\b(\w+): ", text), *re.findall(r"(?m)^\s+(\w+)(?:,|\(.*\),| \{.*)$", text), *clauses(text)}
-
-
-def clauses(text):
-    """The names of clauses, and of what a trait states of those who implement it."""
-    return re.findall(r"\b(?:ensures|requires|ghost) (\w+)", text)
-
-
-def files_of(crate):
-    return [path for kind in ("src", "specs", "proofs") for path in names_there(f"crates/{crate}/{kind}/**/*.*t")]
-
-
-def names_of(crate):
-    """The names that a crate defines, those of its files among them."""
-    files = files_of(crate)
-    return {os.path.basename(path).partition(".")[0] for path in files}.union(*(defined(path) for path in files))
-
-
-NAMES = {crate: names_of(crate) for crate in CRATES}
-
-
-def has(crate, name):
-    """Whether each part of a name, as of `Queue::entries`, is one of the crate's."""
-    return all(part in NAMES[crate] for part in name.split("::"))
-
-
-def spans(text):
-    return re.findall(r"`([^`]*)`", text)
-
-
-def rows(text):
-    """The cells of the rows of a text's tables, without the heads."""
-    lines = text.splitlines()
-    heads = {at - 1 for at, line in enumerate(lines) if re.match(r"\|-", line)}
-    return [[cell.strip() for cell in line.strip("|").split(" | ")] for at, line in enumerate(lines) if line.startswith("| ") and at not in heads]
-
-
-def sections(text):
-    """The sections of a document, each with its head; what is below a head of three stands with its section."""
-    return re.findall(r"(?ms)^## (.*?)\n(.*?)(?=^## |\Z)", "## \n" + text)
-
-
-def is_there(path, places):
-    return any(glob.glob(os.path.join(TOP, place, path)) for place in places)
-
-
-@check("documents: each file that they name is there")
-def _():
-    for document in DOCUMENTS:
-        lacking = []
-        for head, body in sections(text_of(document)):
-            places = ["", "crates", "include", "crates/iom_rows/data"]
-            for word in " ".join(spans(head + "\n" + body)).split():
-                named = re.fullmatch(r"(?:crates/)?(\w+)(?:/.*)?", word)
-                if named and named[1] in CRATES:
-                    places += [f"crates/{named[1]}", *(f"crates/{named[1]}/{kind}" for kind in ("src", "specs", "proofs"))]
-                is_path = re.fullmatch(r"[\w.*/-]+", word) and (word.endswith(SUFFIXES) or re.fullmatch(r"\w[^.]*/.*", word))
-                if is_path and word not in OF_EACH and not re.search(r"NAME|PATH|\.\.|^[A-Z]+$", word) and not is_there(word, places):
-                    lacking.append(word)
-        want(f"what {document} names and is not there", lacking, [])
-
-
-@check("MAP: the crates are those of crates.txt, lowest first, each with those that it stands on")
-def _():
-    crates = dict(sections(text_of("docs/MAP.md")))[""]
-    told = {spans(cells[0])[0]: spans(cells[2]) for cells in rows(crates) if len(cells) == 4}
-    want("the crates", sorted(told), sorted(CRATES))
-    # iom_tests stands on all libraries but those that MAP names
-    wanted = {crate: sorted(CRATES[crate]) for crate in told if crate != "iom_tests"}
-    want("what each stands on", {crate: sorted(told[crate]) for crate in wanted}, wanted)
-    order = list(told)
-    want("the crates above one that they are below", [crate for crate in wanted if any(order.index(it) > order.index(crate) for it in told[crate])], [])
-    left_out = set(spans(crates.partition("all libraries above but")[2].partition(" |")[0])) - {"iom_asm"}
-    rest = set(CRATES) - set(CRATES["iom_tests"]) - {"iom_tests", "iom_rows", "iom_player", "rviommu"}
-    want("the libraries that iom_tests doesn't stand on", sorted(left_out), sorted(rest))
-
-
-def beside(text):
-    """The names in a text, each with its crate and with the file that it is named beside, or None."""
-    crate = folder = path = None
-    for name, colon, stop in re.findall(r"`([^`]*)`(:?)|([;(]|, by|, which)", text):
-        if stop:
-            path = None
-        elif name.endswith((".rt", ".antt")):
-            path = f"crates/{name}" if "/" in name else f"{folder}/{name}"
-            crate, folder = path.split("/")[1], os.path.dirname(path)
-            path = path if colon else None
-        elif re.fullmatch(r"[\w:]+", name) and name not in CRATES:
-            yield crate, path, name
-
-
-@check("MAP: each definition, function and type stands in the file that it is named beside, or in its crate")
-def _():
-    lacking = []
-    for what, *cells, _ in rows(dict(sections(text_of("docs/MAP.md")))["Where a rule lives"]):
-        for crate, path, name in beside("; ".join(cells)):
-            if path and not is_there(path, [""]):
-                lacking.append((what, path))
-            elif not (set(name.split("::")) <= defined(path) if path else any(has(it, name) for it in below(crate))):
-                lacking.append((what, path or crate, name))
-    want("what is not where MAP says", lacking, [])
-
-
-@check("MAP: what a rule is tried by is there")
-def _():
-    tried = [cells[-1] for cells in rows(dict(sections(text_of("docs/MAP.md")))["Where a rule lives"])]
-    lacking = [name for cell in tried for name in spans(cell) if not is_there(name, ["", "crates"]) and not is_there(name + ".script", ["examples"])]
-    want("what is not there", lacking, [])
-
-
-def promised():
-    """The sections of PROMISES that speak of a crate."""
-    for head, body in sections(text_of("docs/PROMISES.md")):
-        crate = re.fullmatch(r"`(\w+)`", head)
-        if crate:
-            yield crate[1], body
-
-
-@check("PROMISES: each crate but those of tests has a section")
-def _():
-    told = [crate for crate, _ in promised()]
-    want("the sections", sorted(told), sorted(set(CRATES) - {"iom_tests", "iom_rows"}))
-
-
-@check("PROMISES: what a crate's section names is the crate's, or of one below it")
-def _():
-    for crate, body in promised():
-        named = {name for name in spans(body) if re.fullmatch(r"[A-Za-z_][\w:-]*", name)} - set(CRATES) - WORDS - {"stale_translation"}
-        lacking = [name for name in sorted(named) if not any(has(it, name) for it in below(crate))]
-        want(f"what the section of {crate} names and is not there", lacking, [])
-
-
-@check("PROMISES: what it names in parentheses is a clause or a function of the crate")
-def _():
-    for crate, body in promised():
-        there = {name for path in names_there(f"crates/{crate}/src/**/*.rt") for name in [*clauses(text_of(path)), *re.findall(r"\bfn (\w+)", text_of(path))]}
-        named = {name for group in re.findall(r"\((`[a-z_]+`(?:, `[a-z_]+`)*)\)", body) for name in spans(group)}
-        want(f"the clauses and functions that {crate} doesn't have", sorted(named - there), [])
-
-
-@check("PROMISES: the tests and the files of tests that it names are there")
-def _():
-    promises = dict(sections(text_of("docs/PROMISES.md")))
-    refused = defined("crates/iom_tests/src/refused.rt")
-    named = [name for cells in rows(promises["Calls that take memory"]) for name in spans(cells[1])]
-    want("the tests of refused memory that are not there", [name for name in named if name not in refused], [])
-    calls = [name for cells in rows(promises["Calls that take memory"]) for name in spans(cells[0])]
-    want("the calls that are not there", [name for name in calls if not any(has(crate, name) for crate in CRATES)], [])
-    files = {spans(cells[0])[0] for cells in rows(promises["`iom_tests` and `iom_rows`"])}
-    there = {os.path.basename(path)[: -len(".rt")] for path in names_there("crates/iom_tests/src/*.rt")}
-    want("the files of tests", sorted(files), sorted(there - {"lib", "tape"}))
-
-
-@check("PROMISES: all tests of the libraries stand in iom_tests")
-def _():
-    with_tests = {path.split("/")[1] for path in names_there("crates/*/src/**/*.rt") if "#[test]" in text_of(path)}
-    want("the crates with tests", sorted(with_tests), ["iom_tests"])
-
-
-def add_named(document, head=None):
-    @check(f"{document}{f', {head!r}' if head else ''}: the names in it are there")
-    def _():
-        body = dict(sections(text_of(document)))[head] if head else text_of(document)
-        python = "".join(text_of(path) for path in names_there("tests/**/*.py"))
-        patterns = ("crates/*/must-fail/*", "crates/*/edits/*", "crates/iom_rows/data/*", "examples/*")
-        files = {os.path.basename(path).partition(".")[0] for pattern in patterns for path in names_there(pattern)}
-        named = {name for name in spans(body) if re.fullmatch(r"[A-Za-z_]\w*(::\w+)*", name) and "NAME" not in name} - set(CRATES) - OTHERS - WORDS
-        called = {name for name in named if any(has(crate, name.removeprefix(f"{crate}::")) for crate in CRATES)}
-        lacking = [name for name in sorted(named - called - files) if not re.search(rf"\b{name}\b", python)]
-        want("what is not there", lacking, [])
-
-
-@check("MODEL: each library with definitions has a section")
-def _():
-    told = [spans(head)[0] for head, _ in sections(text_of("docs/MODEL.md")) if spans(head)]
-    defining = {path.split("/")[1] for path in names_there("crates/*/specs/*.antt")} - {"iom_tests"}
-    want("the sections", sorted(told), sorted(defining))
-
-
-add_named("README.md", "What is proved")
-add_named("docs/MAP.md", "How a step flows")
-add_named("docs/CONTRIBUTING.md", "Recipes")
-add_named("docs/MODEL.md")
-
-
+OTHERS = {name for _, uses in listed().values() for name in uses} - set(CRATES)
 # What a document says of a number, and where the code or a clause has it.
 NUMBERS = [
-    ("docs/PROMISES.md", "the first eleven words", "crates/iom_text/src/reading.rt", "MOST_WORDS: usize = 11;"),
-    ("docs/PROMISES.md", "of at most 20 and 18 bytes", "crates/iom_text/src/writing.rt", "result.items ≤ 18 }"),
-    ("docs/PROMISES.md", "at the front of 16 places", "crates/iom_text/src/writing.rt", "length places.old ≡ 16 }"),
-    ("docs/PROMISES.md", "there are at most 64 places, or 16", "crates/iom_cache/src/translations.rt", "ensures within { length self.now ≤ 64 }"),
-    ("docs/PROMISES.md", "there are at most 64 places, or 16", "crates/iom_cache/src/contexts.rt", "ensures within { length self.now ≤ 16 }"),
-    ("docs/PROMISES.md", "at most 64 * (2^32 - 1) (`few`)", "crates/iom_virtq/src/chain.rt", "ensures few { result ≤ 64 * 4294967295 }"),
-    ("docs/PROMISES.md", "There are 2 to 29 parts (`some`, `most`)", "crates/iom_tables/src/listing.rt", "ensures most { array_vec_len result ≤ 29 }"),
-    ("docs/PROMISES.md", "keeps the last 32", "crates/iom_tool/src/trace.rt", "MOST_ENTRIES: usize = 32;"),
     ("docs/PROMISES.md", "beyond 2^20 lines or 2^26 bytes", "crates/iom_tool/specs/Running.antt", "(length text ≡ 2 ^ 26) ⊎ (length (ended_lines text) ≡ 2 ^ 20)"),
-    ("docs/PROMISES.md", "answers the 32 bytes of the image of 1 MiB", "crates/iom_image/src/image.rt", "pub fn built_in() -> [u8; 32]"),
     ("docs/CONTRIBUTING.md", "the 320 bytes of a `Reply`", "crates/iom_tool/src/draft.rt", "bytes: [u8; 320],"),
     ("README.md", "each process with 2 to 3 GB of memory", "packaging/build.py", "BYTES_A_JOB = 3 << 30"),
-    ("README.md", "glibc 2.36 or later", "packaging/package.py", "Depends: libc6 (>= 2.36)"),
+    ("README.md", "glibc 2.36 or later", "packaging/package.py", 'LIBC = "libc6 (>= 2.36)"'),
     ("README.md", "A file that the program reads has at most 2^30 bytes", "crates/rviommu/src/files.rt", "MOST_BYTES: u64 = 1 << 30;"),
     ("docs/PROMISES.md", "and of 200 lists of steps made at random", "crates/iom_rows/src/generated.rt", "SCRIPTS: u64 = 200;"),
     ("docs/GATE.md", "and of 200 lists of steps made at random", "crates/iom_rows/src/generated.rt", "SCRIPTS: u64 = 200;"),
     ("docs/PROMISES.md", "100,000 lines of generated scripts", "tests/c_library.py", "PLAIN_LINES, HARMFUL_LINES = 20_000, 40_000"),
     ("docs/GATE.md", "It plays 100,000 generated lines", "tests/c_library.py", "PLAIN_LINES, HARMFUL_LINES = 20_000, 40_000"),
 ]
-
-
-@check("documents: their numbers are those of the code and of its clauses")
-def _():
-    for document, phrase, path, there in NUMBERS:
-        said = " ".join(text_of(document).split())
-        want(f"whether {document} says {phrase!r} and {path} has {there!r}", (phrase in said, there in text_of(path)), (True, True))
-
-
-# The glossary.
-
-
-def public(crate):
-    """The names that a library gives to those above it; the functions of the C library."""
-    if crate == "iom_c":
-        return set(re.findall(r"(?m)^\w+ (rviommu_\w+)\(", text_of("include/rviommu.h")))
-    path = f"crates/{crate}/src/lib.rt"
-    text = text_of(path) if is_there(path, [""]) else ""
-    used = [group or name for group, name in re.findall(r"(?m)^pub use (?:[\w:]+::)?(?:\{([^}]*)\}|(\w+));", text)]
-    return {*re.findall(r"\w+", " ".join(used)), *re.findall(r"(?m)^pub (?:fn|struct|enum|trait) (\w+)", text)}
-
-
-def glossary():
-    """Both tables as tuples of crates, names here, term and section."""
-    text = text_of("docs/GLOSSARY.md")
-    first, second = (rows(dict(sections(text))[head]) for head in ("From the repository to the standard", "From the standard to the repository"))
-    first = [(spans(crate), spans(names), term, where) for crate, names, term, where in first]
-    return first, [(spans(crate), spans(names), term, where) for term, names, crate, where in second]
-
-
-@check("GLOSSARY: it has each public name of a library, and each function of the C library")
-def _():
-    first, _ = glossary()
-    for crate in CRATES:
-        told = {word for crates, names, *_ in first if crate in crates for name in names for word in re.findall(r"\w+", name)}
-        want(f"what it lacks of {crate}", sorted(public(crate) - told), [])
-
-
-@check("GLOSSARY: a name with a term of the standard stands in both tables")
-def _():
-    first, second = glossary()
-    pairs = [{(crate, word) for crates, names, *_ in table for crate in crates for name in names for word in re.findall(r"\w+", name)} for table in (first, second)]
-    for table, other, which in ((first, pairs[1], "second"), (second, pairs[0], "first")):
-        own = [(crates, name) for crates, names, term, where in table if where and not term.startswith("none") for name in names]
-        lacking = [name for crates, name in own if not any((crate, re.findall(r"\w+", name)[-1]) in other for crate in crates)]
-        want(f"what its {which} table lacks", lacking, [])
-
-
-@check("GLOSSARY: each name that begins with a crate's type or has a low line is the crate's")
-def _():
-    for table in glossary():
-        named = [(crates, name) for crates, names, *_ in table for name in names if re.fullmatch(r"\w+(::\w+)*", name) and re.search("[_A-Z]", name)]
-        lacking = [name for crates, name in named if crates and not any(has(below_it, name) for crate in crates for below_it in below(crate))]
-        want("what is not there", lacking, [])
-
-
-# The code.
-
+# Which section of a document, or all of it, has names of the code.
+NAMING = {"README.md": "What is proved", "docs/MAP.md": "How a step flows", "docs/CONTRIBUTING.md": "Recipes", "docs/MODEL.md": None}
 PUBLIC = re.compile(r"\s*pub (?:(?:const|unsafe|extern \"C\") )*(?:fn|struct|enum|trait|const|type) \w")
 FIELD = re.compile(r"\s+pub \w+: ")
 PRIVATE = re.compile(r"( *)fn \w")
@@ -334,7 +57,236 @@ def undocumented(path):
     return [f"{path}: {line.strip()}" for line in found]
 
 
-@check("code: each public item and field has a docstring, and each longer private function a comment")
-def _():
-    for crate in CRATES:
-        want(f"what lacks one in {crate}", [line for path in files_of(crate) if "/src/" in path for line in undocumented(path)], [])
+def clauses(text):
+    """The names of clauses, and of what a trait states of those who implement it."""
+    return re.findall(r"\b(?:ensures|requires|ghost) (\w+)", text)
+
+
+def defined(path):
+    """The names that a file gives to items, cases, fields, operands and clauses; in a file of definitions to these and to fields."""
+    text = text_of(path)
+    if path.endswith(".antt"):
+        return set(re.findall(r"(?m)^\s*(?:\w+ )?(?:pub )?(?:data |record )?([^\s:()]+)(?: [({].*[)}])? :", text))
+    text = re.sub(r"//.*", "", text)
+    items = re.findall(r"\b(?:fn|struct|enum|trait|const|type|mod|impl|for)\s+(\w+)", text)
+    return {*items, *re.findall(r"\b(\w+): ", text), *re.findall(r"(?m)^\s+(\w+)(?:,|\(.*\),| \{.*)$", text), *clauses(text)}
+
+
+def files_of(crate):
+    return [path for kind in ("src", "specs", "proofs") for path in names_there(f"crates/{crate}/{kind}/**/*.*t")]
+
+
+def names_of(crate):
+    """The names that a crate defines, those of its files among them."""
+    files = files_of(crate)
+    return {PurePath(path).name.partition(".")[0] for path in files}.union(*(defined(path) for path in files))
+
+
+NAMES = {crate: names_of(crate) for crate in CRATES}
+# What C has beside the functions of the crate.
+NAMES["iom_c"].update(re.findall(r"rviommu_\w+", text_of("c/guard.c") + text_of("include/rviommu_record.h")))
+
+
+def has(crate, name):
+    """Whether each part of a name, as of `Queue::entries`, is one of the crate's."""
+    return all(part in NAMES[crate] for part in name.split("::"))
+
+
+def is_there(path, places):
+    return any(glob.glob(path, root_dir=TOP / place) for place in places)
+
+
+def beside(text):
+    """The names in a text, each with its crate and with the file that it is named beside, or None."""
+    crate = folder = path = None
+    for name, colon, stop in re.findall(r"`([^`]*)`(:?)|([;(]|, by|, which)", text):
+        if stop:
+            path = None
+        elif name.endswith((".rt", ".antt")):
+            path = f"crates/{name}" if "/" in name else f"{folder}/{name}"
+            crate, folder = path.split("/")[1], str(PurePath(path).parent)
+            path = path if colon else None
+        elif re.fullmatch(r"[\w:]+", name) and name not in CRATES:
+            yield crate, path, name
+
+
+def promised():
+    """The sections of PROMISES that speak of a crate."""
+    for head, body in sections(text_of("docs/PROMISES.md")):
+        crate = re.fullmatch(r"`(\w+)`", head)
+        if crate:
+            yield crate[1], body
+
+
+def public(crate):
+    """The names that a library gives to those above it; the functions of the C library."""
+    if crate == "iom_c":
+        return set(re.findall(r"(?m)^(?:enum )?\w+ (rviommu_\w+)\(", text_of("include/rviommu.h")))
+    path = f"crates/{crate}/src/lib.rt"
+    text = text_of(path) if is_there(path, [""]) else ""
+    used = [group or name for group, name in re.findall(r"(?m)^pub use (?:[\w:]+::)?(?:\{([^}]*)\}|(\w+));", text)]
+    return {*re.findall(r"\w+", " ".join(used)), *re.findall(r"(?m)^pub (?:fn|struct|enum|trait) (\w+)", text)}
+
+
+def glossary():
+    """Both tables as tuples of crates, names here, term and section."""
+    text = text_of("docs/GLOSSARY.md")
+    first, second = (rows(dict(sections(text))[head]) for head in ("From the repository to the standard", "From the standard to the repository"))
+    first = [(spans(crate), spans(names), term, where) for crate, names, term, where in first]
+    return first, [(spans(crate), spans(names), term, where) for term, names, crate, where in second]
+
+    def test_has_public_name_library(self):
+        """GLOSSARY: it has each public name of a library, and each function of the C library"""
+        first, _ = glossary()
+        for crate in CRATES:
+            told = {word for crates, names, *_ in first if crate in crates for name in names for word in re.findall(r"\w+", name)}
+            self.assertEqual(sorted(public(crate) - told), [], f"what it lacks of {crate}")
+
+    def test_name_term_standard_stands(self):
+        """GLOSSARY: a name with a term of the standard stands in both tables"""
+        first, second = glossary()
+        pairs = [{(crate, word) for crates, names, *_ in table for crate in crates for name in names for word in re.findall(r"\w+", name)} for table in (first, second)]
+        for table, other, which in ((first, pairs[1], "second"), (second, pairs[0], "first")):
+            own = [(crates, name) for crates, names, term, where in table if where and not term.startswith("none") for name in names]
+            lacking = [name for crates, name in own if not any((crate, re.findall(r"\w+", name)[-1]) in other for crate in crates)]
+            self.assertEqual(lacking, [], f"what its {which} table lacks")
+
+    def test_name_begins_crate_type(self):
+        """GLOSSARY: each name that begins with a crate's type or has a low line is the crate's"""
+        for table in glossary():
+            named = [(crates, name) for crates, names, *_ in table for name in names if re.fullmatch(r"\w+(::\w+)*", name) and re.search("[_A-Z]", name)]
+            lacking = [name for crates, name in named if crates and not any(has(below_it, name) for crate in crates for below_it in below(CRATES, crate))]
+            self.assertEqual(lacking, [], "what is not there")
+
+
+class Names(Case):
+    def test_file_they_name_there(self):
+        """documents: each file that they name is there"""
+        for document in DOCUMENTS:
+            lacking = []
+            for head, body in sections(text_of(document)):
+                places = ["", "crates", "include", "crates/iom_rows/data"]
+                for word in " ".join(spans(head + "\n" + body)).split():
+                    named = re.fullmatch(r"(?:crates/)?(\w+)(?:/.*)?", word)
+                    if named and named[1] in CRATES:
+                        places += [f"crates/{named[1]}", *(f"crates/{named[1]}/{kind}" for kind in ("src", "specs", "proofs"))]
+                    is_path = re.fullmatch(r"[\w.*/-]+", word) and (word.endswith(SUFFIXES) or re.fullmatch(r"\w[^.]*/.*", word))
+                    if is_path and word not in OF_EACH and not re.search(r"NAME|PATH|\.\.|^[A-Z]+$", word) and not is_there(word, places):
+                        lacking.append(word)
+            self.assertEqual(lacking, [], f"what {document} names and is not there")
+
+    def test_named(self):
+        """README, MAP, CONTRIBUTING and MODEL: the names in them, or in the section that speaks of the code, are there"""
+        python = "".join(text_of(path) for path in names_there("tests/**/*.py"))
+        patterns = ("crates/*/must-fail/*", "crates/*/edits/*", "crates/iom_rows/data/*", "examples/*")
+        files = {PurePath(path).name.partition(".")[0] for pattern in patterns for path in names_there(pattern)}
+        for document, head in NAMING.items():
+            body = dict(sections(text_of(document)))[head] if head else text_of(document)
+            named = {name for name in spans(body) if re.fullmatch(r"[A-Za-z_]\w*(::\w+)*", name) and "NAME" not in name} - set(CRATES) - OTHERS - WORDS
+            called = {name for name in named if any(has(crate, name.removeprefix(f"{crate}::")) for crate in CRATES)}
+            lacking = [name for name in sorted(named - called - files) if not re.search(rf"\b{name}\b", python)]
+            self.assertEqual(lacking, [], document)
+
+    def test_crates_crates_txt_lowest(self):
+        """MAP: the crates are those of crates.txt, lowest first, each with those that it stands on"""
+        crates = dict(sections(text_of("docs/MAP.md")))[""]
+        told = {spans(cells[0])[0]: spans(cells[2]) for cells in rows(crates) if len(cells) == 4}
+        self.assertEqual(sorted(told), sorted(CRATES), "the crates")
+        # iom_tests stands on all libraries but those that MAP names
+        wanted = {crate: sorted(CRATES[crate]) for crate in told if crate != "iom_tests"}
+        self.assertEqual({crate: sorted(told[crate]) for crate in wanted}, wanted, "what each stands on")
+        order = list(told)
+        self.assertEqual([crate for crate in wanted if any(order.index(it) > order.index(crate) for it in told[crate])], [], "the crates above one that they are below")
+        left_out = set(spans(crates.partition("all libraries above but")[2].partition(" |")[0])) - {"iom_asm"}
+        rest = set(CRATES) - set(CRATES["iom_tests"]) - {"iom_tests", "iom_rows", "iom_player", "rviommu"}
+        self.assertEqual(sorted(left_out), sorted(rest), "the libraries that iom_tests doesn't stand on")
+
+    def test_definition_function_type_stands(self):
+        """MAP: each definition, function and type stands in the file that it is named beside, or in its crate"""
+        lacking = []
+        for what, *cells, _ in rows(dict(sections(text_of("docs/MAP.md")))["Where a rule lives"]):
+            for crate, path, name in beside("; ".join(cells)):
+                if path and not is_there(path, [""]):
+                    lacking.append((what, path))
+                elif not (set(name.split("::")) <= defined(path) if path else any(has(it, name) for it in below(CRATES, crate))):
+                    lacking.append((what, path or crate, name))
+        self.assertEqual(lacking, [], "what is not where MAP says")
+
+    def test_rule_tried_there(self):
+        """MAP: what a rule is tried by is there"""
+        tried = [cells[-1] for cells in rows(dict(sections(text_of("docs/MAP.md")))["Where a rule lives"])]
+        lacking = [name for cell in tried for name in spans(cell) if not is_there(name, ["", "crates"]) and not is_there(name + ".script", ["examples"])]
+        self.assertEqual(lacking, [], "what is not there")
+
+    def test_crate_but_tests_has(self):
+        """PROMISES: each crate but those of tests has a section"""
+        told = [crate for crate, _ in promised()]
+        self.assertEqual(sorted(told), sorted(set(CRATES) - {"iom_tests", "iom_rows"}), "the sections")
+
+    def test_crate_section_names_crate(self):
+        """PROMISES: what a crate's section names is the crate's, or of one below it"""
+        for crate, body in promised():
+            named = {name for name in spans(body) if re.fullmatch(r"[A-Za-z_][\w:-]*", name)} - set(CRATES) - WORDS - {"stale_translation"}
+            lacking = [name for name in sorted(named) if not any(has(it, name) for it in below(CRATES, crate))]
+            self.assertEqual(lacking, [], f"what the section of {crate} names and is not there")
+
+    def test_names_parentheses_clause_or(self):
+        """PROMISES: what it names in parentheses is a clause or a function of the crate"""
+        for crate, body in promised():
+            there = {name for path in names_there(f"crates/{crate}/src/**/*.rt") for name in [*clauses(text_of(path)), *re.findall(r"\bfn (\w+)", text_of(path))]}
+            named = {name for group in re.findall(r"\((`[a-z_]+`(?:, `[a-z_]+`)*)\)", body) for name in spans(group)}
+            self.assertEqual(sorted(named - there), [], f"the clauses and functions that {crate} doesn't have")
+
+    def test_tests_names_there(self):
+        """PROMISES: the tests that it names are there"""
+        promises = dict(sections(text_of("docs/PROMISES.md")))
+        refused = defined("crates/iom_tests/src/refused.rt")
+        named = [name for cells in rows(promises["Calls that take memory"]) for name in spans(cells[1])]
+        self.assertEqual([name for name in named if name not in refused], [], "the tests of refused memory that are not there")
+        calls = [name for cells in rows(promises["Calls that take memory"]) for name in spans(cells[0])]
+        self.assertEqual([name for name in calls if not any(has(crate, name) for crate in CRATES)], [], "the calls that are not there")
+
+    def test_all_tests_libraries_stand(self):
+        """PROMISES: all tests of the libraries stand in iom_tests"""
+        with_tests = {path.split("/")[1] for path in names_there("crates/*/src/**/*.rt") if "#[test]" in text_of(path)}
+        self.assertEqual(sorted(with_tests), ["iom_tests"], "the crates with tests")
+
+    def test_library_definitions_has_section(self):
+        """MODEL: each library with definitions has a section"""
+        told = [spans(head)[0] for head, _ in sections(text_of("docs/MODEL.md")) if spans(head)]
+        defining = {path.split("/")[1] for path in names_there("crates/*/specs/*.antt")} - {"iom_tests"}
+        self.assertEqual(sorted(told), sorted(defining), "the sections")
+
+    def test_their_numbers_code_clauses(self):
+        """documents: their numbers are those of the code and of its clauses"""
+        for document, phrase, path, there in NUMBERS:
+            said = " ".join(text_of(document).split())
+            self.assertEqual((phrase in said, there in text_of(path)), (True, True), f"whether {document} says {phrase!r} and {path} has {there!r}")
+
+    def test_has_public_name_library(self):
+        """GLOSSARY: it has each public name of a library, and each function of the C library"""
+        first, _ = glossary()
+        for crate in CRATES:
+            told = {word for crates, names, *_ in first if crate in crates for name in names for word in re.findall(r"\w+", name)}
+            self.assertEqual(sorted(public(crate) - told), [], f"what it lacks of {crate}")
+
+    def test_name_term_standard_stands(self):
+        """GLOSSARY: a name with a term of the standard stands in both tables"""
+        first, second = glossary()
+        pairs = [{(crate, word) for crates, names, *_ in table for crate in crates for name in names for word in re.findall(r"\w+", name)} for table in (first, second)]
+        for table, other, which in ((first, pairs[1], "second"), (second, pairs[0], "first")):
+            own = [(crates, name) for crates, names, term, where in table if where and not term.startswith("none") for name in names]
+            lacking = [name for crates, name in own if not any((crate, re.findall(r"\w+", name)[-1]) in other for crate in crates)]
+            self.assertEqual(lacking, [], f"what its {which} table lacks")
+
+    def test_name_begins_crate_type(self):
+        """GLOSSARY: each name that begins with a crate's type or has a low line is the crate's"""
+        for table in glossary():
+            named = [(crates, name) for crates, names, *_ in table for name in names if re.fullmatch(r"\w+(::\w+)*", name) and re.search("[_A-Z]", name)]
+            lacking = [name for crates, name in named if crates and not any(has(below_it, name) for crate in crates for below_it in below(CRATES, crate))]
+            self.assertEqual(lacking, [], "what is not there")
+
+    def test_public_item_field_has(self):
+        """code: each public item and field has a docstring, and each longer private function a comment"""
+        for crate in CRATES:
+            self.assertEqual([line for path in files_of(crate) if "/src/" in path for line in undocumented(path)], [], f"what lacks one in {crate}")

@@ -3,8 +3,9 @@ import random
 import re
 from collections import Counter
 
-from checks import Failure, check, run, want
-from parts import GUEST, OUTSIDE, Memory, parts
+from frame import WELL, Case, run
+from parts import Parts
+from stages import GUEST, OUTSIDE
 from walks import BASE, PAGES, SIZE, World
 
 SEED, WORLDS, LEAST = 1, 12, 800
@@ -26,7 +27,7 @@ class Play:
     """A script that stores tables and asks for the parts of walks in them, and the answers that are wanted."""
 
     def __init__(self, rng):
-        self.rng, self.memory = rng, Memory(BASE, SIZE)
+        self.rng, self.memory = rng, Parts(BASE, SIZE)
         self.lines, self.wanted, self.met, self.wide, self.walks = [], [], set(), Counter(), 0
 
     def line(self, text, wanted="done"):
@@ -73,11 +74,11 @@ class Play:
         lines = [line for line in told[1:-1] if line.startswith("first")] if self.chance(0.5) else told[1:-1]
         places = [re.search(r"in=(0x\w+)" if line.startswith("first") else r"at=(0x\w+)", line) for line in lines]
         places = [int(found[1], 0) for found in places if found]
-        places = [place for place in places if self.memory.word(place) is not None]
+        places = [place for place in places if self.memory.load(place) is not None]
         if not places or self.chance(0.3):
             return None
         place = self.rng.choice(places)
-        word = self.memory.word(place)
+        word = self.memory.load(place)
         self.store(place, self.spoilt(word))
         return place, word
 
@@ -87,8 +88,8 @@ class Play:
         ddtp, did = self.directory(first, second)
         self.line(f"reg write ddtp {ddtp:#x}")
         request = ddtp, did, iova, is_write
-        before = self.spoil(parts(self.memory, *request))
-        told = parts(self.memory, *request)
+        before = self.spoil(self.memory.parts(*request))
+        told = self.memory.parts(*request)
         for at, part in enumerate([*told, "none"]):
             self.line(f"walk {'write' if is_write else 'read'} {did:#x} {iova:#x} {at}", part)
         if before:
@@ -99,24 +100,24 @@ class Play:
         self.wide.update(f"{part}, {behind}" for part, behind in zip(told, told[1:]) if part.endswith(" width"))
 
 
-@check("walk: the parts of walks are those of a plain program, on tables with defects at random")
-def _():
-    rng = random.Random(SEED)
-    play = Play(rng)
-    for _ in range(WORLDS):
-        world = World(rng)
-        for place, word in world.words.items():
-            play.store(place, word)
-        for first, second, iova, _ in world.walks:
-            bare = play.chance(0.03)
-            play.walk(0 if bare else first, 0 if bare else second, iova, play.chance(0.5))
-    status, out, errors = run(["debug"], "".join(line + "\n" for line in play.lines).encode())
-    want("status and standard error", (status, errors), (0, b""))
-    answers = out.decode().splitlines()
-    want("how many answers there are", len(answers), len(play.wanted))
-    for line, wanted, answer in zip(play.lines, play.wanted, answers):
-        want(f"the answer to {line}", answer, wanted)
-    want("what no walk met", TO_MEET - play.met, set())
-    want("what is too wide, and too seldom met", [it for it in WIDE if play.wide[it] < LEAST_WIDE], [])
-    if play.walks < LEAST:
-        raise Failure(f"there are {play.walks} walks, fewer than {LEAST}")
+class Walks(Case):
+    def test_parts(self):
+        """walk: the parts of walks are those of a plain program, on tables with defects at random"""
+        rng = random.Random(SEED)
+        play = Play(rng)
+        for _ in range(WORLDS):
+            world = World(rng)
+            for place, word in world.words.items():
+                play.store(place, word)
+            for first, second, iova, _ in world.walks:
+                bare = play.chance(0.03)
+                play.walk(0 if bare else first, 0 if bare else second, iova, play.chance(0.5))
+        status, out, errors = run(["debug"], "".join(line + "\n" for line in play.lines).encode())
+        self.assertEqual((status, errors), WELL)
+        answers = out.decode().splitlines()
+        self.assertEqual(len(answers), len(play.wanted))
+        for line, wanted, answer in zip(play.lines, play.wanted, answers):
+            self.assertEqual(answer, wanted, line)
+        self.assertEqual(TO_MEET - play.met, set(), "what no walk met")
+        self.assertEqual([it for it in WIDE if play.wide[it] < LEAST_WIDE], [], "what is too wide, and too seldom met")
+        self.assertGreaterEqual(play.walks, LEAST)

@@ -2,19 +2,13 @@
 
 For the second each side of the comparison is a model that says something false at one place, in place of the program or of QEMU.
 """
-import os
-import sys
-
-from checks import PROGRAM, check, want
-
-sys.path.insert(0, os.path.join(os.path.dirname(os.path.abspath(__file__)), "peer"))
-
-import directed  # noqa: E402
-import peer  # noqa: E402
-from cases import WELL, random_case  # noqa: E402
-from directed import FAULTS, GSCID, GUEST_ROOT, GV, IODIR, IOVA, LEAVES, SV39, SV39X4, VMA, Plain  # noqa: E402
-from model import BASE, CQCSR, FQB, FQCSR, IPSR, Model  # noqa: E402
-from qemu import IOMMU, PLACE  # noqa: E402
+from cases import WELL, random_case
+from directed import FAULTS, GSCID, GUEST_ROOT, GV, IODIR, IOVA, LEAVES, SV39, SV39X4, VMA, Plain
+from frame import Case, program
+from model import BASE, CQCSR, FQB, FQCSR, IPSR, Model
+from qemu import IOMMU, PLACE
+import directed
+import peer
 
 SEED = "without QEMU"
 RANDOM_CASES = 150
@@ -209,40 +203,34 @@ def sides_found(program, qemu):
     return {what.split(",")[0] for what in told}
 
 
-@check("peer: two models that say nothing false don't differ")
-def _():
-    want("what is found", sides_found(Model, Model), set())
+class Peer(Case):
+    def differing(self, case):
+        """Where the program says something else than the standard's model in a case."""
+        walk, script = peer.Walk(case, ()), peer.Script(case)
+        for number, step in enumerate(peer.cut(case, ())):
+            script.add(number, step, walk, *walk.step(step))
+        script.end(walk, sorted(walk.model.touched))
+        return script.differences(peer.Program(program()))
 
+    def test_nothing_false(self):
+        """peer: two models that say nothing false don't differ"""
+        self.assertEqual(sides_found(Model, Model), set())
 
-def add_false(name, model):
-    @check(f"peer: the comparison notices {name}")
-    def _():
-        want("where it is found, said by the program,", sides_found(model, Model), {"rviommu"})
-        if model is not UNSEEN_OF_QEMU:
-            want("where it is found, said by QEMU,", sides_found(Model, model), {"QEMU"})
+    def test_false(self):
+        """peer: the comparison notices what a model says falsely, in the place of the program and of QEMU"""
+        for name, model in FALSE.items():
+            with self.subTest(name):
+                self.assertEqual(sides_found(model, Model), {"rviommu"})
+                if model is not UNSEEN_OF_QEMU:
+                    self.assertEqual(sides_found(Model, model), {"QEMU"})
 
+    def test_directed(self):
+        """peer: the program is as the standard's model in the directed cases"""
+        for name, cases in directed.CASES.items():
+            for at, case in enumerate(cases):
+                self.assertEqual(self.differing(case), [], f"{name}, case {at + 1}")
 
-for each in FALSE.items():
-    add_false(*each)
-
-
-def differing(case):
-    """Where the program says something else than the standard's model in a case."""
-    walk, script = peer.Walk(case, ()), peer.Script(case)
-    for number, step in enumerate(peer.cut(case, ())):
-        script.add(number, step, walk, *walk.step(step))
-    script.end(walk, sorted(walk.model.touched))
-    return script.differences(peer.Program(PROGRAM))
-
-
-@check("peer: the program is as the standard's model in the directed cases")
-def _():
-    for name, cases in directed.CASES.items():
-        for at, case in enumerate(cases):
-            want(f"what differs in {name}, case {at + 1},", differing(case), [])
-
-
-@check(f"peer: the program is as the standard's model in {RANDOM_CASES} random cases")
-def _():
-    for number in range(RANDOM_CASES):
-        want(f"what differs in case {number}", differing(random_case(SEED, number, peer.IDS)), [])
+    def test_random(self):
+        """peer: the program is as the standard's model in 150 random cases"""
+        for number in range(RANDOM_CASES):
+            self.assertEqual(self.differing(random_case(SEED, number, peer.IDS)), [], number)

@@ -1,9 +1,6 @@
 """Page-table walks that a RISC-V hart made by itself, recorded in walks.txt (walks.py says how and in which form), played on the program."""
-import os
+from frame import TESTS, WELL, Case, run
 
-from checks import Failure, check, run, want
-
-WALKS = os.path.join(os.path.dirname(os.path.abspath(__file__)), "walks.txt")
 LEAST_NESTED = 10_000
 DIRECTORY, FAULTS, COMMANDS = 0x800F8000, 0x800FA000, 0x800FC000
 CONTEXT, RECORD = 32, 32
@@ -70,39 +67,36 @@ class Play:
             self.line(f"store 0x{words[0]} 8 0x{words[1]}")
 
 
-def judged(kind, device, address, result, answer):
-    """The line of the record that an answer leaves, or None; a hart's access fault may be a walk's or the access's own."""
-    if not result.startswith("!"):
-        want(f"the answer to {kind} {address:x}", answer, result if kind == "w" else int(result, 16).to_bytes(8, "little").hex())
-        return None
-    cause, _, guest = result[1:].partition(":")
-    if cause in ("5", "7") and answer == "bus error":
-        return None
-    want(f"the answer to {kind} {address:x}", answer, f"denied {cause}")
-    fields = f"cause={int(cause):#x} pid=0x0 pv=0x0 priv=0x0 ttyp={TTYP[kind]:#x} did={device:#x} iotval={address:#x} iotval2=0x{guest or 0}"
-    return f"fault {fields}"
+class Walks(Case):
+    def judged(self, kind, device, address, result, answer):
+        """The line of the record that an answer leaves, or None; a hart's access fault may be a walk's or the access's own."""
+        what = f"the answer to {kind} {address:x}"
+        if not result.startswith("!"):
+            return self.assertEqual(answer, result if kind == "w" else int(result, 16).to_bytes(8, "little").hex(), what)
+        cause, _, guest = result[1:].partition(":")
+        if cause in ("5", "7") and answer == "bus error":
+            return None
+        self.assertEqual(answer, f"denied {cause}", what)
+        fields = f"cause={int(cause):#x} pid=0x0 pv=0x0 priv=0x0 ttyp={TTYP[kind]:#x} did={device:#x} iotval={address:#x} iotval2=0x{guest or 0}"
+        return f"fault {fields}"
 
-
-@check("walks.txt: what a RISC-V hart's own walks gave")
-def _():
-    play = Play()
-    with open(WALKS) as file:
-        for line in file:
+    def test_walks(self):
+        """walks.txt: what a RISC-V hart's own walks gave"""
+        play = Play()
+        for line in (TESTS / "walks.txt").read_text().splitlines():
             play.add(line.split())
-    play.records()
-    status, out, errors = run((), "".join(line + "\n" for line in play.lines).encode())
-    want("status and standard error", (status, errors), (0, b""))
-    answers, told = out.decode().splitlines(), []
-    want("how many answers there are", len(answers), len(play.wanted))
-    for line, wanted, answer in zip(play.lines, play.wanted, answers):
-        if wanted[0] == "walk":
-            told = [] if wanted[2] == 0 else told
-            record = judged(*wanted[1:], answer)
-            told += [record] if record else []
-        elif wanted[0] == "record":
-            if wanted[1] < len(told):
-                want(f"the record of {line}", answer, told[wanted[1]])
-        else:
-            want(f"the answer to {line}", answer, wanted)
-    if play.nested < LEAST_NESTED:
-        raise Failure(f"there are {play.nested} walks through both stages, fewer than {LEAST_NESTED}")
+        play.records()
+        status, out, errors = run([], "".join(line + "\n" for line in play.lines).encode())
+        self.assertEqual((status, errors), WELL)
+        answers, told = out.decode().splitlines(), []
+        self.assertEqual(len(answers), len(play.wanted))
+        for line, wanted, answer in zip(play.lines, play.wanted, answers):
+            if wanted[0] == "walk":
+                told = [] if wanted[2] == 0 else told
+                told += filter(None, [self.judged(*wanted[1:], answer)])
+            elif wanted[0] == "record":
+                if wanted[1] < len(told):
+                    self.assertEqual(answer, told[wanted[1]], line)
+            else:
+                self.assertEqual(answer, wanted, line)
+        self.assertGreaterEqual(play.nested, LEAST_NESTED)

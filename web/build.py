@@ -13,20 +13,24 @@ built last, in a second: for changes of the page's own files. Needs rt on the pa
 """
 import base64
 import hashlib
-import importlib.util
 import json
 import os
 import re
 import shutil
-import subprocess
 import sys
+from pathlib import Path
 
-WEB = os.path.dirname(os.path.abspath(__file__))
-TOP = os.path.dirname(WEB)
-CRATES = os.path.join(TOP, "crates")
-EXAMPLES = os.path.join(TOP, "examples")
+WEB = Path(__file__).resolve().parent
+sys.path.insert(0, str(WEB.parent / "packaging"))
+import build
+import crates
+import kit
+from crates import TOP
+
+CRATES = TOP / "crates"
+EXAMPLES = TOP / "examples"
 CACHE = os.environ.get("XDG_CACHE_HOME") or os.path.expanduser("~/.cache")
-COPY = os.environ.get("PAGE_COPY") or os.path.join(CACHE, "rviommu", f"page-{hashlib.sha256(TOP.encode()).hexdigest()[:12]}")
+COPY = os.environ.get("PAGE_COPY") or os.path.join(CACHE, "rviommu", f"page-{hashlib.sha256(str(TOP).encode()).hexdigest()[:12]}")
 OUT = os.path.join(WEB, "out")
 # What the page's crate names of the repository's; the copy has these and all that they stand on.
 USES = ["iom_debug", "iom_asm", "iom_tool", "iom_core", "iom_image", "iom_account"]
@@ -69,12 +73,6 @@ def replaced(text, old, new, file):
     return text.replace(old, new)
 
 
-def libraries():
-    """The folder of the toolchain's libraries."""
-    page = subprocess.run(["rt", "doc"], stdout=subprocess.PIPE, check=True).stdout.decode().split()[-1]
-    return os.path.join(os.path.dirname(os.path.realpath(page)), "rattle")
-
-
 def sources(folder, parts, ending=""):
     """The texts of the code, definitions and proofs in these parts of a crate's folder, by their paths in it without this ending."""
     found = {}
@@ -87,18 +85,9 @@ def sources(folder, parts, ending=""):
 
 def listed():
     """The crates of crates.txt that the page stands on, each with what it uses, lowest first."""
-    lines = {}
-    for line in read(os.path.join(TOP, "crates.txt")).splitlines():
-        name, colon, rest = line.partition("#")[0].partition(":")
-        if colon:
-            lines[name.strip()] = rest.split()
-    wanted, to_do = set(), list(USES)
-    while to_do:
-        name = to_do.pop()
-        if name in lines and name not in wanted:
-            wanted.add(name)
-            to_do += lines[name]
-    return {name: rest for name, rest in lines.items() if name in wanted}
+    stands_on = crates.stands_on()
+    wanted = {name for it in USES for name in crates.below(stands_on, it)}
+    return {name: uses for name, (_, uses) in crates.listed().items() if name in wanted}
 
 
 def with_heap(text):
@@ -160,16 +149,16 @@ def page_heap(rattle):
 
 def make_copy():
     """Writes the copy, its crates and their list."""
-    rattle, crates = libraries(), listed()
+    rattle, own = os.path.join(kit.folder(), "rattle"), listed()
     files = {FOREIGN: page_libc(rattle), "page_heap": page_heap(rattle)}
-    files |= {name: copied(name) for name in crates}
+    files |= {name: copied(name) for name in own}
     files["iom_page"] = sources(os.path.join(WEB, "iom_page"), ["src", "specs", "proofs"], ".page")
     lines = [f"{FOREIGN}: core libc", f"page_heap: core libc std_alloc std_collections circular_buffer {FOREIGN}"]
-    for name, rest in crates.items():
+    for name, rest in own.items():
         over_heap = any("page_heap" in text for text in files[name].values())
         lines.append(f"{name}: {' '.join([*rest, *['page_heap'] * over_heap])}")
-    lines.append(f"iom_page wasm64: {' '.join(crates)} page_heap")
-    every = {os.path.join("crates", name, path): text for name, own in files.items() for path, text in own.items()}
+    lines.append(f"iom_page wasm64: {' '.join(own)} page_heap")
+    every = {os.path.join("crates", name, path): text for name, texts in files.items() for path, text in texts.items()}
     write_tree({**every, "crates.txt": "\n".join(lines) + "\n"})
     # rt takes declarations of functions that are no Rattle only of a crate with such a folder.
     os.makedirs(os.path.join(COPY, "crates", FOREIGN, "c"), exist_ok=True)
@@ -190,24 +179,13 @@ def write_tree(files):
                 file.write(text)
 
 
-def builder():
-    """packaging/build.py, for the copy's crates."""
-    packaging = os.path.join(TOP, "packaging")
-    # It imports files that stand beside it.
-    sys.path.append(packaging)
-    spec = importlib.util.spec_from_file_location("build", os.path.join(packaging, "build.py"))
-    build = importlib.util.module_from_spec(spec)
-    spec.loader.exec_module(build)
-    build.CRATES, build.LIST, build.TREES = (os.path.join(COPY, *it) for it in (["crates"], ["crates.txt"], ["out", "build"]))
-    crates = sys.modules["crates"]
-    crates.FOLDER, crates.LIST = build.CRATES, build.LIST
-    return build
-
-
 def prove():
     """Proves and builds the copy's crates, side by side, as packaging/build.py does those of the repository."""
     os.environ["RT_ALLOW_C"] = FOREIGN
-    if builder().Build("iom_page").run():
+    build.CRATES = crates.FOLDER = Path(COPY, "crates")
+    build.LIST = crates.LIST = Path(COPY, "crates.txt")
+    build.TREES = Path(COPY, "out", "build")
+    if build.Build("iom_page").run():
         stop("the model could not be built")
 
 

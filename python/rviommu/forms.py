@@ -3,24 +3,33 @@
 Each form has `words()`, its 64-bit words, and `bytes()`, as they stand in memory. The names are those of the RISC-V IOMMU
 Architecture 1.0 and of the Privileged Architecture 1.12.
 """
+from __future__ import annotations
+
+import builtins
 import struct
 from dataclasses import dataclass
+from typing import ClassVar
 
 BARE, SV39, SV48 = 0, 8, 9
 
 
-def _field(value, low, width):
+def _field(value: int, low: int, width: int) -> int:
     if not 0 <= value < 1 << width:
         raise ValueError(f"{value:#x} has more than {width} bits")
     return value << low
 
 
-def _of(word, low, width):
+def _of(word: int, low: int, width: int) -> int:
     return word >> low & (1 << width) - 1
 
 
 class Form:
-    def bytes(self):
+    """What stands in memory as 64-bit words."""
+
+    def words(self) -> tuple[int, ...]:
+        raise NotImplementedError
+
+    def bytes(self) -> builtins.bytes:
         words = self.words()
         return struct.pack(f"<{len(words)}Q", *words)
 
@@ -38,7 +47,7 @@ class Context(Form):
     dtf: bool = False
     valid: bool = True
 
-    def words(self):
+    def words(self) -> tuple[int, ...]:
         return (
             _field(self.valid, 0, 1) | _field(self.dtf, 4, 1),
             _field(self.gppn, 0, 44) | _field(self.gscid, 44, 16) | _field(self.gmode, 60, 4),
@@ -55,7 +64,7 @@ class Pte(Form):
     ppn: int
     bits: str = "vrwuad"
 
-    def words(self):
+    def words(self) -> tuple[int, ...]:
         letters = "vrwxugad"
         if not set(self.bits) <= set(letters):
             raise ValueError(f"{self.bits!r} has a letter that is none of {letters!r}")
@@ -69,9 +78,9 @@ class Vma(Form):
     page: int | None = None
     pscid: int | None = None
     gscid: int | None = None
-    func3 = 0
+    func3: ClassVar[int] = 0
 
-    def words(self):
+    def words(self) -> tuple[int, ...]:
         flags = (self.page is not None) << 10 | (self.pscid is not None) << 32 | (self.gscid is not None) << 33
         first = 1 | _field(self.func3, 7, 3) | flags | _field(self.pscid or 0, 12, 20) | _field(self.gscid or 0, 44, 16)
         return first, _field(self.page or 0, 10, 52)
@@ -93,7 +102,7 @@ class Fence(Form):
     pr: bool = True
     pw: bool = True
 
-    def words(self):
+    def words(self) -> tuple[int, ...]:
         if self.addr is not None and self.addr % 4:
             raise ValueError(f"{self.addr:#x} is no multiple of 4")
         flags = (self.addr is not None) << 10 | self.wsi << 11 | self.pr << 12 | self.pw << 13
@@ -106,7 +115,7 @@ class Iodir(Form):
 
     did: int | None = None
 
-    def words(self):
+    def words(self) -> tuple[int, ...]:
         return 3 | (self.did is not None) << 33 | _field(self.did or 0, 40, 24), 0
 
 
@@ -121,6 +130,6 @@ class FaultRecord:
     iotval2: int
 
     @classmethod
-    def from_bytes(cls, data):
+    def from_bytes(cls, data: builtins.bytes) -> FaultRecord:
         first, _, iotval, iotval2 = struct.unpack("<4Q", data)
         return cls(_of(first, 0, 12), _of(first, 34, 6), _of(first, 40, 24), iotval, iotval2)

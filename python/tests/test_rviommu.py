@@ -1,9 +1,15 @@
 """Tests of the module. Expected values are the standards', or the answers of the script's own lines."""
+import copy
+import os
+import pickle
+import tempfile
+import threading
+import typing
 import unittest
 
 import rviommu
 from rviommu import (AssemblyError, BadAccess, BusError, Context, Denied, FaultRecord, Fence, Gvma, ImageError, Iodir, LocatedKind, Misuse, NoDevice, Outside,
-                     PartKind, Platform, Pte, Ruling, Vma, WayKind, WhyKind, assemble, forms)
+                     PartKind, Platform, Pte, QueueStopped, Ruling, Vma, WayKind, WhyKind, assemble, forms)
 
 RAM = 0x80000000
 ROOT, DATA, IOVA, DID = 0x80002000, 0x80010000, 0x40201000, 5
@@ -76,6 +82,199 @@ class Steps(unittest.TestCase):
         self.assertIsNone(platform.take_fault())
         platform.send(Iodir(did=DID))
         self.assertEqual(platform.contexts(), [None])
+
+
+    def test_numbers_out_of_range(self):
+        platform = mapped()
+        too_many = (-1, 1 << 64, 1 << 64 | 5)
+        for number in too_many:
+            for call in (lambda n: platform.load(n), lambda n: platform.load(RAM, n), lambda n: platform.store(n, 0), lambda n: platform.store(RAM, n),
+                         lambda n: platform.reg_read(n), lambda n: platform.reg_write(DDTP, n), lambda n: platform.dma_read(n, IOVA, 1),
+                         lambda n: platform.dma_read(DID, n, 1), lambda n: platform.dma_read(DID, IOVA, n), lambda n: platform.dma_write(n, IOVA, b"a"),
+                         lambda n: platform.dma_write(DID, n, b"a"), lambda n: platform.dev_read(n, 0), lambda n: platform.dev_write(0, n, 0),
+                         lambda n: platform.dev_step(n), lambda n: platform.memory(n, 1), lambda n: platform.memory(RAM, n), lambda n: platform.put(n, Pte(0)),
+                         lambda n: platform.walk(DID, n), lambda n: platform.stale(DID, n), lambda n: platform.stale_page(n), lambda n: platform.why(n),
+                         lambda n: platform.page_origin(n), lambda n: platform.context_origin(n)):
+                with self.subTest(number=number), self.assertRaises(ValueError):
+                    call(number)
+        with self.assertRaises(ValueError):
+            platform.dma_read(DID, IOVA, 1 << 40)
+        self.assertEqual(platform.load(RAM), 0)
+        with self.assertRaises(TypeError):
+            platform.store(RAM, 1.5)
+
+    def test_stopped_queue(self):
+        platform = mapped()
+        with self.assertRaises(QueueStopped) as off:
+            platform.send(Iodir())
+        self.assertEqual((off.exception.why, off.exception.cqcsr), ("off", 0))
+        platform = with_queues(platform)
+        platform.send(Iodir())
+        with self.assertRaises(QueueStopped) as stopped:
+            platform.send(b"\xff" * 16, Iodir())
+        self.assertEqual((stopped.exception.why, stopped.exception.cqcsr >> 8 & 7), ("stopped", 4))
+        self.assertEqual((platform.reg_read(0x20, 4), platform.reg_read(0x24, 4)), (1, 2))
+        with self.assertRaises(QueueStopped):
+            platform.send(Iodir())
+        self.assertEqual(platform.reg_read(0x24, 4), 2)
+
+    def test_more_commands_than_the_queue_has_entries(self):
+        platform = with_queues(mapped())
+        platform.send(*[Fence(addr=RAM + 4 * number, data=number) for number in range(100)])
+        self.assertEqual([platform.load(RAM + 4 * number, 4) for number in range(100)], list(range(100)))
+
+
+class Pieces(unittest.TestCase):
+    """Accesses of any length. Two pages are mapped side by side, the third isn't."""
+
+    def setUp(self):
+        self.platform = mapped(pscid=9)
+        self.platform.put(0x80004010, Pte(0x80020, "vrwuad"))
+
+    def test_over_pages(self):
+        platform, data = self.platform, bytes(range(256)) * 20
+        before = platform.steps
+        platform.dma_write_all(DID, IOVA + 0xC01, data[: 0x1300])
+        self.assertEqual(platform.memory(DATA + 0xC01, 0x3FF) + platform.memory(0x80020000, 0xF01), data[: 0x1300])
+        # 0x3ff bytes up to the page's end are 16 pieces, and 0xf01 bytes are 61.
+        self.assertEqual(platform.steps - before, 16 + 61)
+        self.assertEqual(platform.dma_read_all(DID, IOVA + 0xC01, 0x1300), data[: 0x1300])
+        self.assertEqual(platform.dma_read_all(DID, IOVA, 5), bytes(5))
+
+    def test_how_far(self):
+        platform = self.platform
+        for step in (lambda: platform.dma_write_all(DID, IOVA + 0x1FA0, bytes(200)), lambda: platform.dma_read_all(DID, IOVA + 0x1FA0, 200)):
+            with self.assertRaises(Denied) as denied:
+                step()
+            self.assertEqual((denied.exception.done, pickle.loads(pickle.dumps(denied.exception)).done), (0x60, 0x60))
+        before = platform.steps
+        for iova, length in ((IOVA, 0), ((1 << 64) - 1, 2)):
+            with self.assertRaises(Misuse) as misuse:
+                platform.dma_read_all(DID, iova, length)
+            self.assertEqual(misuse.exception.done, 0)
+            with self.assertRaises(Misuse):
+                platform.dma_write_all(DID, iova, bytes(length))
+        self.assertEqual(platform.steps, before)
+        with self.assertRaises(Denied):
+            platform.dma_read_all(DID, (1 << 64) - 1, 1)
+
+    def test_steps_are_counted_by_one_rule(self):
+        platform = self.platform
+        before = platform.steps
+        for length in (0, 65, 4096):
+            with self.assertRaises(Misuse):
+                platform.dma_read(DID, IOVA, length)
+            with self.assertRaises(Misuse):
+                platform.dma_write(DID, IOVA, bytes(length))
+        self.assertEqual(platform.steps, before)
+
+
+class Records(unittest.TestCase):
+    def test_record(self):
+        with tempfile.TemporaryDirectory() as here:
+            for image in (None, assemble("ram 0x80000000 0x100000\ndisk 5 1 aa\n")):
+                path = os.path.join(here, "record")
+                with Platform(image, record=path) as platform:
+                    platform.reg_write(DDTP, 1)
+                    platform.dma_write_all(DID, RAM + 0x3FF0, bytes(range(200)) * 30)
+                    self.assertEqual(platform.dma_read(DID, RAM + 0x4000, 2), b"\x10\x11")
+                    platform.line("load 0x80000000 8")
+                    platform.line("trace 0")
+                    platform.pages()
+                    for _ in range(40):
+                        platform.command()
+                    with self.assertRaises(BusError):
+                        platform.load(0)
+                    steps = platform.steps
+                with open(path, encoding="ascii") as file:
+                    lines = file.read().splitlines()
+                self.assertEqual((len(lines), lines[0], lines[-1]), (steps, "reg write 0x10 0x8 0x1 # => done", "load 0x0 0x8 # => bus error"))
+                with open(path + ".image", "rb") as file, Platform(file.read()) as again:
+                    self.assertEqual([again.line(line) for line in lines], [line.split(" # => ")[1] for line in lines])
+
+
+class Threads(unittest.TestCase):
+    def test_two_threads_on_one_platform(self):
+        platform, went_wrong = mapped(), []
+
+        def use(number):
+            try:
+                for turn in range(2000):
+                    platform.store(RAM + 8 * number, turn)
+                    if platform.load(RAM + 8 * number) != turn or platform.line(f"load {RAM + 8 * number:#x} 8") != f"{turn:#x}":
+                        went_wrong.append((number, turn))
+                    platform.dma_read(DID, IOVA, 8)
+                    platform.pages()
+            except Exception as error:
+                went_wrong.append(error)
+
+        threads = [threading.Thread(target=use, args=(number,)) for number in range(4)]
+        for thread in threads:
+            thread.start()
+        for thread in threads:
+            thread.join()
+        self.assertEqual(went_wrong, [])
+
+    def test_closed_by_another_thread(self):
+        for _ in range(50):
+            platform = Platform()
+            thread = threading.Thread(target=platform.close)
+            thread.start()
+            try:
+                for _ in range(100):
+                    platform.load(RAM)
+            except ValueError:
+                pass
+            thread.join()
+            with self.assertRaises(ValueError):
+                platform.load(RAM)
+
+
+class Values(unittest.TestCase):
+    def test_shown(self):
+        platform = mapped(pscid=9)
+        platform.dma_read(DID, IOVA, 1)
+        self.assertEqual(repr(platform.pages()[0]), f"Page(page={IOVA >> 12}, frame={DATA >> 12}, did=5, pscid=9, gscid=0, level=0, "
+                         "has_pscid=True, has_gscid=False, is_write=False, is_global=False)")
+        self.assertIn("pscid=9", repr(platform.contexts()[0]))
+        self.assertIn("kind=WALK", repr(platform.why()))
+        self.assertTrue(repr(platform.walk(DID, IOVA)[2]).startswith("Part(place="))
+        self.assertIn("kind=FIRST, mode=0, level=2, ruling=POINTER", repr(platform.walk(DID, IOVA)[2]))
+        self.assertEqual(repr(platform), "<Platform of 0x100000 bytes of memory at 0x80000000>")
+        platform.close()
+        self.assertEqual(repr(platform), "<Platform, closed>")
+
+    def test_equal(self):
+        platform = mapped(pscid=9)
+        self.assertEqual(platform.walk(DID, IOVA), platform.copy().walk(DID, IOVA))
+        self.assertNotEqual(platform.walk(DID, IOVA)[2], platform.walk(DID, IOVA)[3])
+        self.assertNotEqual(platform.walk(DID, IOVA)[0], 0)
+
+    def test_errors_are_pickled(self):
+        platform = mapped()
+        steps = (lambda: platform.dma_read(6, IOVA, 1), lambda: platform.load(0), lambda: platform.reg_read(1, 4), lambda: platform.dev_read(0, 0),
+                 lambda: platform.load(RAM + 1, 2), lambda: platform.send(Iodir()), lambda: platform.memory(0, 1), lambda: Platform(b""),
+                 lambda: assemble("no"), lambda: platform.disk(0))
+        for step in steps:
+            with self.assertRaises(Exception) as raised:
+                step()
+            error = raised.exception
+            again = pickle.loads(pickle.dumps(error))
+            self.assertEqual((type(again), str(again), vars(again)), (type(error), str(error), vars(error)))
+            self.assertTrue(str(error))
+        self.assertEqual(str(Denied(13)), "denied 13")
+        self.assertEqual(str(BusError("load")), "load: a byte is outside memory")
+        self.assertEqual(str(AssemblyError("bad line", 2)), "line 2: bad line")
+
+    def test_annotations(self):
+        self.assertTrue(os.path.exists(os.path.join(os.path.dirname(rviommu.__file__), "py.typed")))
+        for name, method in vars(Platform).items():
+            call = method.fget if isinstance(method, property) else method
+            if callable(call) and not name.startswith("_"):
+                with self.subTest(name=name):
+                    hints = typing.get_type_hints(call)
+                    wanted = call.__code__.co_varnames[1 : call.__code__.co_argcount]
+                    self.assertLessEqual({*wanted, "return"}, set(hints))
 
 
 class Reasons(unittest.TestCase):
@@ -178,11 +377,39 @@ class Accounts(unittest.TestCase):
     def test_copy_counts_on(self):
         platform = mapped()
         platform.dma_read(DID, IOVA, 1)
-        copy = platform.copy()
+        other = platform.copy()
         platform.close()
-        self.assertEqual((copy.why().number, copy.page_origin(0)), (9, (9, 9)))
-        copy.dma_read(DID, IOVA, 1)
-        self.assertEqual((copy.why().number, copy.why().walk, copy.why(0).number), (10, 9, 1))
+        self.assertEqual((other.why(), other.page_origin(0)), (None, (9, 9)))
+        other.dma_read(DID, IOVA, 1)
+        self.assertEqual((other.why().number, other.why().walk, other.why(0).number, other.why(1)), (10, 9, 10, None))
+        self.assertEqual((other.line("trace 0")[:8], other.line("trace 1")), ("dma read", "none"))
+
+    def test_kept_reasons(self):
+        platform = mapped()
+        platform.keep_reasons(3, accesses_only=True)
+        self.assertIsNone(platform.why())
+        for step in range(5):
+            platform.dma_write(DID, IOVA, b"a")
+            platform.load(RAM)
+        self.assertEqual([platform.why(step).number for step in range(3)], [13, 15, 17])
+        self.assertEqual((platform.why().number, platform.why(3)), (17, None))
+        platform.keep_reasons(1 << 16)
+        for _ in range(1000):
+            platform.load(RAM)
+        self.assertEqual((platform.why(0).number, platform.why().number, platform.copy().why()), (19, 1018, None))
+        with self.assertRaises(MemoryError):
+            platform.keep_reasons((1 << 64) - 1)
+
+    def test_interrupt(self):
+        platform = with_queues(mapped())
+        platform.reg_write(FQCSR, 3, 4)
+        before = platform.why().number
+        self.assertEqual(platform.interrupt, 0)
+        with self.assertRaises(Denied):
+            platform.dma_read(6, IOVA, 1)
+        self.assertEqual((platform.interrupt, platform.reg_look(0x54, 4), platform.why().number), (2, 2, before + 1))
+        with self.assertRaises(BadAccess):
+            platform.reg_look(1, 4)
 
 
 class Starts(unittest.TestCase):
@@ -222,10 +449,23 @@ class Starts(unittest.TestCase):
 
     def test_copy(self):
         platform = mapped()
-        copy = platform.copy()
-        copy.store(DATA, 5)
-        self.assertEqual((platform.load(DATA), copy.load(DATA)), (0, 5))
-        self.assertEqual((platform.line("trace 0")[:9], copy.line("trace 0")[:5]), ("reg write", "store"))
+        other = platform.copy()
+        other.store(DATA, 5)
+        self.assertEqual((platform.load(DATA), other.load(DATA)), (0, 5))
+        self.assertEqual((platform.line("trace 0")[:9], other.line("trace 0")[:5]), ("reg write", "store"))
+
+    def test_copy_module(self):
+        platform = mapped()
+        for made in (copy.copy(platform), copy.deepcopy(platform), copy.deepcopy([platform, platform])[0]):
+            made.store(DATA, 5)
+            self.assertEqual((platform.load(DATA), made.load(DATA)), (0, 5))
+            platform.store(DATA, 0)
+            made.close()
+        self.assertEqual(platform.load(DATA), 0)
+
+    def test_line_of_bytes(self):
+        platform = Platform()
+        self.assertEqual((platform.line(b"reg read 0 8"), platform.line(bytearray(b"load 0x80000000 1")), platform.line(b"\xff")), ("0x3810060610", "0x0", "bad"))
 
     def test_closed(self):
         platform = Platform()

@@ -190,9 +190,9 @@ static void test_walk(rviommu_t *platform) {
     want("its kind", part.kind, RVIOMMU_PART_WIDE_DEVICE);
     want("itself", part.has_word ? part.word : 0, 0x80);
     want("the end", rviommu_part(platform, 5, 0x40201abc, false, 5, &part), RVIOMMU_OK);
-    want("a part past the end", rviommu_part(platform, 5, 0x40201abc, false, 6, &part), RVIOMMU_NO_SUCH);
-    want("a part far past the end", rviommu_part(platform, 5, 0x40201abc, false, UINT64_MAX, &part), RVIOMMU_NO_SUCH);
-    want("a part of no device", rviommu_part(platform, 1 << 24, 0x40201abc, false, 0, &part), RVIOMMU_NO_SUCH);
+    want("a part past the end", rviommu_part(platform, 5, 0x40201abc, false, 6, &part), RVIOMMU_NOT_THERE);
+    want("a part far past the end", rviommu_part(platform, 5, 0x40201abc, false, UINT64_MAX, &part), RVIOMMU_NOT_THERE);
+    want("a part of no device", rviommu_part(platform, 1 << 24, 0x40201abc, false, 0, &part), RVIOMMU_NOT_THERE);
     want("which is left", part.kind, RVIOMMU_PART_END);
 }
 
@@ -234,11 +234,11 @@ static void test_why(rviommu_t *platform) {
     uint64_t cause, context = 77, walk = 77;
     uint8_t byte = 0;
     memset(&why, 0, sizeof why);
-    want("why of no step", rviommu_why(platform, 0, &why), RVIOMMU_NO_SUCH);
-    want("nor one far off", rviommu_why(platform, UINT64_MAX, &why), RVIOMMU_NO_SUCH);
+    want("why of no step", rviommu_why(platform, 0, &why), RVIOMMU_NOT_THERE);
+    want("nor one far off", rviommu_why(platform, UINT64_MAX, &why), RVIOMMU_NOT_THERE);
     map(platform);
-    want("a page of no place", rviommu_page_origin(platform, 0, &context, &walk), RVIOMMU_NO_SUCH);
-    want("a context of no place", rviommu_context_origin(platform, UINT64_MAX, &context), RVIOMMU_NO_SUCH);
+    want("a page of no place", rviommu_page_origin(platform, 0, &context, &walk), RVIOMMU_NOT_THERE);
+    want("a context of no place", rviommu_context_origin(platform, UINT64_MAX, &context), RVIOMMU_NOT_THERE);
     want("what is left", context + walk, 154);
     want("a read", rviommu_dma_read(platform, 5, 0x40201abc, &byte, 1, &cause), RVIOMMU_BYTES);
     want("a write", rviommu_dma_write(platform, 5, 0x40201abc, &byte, 1, &cause), RVIOMMU_DONE);
@@ -265,36 +265,230 @@ static void test_why(rviommu_t *platform) {
     want("its frame", why.way.frame, 0x80020);
     want("why of the denial", rviommu_why(platform, 10, &why), RVIOMMU_OK);
     want("its kind", why.kind, RVIOMMU_WHY_DENIED);
-    want("the last step", rviommu_why(platform, 11, &why), RVIOMMU_NO_SUCH);
+    want("the last step", rviommu_why(platform, 11, &why), RVIOMMU_NOT_THERE);
     want("the page of the write", rviommu_page_origin(platform, 1, &context, &walk), RVIOMMU_OK);
     want("its context and its walk", 100 * context + walk, 708);
     want("the context", rviommu_context_origin(platform, 0, &context), RVIOMMU_OK);
     want("its step", context, 7);
 }
 
-/* A copy tells what was told of the steps before it, and counts on. */
+/* A copy counts on and knows what filled its caches; its trace and its reasons are those of its own steps. */
 static void test_copied_account(rviommu_t *platform) {
     rviommu_t copy = {NULL};
-    struct rviommu_why why, other;
+    struct rviommu_why why;
     uint64_t cause, context = 0, walk = 0;
+    char answer[321];
+    size_t length;
     uint8_t byte;
     memset(&why, 0, sizeof why);
-    memset(&other, 0, sizeof other);
     want("copied", rviommu_copy(platform, &copy), RVIOMMU_OK);
-    for (uint64_t step = 0; step < 12; step++) {
-        uint32_t told = rviommu_why(platform, step, &why);
-        want("why in the copy", rviommu_why(&copy, step, &other), told);
-        want("its number", other.number, why.number);
-        want("its walk", other.walk, why.walk);
-    }
+    want("no step of the copy", rviommu_why(&copy, 0, &why), RVIOMMU_NOT_THERE);
+    want("nor in its trace", rviommu_line(&copy, "trace 0", 7, answer, sizeof answer, &length), RVIOMMU_OK);
+    want_text("which has none", answer, "none");
     want("a step of the copy", rviommu_dma_read(&copy, 5, 0x40201abc, &byte, 1, &cause), RVIOMMU_BYTES);
-    want("why of it", rviommu_why(&copy, 11, &why), RVIOMMU_OK);
+    want("why of it", rviommu_why(&copy, 0, &why), RVIOMMU_OK);
     want("its number", why.number, 12);
     want("its walk, before the copy", why.walk, 7);
-    want("none of the other", rviommu_why(platform, 11, &why), RVIOMMU_NO_SUCH);
+    want("the same step in the trace", rviommu_line(&copy, "trace 0", 7, answer, sizeof answer, &length), RVIOMMU_OK);
+    want_text("its line", answer, "dma read 0x5 0x40201abc 0x1 -> 00");
+    want("none of the other", rviommu_why(platform, 11, &why), RVIOMMU_NOT_THERE);
     want("the page of the read", rviommu_page_origin(&copy, 0, &context, &walk), RVIOMMU_OK);
     want("its context and its walk", 100 * context + walk, 707);
     rviommu_close(&copy);
+}
+
+/* As many reasons are kept as one asks for, of accesses alone if one asks for these; a copy keeps as many. */
+static void test_kept_reasons(void) {
+    rviommu_t platform = {NULL}, copy = {NULL};
+    struct rviommu_why why;
+    uint64_t cause, value;
+    uint8_t byte = 0;
+    memset(&why, 0, sizeof why);
+    want("opened", rviommu_open_built_in(&platform), RVIOMMU_OK);
+    map(&platform);
+    want("a longer account", rviommu_keep_reasons(&platform, 1000, false), RVIOMMU_OK);
+    want("which has no step yet", rviommu_why(&platform, 0, &why), RVIOMMU_NOT_THERE);
+    for (int i = 0; i < 1200; i++) {
+        want("a load", rviommu_load(&platform, RAM, 8, &value), RVIOMMU_VALUE);
+    }
+    want("the oldest of 1000", rviommu_why(&platform, 0, &why), RVIOMMU_OK);
+    want("its number", why.number, 207);
+    want("the newest", rviommu_why(&platform, 999, &why), RVIOMMU_OK);
+    want("its number", why.number, 1206);
+    want("no further one", rviommu_why(&platform, 1000, &why), RVIOMMU_NOT_THERE);
+    want("accesses alone", rviommu_keep_reasons(&platform, 2, true), RVIOMMU_OK);
+    for (int i = 0; i < 3; i++) {
+        want("a write", rviommu_dma_write(&platform, 5, 0x40201abc, &byte, 1, &cause), RVIOMMU_DONE);
+        want("a denial", rviommu_dma_write(&platform, 6, 0x40201abc, &byte, 1, &cause), RVIOMMU_DENIED);
+        want("a look at ipsr by a step", rviommu_reg_read(&platform, 0x54, 4, &value), RVIOMMU_VALUE);
+        want("a store", rviommu_store(&platform, RAM, 8, 5), RVIOMMU_DONE);
+    }
+    want("the first of two", rviommu_why(&platform, 0, &why), RVIOMMU_OK);
+    want("its number", why.number, 1215);
+    want("its kind", why.kind, RVIOMMU_WHY_WALK);
+    want("the second", rviommu_why(&platform, 1, &why), RVIOMMU_OK);
+    want("its number", why.number, 1216);
+    want("its kind", why.kind, RVIOMMU_WHY_DENIED);
+    want("no third", rviommu_why(&platform, 2, &why), RVIOMMU_NOT_THERE);
+    want("copied", rviommu_copy(&platform, &copy), RVIOMMU_OK);
+    for (int i = 0; i < 3; i++) {
+        want("a write of the copy", rviommu_dma_write(&copy, 5, 0x40201abc, &byte, 1, &cause), RVIOMMU_DONE);
+        want("a store of the copy", rviommu_store(&copy, RAM, 8, 5), RVIOMMU_DONE);
+    }
+    want("the second of the copy", rviommu_why(&copy, 1, &why), RVIOMMU_OK);
+    want("its number", why.number, 1223);
+    want("no third of the copy", rviommu_why(&copy, 2, &why), RVIOMMU_NOT_THERE);
+    want("none at all", rviommu_keep_reasons(&copy, 0, false), RVIOMMU_OK);
+    want("a step", rviommu_load(&copy, RAM, 8, &value), RVIOMMU_VALUE);
+    want("which isn't kept", rviommu_why(&copy, 0, &why), RVIOMMU_NOT_THERE);
+    refused = 0;
+    want("reasons without memory", rviommu_keep_reasons(&platform, 1000, false), RVIOMMU_OUT_OF_MEMORY);
+    refused = -1;
+    want("those of before", rviommu_why(&platform, 1, &why), RVIOMMU_OK);
+    want("more than there is memory for", rviommu_keep_reasons(&platform, SIZE_MAX, false), RVIOMMU_OUT_OF_MEMORY);
+    rviommu_close(&copy);
+    rviommu_close(&platform);
+}
+
+/* A denial's record raises an interrupt, which is looked at without a step. */
+static void test_interrupt(void) {
+    rviommu_t platform = {NULL};
+    const rviommu_t *view = &platform;
+    struct rviommu_why why;
+    uint64_t cause = 0, value = 77;
+    uint8_t byte;
+    memset(&why, 0, sizeof why);
+    want("opened", rviommu_open_built_in(&platform), RVIOMMU_OK);
+    want("no interrupt", rviommu_interrupt(view), 0);
+    want("fqb", rviommu_reg_write(&platform, 0x28, 8, 0x20008405), RVIOMMU_DONE);
+    want("fqcsr: fqen and fie", rviommu_reg_write(&platform, 0x4c, 4, 3), RVIOMMU_DONE);
+    want("ddtp", rviommu_reg_write(&platform, 0x10, 8, 0x20000402), RVIOMMU_DONE);
+    want("none yet", rviommu_interrupt(view), 0);
+    want("a denial", rviommu_dma_read(&platform, 5, 0x40201abc, &byte, 1, &cause), RVIOMMU_DENIED);
+    want("the fault queue's", rviommu_interrupt(view), 2);
+    want("ipsr", rviommu_reg_look(view, 0x54, 4, &value), RVIOMMU_OK);
+    want("which is", value, 2);
+    want("ddtp", rviommu_reg_look(view, 0x10, 8, &value), RVIOMMU_OK);
+    want("which is", value, 0x20000402);
+    want("eight bytes of fctl", rviommu_reg_look(view, 8, 8, &value), RVIOMMU_OUTSIDE);
+    want("which leaves", value, 0x20000402);
+    want("the last step", rviommu_why(view, 3, &why), RVIOMMU_OK);
+    want("which was the denial", why.number, 4);
+    want("the fault's interrupt is taken", rviommu_reg_write(&platform, 0x54, 4, 2), RVIOMMU_DONE);
+    want("none is left", rviommu_interrupt(view), 0);
+    rviommu_close(&platform);
+}
+
+/* Accesses of 1 to 64 bytes are one step each; those of none and of more are none. */
+static void test_lengths(void) {
+    rviommu_t platform = {NULL};
+    struct rviommu_why why;
+    uint64_t cause = 77, steps = 0;
+    uint8_t bytes[66];
+    memset(&why, 0, sizeof why);
+    memset(bytes, 9, sizeof bytes);
+    want("opened", rviommu_open_built_in(&platform), RVIOMMU_OK);
+    want("ddtp: Bare", rviommu_reg_write(&platform, 0x10, 8, 1), RVIOMMU_DONE);
+    want("accesses alone", rviommu_keep_reasons(&platform, 1000, false), RVIOMMU_OK);
+    for (size_t length = 0; length <= 66; length++) {
+        bool is_step = 0 < length && length <= 64;
+        want("a write", rviommu_dma_write(&platform, 5, RAM, bytes, length, &cause), is_step ? RVIOMMU_DONE : RVIOMMU_MISUSE);
+        steps += is_step;
+        want("its number", rviommu_why(&platform, steps, &why), RVIOMMU_NOT_THERE);
+        want("a read", rviommu_dma_read(&platform, 5, RAM + 128, bytes, length, &cause), is_step ? RVIOMMU_BYTES : RVIOMMU_MISUSE);
+        steps += is_step;
+        want("its number", rviommu_why(&platform, steps, &why), RVIOMMU_NOT_THERE);
+        memset(bytes, 9, sizeof bytes);
+    }
+    want("the cause that was there", cause, 77);
+    want("the last step", rviommu_why(&platform, steps - 1, &why), RVIOMMU_OK);
+    want("its number", why.number, 129);
+    rviommu_close(&platform);
+}
+
+/* An output that isn't wanted may be NULL, and what a call leaves is the same without it. */
+static void test_unwanted(void) {
+    rviommu_t platform = {NULL};
+    uint8_t bytes[4] = {1, 2, 3, 4};
+    char words[321];
+    want("opened", rviommu_open(image, image_length, &platform), RVIOMMU_OK);
+    want("a load", rviommu_load(&platform, RAM, 8, NULL), RVIOMMU_VALUE);
+    want("a read of a register", rviommu_reg_read(&platform, 0, 8, NULL), RVIOMMU_VALUE);
+    want("a denied read", rviommu_dma_read(&platform, 5, RAM, bytes, 4, NULL), RVIOMMU_DENIED);
+    want("a denied write", rviommu_dma_write(&platform, 5, RAM, bytes, 4, NULL), RVIOMMU_DENIED);
+    want("ddtp: Bare", rviommu_reg_write(&platform, 0x10, 8, 1), RVIOMMU_DONE);
+    want("a write", rviommu_dma_write_all(&platform, 5, RAM, bytes, 4, NULL, NULL), RVIOMMU_DONE);
+    want("a read of no bytes' buffer", rviommu_dma_read(&platform, 5, RAM, NULL, 64, NULL), RVIOMMU_BYTES);
+    want("a longer one", rviommu_dma_read(&platform, 5, RAM, NULL, 65, NULL), RVIOMMU_MISUSE);
+    want("one over pages", rviommu_dma_read_all(&platform, 5, RAM + 8, NULL, 4000, NULL, NULL), RVIOMMU_BYTES);
+    want("a device's register", rviommu_dev_read(&platform, 0, 0, 4, NULL), RVIOMMU_VALUE);
+    want("a device's step", rviommu_dev_step(&platform, 0, NULL), RVIOMMU_IDLE);
+    want("a line", rviommu_line(&platform, "load 0x80000000 4", 17, words, sizeof words, NULL), RVIOMMU_OK);
+    want_text("its answer", words, "0x4030201");
+    rviommu_memory_place(&platform, NULL, NULL);
+    want("a look at a register", rviommu_reg_look(&platform, 0, 8, NULL), RVIOMMU_OK);
+    want("a disk's size", rviommu_disk_size(&platform, 0, NULL), RVIOMMU_OK);
+    want("a page", rviommu_page(&platform, 0, NULL), RVIOMMU_BEYOND);
+    want("a context", rviommu_context(&platform, 0, NULL), RVIOMMU_BEYOND);
+    want("a part", rviommu_part(&platform, 5, RAM, false, 0, NULL), RVIOMMU_OK);
+    want("a stale request", rviommu_stale(&platform, 5, RAM, false, NULL), RVIOMMU_CURRENT);
+    want("a stale page", rviommu_stale_page(&platform, 0, NULL), RVIOMMU_NO_SUCH);
+    want("a stale context", rviommu_stale_context(&platform, 0, NULL), RVIOMMU_NO_SUCH);
+    want("why", rviommu_why(&platform, 0, NULL), RVIOMMU_OK);
+    want("a page's origin", rviommu_page_origin(&platform, 0, NULL, NULL), RVIOMMU_NOT_THERE);
+    want("a context's origin", rviommu_context_origin(&platform, 0, NULL), RVIOMMU_NOT_THERE);
+    want("an assembly", rviommu_assemble("no", 2, bytes, sizeof bytes, NULL, NULL), RVIOMMU_BAD_LINE);
+    want("words", rviommu_text(RVIOMMU_OK, words, sizeof words, NULL), RVIOMMU_OK);
+    rviommu_close(&platform);
+    rviommu_close(&platform);
+    want("a handle that was closed twice", platform.own == NULL, true);
+    rviommu_close(NULL);
+}
+
+/* Accesses of any length, over pages, and how far they came. Two pages are mapped side by side, the third isn't. */
+static void test_pieces(void) {
+    static uint8_t data[8192], seen[8192];
+    rviommu_t platform = {NULL};
+    uint64_t cause = 77, before;
+    size_t done = 77;
+    for (size_t i = 0; i < sizeof data; i++) {
+        data[i] = (uint8_t)(i * 7 + i / 256);
+    }
+    want("opened", rviommu_open_built_in(&platform), RVIOMMU_OK);
+    map(&platform);
+    want("another leaf", rviommu_store(&platform, 0x80004010, 8, 0x200080d7), RVIOMMU_DONE);
+    before = rviommu_steps(&platform);
+    want("a write over two pages", rviommu_dma_write_all(&platform, 5, 0x40201c01, data, 0x1300, &done, &cause), RVIOMMU_DONE);
+    want("how far it came", done, 0x1300);
+    want("its steps", rviommu_steps(&platform) - before, 16 + 61);
+    want("the first page", rviommu_memory(&platform, 0x80010c01, seen, 0x3ff), RVIOMMU_OK);
+    want("the second", rviommu_memory(&platform, 0x80020000, seen + 0x3ff, 0xf01), RVIOMMU_OK);
+    want("the bytes", memcmp(seen, data, 0x1300), 0);
+    memset(seen, 9, sizeof seen);
+    want("a read of them", rviommu_dma_read_all(&platform, 5, 0x40201c01, seen, 0x1300, &done, &cause), RVIOMMU_BYTES);
+    want("the bytes", memcmp(seen, data, 0x1300), 0);
+    want("no cause yet", cause, 77);
+    memset(seen, 9, sizeof seen);
+    want("a read into the third page", rviommu_dma_read_all(&platform, 5, 0x40202fa0, seen, 200, &done, &cause), RVIOMMU_DENIED);
+    want("how far it came", done, 0x60);
+    want("its cause", cause, 13);
+    want("the byte after it", seen[0x60], 9);
+    want("a write into it", rviommu_dma_write_all(&platform, 5, 0x40202fa0, data, 200, &done, &cause), RVIOMMU_DENIED);
+    want("how far it came", done, 0x60);
+    before = rviommu_steps(&platform);
+    want("no byte", rviommu_dma_write_all(&platform, 5, 0x40201000, data, 0, &done, &cause), RVIOMMU_MISUSE);
+    want("how far it came", done, 0);
+    want("past the last IOVA", rviommu_dma_read_all(&platform, 5, UINT64_MAX, seen, 2, &done, &cause), RVIOMMU_MISUSE);
+    want("no step of these", rviommu_steps(&platform), before);
+    want("the last IOVA", rviommu_dma_read_all(&platform, 5, UINT64_MAX, seen, 1, &done, &cause), RVIOMMU_DENIED);
+    rviommu_close(&platform);
+}
+
+static void test_version(void) {
+    char number[24];
+    uint32_t told = rviommu_version();
+    snprintf(number, sizeof number, "%u.%u.%u", (unsigned)(told >> 16), (unsigned)(told >> 8 & 255), (unsigned)(told & 255));
+    want_text("the version", number, RVIOMMU_VERSION);
 }
 
 static void test_account(void) {
@@ -321,13 +515,13 @@ static void test_reasons(void) {
 static void test_words(void) {
     char words[32] = "old";
     size_t length = 9;
-    for (uint32_t status = RVIOMMU_OK; status <= RVIOMMU_NO_DISK; status++) {
-        want("words", rviommu_text(status, words, sizeof words, &length), RVIOMMU_OK);
+    for (int status = RVIOMMU_OK; status <= RVIOMMU_NOT_THERE; status++) {
+        want("words", rviommu_text((enum rviommu_status)status, words, sizeof words, &length), RVIOMMU_OK);
         want("their length", strlen(words), length);
     }
-    want_text("the last words", words, "no such disk");
-    want("too little room", rviommu_text(0, words, 31, &length), RVIOMMU_LITTLE_ROOM);
-    want_text("what is left", words, "no such disk");
+    want_text("the last words", words, "not there");
+    want("too little room", rviommu_text(RVIOMMU_OK, words, 31, &length), RVIOMMU_LITTLE_ROOM);
+    want_text("what is left", words, "not there");
 }
 
 int main(void) {
@@ -338,6 +532,12 @@ int main(void) {
     test_looks();
     test_reasons();
     test_account();
+    test_kept_reasons();
+    test_interrupt();
+    test_lengths();
+    test_unwanted();
+    test_pieces();
+    test_version();
     test_words();
     printf(failed ? "failed\n" : "passed\n");
     return failed;

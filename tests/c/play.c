@@ -123,7 +123,7 @@ static bool by_numbers(rviommu_t *platform, char *line) {
         answer = rviommu_reg_read(platform, n[0], n[1], &number);
     } else if (strcmp(verb, "reg") == 0 && strcmp(way, "write") == 0 && given == 3) {
         answer = rviommu_reg_write(platform, n[0], n[1], n[2]);
-    } else if (strcmp(verb, "dma") == 0 && strcmp(way, "read") == 0 && given == 3 && n[2] <= 64) {
+    } else if (strcmp(verb, "dma") == 0 && strcmp(way, "read") == 0 && given == 3 && n[2] >= 1 && n[2] <= 64) {
         length = (size_t)n[2];
         answer = rviommu_dma_read(platform, n[0], n[1], bytes, length, &number);
     } else if (is_write && given == 3 && bytes_of(words[4], bytes, &length)) {

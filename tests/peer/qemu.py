@@ -1,5 +1,4 @@
 """A QEMU with its RISC-V IOMMU and five devices behind it, driven over qtest."""
-import os
 import socket
 import subprocess
 

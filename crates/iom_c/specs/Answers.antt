@@ -1,5 +1,5 @@
 -- The numbers that C is told of a step's answer.
-use Rattle.std.specs.Prelude.{ℕ, ◌≡◌, List, length}
+use Rattle.std.specs.Prelude.{ℕ, ◌≡◌, ◌<◌, ◌≤◌, List, length}
 use Rattle.iom_core.specs.declared.step.Step.{Step}
 use Rattle.iom_core.specs.declared.step.Step.TheVariants as step
 use Rattle.iom_core.specs.declared.step.Answer.{Answer}
@@ -35,6 +35,10 @@ bytes_in _ old = old
 abbrev pub HasLength : Answer → ℕ → Type 0
 HasLength (answer.Bytes bytes) count = length bytes.items ≡ count
 HasLength _ count = Unit {0}
+
+-- an access of so many bytes is one step; one of none or of more is none
+abbrev pub IsOneStep : ℕ → Type 0
+IsOneStep count = (0 < count) × (count ≤ 64)
 
 -- a device's write of these bytes
 abbrev pub writing : ℕ → ℕ → List ℕ → Step

@@ -1,5 +1,5 @@
 -- The numbers of refusals, and their words.
-use Rattle.std.specs.Prelude.{ℕ, ◌≡◌, ◌⊎◌, List, [], ◌∷◌, codes, slice_get, Option, None, IsSomeAnd, Result, Ok, Err}
+use Rattle.std.specs.Prelude.{ℕ, ◌≡◌, ◌⊎◌, List, [], ◌∷◌, codes, slice_get, Bool, Option, Some, None, IsSomeAnd, Result, Ok, Err}
 use Rattle.std.specs.Option.{unwrap_or}
 use Rattle.iom_image.specs.Image.{Image}
 use Rattle.iom_image.specs.Loading.{state_from}
@@ -8,6 +8,7 @@ use Rattle.iom_image.specs.declared.fault.LoadFault.TheVariants as load
 use Rattle.iom_asm.specs.declared.asm_fault.AsmFault.{AsmFault}
 use Rattle.iom_asm.specs.declared.asm_fault.AsmFault.TheVariants as asm
 use Rattle.iom_c.specs.Handles.{Begins}
+use Rattle.iom_c.specs.Keeping.{none_kept}
 use Rattle.iom_c.specs.declared.owned.Owned.{Owned}
 
 -- it was done
@@ -26,6 +27,10 @@ outside = 10
 
 abbrev pub no_disk : ℕ
 no_disk = 12
+
+-- there are fewer parts, steps or places, or no device has this id
+abbrev pub not_there : ℕ
+not_there = 13
 
 -- why an image is refused
 abbrev pub load_number : LoadFault → ℕ
@@ -56,7 +61,7 @@ abbrev pub all_words : List (List ℕ)
 all_words =
     codes "ok" ∷ codes "bad magic" ∷ codes "truncated" ∷ codes "trailing bytes" ∷ codes "bad memory" ∷ codes "bad chunk"
     ∷ codes "bad device" ∷ codes "out of memory" ∷ codes "bad line" ∷ codes "overlap" ∷ codes "outside memory"
-    ∷ codes "too little room" ∷ codes "no such disk" ∷ []
+    ∷ codes "too little room" ∷ codes "no such disk" ∷ codes "not there" ∷ []
 
 abbrev pub words_for : ℕ → List ℕ
 words_for number = unwrap_or (slice_get all_words number) (codes "no such number")
@@ -64,6 +69,11 @@ words_for number = unwrap_or (slice_get all_words number) (codes "no such number
 -- a start is made, of what the handle owns then, or there is no memory for it
 abbrev pub Starts : (Owned → Type 0) → ℕ → Option Owned → Type 0
 Starts IsStart told held = ((told ≡ ok) × IsSomeAnd held IsStart) ⊎ ((told ≡ out_of_memory) × (held ≡ None))
+
+-- how many reasons are kept, and of which steps, is set anew, or there is no memory for it
+abbrev pub KeepsReasons : Owned → ℕ → Bool → ℕ → Option Owned → Type 0
+KeepsReasons own most accesses_only told held =
+    ((told ≡ ok) × (held ≡ Some (record own { kept = none_kept most accesses_only }))) ⊎ ((told ≡ out_of_memory) × (held ≡ Some own))
 
 -- what the opening of bytes is told, and what the handle owns after it: the bytes are an image that starts a platform, or are refused
 abbrev pub Opens : Result Image LoadFault → ℕ → Option Owned → Type 0

@@ -1,5 +1,5 @@
 -- What a handle owns, and what becomes of it.
-use Rattle.std.specs.Prelude.{ℕ, ◌≡◌, ◌+◌, ◌-◌, ◌^◌, Option, Some, None, [], ◌∷◌, min}
+use Rattle.std.specs.Prelude.{ℕ, ◌≡◌, ◌+◌, ◌-◌, ◌^◌, false, Option, Some, None, [], ◌∷◌, min}
 use base.Fml.{Fml, ftrue}
 use denote.RawPtr.{Ptr}
 use Rattle.std.specs.Box.Ownership.{box_owns}
@@ -11,6 +11,8 @@ use Rattle.iom_core.specs.declared.step.Step.{Step}
 use Rattle.iom_account.specs.Account.{Accounts, GoesAlong}
 use Rattle.iom_tool.specs.Console.{traced}
 use Rattle.iom_tool.specs.Script.{Asks, Bad, Blank, Does, Line}
+use Rattle.circular_buffer.specs.Buffer.{last_item}
+use Rattle.iom_c.specs.Keeping.{kept_after, none_kept}
 use Rattle.iom_c.specs.contracts.owned.Owned.{the_row}
 use Rattle.iom_c.specs.declared.owned.Owned.{Owned}
 
@@ -28,18 +30,26 @@ pub record Begins (state : State) (own : Owned) : Type 0 where
   pub platform : own.platform ≡ state
   pub trace : own.trace ≡ []
   pub count : own.count ≡ 0
+  pub kept : own.kept ≡ none_kept 32 false
   pub account : Accounts own.account state state [] []
 
--- an equal platform with an equal account and as many steps, of which none was kept
+-- an equal platform with an equal account and as many steps, of which none was kept; as many reasons of such steps will be
 abbrev pub copied : Owned → Owned
-copied own = record { platform = own.platform; trace = []; account = own.account; count = own.count }
+copied own = record {
+  platform = own.platform;
+  trace = [];
+  account = own.account;
+  kept = none_kept own.kept.ring.capacity own.kept.accesses_only;
+  count = own.count;
+}
 
--- What a step leaves: the platform after it by the step table, a trace that keeps it with its answer, and an account that went
--- along with it under the next number.
+-- What a step leaves: the platform after it by the step table, a trace that keeps it with its answer, an account that went
+-- along with it under the next number, and the reasons kept, that which the account tells of it among them if such a step's is.
 pub record Stepped (own : Owned) (step : Step) (after : Owned) : Type 0 where
   pub platform : after.platform ≡ (next own.platform step).state
   pub trace : after.trace ≡ traced own.trace step (next own.platform step).answer
   pub count : after.count ≡ number_after own.count
+  pub kept : after.kept ≡ kept_after own.kept (last_item after.account.told)
   pub along : GoesAlong own.account own.platform (step ∷ []) (number_after own.count) after.account after.platform
 
 -- what a line leaves: its step does where it is one, else all stays as it was

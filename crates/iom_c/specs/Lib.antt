@@ -1,7 +1,9 @@
 pub mod Handles
+pub mod Keeping
 pub mod Answers
 pub mod Buffers
 pub mod Faults
 pub mod Looks
 pub mod Reasons
+pub mod Version
 pub mod Why

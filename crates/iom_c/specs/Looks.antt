@@ -1,5 +1,5 @@
 -- What is copied out of a platform.
-use Rattle.std.specs.Prelude.{ℕ, ◌≡◌, ◌+◌, Bool, true, false, List, length, take, drop, nat_le, Option, Some, None, is_some, if◌then◌else◌}
+use Rattle.std.specs.Prelude.{ℕ, ◌≡◌, ◌+◌, Bool, true, false, List, [], ◌∷◌, length, take, drop, nat_le, Option, Some, None, is_some, if◌then◌else◌}
 use Rattle.std.specs.Option.{unwrap_or}
 use Rattle.iom_bits.specs.declared.causes.Kind.{Kind}
 use Rattle.iom_bits.specs.declared.causes.Kind.TheVariants.{Read, Write}
@@ -16,6 +16,11 @@ use Rattle.iom_c.specs.declared.places.ContextPlace.{ContextPlace}
 abbrev pub Copied : Option (List ℕ) → ℕ → List ℕ → List ℕ → Type 0
 Copied (Some found) told old new = (told ≡ ok) × (new ≡ found)
 Copied None told old new = (told ≡ outside) × (new ≡ old)
+
+-- what a read of registers would be answered; None: it isn't legal
+abbrev pub ReadTold : Option ℕ → ℕ → ℕ → ℕ → Type 0
+ReadTold (Some found) told old new = (told ≡ ok) × (new ≡ found)
+ReadTold None told old new = (told ≡ outside) × (new ≡ old)
 
 -- `count` bytes of a disk from an offset on; None: one of them is behind its end
 abbrev pub part_of : List ℕ → ℕ → ℕ → Option (List ℕ)
@@ -54,6 +59,7 @@ page_of key hit = record {
   has_gscid = is_some key.gscid;
   is_write = is_write key.kind;
   is_global = hit.global;
+  reserved = 0 ∷ 0 ∷ [];
 }
 
 abbrev pub page_in : Place Key Hit → PagePlace → PagePlace
@@ -74,6 +80,7 @@ context_of did context = record {
   custom = context.custom;
   dtf = context.dtf;
   tav = context.tav;
+  reserved = 0 ∷ 0 ∷ [];
 }
 
 abbrev pub context_in : Place ℕ Context → ContextPlace → ContextPlace

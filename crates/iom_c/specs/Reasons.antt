@@ -31,6 +31,7 @@ use Rattle.iom_tables.specs.declared.standing.Located.{Located}
 use Rattle.iom_tables.specs.declared.standing.Located.TheVariants as located
 use Rattle.iom_core.specs.declared.way.Way.{Way}
 use Rattle.iom_core.specs.declared.way.Way.TheVariants as way
+use Rattle.iom_c.specs.Faults.{not_there, ok}
 use Rattle.iom_c.specs.Looks.{context_of}
 use Rattle.iom_c.specs.declared.places.ContextPlace.{ContextPlace}
 use Rattle.iom_c.specs.declared.ways.LocatedContext.{LocatedContext}
@@ -58,6 +59,7 @@ no_context = record {
   custom = 0;
   dtf = false;
   tav = false;
+  reserved = 0 ∷ 0 ∷ [];
 }
 
 -- a way of which nothing but its kind is told
@@ -71,6 +73,7 @@ plain_way kind = record {
   cause = 0;
   is_global = false;
   is_reported = false;
+  reserved = 0 ∷ 0 ∷ [];
 }
 
 -- the way that a request of device `did` is led
@@ -91,9 +94,9 @@ way_of did (way.Denied denial) = record (plain_way 3) {
 
 -- what ddtp and the directory say of device `did`
 abbrev pub located_of : ℕ → Located → LocatedContext
-located_of did located.NoDirectory = record { context = no_context; kind = 0; cause = 0 }
-located_of did (located.Context context) = record { context = context_of did context; kind = 1; cause = 0 }
-located_of did (located.Fault cause) = record { context = no_context; kind = 2; cause = cause_number cause }
+located_of did located.NoDirectory = record { context = no_context; kind = 0; cause = 0; reserved = 0 ∷ 0 ∷ [] }
+located_of did (located.Context context) = record { context = context_of did context; kind = 1; cause = 0; reserved = 0 ∷ 0 ∷ [] }
+located_of did (located.Fault cause) = record { context = no_context; kind = 2; cause = cause_number cause; reserved = 0 ∷ 0 ∷ [] }
 
 -- "Device-directory-table pointer": iommu_mode is 0 Off, 1 Bare, 2 to 4 for one to three levels
 abbrev pub mode_number : Mode → ℕ
@@ -142,6 +145,7 @@ plain_part kind = record {
   has_word = false;
   has_read_at = false;
   way = plain_way 0;
+  reserved = 0 ∷ 0 ∷ 0 ∷ 0 ∷ [];
 }
 
 abbrev pub no_words : List ℕ
@@ -186,14 +190,14 @@ part_of did (part.Second guest entry) =
     record (entry_part 4 entry) { guest = guest; read_at = entry.place; has_read_at = true }
 part_of did (part.End way) = record (plain_part 5) { way = way_of did way }
 
--- there are fewer parts or places, or no device has this id
+-- of a place that there are fewer, or of a request that no device has this id
 abbrev pub beyond : ℕ
 beyond = 2
 
 -- a part there is, or none
 abbrev pub PartTold : ℕ → Option Part → ℕ → WalkPart → WalkPart → Type 0
-PartTold did (Some found) told old new = (told ≡ 0) × (new ≡ part_of did found)
-PartTold did None told old new = (told ≡ 2) × (new ≡ old)
+PartTold did (Some found) told old new = (told ≡ ok) × (new ≡ part_of did found)
+PartTold did None told old new = (told ≡ not_there) × (new ≡ old)
 
 -- whether a request is stale, and then the way that the tables say
 abbrev pub StaleTold : Machine → Request → ℕ → RequestWay → RequestWay → Type 0

@@ -1,11 +1,12 @@
 -- Why a step went as it did, and which step filled a place of a cache, as C is told.
-use Rattle.std.specs.Prelude.{ℕ, ◌≡◌, true, false, Option, Some, None}
+use Rattle.std.specs.Prelude.{ℕ, ◌≡◌, true, false, [], ◌∷◌, Option, Some, None}
 use Rattle.iom_core.specs.declared.access.Request.{Request}
 use Rattle.iom_core.specs.declared.way.Way.{Way}
 use Rattle.iom_account.specs.declared.history.Filled.{Filled}
 use Rattle.iom_account.specs.declared.origin.Origin.{Origin}
 use Rattle.iom_account.specs.declared.origin.Origin.TheVariants as origin
 use Rattle.iom_account.specs.declared.reason.Reason.{Reason}
+use Rattle.iom_c.specs.Faults.{not_there, ok}
 use Rattle.iom_c.specs.Looks.{is_write}
 use Rattle.iom_c.specs.Reasons.{plain_way, way_of}
 use Rattle.iom_c.specs.declared.why.StepReason.{StepReason}
@@ -23,6 +24,7 @@ plain_reason number kind = record {
   kind = kind;
   is_write = false;
   is_stale = false;
+  reserved = 0 ∷ 0 ∷ 0 ∷ 0 ∷ [];
 }
 
 -- the same of a step that asked this
@@ -57,17 +59,17 @@ reason_of reason = beside_tables reason.request reason.stale (used_by reason.num
 
 -- of a step that there is, why it went as it did
 abbrev pub WhyTold : Option Reason → ℕ → StepReason → StepReason → Type 0
-WhyTold (Some reason) answer old new = (answer ≡ 0) × (new ≡ reason_of reason)
-WhyTold None answer old new = (answer ≡ 2) × (new ≡ old)
+WhyTold (Some reason) answer old new = (answer ≡ ok) × (new ≡ reason_of reason)
+WhyTold None answer old new = (answer ≡ not_there) × (new ≡ old)
 
 -- of a place that there is, the number of the step that filled it
 abbrev pub OriginTold : Option ℕ → ℕ → ℕ → ℕ → Type 0
-OriginTold (Some number) answer old new = (answer ≡ 0) × (new ≡ number)
-OriginTold None answer old new = (answer ≡ 2) × (new ≡ old)
+OriginTold (Some number) answer old new = (answer ≡ ok) × (new ≡ number)
+OriginTold None answer old new = (answer ≡ not_there) × (new ≡ old)
 
 -- of a place of the translation cache, the numbers of the step that filled the context under which it was filled, and of that which
 -- filled it
 abbrev pub PageOriginTold : Option Filled → ℕ → ℕ → ℕ → ℕ → ℕ → Type 0
 PageOriginTold (Some filled) answer old new old_walk new_walk =
-    (answer ≡ 0) × (new ≡ filled.context) × (new_walk ≡ filled.walk)
-PageOriginTold None answer old new old_walk new_walk = (answer ≡ 2) × (new ≡ old) × (new_walk ≡ old_walk)
+    (answer ≡ ok) × (new ≡ filled.context) × (new_walk ≡ filled.walk)
+PageOriginTold None answer old new old_walk new_walk = (answer ≡ not_there) × (new ≡ old) × (new_walk ≡ old_walk)

@@ -3,6 +3,7 @@
 
 mod answers;
 mod handle;
+mod kept;
 mod looking;
 mod opening;
 mod origins;
@@ -12,6 +13,7 @@ mod places;
 mod reasons;
 mod steps;
 mod texts;
+mod version;
 mod walks;
 mod ways;
 mod why;

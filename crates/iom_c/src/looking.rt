@@ -5,7 +5,8 @@ ghost use Rattle.std.specs.Option.{option_map};
 ghost use Rattle.iom_cache.specs.Places.{place_in};
 ghost use Rattle.iom_core.specs.State.{disk_of};
 ghost use Rattle.iom_mem.specs.Memory.{bytes_at, size_of};
-ghost use Rattle.iom_c.specs.Looks.{Copied, DiskCopied, SizeTold, context_in, page_in, part_of, place_number};
+ghost use Rattle.iom_regs.specs.Table.{read};
+ghost use Rattle.iom_c.specs.Looks.{Copied, DiskCopied, ReadTold, SizeTold, context_in, page_in, part_of, place_number};
 ghost use Rattle.iom_c.specs.declared.owned.Owned.{Owned};
 
 use crate::handle::Handle;
@@ -55,6 +56,70 @@ pub extern "C" fn rviommu_memory(
     if is_inside { 0 } else { 10 }
 }
 
+/// The number of the last step: how many steps the handle was given, those of the handle that it was copied from among them. 0 before
+/// the first.
+#[unsafe(no_mangle)]
+pub extern "C" fn rviommu_steps(alloc: Global, handle: &mut Handle) -> u64
+    ghost own: { Owned }
+    requires open { handle.old.held ≡ Some own }
+    ensures steps { result ≡ own.count }
+    ensures same { handle.new.held ≡ Some own }
+{
+    let owned = handle.take(alloc);
+    let steps = owned.count;
+    *handle = Handle::of(owned);
+    steps
+}
+
+// Puts a number that there may be; 10 where there is none.
+fn put_read(read: Option<u64>, value: &mut u64) -> u32
+    ensures { ReadTold read result value.old value.new }
+{
+    match read {
+        Some(read) => {
+            *value = read;
+            0
+        }
+        None => 10,
+    }
+}
+
+/// The value that a read of `size` bytes, 4 or 8, of the IOMMU's registers at offset `off`, in bytes, would be answered
+/// ("Memory-mapped register interface"). It answers 0; or 10 if that is no legal access, and `value` is unchanged then.
+#[unsafe(no_mangle)]
+pub extern "C" fn rviommu_reg_look(
+    alloc: Global,
+    handle: &mut Handle,
+    off: u64,
+    size: u64,
+    value: &mut u64,
+) -> u32
+    ghost own: { Owned }
+    requires open { handle.old.held ≡ Some own }
+    ensures value { ReadTold (read own.platform.machine.registers off size) result value.old value.new }
+    ensures same { handle.new.held ≡ Some own }
+{
+    let owned = handle.take(alloc);
+    let read = owned.platform.registers().read(off, size);
+    *handle = Handle::of(owned);
+    put_read(read, value)
+}
+
+/// Which interrupts are pending: the value of ipsr, bit 0 that of the command queue, bit 1 that of the fault queue ("Interrupt pending
+/// status register (ipsr)"). It is 0 while none is.
+#[unsafe(no_mangle)]
+pub extern "C" fn rviommu_interrupt(alloc: Global, handle: &mut Handle) -> u64
+    ghost own: { Owned }
+    requires open { handle.old.held ≡ Some own }
+    ensures pending { Some result ≡ read own.platform.machine.registers 84 4 }
+    ensures same { handle.new.held ≡ Some own }
+{
+    let owned = handle.take(alloc);
+    let pending = owned.platform.registers().read(84, 4);
+    *handle = Handle::of(owned);
+    pending.unwrap_or(0)
+}
+
 // How many bytes a disk has; 12 where there is no such disk.
 fn disk_size(disk: Option<&[u8]>, size: &mut u64) -> u32
     ensures { SizeTold (option_map (λ bytes. bytes.now) disk.entry) result size.old size.new }
@@ -74,7 +139,7 @@ fn disk_size(disk: Option<&[u8]>, size: &mut u64) -> u32
 pub extern "C" fn rviommu_disk_size(
     alloc: Global,
     handle: &mut Handle,
-    n: usize,
+    n: u64,
     size: &mut u64,
 ) -> u32
     ghost own: { Owned }
@@ -83,24 +148,25 @@ pub extern "C" fn rviommu_disk_size(
     ensures same { handle.new.held ≡ Some own }
 {
     let owned = handle.take(alloc);
-    let told = disk_size(owned.platform.disk(n), size);
+    let told = disk_size(owned.platform.disk(n as usize), size);
     *handle = Handle::of(owned);
     told
 }
 
 // Copies a part of a disk; 10 where it ends behind the disk's end.
-fn copy_part(disk: &[u8], offset: usize, bytes: &mut [u8]) -> u32
+fn copy_part(disk: &[u8], offset: u64, bytes: &mut [u8]) -> u32
     ensures { Copied (part_of disk.now offset (length bytes.old)) result bytes.old bytes.new }
 {
-    if offset > disk.len() || bytes.len() > disk.len() - offset {
+    let first = offset as usize;
+    if first > disk.len() || bytes.len() > disk.len() - first {
         return 10;
     }
-    bytes.copy_from_slice(&disk[offset..offset + bytes.len()]);
+    bytes.copy_from_slice(&disk[first..first + bytes.len()]);
     0
 }
 
 // The same of a disk that there may be.
-fn copy_disk(disk: Option<&[u8]>, offset: usize, bytes: &mut [u8]) -> u32
+fn copy_disk(disk: Option<&[u8]>, offset: u64, bytes: &mut [u8]) -> u32
     ensures { DiskCopied (option_map (λ bytes. bytes.now) disk.entry) offset result bytes.old bytes.new }
 {
     match disk {
@@ -115,8 +181,8 @@ fn copy_disk(disk: Option<&[u8]>, offset: usize, bytes: &mut [u8]) -> u32
 pub extern "C" fn rviommu_disk(
     alloc: Global,
     handle: &mut Handle,
-    n: usize,
-    offset: usize,
+    n: u64,
+    offset: u64,
     bytes: &mut [u8],
 ) -> u32
     ghost own: { Owned }
@@ -125,7 +191,7 @@ pub extern "C" fn rviommu_disk(
     ensures same { handle.new.held ≡ Some own }
 {
     let owned = handle.take(alloc);
-    let told = copy_disk(owned.platform.disk(n), offset, bytes);
+    let told = copy_disk(owned.platform.disk(n as usize), offset, bytes);
     *handle = Handle::of(owned);
     told
 }

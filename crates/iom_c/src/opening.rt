@@ -5,11 +5,12 @@ ghost use Rattle.iom_image.specs.Image.{image_bytes};
 ghost use Rattle.iom_image.specs.Loading.{built_in, state_from};
 ghost use Rattle.iom_image.specs.Reading.{Gives, image_of, mapped};
 ghost use Rattle.iom_image.specs.declared.fault.LoadFault.TheVariants as fault;
-ghost use Rattle.iom_c.specs.Faults.{load_number, ok, out_of_memory, Opens, Starts};
+ghost use Rattle.iom_c.specs.Faults.{KeepsReasons, load_number, ok, out_of_memory, Opens, Starts};
 ghost use Rattle.iom_c.specs.Handles.{Begins, copied};
 ghost use Rattle.iom_c.specs.declared.owned.Owned.{Owned};
 
 use crate::handle::Handle;
+use crate::kept::Kept;
 use crate::owned::{Owned, begun, copied};
 use iom_core::Platform;
 use iom_image::{LoadFault, built_in, load};
@@ -80,8 +81,31 @@ pub extern "C" fn rviommu_open_built_in(alloc: Global, handle: &mut Handle) -> u
     rviommu_open(alloc, &built_in(), handle)
 }
 
-/// Opens an equal platform with an equal account of its steps, which goes its own way from here, with a trace that has no step. It
-/// answers 0, or 7 where there is no memory for it; the handle `copy` is closed then.
+/// Keeps from now on why the last `most` steps went as they did, or, if `accesses_only` is true, the last `most` that make an access of a
+/// device; those kept so far are forgotten. It answers 0; or 7 if there is no memory for it, and nothing changes then.
+#[unsafe(no_mangle)]
+pub extern "C" fn rviommu_keep_reasons(
+    alloc: Global,
+    handle: &mut Handle,
+    most: usize,
+    accesses_only: bool,
+) -> u32
+    ghost own: { Owned }
+    requires open { handle.old.held ≡ Some own }
+    ensures { KeepsReasons own most accesses_only result handle.new.held }
+{
+    let made = Kept::new(alloc, most, accesses_only);
+    let Ok(kept) = made else {
+        return 7;
+    };
+    let mut owned = handle.take(alloc);
+    owned.kept = kept;
+    *handle = Handle::of(owned);
+    0
+}
+
+/// Opens an equal platform with an equal account of its steps, which goes its own way from here, with a trace that has no step and no
+/// reason kept. It answers 0, or 7 where there is no memory for it; the handle `copy` is closed then.
 #[unsafe(no_mangle)]
 pub extern "C" fn rviommu_copy(alloc: Global, handle: &mut Handle, copy: &mut Handle) -> u32
     ghost own: { Owned }

@@ -13,25 +13,26 @@ ghost use Rattle.iom_c.specs.Why.{OriginTold, PageOriginTold, WhyTold};
 ghost use Rattle.iom_c.specs.declared.owned.Owned.{Owned};
 
 use crate::handle::Handle;
+use crate::kept::Kept;
 use crate::why::{StepReason, reason_of};
 use iom_account::Account;
 use std::alloc::Global;
 
-// Puts why step `i` of the last went as it did.
-fn put_why(account: &Account, i: u64, out: &mut StepReason) -> u32
-    ensures { WhyTold (slice_get account.now.told i) result out.old out.new }
+// Puts why step `i` of those kept went as it did.
+fn put_why(kept: &Kept, i: u64, out: &mut StepReason) -> u32
+    ensures { WhyTold (slice_get kept.now.ring.items i) result out.old out.new }
 {
-    match account.reason(i) {
+    match kept.get(i) {
         Some(reason) => {
             *out = reason_of(reason);
             0
         }
-        None => 2,
+        None => 13,
     }
 }
 
-/// Why step `i`, any number, of the last 32 went as it did; the oldest is 0. It answers 0; or 2 where there are so many steps or fewer,
-/// and `why` is unchanged then.
+/// Why step `i`, any number, of those whose reasons are kept went as it did; the oldest is 0. It answers 0; or 13 if there are `i` or
+/// fewer, and `why` is unchanged then.
 #[unsafe(no_mangle)]
 pub extern "C" fn rviommu_why(
     alloc: Global,
@@ -41,11 +42,11 @@ pub extern "C" fn rviommu_why(
 ) -> u32
     ghost own: { Owned }
     requires open { handle.old.held ≡ Some own }
-    ensures why { WhyTold (slice_get own.account.told i) result why.old why.new }
+    ensures why { WhyTold (slice_get own.kept.ring.items i) result why.old why.new }
     ensures same { handle.new.held ≡ Some own }
 {
     let owned = handle.take(alloc);
-    let answer = put_why(&owned.account, i, why);
+    let answer = put_why(&owned.kept, i, why);
     *handle = Handle::of(owned);
     answer
 }
@@ -59,12 +60,12 @@ fn put_context_origin(account: &Account, i: u64, number: &mut u64) -> u32
             *number = found;
             0
         }
-        None => 2,
+        None => 13,
     }
 }
 
 /// The number of the step that filled place `i`, any number, of the context cache, in the standard the DDTC; the oldest is place 0. It
-/// answers 0, also of a place that was dropped since; or 2 beyond the last place, and `number` is unchanged then.
+/// answers 0, also of a place that was dropped since; or 13 beyond the last place, and `number` is unchanged then.
 #[unsafe(no_mangle)]
 #[tactic(auto, using(crate::proofs::Telling::context_told))]
 pub extern "C" fn rviommu_context_origin(
@@ -101,7 +102,7 @@ fn put_page_origin(account: &Account, i: u64, context: &mut u64, walk: &mut u64)
             *walk = filled.walk;
             0
         }
-        None => 2,
+        None => 13,
     }
 }
 

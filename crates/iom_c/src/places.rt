@@ -30,6 +30,8 @@ pub struct PagePlace {
     pub is_write: bool,
     /// Whether the first stage's mapping is global.
     pub is_global: bool,
+    /// Room for more; 0.
+    pub reserved: [u64; 2],
 }
 
 /// A place of the context cache, in C `struct rviommu_context_place`: the device id and the fields of its context ("Device-context
@@ -57,6 +59,8 @@ pub struct ContextPlace {
     pub dtf: bool,
     /// Bit 0 of ta.
     pub tav: bool,
+    /// Room for more; 0.
+    pub reserved: [u64; 2],
 }
 
 /// An entry of the translation cache for C.
@@ -74,6 +78,7 @@ pub fn page_of(key: Key, hit: Hit) -> PagePlace
         has_gscid: key.gscid.is_some(),
         is_write: matches!(key.kind, Kind::Write),
         is_global: hit.global,
+        reserved: [0; 2],
     }
 }
 
@@ -82,15 +87,16 @@ pub fn context_of(did: u32, context: Context) -> ContextPlace
     ensures { result ≡ context_of did context }
 {
     ContextPlace {
-        gppn: context.gppn,
-        ppn: context.ppn,
+        gppn: context.fields.gppn,
+        ppn: context.fields.ppn,
         did,
-        pscid: context.pscid,
-        gscid: u32::from(context.gscid),
-        gmode: u32::from(context.gmode),
-        mode: u32::from(context.mode),
-        custom: u32::from(context.custom),
-        dtf: context.dtf,
-        tav: context.tav,
+        pscid: context.fields.pscid,
+        gscid: u32::from(context.fields.gscid),
+        gmode: u32::from(context.fields.gmode),
+        mode: u32::from(context.fields.mode),
+        custom: u32::from(context.fields.custom),
+        dtf: context.fields.dtf,
+        tav: context.fields.tav,
+        reserved: [0; 2],
     }
 }

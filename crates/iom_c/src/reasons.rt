@@ -3,6 +3,7 @@
 ghost use Rattle.std.specs.Prelude.{◌≡◌, ◌≤◌, ◌<◌, ◌^◌, slice_get, Some};
 ghost use Rattle.iom_cache.specs.Places.{place_in};
 ghost use Rattle.iom_tables.specs.Parts.{parts_of};
+ghost use Rattle.iom_c.specs.Faults.{not_there};
 ghost use Rattle.iom_c.specs.Reasons.{asking, beyond, ContextStands, PageStands, PartTold, StaleTold};
 ghost use Rattle.iom_c.specs.declared.owned.Owned.{Owned};
 
@@ -29,7 +30,6 @@ fn asking(did: u64, iova: u64, is_write: bool) -> Request
 
 // Puts a part of the walk of a request.
 fn put_part(platform: &Platform, request: &Request, i: u64, out: &mut WalkPart) -> u32
-    requires { request.now.did < 2 ^ 24 }
     ensures { PartTold request.now.did (slice_get (parts_of platform.now.machine request.now) i) result out.old out.new }
 {
     let parts = parts(platform, request);
@@ -38,12 +38,12 @@ fn put_part(platform: &Platform, request: &Request, i: u64, out: &mut WalkPart) 
             *out = part_of(request.did, part);
             0
         }
-        None => 2,
+        None => 13,
     }
 }
 
 /// Part `i`, any number, of all that is looked at to lead a request of device `did` for IOVA `iova` where nothing is cached; the first
-/// is ddtp, part 0, and the last is the way that the request is led ("Process to translate an IOVA"). It answers 0; or 2 where there
+/// is ddtp, part 0, and the last is the way that the request is led ("Process to translate an IOVA"). It answers 0; or 13 if there
 /// are fewer parts, or the device id isn't below 2^24, and `part` is unchanged then.
 #[unsafe(no_mangle)]
 pub extern "C" fn rviommu_part(
@@ -59,11 +59,11 @@ pub extern "C" fn rviommu_part(
     requires open { handle.old.held ≡ Some own }
     ensures part { did < 2 ^ 24 →
         PartTold did (slice_get (parts_of own.platform.machine (asking did iova is_write)) i) result part.old part.new }
-    ensures wide { 2 ^ 24 ≤ did → (result ≡ beyond) × (part.new ≡ part.old) }
+    ensures wide { 2 ^ 24 ≤ did → (result ≡ not_there) × (part.new ≡ part.old) }
     ensures same { handle.new.held ≡ Some own }
 {
     if did >= 1 << 24 {
-        return 2;
+        return 13;
     }
     let owned = handle.take(alloc);
     let told = put_part(&owned.platform, &asking(did, iova, is_write), i, part);
@@ -73,7 +73,6 @@ pub extern "C" fn rviommu_part(
 
 // Puts what the tables say of a request that is stale.
 fn put_stale(platform: &Platform, request: &Request, out: &mut RequestWay) -> u32
-    requires { request.now.did < 2 ^ 24 }
     ensures { StaleTold platform.now.machine request.now result out.old out.new }
 {
     match stale(platform, request) {

@@ -1,9 +1,9 @@
 //! Steps by numbers.
 
-ghost use Rattle.std.specs.Prelude.{◌≡◌, ◌≤◌, ◌<◌, length, Some, IsSome, IfSome, IsSomeAnd};
+ghost use Rattle.std.specs.Prelude.{◌≡◌, length, Some, IsSome, IfSome, IsSomeAnd};
 ghost use Rattle.iom_core.specs.Table.{next};
 ghost use Rattle.iom_core.specs.declared.step.Step.TheVariants as step;
-ghost use Rattle.iom_c.specs.Answers.{bytes_in, code_of, HasLength, misuse, number_in, writing};
+ghost use Rattle.iom_c.specs.Answers.{bytes_in, code_of, HasLength, IsOneStep, misuse, number_in, writing};
 ghost use Rattle.iom_c.specs.Handles.{Stepped};
 ghost use Rattle.iom_c.specs.declared.owned.Owned.{Owned};
 
@@ -143,7 +143,7 @@ pub extern "C" fn rviommu_reg_write(
 }
 
 /// Device `did`, below 2^24, reads as many bytes as there is room for in `bytes`, 1 to 64, at IOVA `iova`, all in one page of 4096
-/// bytes: bytes, denied, bus error or misuse.
+/// bytes: bytes, denied, bus error or misuse. No byte and more than 64 are no step, and are answered misuse.
 #[unsafe(no_mangle)]
 #[tactic(auto, using(crate::proofs::Lengths::fills))]
 pub extern "C" fn rviommu_dma_read(
@@ -156,11 +156,20 @@ pub extern "C" fn rviommu_dma_read(
 ) -> u32
     ghost own: { Owned }
     requires open { handle.old.held ≡ Some own }
-    ensures answer { result ≡ code_of (next own.platform (step.DmaRead did iova (length bytes.old))).answer }
-    ensures bytes { bytes.new ≡ bytes_in (next own.platform (step.DmaRead did iova (length bytes.old))).answer bytes.old }
-    ensures cause { cause.new ≡ number_in (next own.platform (step.DmaRead did iova (length bytes.old))).answer cause.old }
-    ensures after { IsSomeAnd handle.new.held (Stepped own (step.DmaRead did iova (length bytes.old))) }
+    ensures answer { IsOneStep (length bytes.old) →
+        result ≡ code_of (next own.platform (step.DmaRead did iova (length bytes.old))).answer }
+    ensures bytes { IsOneStep (length bytes.old) →
+        bytes.new ≡ bytes_in (next own.platform (step.DmaRead did iova (length bytes.old))).answer bytes.old }
+    ensures cause { IsOneStep (length bytes.old) →
+        cause.new ≡ number_in (next own.platform (step.DmaRead did iova (length bytes.old))).answer cause.old }
+    ensures after { IsOneStep (length bytes.old) →
+        IsSomeAnd handle.new.held (Stepped own (step.DmaRead did iova (length bytes.old))) }
+    ensures none { ¬ IsOneStep (length bytes.old) →
+        (result ≡ misuse) × (bytes.new ≡ bytes.old) × (cause.new ≡ cause.old) × (handle.new.held ≡ Some own) }
 {
+    if bytes.is_empty() || bytes.len() > 64 {
+        return 8;
+    }
     let step = Step::DmaRead {
         did,
         iova,
@@ -173,7 +182,7 @@ pub extern "C" fn rviommu_dma_read(
 }
 
 /// Device `did`, below 2^24, writes `bytes`, 1 to 64, at IOVA `iova`, all in one page of 4096 bytes: done, denied, bus error or
-/// misuse. More than 64 bytes are no step, and are answered misuse.
+/// misuse. No byte and more than 64 are no step, and are answered misuse.
 #[unsafe(no_mangle)]
 pub extern "C" fn rviommu_dma_write(
     alloc: Global,
@@ -185,11 +194,16 @@ pub extern "C" fn rviommu_dma_write(
 ) -> u32
     ghost own: { Owned }
     requires open { handle.old.held ≡ Some own }
-    ensures answer { length bytes.now ≤ 64 → result ≡ code_of (next own.platform (writing did iova bytes.now)).answer }
-    ensures cause { length bytes.now ≤ 64 → cause.new ≡ number_in (next own.platform (writing did iova bytes.now)).answer cause.old }
-    ensures after { length bytes.now ≤ 64 → IsSomeAnd handle.new.held (Stepped own (writing did iova bytes.now)) }
-    ensures long { 64 < length bytes.now → (result ≡ misuse) × (cause.new ≡ cause.old) × (handle.new.held ≡ Some own) }
+    ensures answer { IsOneStep (length bytes.now) → result ≡ code_of (next own.platform (writing did iova bytes.now)).answer }
+    ensures cause { IsOneStep (length bytes.now) →
+        cause.new ≡ number_in (next own.platform (writing did iova bytes.now)).answer cause.old }
+    ensures after { IsOneStep (length bytes.now) → IsSomeAnd handle.new.held (Stepped own (writing did iova bytes.now)) }
+    ensures none { ¬ IsOneStep (length bytes.now) →
+        (result ≡ misuse) × (cause.new ≡ cause.old) × (handle.new.held ≡ Some own) }
 {
+    if bytes.is_empty() {
+        return 8;
+    }
     let mut given = ArrayVec::new();
     if given.try_extend_from_slice(bytes).is_err() {
         return 8;

@@ -100,6 +100,7 @@ fn words_for(number: u32) -> &'static [u8]
         10 => b"outside memory",
         11 => b"too little room",
         12 => b"no such disk",
+        13 => b"not there",
         _ => b"no such number",
     }
 }

@@ -41,6 +41,8 @@ pub struct WalkPart {
     pub has_read_at: bool,
     /// The way that the request is led, of kind 5.
     pub way: RequestWay,
+    /// Room for more; 0.
+    pub reserved: [u64; 4],
 }
 
 // The number of ddtp's mode, 0 to 4 ("Device-directory-table pointer (ddtp)").
@@ -106,6 +108,7 @@ fn plain_part(kind: u32) -> WalkPart
         has_word: false,
         has_read_at: false,
         way: plain_way(0),
+        reserved: [0; 4],
     }
 }
 

@@ -24,6 +24,8 @@ pub struct RequestWay {
     pub is_global: bool,
     /// Whether the denial makes a fault record, of kind 3.
     pub is_reported: bool,
+    /// Room for more; 0.
+    pub reserved: [u64; 2],
 }
 
 /// What ddtp and the directory say of a device id, in C `struct rviommu_located`.
@@ -36,6 +38,8 @@ pub struct LocatedContext {
     pub kind: u32,
     /// Why there is none, of kind 2 ("Process to locate the Device-context").
     pub cause: u32,
+    /// Room for more; 0.
+    pub reserved: [u64; 2],
 }
 
 // No context.
@@ -53,6 +57,7 @@ fn no_context() -> ContextPlace
         custom: 0,
         dtf: false,
         tav: false,
+        reserved: [0; 2],
     }
 }
 
@@ -69,6 +74,7 @@ pub fn plain_way(kind: u32) -> RequestWay
         cause: 0,
         is_global: false,
         is_reported: false,
+        reserved: [0; 2],
     }
 }
 
@@ -111,5 +117,6 @@ pub fn located_of(did: u32, located: Located) -> LocatedContext
         context,
         kind,
         cause,
+        reserved: [0; 2],
     }
 }

@@ -31,6 +31,8 @@ pub struct StepReason {
     pub is_write: bool,
     /// Whether the access was stale.
     pub is_stale: bool,
+    /// Room for more; 0.
+    pub reserved: [u64; 4],
 }
 
 // A reason of which nothing but its step's number and its kind is told.
@@ -48,6 +50,7 @@ fn plain_reason(number: u64, kind: u32) -> StepReason
         kind,
         is_write: false,
         is_stale: false,
+        reserved: [0; 4],
     }
 }
 

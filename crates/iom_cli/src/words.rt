@@ -225,7 +225,7 @@ fn subcommand<'a>(alloc: Global, verb: &Verb) -> Result<Command<'a>, AllocError>
 // The command line, as clap takes it.
 fn command<'a>(alloc: Global) -> Result<Command<'a>, AllocError> {
     let mut command = Command::new(alloc, "rviommu")
-        .version("0.3.0")
+        .version("0.4.0")
         .about("A model of the RISC-V IOMMU: without words it runs the script on standard input")
         .after_help(help::SCRIPT);
     for verb in &VERBS {

@@ -5,6 +5,8 @@ use Rattle.iom_bits.specs.declared.causes.Cause.{Cause}
 use Rattle.iom_bits.specs.declared.causes.Cause.TheVariants as cause
 use Rattle.iom_bits.specs.declared.causes.Kind.{Kind}
 use Rattle.iom_bits.specs.declared.causes.Kind.TheVariants as kind
+use Rattle.iom_bits.specs.Features.{no_features}
+use Rattle.iom_bits.specs.declared.features.Features.{Features}
 use Rattle.iom_mem.specs.Memory.{Memory, bytes_at, put}
 use Rattle.iom_regs.specs.Table.{Registers}
 use Rattle.iom_regs.specs.Views.{mode_of}
@@ -13,7 +15,7 @@ use Rattle.iom_regs.specs.declared.views.Mode.TheVariants as mode
 use Rattle.iom_ddt.specs.Contexts.{is_bare}
 use Rattle.iom_ddt.specs.Directory.{is_too_wide, levels_of, located}
 use Rattle.iom_ddt.specs.declared.context.Context.{Context}
-use Rattle.iom_nested.specs.Nested.{HitFits, translation}
+use Rattle.iom_nested.specs.Nested.{translation}
 use Rattle.iom_nested.specs.declared.translation.Fault.{Fault}
 use Rattle.iom_nested.specs.declared.translation.Hit.{Hit}
 use Rattle.iom_queue.specs.Delivery.{Delivery, delivered}
@@ -65,10 +67,10 @@ context_look m did = look did (live_context m did) (located m.memory m.registers
 abbrev pub request_key : Request → Context → Key
 request_key request context = key_of context request.did request.iova request.kind
 
-unfoldable pub page_look : Memory → List (Option (Key × Hit)) → Request → Context → Look Key Hit Fault
-page_look memory pages request context =
+unfoldable pub page_look : Memory → Features → List (Option (Key × Hit)) → Request → Context → Look Key Hit Fault
+page_look memory features pages request context =
     look (request_key request context) (find (same_key (request_key request context)) pages)
-    (translation memory context request.iova request.kind)
+    (translation memory features context request.iova request.kind)
 
 -- denied before any page table is read
 abbrev pub refused : Cause → Option (ℕ × Context) → Led
@@ -79,27 +81,20 @@ abbrev pub way_to : Context → Result Hit Fault → Way
 way_to context (Ok hit) = Walked context hit
 way_to context (Err fault) = Denied (translating context fault)
 
--- a hit that it leads by has the bounds of one
-abbrev pub Fits : Way → Type 0
-Fits ByRegister = Unit {0}
-Fits (ByContext context) = Unit {0}
-Fits (Walked context hit) = HitFits hit
-Fits (Denied denial) = Unit {0}
-
 -- below a context: the way, and the page that is filled
 pub record Under : Type 0 where
   pub way : Way
   pub page : Option (Key × Hit)
 
-abbrev pub led_under : Memory → List (Option (Key × Hit)) → Request → Context → Under
-led_under memory pages request context =
+abbrev pub led_under : Memory → Features → List (Option (Key × Hit)) → Request → Context → Under
+led_under memory features pages request context =
     if is_bare context then record { way = ByContext context; page = None }
-    else record { way = way_to context (page_look memory pages request context).used; page = (page_look memory pages request context).filled }
+    else record { way = way_to context (page_look memory features pages request context).used; page = (page_look memory features pages request context).filled }
 
 -- by the context, which is filled before the page is walked, so also where the walk fails
 abbrev pub led_by_context : Machine → Request → Option (ℕ × Context) → Result Context Cause → Led
 led_by_context m request fill (Ok context) =
-    record { way = (led_under m.memory m.pages request context).way; by = Some context; context = fill; page = (led_under m.memory m.pages request context).page }
+    record { way = (led_under m.memory no_features m.pages request context).way; by = Some context; context = fill; page = (led_under m.memory no_features m.pages request context).page }
 led_by_context m request fill (Err why) = refused why fill
 
 -- by the mode: with Off all is disallowed, with Bare the address is the IOVA itself, otherwise the directory has the device's

@@ -1,6 +1,8 @@
 -- The platform's state.
 use Rattle.std.specs.Prelude.{ℕ, ◌≡◌, ◌^◌, ◌<◌, ◌≤◌, ◌==◌, Bool, false, List, [], ◌∷◌, length, map, slice_set, Option}
 use Rattle.std.specs.List.{list_any}
+use Rattle.iom_bits.specs.Features.{no_features}
+use Rattle.iom_bits.specs.declared.features.Features.{Features}
 use Rattle.iom_mem.specs.Memory.{Memory}
 use Rattle.iom_regs.specs.Table.{Registers, reset}
 use Rattle.iom_ddt.specs.declared.context.Context.{Context}
@@ -62,9 +64,13 @@ context_room = 16
 abbrev pub page_room : ℕ
 page_room = 64
 
--- a platform that nothing has happened to yet
-abbrev pub opening : Memory → List (ℕ × Device) → State
-opening memory devices = record {
-  machine = record { memory = memory; registers = reset; contexts = []; pages = [] };
+-- a platform with an IOMMU of these features that nothing has happened to yet
+abbrev pub opening_with : Features → Memory → List (ℕ × Device) → State
+opening_with features memory devices = record {
+  machine = record { memory = memory; registers = reset features; contexts = []; pages = [] };
   devices = devices;
 }
+
+-- the same with none of them
+abbrev pub opening : Memory → List (ℕ × Device) → State
+opening memory devices = opening_with no_features memory devices

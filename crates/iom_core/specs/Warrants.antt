@@ -2,6 +2,7 @@
 -- in-memory data structures" and "IOMMU command-queue commands". Steps are counted from 0; moment k is the state before step k.
 use Rattle.std.specs.Prelude.{ℕ, ◌≡◌, ◌<◌, ◌≤◌, ◌&&◌, Bool, true, false, not, List, take, slice_get, Option, Some, None, Ok}
 use Rattle.std.specs.Option.{option_and_then}
+use Rattle.iom_bits.specs.Features.{no_features}
 use Rattle.iom_regs.specs.Views.{mode_of}
 use Rattle.iom_regs.specs.declared.views.Mode.TheVariants as mode
 use Rattle.iom_ddt.specs.Contexts.{is_bare}
@@ -67,7 +68,7 @@ pub record IsFreshContext (start : State) (steps : List Step) (did n k : ℕ) (c
 -- this hit; and no step from k to n - 1 executed an IOTINVAL that drops it.
 pub record IsFreshPage (start : State) (steps : List Step) (request : Request) (context : Context) (hit : Hit) (n k : ℕ) : Type 0 where
   pub origin : IsLast (λ j. fills same_key (request_key request context) (page_filled_at start steps j)) n k
-  pub translated : translation (moment start steps k).machine.memory context request.iova request.kind ≡ Ok hit
+  pub translated : translation (moment start steps k).machine.memory no_features context request.iova request.kind ≡ Ok hit
   pub kept : (j : ℕ) → k ≤ j → j < n → drops_at drops_page (executed_at start steps j) (request_key request context) hit ≡ false
 
 -- Step n was led by ddtp, whose mode is Bare.

@@ -11,7 +11,7 @@ use crate::port::Port;
 use crate::step::{Answer, Step};
 use crate::witness::Witness;
 use arrayvec::ArrayVec;
-use iom_bits::Kind;
+use iom_bits::{Features, Kind};
 use iom_blk::Blk;
 use iom_cache::{ContextCache, TransCache};
 use iom_mem::Ram;
@@ -40,7 +40,7 @@ impl Model for Platform {
 }
 
 impl Platform {
-    ghost use Rattle.iom_core.specs.State.{AreDevices, disk_of, opening};
+    ghost use Rattle.iom_core.specs.State.{AreDevices, disk_of, opening, opening_with};
     ghost use Rattle.iom_core.specs.Table.{asked, asking_where, next, probed, told_by_step};
     ghost use Rattle.iom_core.specs.declared.access.Request.{Request};
     ghost use Rattle.iom_core.specs.Reach.{Reaches, Refuses};
@@ -48,22 +48,33 @@ impl Platform {
     ghost use Rattle.iom_core.specs.Warrants.{AreWarranted, IsExplained, IsUncached, IsUpToDate, IsWarrant, moment};
     ghost use Rattle.iom_core.specs.declared.step.Step.{Step};
     ghost use Rattle.iom_core.specs.declared.warrant.Warrant.{Warrant};
-    ghost use Rattle.iom_cache.specs.Entries.{HoldsContext, HoldsHit};
-    ghost use Rattle.iom_cache.specs.Places.{EachLive};
     ghost use Rattle.iom_virtq.specs.Bus.{Read, Write};
 
-    /// A platform with this memory and these block devices, at most 8, each with an id below 2^24 that no other has. Its registers
-    /// are at reset and both caches empty. The fault is a refused allocation for the caches; all that was handed in is dropped
-    /// then.
+    /// A platform with this memory and these block devices, at most 8, each with an id below 2^24 that no other has. Its IOMMU
+    /// offers none of the features that `Features` names. Its registers are at reset and both caches empty. The fault is a refused
+    /// allocation for the caches; all that was handed in is dropped then.
     pub fn new(alloc: Global, ram: Ram, devices: Vec<(u32, Blk)>) -> Result<Platform, AllocError>
         requires { AreDevices devices.items }
         ensures { IfOk result (λ platform. platform ≡ opening ram devices.items) }
+    {
+        Platform::with_features(alloc, ram, devices, Features::none())
+    }
+
+    /// As `new`, with an IOMMU that offers these features.
+    pub fn with_features(
+        alloc: Global,
+        ram: Ram,
+        devices: Vec<(u32, Blk)>,
+        features: Features,
+    ) -> Result<Platform, AllocError>
+        requires { AreDevices devices.items }
+        ensures { IfOk result (λ platform. platform ≡ opening_with features ram devices.items) }
     {
         let contexts = ContextCache::new(alloc)?;
         let pages = TransCache::new(alloc)?;
         let machine = Machine {
             ram,
-            registers: Regs::reset(),
+            registers: Regs::with_features(features),
             lines: Lines { contexts, pages },
         };
         Ok(Platform { machine, devices })
@@ -94,16 +105,14 @@ impl Platform {
 
     /// The translation cache: in the standard the IOTLB.
     pub fn trans(&self) -> &TransCache
-        ensures cache { result.now ≡ self.now.machine.pages }
-        ensures sound { EachLive HoldsHit result.now }
+        ensures { result.now ≡ self.now.machine.pages }
     {
         &self.machine.lines.pages
     }
 
     /// The context cache: in the standard the DDTC.
     pub fn contexts(&self) -> &ContextCache
-        ensures cache { result.now ≡ self.now.machine.contexts }
-        ensures sound { EachLive HoldsContext result.now }
+        ensures { result.now ≡ self.now.machine.contexts }
     {
         &self.machine.lines.contexts
     }

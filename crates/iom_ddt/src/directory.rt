@@ -1,7 +1,6 @@
 ghost use Rattle.std.specs.Prelude.{◌≡◌, ◌<◌, ◌≤◌, ◌^◌, ◌*◌, ◌+◌, IfOk, Some};
 ghost use Rattle.iom_mem.specs.Memory.{word, words_at};
 ghost use Rattle.iom_regs.specs.Views.{mode_of};
-ghost use Rattle.iom_ddt.specs.Contexts.{IsWellFormed};
 ghost use Rattle.iom_ddt.specs.Directory.{ddi, is_too_wide, pointed_by, decided_by, levels_of, located, IsContextOf, IsLocated};
 ghost use Rattle.iom_ddt.specs.declared.listing.Met.TheVariants.{Leaf};
 
@@ -19,10 +18,8 @@ use iom_regs::{Mode, Regs};
 #[tactic(auto, unfolding(crate::specs::Directory::located))]
 pub fn locate(ram: &Ram, registers: &Regs, did: u32) -> Result<Context, Cause>
     requires directory { 1 ≤ levels_of (mode_of registers.now) }
-    requires width { did < 2 ^ 24 }
     ensures verdict { result ≡ located ram.now registers.now did }
     ensures meaning { IsLocated ram.now registers.now did result }
-    ensures sound { IfOk result (λ context. IsWellFormed context) }
 {
     if is_too_wide(registers, did) {
         return Err(Cause::TooWide);
@@ -90,7 +87,6 @@ pub(crate) fn pointed_by(ram: &Ram, place: u64) -> Result<u64, Cause>
 fn context_at(ram: &Ram, place: u64) -> Result<Context, Cause>
     ensures verdict { decided_by (Leaf place (words_at ram.now place 4)) ≡ Some result }
     ensures meaning { IsContextOf (words_at ram.now place 4) result }
-    ensures sound { IfOk result (λ context. IsWellFormed context) }
 {
     match ram.words_at(place) {
         Some(words) => context_of(words),

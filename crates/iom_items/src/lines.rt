@@ -2,7 +2,6 @@ ghost use Rattle.std.specs.Prelude.{◌≡◌, ◌+◌, ◌*◌, ◌++◌, ◌<�
 ghost use Rattle.std.specs.Option.{option_map};
 ghost use Rattle.iom_text.specs.Texts.{hexed};
 ghost use Rattle.iom_mem.specs.Memory.{words_at};
-ghost use Rattle.iom_ddt.specs.Contexts.{IsWellFormed};
 ghost use Rattle.iom_ddt.specs.Words.{words_of};
 ghost use Rattle.iom_items.specs.declared.item.Item.TheVariants as item;
 ghost use Rattle.iom_items.specs.Lines.{operand, command_text, record_text, context_text, numbers_text, words_text, line_of, item_line};
@@ -128,21 +127,22 @@ fn record_line(fault: &Record) -> Line
     line
 }
 
-/// The line of a context: `context` and its operands, without a line end. For a well-formed context it is the line of its words.
+/// The line of a context: `context` and its operands, without a line end. It is the line of its words.
 pub fn context_line(context: &Context) -> Line
     ensures text { result.items ≡ context_text context.now }
-    ensures words { IsWellFormed context.now → result.items ≡ line_of item.Context (words_of context.now) }
+    ensures words { result.items ≡ line_of item.Context (words_of context.now) }
 {
+    let fields = &context.fields;
     let mut line = begun(b"context");
-    push_operand(&mut line, b"dtf", flag(context.dtf));
-    push_operand(&mut line, b"custom", context.custom as u64);
-    push_operand(&mut line, b"gmode", context.gmode as u64);
-    push_operand(&mut line, b"gppn", context.gppn);
-    push_operand(&mut line, b"gscid", context.gscid as u64);
-    push_operand(&mut line, b"tav", flag(context.tav));
-    push_operand(&mut line, b"pscid", context.pscid as u64);
-    push_operand(&mut line, b"mode", context.mode as u64);
-    push_operand(&mut line, b"ppn", context.ppn);
+    push_operand(&mut line, b"dtf", flag(fields.dtf));
+    push_operand(&mut line, b"custom", fields.custom as u64);
+    push_operand(&mut line, b"gmode", fields.gmode as u64);
+    push_operand(&mut line, b"gppn", fields.gppn);
+    push_operand(&mut line, b"gscid", fields.gscid as u64);
+    push_operand(&mut line, b"tav", flag(fields.tav));
+    push_operand(&mut line, b"pscid", fields.pscid as u64);
+    push_operand(&mut line, b"mode", fields.mode as u64);
+    push_operand(&mut line, b"ppn", fields.ppn);
     line
 }
 

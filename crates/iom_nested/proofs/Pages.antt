@@ -1,6 +1,7 @@
 -- Addresses of one page have one hit.
 use Rattle.std.proofs.Common.{◌≡◌, ◌+◌, ◌*◌, ◌/◌, ◌%◌, ℕ, Bool, Option, Some, None, Result, Ok, Err, false, refl, arith}
 use Rattle.iom_bits.specs.declared.causes.Kind.{Kind}
+use Rattle.iom_bits.specs.declared.features.Features.{Features}
 use Rattle.iom_mem.specs.Memory.{Memory}
 use Rattle.iom_ddt.specs.declared.context.Context.{Context}
 use Rattle.iom_walk.specs.declared.shape.Shape.{Shape}
@@ -10,7 +11,7 @@ use Rattle.iom_walk.specs.Outcome.{outcome_of}
 use Rattle.iom_walk.proofs.Pages.{one_end}
 use Rattle.iom_nested.specs.declared.translation.Hit.{Hit}
 use Rattle.iom_nested.specs.Faults.{Failure}
-use Rattle.iom_nested.specs.Stages.{first_shape_of, second_shape_of, ram_got, table_got}
+use Rattle.iom_nested.specs.Stages.{first_shape_of, format_of, second_shape_of, ram_got, table_got}
 use Rattle.iom_nested.specs.declared.translation.Reached.{Reached}
 use Rattle.iom_nested.specs.Nested.{behind_first, first_stage, hit_by, reached_by, second_stage, told_of, translation}
 use Rattle.iom_nested.specs.Pages.{OneHitAPage}
@@ -19,49 +20,49 @@ told_hit : (kind : Kind) (found : Result Hit Failure) (hit : Hit) → told_of ki
 told_hit kind (Ok found) hit told = cc
 told_hit kind (Err failure) hit told = cc
 
-abbrev at : ℕ → ℕ → Bool → Reached
-at addr level global = record { addr = addr; level = level; global = global }
+abbrev at : ℕ → ℕ → Bool → Bool → Reached
+at addr level global napot = record { addr = addr; level = level; global = global; napot = napot }
 
 -- the second stage's end is that of the page
-same_frame : (a b level : ℕ) (global : Bool) (end : Outcome) (hit : Hit) →
-    hit_by (at a level global) end ≡ Ok hit → hit_by (at b level global) end ≡ Ok hit
-same_frame a b level global (outcome.Leaf leaf) hit told = told
-same_frame a b level global outcome.Outside hit told = told
-same_frame a b level global (outcome.Guest place) hit told = cc
-same_frame a b level global outcome.Fault hit told = cc
+same_frame : (a b level : ℕ) (global napot : Bool) (end : Outcome) (hit : Hit) →
+    hit_by (at a level global napot) end ≡ Ok hit → hit_by (at b level global napot) end ≡ Ok hit
+same_frame a b level global napot (outcome.Leaf leaf) hit told = told
+same_frame a b level global napot outcome.Outside hit told = told
+same_frame a b level global napot (outcome.Guest place) hit told = cc
+same_frame a b level global napot outcome.Fault hit told = cc
 
-same_second : (memory : Memory) (context : Context) (kind : Kind) (shape : Option Shape) (a b level : ℕ) (global : Bool) (hit : Hit) →
-    a / 4096 ≡ b / 4096 → second_stage memory context kind shape (at a level global) ≡ Ok hit →
-    second_stage memory context kind shape (at b level global) ≡ Ok hit
-same_second memory context kind None a b level global hit same told = rw (← same) told
-same_second memory context kind (Some shape) a b level global hit same told =
-    rw (← one_end (ram_got memory) shape context.gppn a b kind same)
-    (same_frame a b level global (outcome_of (ram_got memory) shape context.gppn a kind) hit told)
+same_second : (memory : Memory) (features : Features) (context : Context) (kind : Kind) (shape : Option Shape) (a b level : ℕ) (global napot : Bool) (hit : Hit) →
+    a / 4096 ≡ b / 4096 → second_stage memory features context kind shape (at a level global napot) ≡ Ok hit →
+    second_stage memory features context kind shape (at b level global napot) ≡ Ok hit
+same_second memory features context kind None a b level global napot hit same told = rw (← same) told
+same_second memory features context kind (Some shape) a b level global napot hit same told =
+    rw (← one_end (ram_got memory) (format_of features shape) context.gppn a b kind same)
+    (same_frame a b level global napot (outcome_of (ram_got memory) (format_of features shape) context.gppn a kind) hit told)
 
 -- behind a leaf of the first stage the offset is the same as before
 page_behind : (frame a b : ℕ) → (frame * 4096 + a % 4096) / 4096 ≡ (frame * 4096 + b % 4096) / 4096
 page_behind frame a b = omega arith
 
-same_behind : (memory : Memory) (context : Context) (kind : Kind) (a b : ℕ) (end : Outcome) (hit : Hit) →
-    behind_first memory context kind (reached_by a end) ≡ Ok hit → behind_first memory context kind (reached_by b end) ≡ Ok hit
-same_behind memory context kind a b (outcome.Leaf leaf) hit told =
-    same_second memory context kind (second_shape_of context) (leaf.frame * 4096 + a % 4096) (leaf.frame * 4096 + b % 4096)
-    leaf.level leaf.global hit (page_behind leaf.frame a b) told
-same_behind memory context kind a b outcome.Outside hit told = told
-same_behind memory context kind a b (outcome.Guest place) hit told = told
-same_behind memory context kind a b outcome.Fault hit told = told
+same_behind : (memory : Memory) (features : Features) (context : Context) (kind : Kind) (a b : ℕ) (end : Outcome) (hit : Hit) →
+    behind_first memory features context kind (reached_by a end) ≡ Ok hit → behind_first memory features context kind (reached_by b end) ≡ Ok hit
+same_behind memory features context kind a b (outcome.Leaf leaf) hit told =
+    same_second memory features context kind (second_shape_of context) (leaf.frame * 4096 + a % 4096) (leaf.frame * 4096 + b % 4096)
+    leaf.level leaf.global leaf.napot hit (page_behind leaf.frame a b) told
+same_behind memory features context kind a b outcome.Outside hit told = told
+same_behind memory features context kind a b (outcome.Guest place) hit told = told
+same_behind memory features context kind a b outcome.Fault hit told = told
 
-same_hit : (memory : Memory) (context : Context) (kind : Kind) (shape : Option Shape) (a b : ℕ) (hit : Hit) → a / 4096 ≡ b / 4096 →
-    behind_first memory context kind (first_stage memory context a kind shape) ≡ Ok hit →
-    behind_first memory context kind (first_stage memory context b kind shape) ≡ Ok hit
-same_hit memory context kind None a b hit same told = same_second memory context kind (second_shape_of context) a b 0 false hit same told
-same_hit memory context kind (Some shape) a b hit same told =
-    rw (← one_end (table_got memory context) shape context.ppn a b kind same)
-    (same_behind memory context kind a b (outcome_of (table_got memory context) shape context.ppn a kind) hit told)
+same_hit : (memory : Memory) (features : Features) (context : Context) (kind : Kind) (shape : Option Shape) (a b : ℕ) (hit : Hit) → a / 4096 ≡ b / 4096 →
+    behind_first memory features context kind (first_stage memory features context a kind shape) ≡ Ok hit →
+    behind_first memory features context kind (first_stage memory features context b kind shape) ≡ Ok hit
+same_hit memory features context kind None a b hit same told = same_second memory features context kind (second_shape_of context) a b 0 false false hit same told
+same_hit memory features context kind (Some shape) a b hit same told =
+    rw (← one_end (table_got memory features context) (format_of features shape) context.ppn a b kind same)
+    (same_behind memory features context kind a b (outcome_of (table_got memory features context) (format_of features shape) context.ppn a kind) hit told)
 
 pub one_hit : OneHitAPage
 unfolding translation
-one_hit memory context iova other kind hit same told =
-    let found : behind_first memory context kind (first_stage memory context other kind (first_shape_of context)) ≡ Ok hit =
-    same_hit memory context kind (first_shape_of context) iova other hit same (told_hit kind _ hit told) in
+one_hit memory features context iova other kind hit same told =
+    let found : behind_first memory features context kind (first_stage memory features context other kind (first_shape_of context)) ≡ Ok hit =
+    same_hit memory features context kind (first_shape_of context) iova other hit same (told_hit kind _ hit told) in
     rw found refl

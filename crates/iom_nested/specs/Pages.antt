@@ -2,6 +2,7 @@
 -- page. A fault may tell the address itself.
 use Rattle.std.specs.Prelude.{ℕ, ◌≡◌, ◌/◌, Ok}
 use Rattle.iom_bits.specs.declared.causes.Kind.{Kind}
+use Rattle.iom_bits.specs.declared.features.Features.{Features}
 use Rattle.iom_mem.specs.Memory.{Memory}
 use Rattle.iom_ddt.specs.declared.context.Context.{Context}
 use Rattle.iom_nested.specs.Nested.{translation}
@@ -9,5 +10,5 @@ use Rattle.iom_nested.specs.declared.translation.Hit.{Hit}
 
 -- what one address of a page hits, each of them hits
 abbrev pub OneHitAPage : Type 0
-OneHitAPage = (memory : Memory) (context : Context) (iova other : ℕ) (kind : Kind) (hit : Hit) → iova / 4096 ≡ other / 4096 →
-    translation memory context iova kind ≡ Ok hit → translation memory context other kind ≡ Ok hit
+OneHitAPage = (memory : Memory) (features : Features) (context : Context) (iova other : ℕ) (kind : Kind) (hit : Hit) → iova / 4096 ≡ other / 4096 →
+    translation memory features context iova kind ≡ Ok hit → translation memory features context other kind ≡ Ok hit

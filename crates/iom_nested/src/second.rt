@@ -1,45 +1,46 @@
 ghost use Rattle.std.specs.Prelude.{◌≡◌, ◌<◌, ◌^◌, IsSome};
-ghost use Rattle.iom_ddt.specs.Contexts.{IsWellFormed};
 ghost use Rattle.iom_nested.specs.Stages.{guest_got, second_shape_of, table_got};
 
 use crate::physical::Physical;
-use iom_bits::Kind;
+use iom_bits::{Features, Kind};
 use iom_ddt::Context;
 use iom_mem::Ram;
-use iom_walk::{Got, Outcome, Shape, Words, walk};
+use iom_walk::{Format, Got, Outcome, Shape, Words, walk};
 
 /// A guest's memory as a source of words: memory behind the second stage. Addresses are guest-physical, each translated for an
 /// implicit read, as of a first-stage table's entry ("Process to translate an IOVA").
 #[derive(Drop)]
 pub struct Second<'a> {
     ram: &'a Ram,
-    shape: Shape,
+    format: Format,
     root: u64,
     ghost root_fits: { root < 2 ^ 44 },
 }
 
 impl<'a> Second<'a> {
     /// Lends memory through the second stage of a context that has one: whose iohgatp.MODE isn't Bare.
-    pub fn new(ram: &'a Ram, context: &Context) -> Second<'a>
-        requires well_formed { IsWellFormed context.now }
+    pub fn new(ram: &'a Ram, features: Features, context: &Context) -> Second<'a>
         requires staged { IsSome (second_shape_of context.now) }
-        ensures { ⟦<Second<'a> as Words>⟧.at result ≡ table_got ram.now context.now }
+        ensures { ⟦<Second<'a> as Words>⟧.at result ≡ table_got ram.now features context.now }
     {
         Second {
             ram,
-            shape: second_shape(context).unwrap(),
-            root: context.gppn,
+            format: Format {
+                shape: second_shape(context).unwrap(),
+                features,
+            },
+            root: context.fields.gppn,
         }
     }
 }
 
 impl Words for Second<'_> {
-    ghost at = { λ source. guest_got source.ram.now source.shape source.root };
+    ghost at = { λ source. guest_got source.ram.now source.format source.root };
 
     fn word(&self, addr: u64) -> Got {
         match walk(
             &Physical { ram: self.ram },
-            self.shape,
+            self.format,
             self.root,
             addr,
             Kind::Read,
@@ -51,13 +52,14 @@ impl Words for Second<'_> {
     }
 }
 
-/// The shape of the second stage's tables, by iohgatp.MODE: 8 is Sv39x4, 9 is Sv48x4; None where it is Bare, 0.
+/// The shape of the second stage's tables, by iohgatp.MODE: 8 is Sv39x4, 9 is Sv48x4, 10 is Sv57x4; None where it is Bare, 0.
 pub fn second_shape(context: &Context) -> Option<Shape>
     ensures { result ≡ second_shape_of context.now }
 {
-    match context.gmode {
+    match context.fields.gmode {
         0 => None,
         8 => Some(Shape::Sv39x4),
-        _ => Some(Shape::Sv48x4),
+        9 => Some(Shape::Sv48x4),
+        _ => Some(Shape::Sv57x4),
     }
 }

@@ -1,27 +1,43 @@
 ghost use Rattle.std.specs.Prelude.{◌≡◌, ◌≢◌, ◌<◌, ◌≤◌, ◌^◌, [], false, None, IfOk};
 ghost use Rattle.arrayvec.specs.ArrayVec.{array_vec_len};
-ghost use Rattle.iom_ddt.specs.Contexts.{is_bare, IsWellFormed};
+ghost use Rattle.iom_ddt.specs.Contexts.{is_bare};
 ghost use Rattle.iom_nested.specs.Stages.{first_shape_of, second_shape_of};
 ghost use Rattle.iom_nested.specs.Faults.{fault_of, EntryOutside};
-ghost use Rattle.iom_nested.specs.Nested.{HitFits, LeafReaches, first_path, first_stage, reached_by, second_stage, told_of, translation};
+ghost use Rattle.iom_nested.specs.Nested.{LeafReaches, first_path, first_stage, reached_by, second_stage, told_of, translation};
 ghost use Rattle.iom_nested.specs.Pages.{OneHitAPage};
 
 use crate::physical::Physical;
 use crate::second::{Second, second_shape};
-use iom_bits::{Cause, Kind};
+use iom_bits::{Cause, Features, Kind};
 use iom_ddt::Context;
 use iom_mem::Ram;
-use iom_walk::{Outcome, PathEntries, Shape, walk, walk_listed};
+use iom_walk::{Format, Outcome, PathEntries, Shape, walk, walk_listed};
+use std::marker::Model;
 
 /// Where a page of IOVAs leads: what an entry of the translation cache, the IOTLB, says.
 #[derive(Clone, Copy, PartialEq)]
 pub struct Hit {
     /// The PPN of the page's frame, 44 bits: its physical address divided by 4096.
     pub frame: u64,
-    /// The level of the first stage's leaf, 0 to 3; 0 where that stage is Bare.
+    /// The level of the first stage's leaf, 0 to 4; 0 where that stage is Bare.
     pub level: u8,
     /// Whether the first stage's mapping is global; false where that stage is Bare.
     pub global: bool,
+    /// Whether the first stage's leaf has N set, and so maps 64 KiB ("Svnapot"); false where that stage is Bare.
+    pub napot: bool,
+}
+
+impl Model for Hit {
+    ghost use Rattle.std.specs.Prelude.{◌<◌, ◌^◌};
+    ghost use Rattle.iom_nested.specs.Hits.{Page};
+
+    ghost Value = { Page };
+
+    ghost view = { λ hit. record { frame = hit.frame; level = hit.level; global = hit.global; napot = hit.napot } };
+
+    ghost inverse = { λ page. record { frame = page.frame; level = page.level; global = page.global; napot = page.napot } };
+
+    ghost invariant = { λ hit. (hit.frame < 2 ^ 44) × (hit.level < 5) };
 }
 
 /// Why an IOVA leads nowhere.
@@ -40,10 +56,12 @@ pub struct Reached {
     /// The guest-physical address under a second stage, else the physical one; the IOVA itself where the first stage is
     /// Bare.
     pub addr: u64,
-    /// The level of the first stage's leaf, 0 to 3; 0 where that stage is Bare.
+    /// The level of the first stage's leaf, 0 to 4; 0 where that stage is Bare.
     pub level: u8,
     /// Whether the first stage's mapping is global; false where that stage is Bare.
     pub global: bool,
+    /// Whether the first stage's leaf has N set, and so maps 64 KiB ("Svnapot"); false where that stage is Bare.
+    pub napot: bool,
 }
 
 /// Translates an IOVA by the stages of a context, of which at least one isn't Bare ("Process to translate an IOVA").
@@ -53,14 +71,18 @@ pub struct Reached {
 /// second, each for the access's own kind.
 #[inline(always)]
 #[tactic(auto, unfolding(crate::specs::Nested::translation))]
-pub fn translate(ram: &Ram, context: &Context, iova: u64, kind: Kind) -> Result<Hit, Fault>
-    requires well_formed { IsWellFormed context.now }
+pub fn translate(
+    ram: &Ram,
+    features: Features,
+    context: &Context,
+    iova: u64,
+    kind: Kind,
+) -> Result<Hit, Fault>
     requires translated { is_bare context.now ≡ false }
-    ensures translation { result ≡ translation ram.now context.now iova kind }
-    ensures fits { IfOk result HitFits }
+    ensures translation { result ≡ translation ram.now features context.now iova kind }
 {
-    let reached = first_stage(ram, context, iova, kind)?;
-    second_stage(ram, context, reached, kind)
+    let reached = first_stage(ram, features, context, iova, kind)?;
+    second_stage(ram, features, context, reached, kind)
 }
 
 /// A law of translations: over one memory and under one context, what one IOVA of a page hits, each of them hits. The function does
@@ -73,19 +95,31 @@ pub fn one_hit_a_page()
 /// Where the first stage of a context leads an IOVA, as `translate` does it, with the same faults; a Bare one leads to the IOVA
 /// itself.
 #[inline(always)]
-pub fn first_stage(ram: &Ram, context: &Context, iova: u64, kind: Kind) -> Result<Reached, Fault>
-    requires well_formed { IsWellFormed context.now }
+pub fn first_stage(
+    ram: &Ram,
+    features: Features,
+    context: &Context,
+    iova: u64,
+    kind: Kind,
+) -> Result<Reached, Fault>
     ensures reached { result
-        ≡ told_of kind (first_stage ram.now context.now iova kind (first_shape_of context.now)) }
+        ≡ told_of kind (first_stage ram.now features context.now iova kind (first_shape_of context.now)) }
     ensures fits { IfOk result
-        (λ reached. (first_shape_of context.now ≢ None → reached.addr < 2 ^ 56) × (reached.level < 4)) }
+        (λ reached. (first_shape_of context.now ≢ None → reached.addr < 2 ^ 56) × (reached.level < 5)) }
 {
     let Some(shape) = first_shape(context) else {
         return Ok(unmoved(iova));
     };
+    let format = Format { shape, features };
     let outcome = match second_shape(context) {
-        Some(_) => walk(&Second::new(ram, context), shape, context.ppn, iova, kind),
-        None => walk(&Physical { ram }, shape, context.ppn, iova, kind),
+        Some(_) => walk(
+            &Second::new(ram, features, context),
+            format,
+            context.fields.ppn,
+            iova,
+            kind,
+        ),
+        None => walk(&Physical { ram }, format, context.fields.ppn, iova, kind),
     };
     reached_by(outcome, iova, kind)
 }
@@ -95,26 +129,34 @@ pub fn first_stage(ram: &Ram, context: &Context, iova: u64, kind: Kind) -> Resul
 pub fn first_stage_listed(
     met: &mut PathEntries,
     ram: &Ram,
+    features: Features,
     context: &Context,
     iova: u64,
     kind: Kind,
 ) -> Result<Reached, Fault>
-    requires well_formed { IsWellFormed context.now }
     requires empty { met.old.items ≡ [] }
-    ensures entries { met.new.items ≡ first_path ram.now context.now iova kind (first_shape_of context.now) }
-    ensures few { array_vec_len met.new ≤ 4 }
+    ensures entries { met.new.items ≡ first_path ram.now features context.now iova kind (first_shape_of context.now) }
+    ensures few { array_vec_len met.new ≤ 5 }
     ensures reached { result
-        ≡ told_of kind (first_stage ram.now context.now iova kind (first_shape_of context.now)) }
+        ≡ told_of kind (first_stage ram.now features context.now iova kind (first_shape_of context.now)) }
     ensures fits { IfOk result
-        (λ reached. (first_shape_of context.now ≢ None → reached.addr < 2 ^ 56) × (reached.level < 4)) }
+        (λ reached. (first_shape_of context.now ≢ None → reached.addr < 2 ^ 56) × (reached.level < 5)) }
 {
     let Some(shape) = first_shape(context) else {
         return Ok(unmoved(iova));
     };
-    let (root, bare) = (context.ppn, Physical { ram });
+    let format = Format { shape, features };
+    let (root, bare) = (context.fields.ppn, Physical { ram });
     let outcome = match second_shape(context) {
-        Some(_) => walk_listed(met, &Second::new(ram, context), shape, root, iova, kind),
-        None => walk_listed(met, &bare, shape, root, iova, kind),
+        Some(_) => walk_listed(
+            met,
+            &Second::new(ram, features, context),
+            format,
+            root,
+            iova,
+            kind,
+        ),
+        None => walk_listed(met, &bare, format, root, iova, kind),
     };
     reached_by(outcome, iova, kind)
 }
@@ -122,12 +164,13 @@ pub fn first_stage_listed(
 // Where a Bare first stage leads an IOVA.
 #[inline(always)]
 fn unmoved(iova: u64) -> Reached
-    ensures { result ≡ record { addr = iova; level = 0; global = false } }
+    ensures { result ≡ record { addr = iova; level = 0; global = false; napot = false } }
 {
     Reached {
         addr: iova,
         level: 0,
         global: false,
+        napot: false,
     }
 }
 
@@ -136,13 +179,14 @@ fn unmoved(iova: u64) -> Reached
 fn reached_by(outcome: Outcome, iova: u64, kind: Kind) -> Result<Reached, Fault>
     requires { LeafReaches outcome }
     ensures reached { result ≡ told_of kind (reached_by iova outcome) }
-    ensures fits { IfOk result (λ reached. (reached.addr < 2 ^ 56) × (reached.level < 4)) }
+    ensures fits { IfOk result (λ reached. (reached.addr < 2 ^ 56) × (reached.level < 5)) }
 {
     match outcome {
         Outcome::Leaf(leaf) => Ok(Reached {
             addr: leaf.frame * 4096 + iova % 4096,
             level: leaf.level,
             global: leaf.global,
+            napot: leaf.napot,
         }),
         Outcome::Outside => Err(entry_outside(kind)),
         Outcome::Guest(place) => Err(Fault {
@@ -160,20 +204,25 @@ fn reached_by(outcome: Outcome, iova: u64, kind: Kind) -> Result<Reached, Fault>
 /// the same address, which is below 2^56 then.
 pub fn second_stage(
     ram: &Ram,
+    features: Features,
     context: &Context,
     reached: Reached,
     kind: Kind,
 ) -> Result<Hit, Fault>
-    requires well_formed { IsWellFormed context.now }
-    requires level { reached.level < 4 }
+    requires level { reached.level < 5 }
     requires inside { second_shape_of context.now ≡ None → reached.addr < 2 ^ 56 }
     ensures hit { result
-        ≡ told_of kind (second_stage ram.now context.now kind (second_shape_of context.now) reached) }
-    ensures fits { IfOk result HitFits }
+        ≡ told_of kind (second_stage ram.now features context.now kind (second_shape_of context.now) reached) }
 {
     let frame = match second_shape(context) {
         None => reached.addr / 4096,
-        Some(shape) => match walk(&Physical { ram }, shape, context.gppn, reached.addr, kind) {
+        Some(shape) => match walk(
+            &Physical { ram },
+            Format { shape, features },
+            context.fields.gppn,
+            reached.addr,
+            kind,
+        ) {
             Outcome::Leaf(leaf) => leaf.frame,
             Outcome::Outside => return Err(entry_outside(kind)),
             Outcome::Guest(_) | Outcome::Fault => {
@@ -188,6 +237,7 @@ pub fn second_stage(
         frame,
         level: reached.level,
         global: reached.global,
+        napot: reached.napot,
     })
 }
 
@@ -201,13 +251,14 @@ fn entry_outside(kind: Kind) -> Fault
     }
 }
 
-/// The shape of the first stage's tables, by fsc.MODE: 8 is Sv39, 9 is Sv48; None where it is Bare, 0.
+/// The shape of the first stage's tables, by fsc.MODE: 8 is Sv39, 9 is Sv48, 10 is Sv57; None where it is Bare, 0.
 pub fn first_shape(context: &Context) -> Option<Shape>
     ensures { result ≡ first_shape_of context.now }
 {
-    match context.mode {
+    match context.fields.mode {
         0 => None,
         8 => Some(Shape::Sv39),
-        _ => Some(Shape::Sv48),
+        9 => Some(Shape::Sv48),
+        _ => Some(Shape::Sv57),
     }
 }

@@ -48,6 +48,7 @@ is_stored registers memory = not (is_stopped registers) && not (is_full register
 
 -- `new` differs from `old` in the fault queue's tail and flags and in the pending interrupts at most
 pub record KeepsOtherRegisters (old new : Registers) : Type 0 where
+  pub features : new.features ≡ old.features
   pub ddtp : new.ddtp ≡ old.ddtp
   pub cqb : new.cqb ≡ old.cqb
   pub cqh : new.cqh ≡ old.cqh
@@ -55,3 +56,4 @@ pub record KeepsOtherRegisters (old new : Registers) : Type 0 where
   pub fqb : new.fqb ≡ old.fqb
   pub fqh : new.fqh ≡ old.fqh
   pub cqcsr : new.cqcsr ≡ old.cqcsr
+  pub icvec : new.icvec ≡ old.icvec

@@ -1,3 +1,4 @@
 pub mod Controls
+pub mod Features
 pub mod Shifts
 pub mod Wide

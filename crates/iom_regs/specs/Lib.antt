@@ -1,3 +1,4 @@
+pub mod Offers
 pub mod Table
 pub mod Controls
 pub mod Queues

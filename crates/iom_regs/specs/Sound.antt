@@ -2,6 +2,7 @@
 use Rattle.std.specs.Prelude.{ℕ, ◌≡◌, ◌+◌, ◌*◌, ◌<◌, ◌≤◌, ◌^◌}
 use Rattle.std.specs.Int.{bit_at}
 use Rattle.iom_bits.specs.Bits.{field_of}
+use Rattle.iom_regs.specs.Offers.{icvec_of}
 use Rattle.iom_regs.specs.Table.{Registers, ddtp_of, queue_base_of, entries_of}
 
 -- what the named bits of a control and status register make: bits 1:0, `count` flags from bit 8 on, and bit 16
@@ -26,3 +27,5 @@ pub record IsSound (r : Registers) : Type 0 where
   pub fqcsr : named_bits r.fqcsr 2 ≡ r.fqcsr
   pub fqon : bit_at r.fqcsr 16 ≡ bit_at r.fqcsr 0
   pub ipsr : r.ipsr < 4
+  -- icvec has no more bits than number the vectors
+  pub icvec : icvec_of r.features.vectors r.icvec ≡ r.icvec

@@ -3,9 +3,12 @@
 use Rattle.std.specs.Prelude.{ℕ, ◌≡◌, ◌+◌, ◌*◌, ◌/◌, ◌%◌, ◌^◌, ◌==◌, ◌&&◌, ◌||◌, Bool, not, Option, Some, None, nat_le, if◌then◌else◌}
 use Rattle.std.specs.Int.{bit_at}
 use Rattle.iom_bits.specs.Bits.{field_of}
+use Rattle.iom_bits.specs.declared.features.Features.{Features}
+use Rattle.iom_regs.specs.Offers.{capabilities_of, icvec_of}
 
--- a number for each register that can change, as a read shows it
+-- the features that the IOMMU was made with, and a number for each register that can change, as a read shows it
 pub record Registers : Type 0 where
+  pub features : Features
   pub ddtp : ℕ
   pub cqb : ℕ
   pub cqh : ℕ
@@ -16,6 +19,7 @@ pub record Registers : Type 0 where
   pub cqcsr : ℕ
   pub fqcsr : ℕ
   pub ipsr : ℕ
+  pub icvec : ℕ
 
 pub data Name : Type 0 where
   Capabilities : Name
@@ -30,6 +34,7 @@ pub data Name : Type 0 where
   Cqcsr : Name
   Fqcsr : Name
   Ipsr : Name
+  Icvec : Name
 
 -- four aligned bytes are a register, a half of one, or nothing
 pub data Slot : Type 0 where
@@ -56,12 +61,13 @@ slot_at off =
     else if off == 72 then Whole Cqcsr
     else if off == 76 then Whole Fqcsr
     else if off == 84 then Whole Ipsr
+    else if off == 760 then Low Icvec
+    else if off == 764 then High Icvec
     else Free
 
--- what a read shows. "IOMMU capabilities": version 1.0, Sv39, Sv48, Sv39x4, Sv48x4, IGS = WSI, PAS = 56. "Features-control register":
--- WSI
+-- what a read shows. "Features-control register": WSI
 abbrev pub shown : Registers → Name → ℕ
-shown r Capabilities = 0x3810060610
+shown r Capabilities = capabilities_of r.features
 shown r Fctl = 2
 shown r Ddtp = r.ddtp
 shown r Cqb = r.cqb
@@ -73,6 +79,7 @@ shown r Fqt = r.fqt
 shown r Cqcsr = r.cqcsr
 shown r Fqcsr = r.fqcsr
 shown r Ipsr = r.ipsr
+shown r Icvec = r.icvec
 
 -- "Device-directory-table pointer": the mode, bits 3:0 (0 Off, 1 Bare, 2 to 4 for one to three levels), and the PPN, bits 53:10
 abbrev pub ddtp_of : ℕ → ℕ
@@ -116,8 +123,8 @@ fqcsr_of old value =
 
 -- what a written number makes of the registers: "IOMMU capabilities", "Features-control register",
 -- "Device-directory-table pointer", "Command-queue base", "Command-queue head", "Command-queue tail", "Fault-queue base",
--- "Fault-queue head", "Fault-queue tail", "Command-queue control and status", "Fault-queue control and status" and
--- "Interrupt pending status", in this order
+-- "Fault-queue head", "Fault-queue tail", "Command-queue control and status", "Fault-queue control and status",
+-- "Interrupt pending status" and "Interrupt-cause-to-vector register", in this order
 abbrev pub written : Name → ℕ → Registers → Registers
 written Capabilities value r = r
 written Fctl value r = r
@@ -135,6 +142,7 @@ written Fqt value r = r
 written Cqcsr value r = record r { cqcsr = cqcsr_of r.cqcsr value; cqh = if turns_on r.cqcsr value then 0 else r.cqh }
 written Fqcsr value r = record r { fqcsr = fqcsr_of r.fqcsr value; fqt = if turns_on r.fqcsr value then 0 else r.fqt }
 written Ipsr value r = record r { ipsr = flag_after r.ipsr value 0 + flag_after r.ipsr value 1 }
+written Icvec value r = record r { icvec = icvec_of r.features.vectors value }
 
 -- "Interrupt pending status": cip, bit 0, is set where cie is and one of cqmf, cmd_to, cmd_ill and fence_w_ip is; fip, bit 1,
 -- where fie is and fqmf or fqof is. Nothing but a write clears them
@@ -198,5 +206,18 @@ abbrev pub after_write : Registers → ℕ → ℕ → ℕ → Registers
 after_write r off size value =
     with_pending (if size == 4 then written_at (slot_at off) value r else written_wide (slot_at off) value r)
 
-abbrev pub reset : Registers
-reset = record { ddtp = 0; cqb = 0; cqh = 0; cqt = 0; fqb = 0; fqh = 0; fqt = 0; cqcsr = 0; fqcsr = 0; ipsr = 0 }
+abbrev pub reset : Features → Registers
+reset features = record {
+  features = features;
+  ddtp = 0;
+  cqb = 0;
+  cqh = 0;
+  cqt = 0;
+  fqb = 0;
+  fqh = 0;
+  fqt = 0;
+  cqcsr = 0;
+  fqcsr = 0;
+  ipsr = 0;
+  icvec = 0;
+}

@@ -1,7 +1,7 @@
 //! Where the registers stand, in bytes from the first on ("Register layout"), and bits of the control and status registers.
 
 ghost use Rattle.std.specs.Prelude.{◌≡◌};
-ghost use Rattle.iom_regs.specs.Table.{slot_at, Whole, Low, Capabilities, Fctl, Ddtp, Cqb, Cqh, Cqt, Fqb, Fqh, Fqt, Cqcsr, Fqcsr, Ipsr};
+ghost use Rattle.iom_regs.specs.Table.{slot_at, Whole, Low, Capabilities, Fctl, Ddtp, Cqb, Cqh, Cqt, Fqb, Fqh, Fqt, Cqcsr, Fqcsr, Ipsr, Icvec};
 
 /// capabilities, 8 bytes.
 pub const CAPABILITIES: u64 = 0;
@@ -39,6 +39,9 @@ pub const FQCSR: u64 = 76;
 /// ipsr, 4 bytes.
 pub const IPSR: u64 = 84;
 
+/// icvec, 8 bytes.
+pub const ICVEC: u64 = 760;
+
 // The upper halves of registers of eight bytes.
 
 /// The upper half of ddtp.
@@ -49,6 +52,9 @@ pub const CQB_HIGH: u64 = 28;
 
 /// The upper half of fqb.
 pub const FQB_HIGH: u64 = 44;
+
+/// The upper half of icvec.
+pub const ICVEC_HIGH: u64 = 764;
 
 /// The four bytes before ipsr, where no register stands.
 pub const BEFORE_IPSR: u64 = 80;
@@ -86,4 +92,5 @@ pub fn register_layout()
     ensures cqcsr { slot_at CQCSR ≡ Whole Cqcsr }
     ensures fqcsr { slot_at FQCSR ≡ Whole Fqcsr }
     ensures ipsr { slot_at IPSR ≡ Whole Ipsr }
+    ensures icvec { slot_at ICVEC ≡ Low Icvec }
 {}

@@ -2,7 +2,8 @@
 #![tactic(auto)]
 
 pub use layout::{
-    CAPABILITIES, CQB, CQCSR, CQH, CQT, DDTP, FCTL, FQB, FQCSR, FQH, FQT, IPSR, register_layout,
+    CAPABILITIES, CQB, CQCSR, CQH, CQT, DDTP, FCTL, FQB, FQCSR, FQH, FQT, ICVEC, IPSR,
+    register_layout,
 };
 pub use regs::Regs;
 pub use views::{CommandErrors, FaultErrors, Mode, Queue, Which};
@@ -10,6 +11,7 @@ pub use views::{CommandErrors, FaultErrors, Mode, Queue, Which};
 mod flags;
 mod layout;
 mod mapped;
+mod offers;
 mod regs;
 mod ring;
 mod views;

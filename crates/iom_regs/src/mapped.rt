@@ -7,15 +7,13 @@ use crate::flags::{
 };
 use crate::layout::{
     BEFORE_IPSR, CAPABILITIES, CMD_ILL, CQB, CQB_HIGH, CQCSR, CQH, CQMF, CQT, DDTP, DDTP_HIGH,
-    FCTL, FENCE_W_IP, FQB, FQB_HIGH, FQCSR, FQH, FQMF, FQOF, IPSR,
+    FCTL, FENCE_W_IP, FQB, FQB_HIGH, FQCSR, FQH, FQMF, FQOF, ICVEC, ICVEC_HIGH, IPSR,
 };
+use crate::offers::{capabilities, vectors_kept};
 use crate::ring::{Ring, entries};
 use crate::views::{CommandErrors, FaultErrors, Mode, Queue, Which};
-use iom_bits::{field, has_bit, with_field};
+use iom_bits::{Features, field, has_bit, with_field};
 use std::marker::Model;
-
-// capabilities: version 1.0, Sv39, Sv48, Sv39x4, Sv48x4, interrupts by wire alone, 56 bits of physical address.
-const CAPABLE: u64 = 0x38_1006_0610;
 
 // fctl: interrupts by wire.
 const BY_WIRE: u64 = 2;
@@ -26,10 +24,12 @@ const HIGHEST_MODE: u64 = 4;
 /// The register file before the rule of pending interrupts: `settle` follows each change.
 #[derive(Clone, Copy)]
 pub struct MappedRegisters {
+    features: Features,
     ddtp: u64,
     commands: Ring,
     faults: Ring,
     ipsr: u64,
+    icvec: u64,
 }
 
 impl Model for MappedRegisters {
@@ -39,6 +39,7 @@ impl Model for MappedRegisters {
     ghost Value = { Registers };
 
     ghost view = { λ r. record {
+      features = r.features;
       ddtp = r.ddtp;
       cqb = r.commands.base;
       cqh = r.commands.head;
@@ -49,16 +50,20 @@ impl Model for MappedRegisters {
       cqcsr = r.commands.control;
       fqcsr = r.faults.control;
       ipsr = r.ipsr;
+      icvec = r.icvec;
     } };
 
     ghost inverse = { λ r. record {
+      features = r.features;
       ddtp = r.ddtp;
       commands = record { base = r.cqb; head = r.cqh; tail = r.cqt; control = r.cqcsr };
       faults = record { base = r.fqb; head = r.fqh; tail = r.fqt; control = r.fqcsr };
       ipsr = r.ipsr;
+      icvec = r.icvec;
     } };
 
     ghost invariant = { λ r. IsSound (record {
+      features = r.features;
       ddtp = r.ddtp;
       cqb = r.commands.base;
       cqh = r.commands.head;
@@ -69,25 +74,35 @@ impl Model for MappedRegisters {
       cqcsr = r.commands.control;
       fqcsr = r.faults.control;
       ipsr = r.ipsr;
+      icvec = r.icvec;
     }) };
 }
 
 impl MappedRegisters {
-    ghost use Rattle.iom_regs.specs.Table.{Ddtp, Cqcsr, Fqcsr, reset, shown_at, slot_at, written, written_at, written_wide, with_pending};
+    ghost use Rattle.iom_regs.specs.Table.{Ddtp, Cqcsr, Fqcsr, Icvec, reset, shown_at, slot_at, written, written_at, written_wide, with_pending};
     ghost use Rattle.iom_regs.specs.Sound.{IsSound};
     ghost use Rattle.iom_regs.specs.Queues.{tail_passed};
     ghost use Rattle.iom_regs.specs.Views.{command_errors_of, fault_errors_of, mode_of, root_of, queue_of};
 
-    /// The registers at reset: every register that can change is 0.
-    pub fn reset() -> Self
-        ensures { result ≡ reset }
+    /// The registers of an IOMMU with these features, at reset: every register that can change is 0.
+    pub fn reset(features: Features) -> Self
+        ensures { result ≡ reset features }
     {
         MappedRegisters {
+            features,
             ddtp: 0,
             commands: Ring::reset(),
             faults: Ring::reset(),
             ipsr: 0,
+            icvec: 0,
         }
+    }
+
+    /// What the IOMMU offers.
+    pub fn features(&self) -> Features
+        ensures { result ≡ self.now.features }
+    {
+        self.features
     }
 
     /// What stands between a device and memory: ddtp.iommu_mode ("Device-directory-table pointer (ddtp)").
@@ -156,7 +171,7 @@ impl MappedRegisters {
         ensures high { result / 2 ^ 32 ≡ shown_at self.now (slot_at (off + 4)) }
     {
         match off {
-            CAPABILITIES => CAPABLE,
+            CAPABILITIES => capabilities(self.features),
             FCTL => BY_WIRE,
             DDTP => self.ddtp,
             CQB => self.commands.base,
@@ -165,6 +180,7 @@ impl MappedRegisters {
             FQH => self.faults.head + (self.faults.tail << 32),
             CQCSR => self.commands.control + (self.faults.control << 32),
             BEFORE_IPSR => self.ipsr << 32,
+            ICVEC => self.icvec,
             _ => 0,
         }
     }
@@ -178,6 +194,13 @@ impl MappedRegisters {
         }
     }
 
+    // icvec by a written number.
+    fn set_icvec(&mut self, value: u64)
+        ensures { self.new ≡ written Icvec value self.old }
+    {
+        self.icvec = vectors_kept(self.features.vectors, value);
+    }
+
     /// Writes eight bytes at offset `off`, where a write of eight bytes is legal: a whole register, or nothing where none stands
     /// there.
     pub fn set_wide(&mut self, off: u64, value: u64)
@@ -188,6 +211,7 @@ impl MappedRegisters {
             DDTP => self.set_ddtp(value),
             CQB => self.commands.set_base(value),
             FQB => self.faults.set_base(value),
+            ICVEC => self.set_icvec(value),
             _ => {}
         }
     }
@@ -211,6 +235,8 @@ impl MappedRegisters {
             CQCSR => self.control_commands(value),
             FQCSR => self.control_faults(value),
             IPSR => self.ipsr = pending_cleared(self.ipsr, value),
+            ICVEC => self.set_icvec(with_low(self.icvec, value)),
+            ICVEC_HIGH => self.set_icvec(with_high(self.icvec, value)),
             _ => {}
         }
     }

@@ -1,10 +1,11 @@
 ghost use Rattle.std.specs.Prelude.{◌≡◌, ◌+◌, ◌^◌, ◌<◌, ◌≤◌};
 ghost use Rattle.std.specs.Bool.{OnTrue, OnFalse};
+ghost use Rattle.iom_bits.specs.Features.{no_features};
 ghost use Rattle.iom_regs.specs.Table.{is_legal};
 
 use crate::mapped::MappedRegisters;
 use crate::views::{CommandErrors, FaultErrors, Mode, Queue, Which};
-use iom_bits::field;
+use iom_bits::{Features, field};
 use std::marker::Model;
 
 /// The IOMMU's register file (RISC-V IOMMU Architecture 1.0, "Memory-mapped register interface"). In every state interrupts are
@@ -34,13 +35,28 @@ impl Regs {
     ghost use Rattle.iom_regs.specs.Sound.{IsSound};
     ghost use Rattle.iom_regs.specs.Views.{command_errors_of, fault_errors_of, mode_of, root_of, queue_of};
 
-    /// The registers at reset: ddtp's mode is Off, and both queues are off. Every register that can change is 0.
+    /// The registers of an IOMMU without any of the features that `Features` names, at reset: ddtp's mode is Off, and both queues
+    /// are off. Every register that can change is 0.
     pub fn reset() -> Self
-        ensures { result ≡ reset }
+        ensures { result ≡ reset no_features }
+    {
+        Regs::with_features(Features::none())
+    }
+
+    /// As `reset`, of an IOMMU with these features.
+    pub fn with_features(features: Features) -> Self
+        ensures { result ≡ reset features }
     {
         Regs {
-            mapped: MappedRegisters::reset(),
+            mapped: MappedRegisters::reset(features),
         }
+    }
+
+    /// What the IOMMU offers: what the registers were made with, since nothing changes it.
+    pub fn features(&self) -> Features
+        ensures { result ≡ self.now.features }
+    {
+        self.mapped.features()
     }
 
     /// The number of the `size` bytes of the registers from offset `off` on, the lowest byte first; None where the access isn't
@@ -67,13 +83,15 @@ impl Regs {
     /// is changed. What is legal `read` says. Of four bytes `value` is below 2^32.
     ///
     /// Reserved bits stay 0, and read-only registers and places with no register stay as they are. ddtp doesn't take a mode above
-    /// 4; cqb and fqb change while their queue is off alone; cqt and fqh are taken modulo the queue's entries; flags that a 1
-    /// clears are those of cqcsr, fqcsr and ipsr. The rule of pending interrupts follows.
+    /// 4; cqb and fqb change while their queue is off alone; cqt and fqh are taken modulo the queue's entries; icvec takes a
+    /// vector modulo the number of vectors; flags that a 1 clears are those of cqcsr, fqcsr and ipsr. The rule of pending interrupts
+    /// follows.
     pub fn write(&mut self, off: u64, size: u64, value: u64) -> bool
         requires { size ≡ 4 → value < 2 ^ 32 }
         ensures legal { result ≡ is_legal off size }
         ensures written { OnTrue result (self.new ≡ after_write self.old off size value) }
         ensures refused { OnFalse result (self.new ≡ self.old) }
+        ensures features { self.new.features ≡ self.old.features }
 
         // Eight bytes are one register or nothing; the control and status registers bit by bit.
         ensures one_register { OnTrue result

@@ -9,6 +9,8 @@ use Rattle.iom_bits.specs.declared.causes.Cause.{Cause}
 use Rattle.iom_bits.specs.declared.causes.Cause.TheVariants.{DirBad, DirInvalid}
 use Rattle.iom_bits.specs.declared.causes.Kind.{Kind}
 use Rattle.iom_bits.specs.declared.causes.Kind.TheVariants.{Read}
+use Rattle.iom_bits.specs.declared.features.Features.{Features}
+use Rattle.iom_bits.specs.Features.{no_features}
 use Rattle.iom_mem.specs.Memory.{Memory, word, words_at}
 use Rattle.iom_regs.specs.Sound.{IsSound}
 use Rattle.iom_regs.specs.Table.{Registers}
@@ -32,19 +34,18 @@ use Rattle.iom_walk.specs.declared.listing.PathEntry.{PathEntry}
 use Rattle.iom_walk.specs.declared.outcome.Outcome.{Outcome}
 use Rattle.iom_walk.specs.declared.outcome.Outcome.TheVariants as outcome
 use Rattle.iom_walk.specs.declared.shape.Shape.{Shape}
-use Rattle.iom_walk.specs.declared.shape.Shape.TheVariants.{Sv39, Sv39x4, Sv48, Sv48x4}
+use Rattle.iom_walk.specs.declared.shape.Shape.TheVariants.{Sv39, Sv39x4, Sv48, Sv48x4, Sv57, Sv57x4}
 use Rattle.iom_walk.specs.declared.source.Got.{Got}
-use Rattle.iom_walk.proofs.Entries.{leaf_aligned}
 use Rattle.iom_walk.proofs.Frames.{frame_fits}
+use Rattle.iom_walk.specs.declared.shape.Format.{Format}
 use Rattle.iom_nested.specs.Faults.{Failure}
 use Rattle.iom_nested.specs.Nested.{first_stage, reached_by}
-use Rattle.iom_nested.specs.Stages.{first_shape_of, ram_got, second_shape_of, shape_by, table_got}
+use Rattle.iom_nested.specs.Stages.{first_shape_of, format_of, ram_got, second_shape_of, shape_by, table_got}
 use Rattle.iom_nested.specs.declared.translation.Reached.{Reached}
 use Rattle.iom_core.specs.State.{Machine}
 use Rattle.iom_core.specs.declared.access.Request.{Request}
 use Rattle.iom_tables.specs.Bounds.{EntryFits, MetFits, ModeFits, PartFits}
 use Rattle.iom_tables.specs.Parts.{access_parts, address_by, directory_parts, entry_parts, first_by, first_parts, parts_by, parts_of, read_at, read_by, second_by, second_parts, stage_parts}
-use Rattle.iom_core.specs.Access.{Fits}
 use Rattle.iom_core.specs.Looking.{by_tables}
 use Rattle.iom_tables.specs.declared.part.Part.{Part}
 use Rattle.iom_tables.specs.declared.part.Part.TheVariants as part
@@ -114,73 +115,75 @@ index_below shape address level low =
     rw below (field_below address (12 + 9 * level) 9)
 
 abbrev Within : Entry → Type 0
-Within entry = (entry.place < 2 ^ 56) × (entry.level < 4)
+Within entry = (entry.place < 2 ^ 56) × (entry.level < 5)
 
 behind_pointer : (pointer : Bool) (rest : List Entry) → All Within rest → All Within (if pointer then rest else [])
 behind_pointer true rest each = each
 behind_pointer false rest each = All-nil Within
 
-few_levels : (shape : Shape) → levels shape ≤ 4
+few_levels : (shape : Shape) → levels shape ≤ 5
 few_levels Sv39 = omega arith
 few_levels Sv39x4 = omega arith
 few_levels Sv48 = omega arith
 few_levels Sv48x4 = omega arith
+few_levels Sv57 = omega arith
+few_levels Sv57x4 = omega arith
 
 -- an entry that stands within bounds, and those behind it
-entry_within : (at : ℕ → Got) (shape : Shape) (address table count : ℕ) → suc count ≤ levels shape →
-    table * 4096 + index_of shape address count * 8 < 2 ^ 56 → All Within (path_from at shape address (next_table (entry_at at shape address table count)) count) →
-    All Within (path_from at shape address table (suc count))
+entry_within : (at : ℕ → Got) (format : Format) (address table count : ℕ) → suc count ≤ levels format.shape →
+    table * 4096 + index_of format.shape address count * 8 < 2 ^ 56 → All Within (path_from at format address (next_table (entry_at at format address table count)) count) →
+    All Within (path_from at format address table (suc count))
 unfolding path_from
-entry_within at shape address table count some place more =
-    let entry : Entry = entry_at at shape address table count in
-    let pointer : Bool = is_pointer (verdict_on Read entry) in
-    let rest : List Entry = path_from at shape address (next_table entry) count in
-    let level : count < 4 = omega (arith, few_levels shape) in
+entry_within at format address table count some place more =
+    let entry : Entry = entry_at at format address table count in
+    let pointer : Bool = is_pointer (verdict_on format.features Read entry) in
+    let rest : List Entry = path_from at format address (next_table entry) count in
+    let level : count < 5 = omega (arith, few_levels format.shape) in
     All-cons Within entry (if pointer then rest else []) (place, level) (behind_pointer pointer rest more)
 
-below_within : (at : ℕ → Got) (shape : Shape) (address table count : ℕ) → table < 2 ^ 44 → count < levels shape →
-    All Within (path_from at shape address table count)
+below_within : (at : ℕ → Got) (format : Format) (address table count : ℕ) → table < 2 ^ 44 → count < levels format.shape →
+    All Within (path_from at format address table count)
 unfolding path_from
-below_within at shape address table zero low some = All-nil Within
-below_within at shape address table (suc count) low some =
-    let entry : Entry = entry_at at shape address table count in
-    let index : index_of shape address count < 512 = index_below shape address count some in
-    let place : table * 4096 + index_of shape address count * 8 < 2 ^ 56 = omega arith in
-    let within : suc count ≤ levels shape = omega arith in
-    entry_within at shape address table count within place
-    (below_within at shape address (next_table entry) count (field_below (word_of entry.got) 10 44) (omega arith))
+below_within at format address table zero low some = All-nil Within
+below_within at format address table (suc count) low some =
+    let entry : Entry = entry_at at format address table count in
+    let index : index_of format.shape address count < 512 = index_below format.shape address count some in
+    let place : table * 4096 + index_of format.shape address count * 8 < 2 ^ 56 = omega arith in
+    let within : suc count ≤ levels format.shape = omega arith in
+    entry_within at format address table count within place
+    (below_within at format address (next_table entry) count (field_below (word_of entry.got) 10 44) (omega arith))
 
-root_within : (at : ℕ → Got) (shape : Shape) (address root count : ℕ) → count ≤ levels shape →
-    root * 4096 + index_of shape address (count - 1) * 8 < 2 ^ 56 → All Within (path_from at shape address root count)
+root_within : (at : ℕ → Got) (format : Format) (address root count : ℕ) → count ≤ levels format.shape →
+    root * 4096 + index_of format.shape address (count - 1) * 8 < 2 ^ 56 → All Within (path_from at format address root count)
 unfolding path_from
-root_within at shape address root zero some place = All-nil Within
-root_within at shape address root (suc count) some place =
-    let entry : Entry = entry_at at shape address root count in
+root_within at format address root zero some place = All-nil Within
+root_within at format address root (suc count) some place =
+    let entry : Entry = entry_at at format address root count in
     let less : suc count - 1 ≡ count = omega arith in
-    let stands : root * 4096 + index_of shape address count * 8 < 2 ^ 56 =
-    subst (λ n. root * 4096 + index_of shape address n * 8 < 2 ^ 56) less place in
-    entry_within at shape address root count some stands
-    (below_within at shape address (next_table entry) count (field_below (word_of entry.got) 10 44) (omega arith))
+    let stands : root * 4096 + index_of format.shape address count * 8 < 2 ^ 56 =
+    subst (λ n. root * 4096 + index_of format.shape address n * 8 < 2 ^ 56) less place in
+    entry_within at format address root count some stands
+    (below_within at format address (next_table entry) count (field_below (word_of entry.got) 10 44) (omega arith))
 
-walk_within : (at : ℕ → Got) (shape : Shape) (root address : ℕ) → RootFits shape root → All Within (walk_path_of at shape root address)
-walk_within at shape root address rooted = root_within at shape address root (levels shape) (omega arith) (rooted address)
+walk_within : (at : ℕ → Got) (format : Format) (root address : ℕ) → RootFits format.shape root → All Within (walk_path_of at format root address)
+walk_within at format root address rooted = root_within at format address root (levels format.shape) (omega arith) (rooted address)
 
 -- the entries that are told, of an address that keeps the width rule
 abbrev IsTold : Shape → ℕ → PathEntry → Type 0
 IsTold shape address entry = (is_in_width shape address ≡ true) × EntryFits entry
 
-walk_fits : (at : ℕ → Got) (shape : Shape) (root address : ℕ) (kind : Kind) → RootFits shape root →
-    All (IsTold shape address) (path_told at shape root address kind)
+walk_fits : (at : ℕ → Got) (format : Format) (root address : ℕ) (kind : Kind) → RootFits format.shape root →
+    All (IsTold format.shape address) (path_told at format root address kind)
 unfolding path_told
-walk_fits at shape root address kind rooted =
-    let path : List Entry = walk_path_of at shape root address in
-    let Goal : Bool → Type 0 = λ wide. is_in_width shape address ≡ wide → All (IsTold shape address) (if wide then map (told kind) path else []) in
+walk_fits at format root address kind rooted =
+    let path : List Entry = walk_path_of at format root address in
+    let Goal : Bool → Type 0 = λ wide. is_in_width format.shape address ≡ wide → All (IsTold format.shape address) (if wide then map (told format.features kind) path else []) in
     let by_width : (wide : Bool) → Goal wide = λ wide. elim wide as Goal [
-      | true ↦ λ is. All-map (IsTold shape address) (told kind) path
-          (All-weaker Within (λ entry. IsTold shape address (told kind entry)) (λ entry within. (is, within)) path
-          (walk_within at shape root address rooted))
-      | false ↦ λ is. All-nil (IsTold shape address)
-    ] in by_width (is_in_width shape address) refl
+      | true ↦ λ is. All-map (IsTold format.shape address) (told format.features kind) path
+          (All-weaker Within (λ entry. IsTold format.shape address (told format.features kind entry)) (λ entry within. (is, within)) path
+          (walk_within at format root address rooted))
+      | false ↦ λ is. All-nil (IsTold format.shape address)
+    ] in by_width (is_in_width format.shape address) refl
 
 -- the frame that a walk ends at
 abbrev FrameFits : Outcome → Type 0
@@ -189,32 +192,31 @@ FrameFits outcome.Outside = Unit {0}
 FrameFits (outcome.Guest place) = Unit {0}
 FrameFits outcome.Fault = Unit {0}
 
-verdict_fits : (kind : Kind) (global : Bool) (address : ℕ) (entry : Entry) (says : Verdict) → entry.level < 4 →
-    says ≡ verdict_of kind entry.level entry.got → FrameFits (conclude global address entry says)
-verdict_fits kind global address entry verdict.Outside level is = tt
-verdict_fits kind global address entry verdict.Guest level is = tt
-verdict_fits kind global address entry verdict.Fault level is = tt
-verdict_fits kind global address entry (verdict.Pointer word) level is = tt
-verdict_fits kind global address entry (verdict.Leaf word) level is =
-    frame_fits word address entry.level level (leaf_aligned kind entry.level word entry.got is)
+verdict_fits : (global : Bool) (address : ℕ) (entry : Entry) (says : Verdict) → entry.level < 5 → FrameFits (conclude global address entry says)
+verdict_fits global address entry verdict.Outside level = tt
+verdict_fits global address entry verdict.Guest level = tt
+verdict_fits global address entry verdict.Fault level = tt
+verdict_fits global address entry (verdict.Pointer word) level = tt
+verdict_fits global address entry (verdict.Leaf word) level =
+    frame_fits word address entry.level level
 
-end_fits : (kind : Kind) (global : Bool) (address : ℕ) (path : List Entry) → All Within path →
-    FrameFits (conclude_at kind global address (find (λ entry. not (is_pointer (verdict_on kind entry))) path))
-end_fits kind global address [] each = tt
-end_fits kind global address (entry ∷ more) each =
-    let test : Entry → Bool = λ entry. not (is_pointer (verdict_on kind entry)) in
-    elim (test entry) as (λ ends. FrameFits (conclude_at kind global address (if ends then Some entry else find test more))) [
-      | true ↦ verdict_fits kind global address entry (verdict_on kind entry) (All-head Within entry more each).1 refl
-      | false ↦ end_fits kind global address more (All-tail Within entry more each)
+end_fits : (features : Features) (kind : Kind) (global : Bool) (address : ℕ) (path : List Entry) → All Within path →
+    FrameFits (conclude_at features kind global address (find (λ entry. not (is_pointer (verdict_on features kind entry))) path))
+end_fits features kind global address [] each = tt
+end_fits features kind global address (entry ∷ more) each =
+    let test : Entry → Bool = λ entry. not (is_pointer (verdict_on features kind entry)) in
+    elim (test entry) as (λ ends. FrameFits (conclude_at features kind global address (if ends then Some entry else find test more))) [
+      | true ↦ verdict_fits global address entry (verdict_on features kind entry) (All-head Within entry more each).1
+      | false ↦ end_fits features kind global address more (All-tail Within entry more each)
     ]
 
-outcome_fits : (at : ℕ → Got) (shape : Shape) (root address : ℕ) (kind : Kind) → RootFits shape root →
-    FrameFits (outcome_of at shape root address kind)
+outcome_fits : (at : ℕ → Got) (format : Format) (root address : ℕ) (kind : Kind) → RootFits format.shape root →
+    FrameFits (outcome_of at format root address kind)
 unfolding outcome_of verdict_on_path
-outcome_fits at shape root address kind rooted =
-    let path : List Entry = walk_path_of at shape root address in
-    elim (is_in_width shape address) as (λ wide. FrameFits (if wide then verdict_on_path kind address path else outcome.Fault)) [
-      | true ↦ end_fits kind _ address path (walk_within at shape root address rooted)
+outcome_fits at format root address kind rooted =
+    let path : List Entry = walk_path_of at format root address in
+    elim (is_in_width format.shape address) as (λ wide. FrameFits (if wide then verdict_on_path format.features kind address path else outcome.Fault)) [
+      | true ↦ end_fits format.features kind _ address path (walk_within at format root address rooted)
       | false ↦ tt
     ]
 
@@ -223,21 +225,24 @@ abbrev FirstFits : Option Shape → ℕ → Type 0
 FirstFits None root = Unit {0}
 FirstFits (Some shape) root = RootFits shape root
 
-first_root : (mode root : ℕ) → root < 2 ^ 44 → FirstFits (shape_by mode Sv39 Sv48) root
+first_root : (mode root : ℕ) → root < 2 ^ 44 → FirstFits (shape_by mode Sv39 Sv48 Sv57) root
 unfolding index_of
 first_root mode root low =
-    elim (mode == 0) as (λ bare. FirstFits (if bare then None else if mode == 8 then Some Sv39 else Some Sv48) root) [
+    elim (mode == 0) as (λ bare. FirstFits (if bare then None else if mode == 8 then Some Sv39 else if mode == 9 then Some Sv48 else Some Sv57) root) [
       | true ↦ tt
-      | false ↦ elim (mode == 8) as (λ three. FirstFits (if three then Some Sv39 else Some Sv48) root) [
+      | false ↦ elim (mode == 8) as (λ three. FirstFits (if three then Some Sv39 else if mode == 9 then Some Sv48 else Some Sv57) root) [
         | true ↦ λ address. let index : index_of Sv39 address 2 < 512 = field_below address 30 9 in omega arith
-        | false ↦ λ address. let index : index_of Sv48 address 3 < 512 = field_below address 39 9 in omega arith
+        | false ↦ elim (mode == 9) as (λ four. FirstFits (if four then Some Sv48 else Some Sv57) root) [
+          | true ↦ λ address. let index : index_of Sv48 address 3 < 512 = field_below address 39 9 in omega arith
+          | false ↦ λ address. let index : index_of Sv57 address 4 < 512 = field_below address 48 9 in omega arith
+        ]
       ]
     ]
 
 -- those of the second, whose root is aligned: and what it translates
 record SecondFits (shape : Shape) (root : ℕ) : Type 0 where
   stands : RootFits shape root
-  guest : (address : ℕ) → address < 2 ^ 64 → is_in_width shape address ≡ true → address < 2 ^ 50
+  guest : (address : ℕ) → address < 2 ^ 64 → is_in_width shape address ≡ true → address < 2 ^ 59
 
 abbrev StageFits : Option Shape → ℕ → Type 0
 StageFits None root = Unit {0}
@@ -255,7 +260,7 @@ narrow address low width below none =
 aligned_stands : (root index : ℕ) → root < 2 ^ 44 → root % 4 ≡ 0 → index < 2048 → root * 4096 + index * 8 < 2 ^ 56
 aligned_stands root index low aligned below = omega (arith, shr_split root 2)
 
-second_root : (mode root : ℕ) → root < 2 ^ 44 → (mode ≢ 0 → root % 4 ≡ 0) → StageFits (shape_by mode Sv39x4 Sv48x4) root
+second_root : (mode root : ℕ) → root < 2 ^ 44 → (mode ≢ 0 → root % 4 ≡ 0) → StageFits (shape_by mode Sv39x4 Sv48x4 Sv57x4) root
 unfolding index_of is_in_width
 second_root mode root low aligned =
     let three : (root % 4 ≡ 0) → SecondFits Sv39x4 root = λ is. record {
@@ -264,35 +269,40 @@ second_root mode root low aligned =
     } in
     let four : (root % 4 ≡ 0) → SecondFits Sv48x4 root = λ is. record {
       stands = λ address. aligned_stands root (index_of Sv48x4 address 3) low is (field_below address 39 11);
-      guest = λ address below wide. narrow address 50 14 below wide;
+      guest = λ address below wide. let small : address < 2 ^ 50 = narrow address 50 14 below wide in omega arith;
     } in
-    let Goal : Bool → Type 0 = λ bare. (mode == 0) ≡ bare → StageFits (if bare then None else if mode == 8 then Some Sv39x4 else Some Sv48x4) root in
+    let five : (root % 4 ≡ 0) → SecondFits Sv57x4 root = λ is. record {
+      stands = λ address. aligned_stands root (index_of Sv57x4 address 4) low is (field_below address 48 11);
+      guest = λ address below wide. narrow address 59 5 below wide;
+    } in
+    let Goal : Bool → Type 0 = λ bare. (mode == 0) ≡ bare →
+    StageFits (if bare then None else if mode == 8 then Some Sv39x4 else if mode == 9 then Some Sv48x4 else Some Sv57x4) root in
     let by_mode : (bare : Bool) → Goal bare = λ bare. elim bare as Goal [
       | true ↦ λ is. tt
       | false ↦ λ is.
           let at : root % 4 ≡ 0 = aligned (λ zero_mode. let bare_too : (mode == 0) ≡ true = rw zero_mode refl in cc) in
-          elim (mode == 8) as (λ eight. StageFits (if eight then Some Sv39x4 else Some Sv48x4) root) [
+          elim (mode == 8) as (λ eight. StageFits (if eight then Some Sv39x4 else if mode == 9 then Some Sv48x4 else Some Sv57x4) root) [
             | true ↦ three at
-            | false ↦ four at
+            | false ↦ elim (mode == 9) as (λ nine. StageFits (if nine then Some Sv48x4 else Some Sv57x4) root) [ true ↦ four at | false ↦ five at ]
           ]
     ] in by_mode (mode == 0) refl
 
 -- the parts of the second stage
-second_by_fits : (memory : Memory) (root : ℕ) (kind : Kind) (guest : ℕ) (shape : Option Shape) → StageFits shape root → guest < 2 ^ 64 →
-    All PartFits (second_by memory root kind guest shape)
-second_by_fits memory root kind guest None rooted below = All-nil PartFits
-second_by_fits memory root kind guest (Some shape) rooted below =
-    let path : List PathEntry = path_told (ram_got memory) shape root guest kind in
+second_by_fits : (memory : Memory) (features : Features) (root : ℕ) (kind : Kind) (guest : ℕ) (shape : Option Shape) → StageFits shape root → guest < 2 ^ 64 →
+    All PartFits (second_by memory features root kind guest shape)
+second_by_fits memory features root kind guest None rooted below = All-nil PartFits
+second_by_fits memory features root kind guest (Some shape) rooted below =
+    let path : List PathEntry = path_told (ram_got memory) (format_of features shape) root guest kind in
     each_by_width PartFits (is_in_width shape guest) (wide.Second guest) (map (part.Second guest) path) (λ is. below)
     (All-map PartFits (part.Second guest) path
     (All-weaker (IsTold shape guest) (λ entry. PartFits (part.Second guest entry)) (λ entry is. (rooted.guest guest below is.0, is.1)) path
-    (walk_fits (ram_got memory) shape root guest kind rooted.stands)))
+    (walk_fits (ram_got memory) (format_of features shape) root guest kind rooted.stands)))
 
-second_fits : (memory : Memory) (context : Context) (kind : Kind) (guest : ℕ) → IsWellFormed context → guest < 2 ^ 64 →
-    All PartFits (second_parts memory context kind guest)
+second_fits : (memory : Memory) (features : Features) (context : Context) (kind : Kind) (guest : ℕ) → IsWellFormed context → guest < 2 ^ 64 →
+    All PartFits (second_parts memory features context kind guest)
 unfolding second_parts
-second_fits memory context kind guest well below =
-    second_by_fits memory context.gppn kind guest (second_shape_of context)
+second_fits memory features context kind guest well below =
+    second_by_fits memory features context.gppn kind guest (second_shape_of context)
     (second_root context.gmode context.gppn well.second_root well.second_root_aligned) below
 
 -- those of an entry of the first
@@ -302,50 +312,50 @@ address_fits place outcome.Outside frame = tt
 address_fits place (outcome.Guest at) frame = tt
 address_fits place outcome.Fault frame = tt
 
-read_by_fits : (memory : Memory) (root place : ℕ) (shape : Option Shape) → StageFits shape root → place < 2 ^ 56 →
-    IfSome (read_by memory root place shape) (λ addr. addr < 2 ^ 56)
-read_by_fits memory root place None rooted below = below
-read_by_fits memory root place (Some shape) rooted below =
-    address_fits place (outcome_of (ram_got memory) shape root place Read) (outcome_fits (ram_got memory) shape root place Read rooted.stands)
+read_by_fits : (memory : Memory) (features : Features) (root place : ℕ) (shape : Option Shape) → StageFits shape root → place < 2 ^ 56 →
+    IfSome (read_by memory features root place shape) (λ addr. addr < 2 ^ 56)
+read_by_fits memory features root place None rooted below = below
+read_by_fits memory features root place (Some shape) rooted below =
+    address_fits place (outcome_of (ram_got memory) (format_of features shape) root place Read) (outcome_fits (ram_got memory) (format_of features shape) root place Read rooted.stands)
 
-read_fits : (memory : Memory) (context : Context) (place : ℕ) → IsWellFormed context → place < 2 ^ 56 →
-    IfSome (read_at memory context place) (λ addr. addr < 2 ^ 56)
+read_fits : (memory : Memory) (features : Features) (context : Context) (place : ℕ) → IsWellFormed context → place < 2 ^ 56 →
+    IfSome (read_at memory features context place) (λ addr. addr < 2 ^ 56)
 unfolding read_at
-read_fits memory context place well below =
-    read_by_fits memory context.gppn place (second_shape_of context)
+read_fits memory features context place well below =
+    read_by_fits memory features context.gppn place (second_shape_of context)
     (second_root context.gmode context.gppn well.second_root well.second_root_aligned) below
 
-entry_fits : (memory : Memory) (context : Context) (entry : PathEntry) → IsWellFormed context → EntryFits entry →
-    All PartFits (entry_parts memory context entry)
-entry_fits memory context entry well fits =
-    let first : Part = part.First entry (read_at memory context entry.place) in
+entry_fits : (memory : Memory) (features : Features) (context : Context) (entry : PathEntry) → IsWellFormed context → EntryFits entry →
+    All PartFits (entry_parts memory features context entry)
+entry_fits memory features context entry well fits =
+    let first : Part = part.First entry (read_at memory features context entry.place) in
     let place : entry.place < 2 ^ 56 = fits.0 in
-    All-append PartFits (second_parts memory context Read entry.place) (first ∷ [])
-    (second_fits memory context Read entry.place well (omega arith))
-    (All-cons PartFits first [] (fits, read_fits memory context entry.place well place) (All-nil PartFits))
+    All-append PartFits (second_parts memory features context Read entry.place) (first ∷ [])
+    (second_fits memory features context Read entry.place well (omega arith))
+    (All-cons PartFits first [] (fits, read_fits memory features context entry.place well place) (All-nil PartFits))
 
-entries_fit : (memory : Memory) (context : Context) (entries : List PathEntry) → IsWellFormed context → All EntryFits entries →
-    All PartFits (flat_map (entry_parts memory context) entries)
-entries_fit memory context [] well each = All-nil PartFits
-entries_fit memory context (entry ∷ more) well each =
-    All-append PartFits (entry_parts memory context entry) (flat_map (entry_parts memory context) more)
-    (entry_fits memory context entry well (All-head EntryFits entry more each))
-    (entries_fit memory context more well (All-tail EntryFits entry more each))
+entries_fit : (memory : Memory) (features : Features) (context : Context) (entries : List PathEntry) → IsWellFormed context → All EntryFits entries →
+    All PartFits (flat_map (entry_parts memory features context) entries)
+entries_fit memory features context [] well each = All-nil PartFits
+entries_fit memory features context (entry ∷ more) well each =
+    All-append PartFits (entry_parts memory features context entry) (flat_map (entry_parts memory features context) more)
+    (entry_fits memory features context entry well (All-head EntryFits entry more each))
+    (entries_fit memory features context more well (All-tail EntryFits entry more each))
 
-first_by_fits : (memory : Memory) (context : Context) (iova : ℕ) (kind : Kind) (shape : Option Shape) → IsWellFormed context →
-    FirstFits shape context.ppn → iova < 2 ^ 64 → All PartFits (first_by memory context iova kind shape)
-first_by_fits memory context iova kind None well rooted below = All-nil PartFits
-first_by_fits memory context iova kind (Some shape) well rooted below =
-    let path : List PathEntry = path_told (table_got memory context) shape context.ppn iova kind in
-    each_by_width PartFits (is_in_width shape iova) (wide.First iova) (flat_map (entry_parts memory context) path) (λ is. below)
-    (entries_fit memory context path well
-    (All-weaker (IsTold shape iova) EntryFits (λ entry is. is.1) path (walk_fits (table_got memory context) shape context.ppn iova kind rooted)))
+first_by_fits : (memory : Memory) (features : Features) (context : Context) (iova : ℕ) (kind : Kind) (shape : Option Shape) → IsWellFormed context →
+    FirstFits shape context.ppn → iova < 2 ^ 64 → All PartFits (first_by memory features context iova kind shape)
+first_by_fits memory features context iova kind None well rooted below = All-nil PartFits
+first_by_fits memory features context iova kind (Some shape) well rooted below =
+    let path : List PathEntry = path_told (table_got memory features context) (format_of features shape) context.ppn iova kind in
+    each_by_width PartFits (is_in_width shape iova) (wide.First iova) (flat_map (entry_parts memory features context) path) (λ is. below)
+    (entries_fit memory features context path well
+    (All-weaker (IsTold shape iova) EntryFits (λ entry is. is.1) path (walk_fits (table_got memory features context) (format_of features shape) context.ppn iova kind rooted)))
 
-first_parts_fit : (memory : Memory) (context : Context) (iova : ℕ) (kind : Kind) → IsWellFormed context → iova < 2 ^ 64 →
-    All PartFits (first_parts memory context iova kind)
+first_parts_fit : (memory : Memory) (features : Features) (context : Context) (iova : ℕ) (kind : Kind) → IsWellFormed context → iova < 2 ^ 64 →
+    All PartFits (first_parts memory features context iova kind)
 unfolding first_parts
-first_parts_fit memory context iova kind well below =
-    first_by_fits memory context iova kind (first_shape_of context) well (first_root context.mode context.ppn well.first_root) below
+first_parts_fit memory features context iova kind well below =
+    first_by_fits memory features context iova kind (first_shape_of context) well (first_root context.mode context.ppn well.first_root) below
 
 -- those of the access
 reached_fits : (iova : ℕ) (end : Outcome) → FrameFits end → IfOk (reached_by iova end) (λ reached. reached.addr < 2 ^ 64)
@@ -354,44 +364,44 @@ reached_fits iova outcome.Outside frame = tt
 reached_fits iova (outcome.Guest place) frame = tt
 reached_fits iova outcome.Fault frame = tt
 
-first_stage_fits : (memory : Memory) (context : Context) (iova : ℕ) (kind : Kind) (shape : Option Shape) → FirstFits shape context.ppn → iova < 2 ^ 64 →
-    IfOk (first_stage memory context iova kind shape) (λ reached. reached.addr < 2 ^ 64)
-first_stage_fits memory context iova kind None rooted below = below
-first_stage_fits memory context iova kind (Some shape) rooted below =
-    reached_fits iova (outcome_of (table_got memory context) shape context.ppn iova kind)
-    (outcome_fits (table_got memory context) shape context.ppn iova kind rooted)
+first_stage_fits : (memory : Memory) (features : Features) (context : Context) (iova : ℕ) (kind : Kind) (shape : Option Shape) → FirstFits shape context.ppn → iova < 2 ^ 64 →
+    IfOk (first_stage memory features context iova kind shape) (λ reached. reached.addr < 2 ^ 64)
+first_stage_fits memory features context iova kind None rooted below = below
+first_stage_fits memory features context iova kind (Some shape) rooted below =
+    reached_fits iova (outcome_of (table_got memory features context) (format_of features shape) context.ppn iova kind)
+    (outcome_fits (table_got memory features context) (format_of features shape) context.ppn iova kind rooted)
 
-access_fits : (memory : Memory) (context : Context) (kind : Kind) (reached : Result Reached Failure) → IsWellFormed context →
-    IfOk reached (λ reached. reached.addr < 2 ^ 64) → All PartFits (access_parts memory context kind reached)
-access_fits memory context kind (Ok reached) well below = second_fits memory context kind reached.addr well below
-access_fits memory context kind (Err failure) well below = All-nil PartFits
+access_fits : (memory : Memory) (features : Features) (context : Context) (kind : Kind) (reached : Result Reached Failure) → IsWellFormed context →
+    IfOk reached (λ reached. reached.addr < 2 ^ 64) → All PartFits (access_parts memory features context kind reached)
+access_fits memory features context kind (Ok reached) well below = second_fits memory features context kind reached.addr well below
+access_fits memory features context kind (Err failure) well below = All-nil PartFits
 
 -- and the whole
-pub stages_fit : (memory : Memory) (iova : ℕ) (kind : Kind) (found : Result Context Cause) → IfOk found IsWellFormed → iova < 2 ^ 64 →
-    All PartFits (stage_parts memory iova kind found)
-stages_fit memory iova kind (Ok context) well below =
-    let reached : Result Reached Failure = first_stage memory context iova kind (first_shape_of context) in
-    All-append PartFits (first_parts memory context iova kind) (access_parts memory context kind reached)
-    (first_parts_fit memory context iova kind well below)
-    (access_fits memory context kind reached well
-    (first_stage_fits memory context iova kind (first_shape_of context) (first_root context.mode context.ppn well.first_root) below))
-stages_fit memory iova kind (Err why) well below = All-nil PartFits
+pub stages_fit : (memory : Memory) (features : Features) (iova : ℕ) (kind : Kind) (found : Result Context Cause) → IfOk found IsWellFormed → iova < 2 ^ 64 →
+    All PartFits (stage_parts memory features iova kind found)
+stages_fit memory features iova kind (Ok context) well below =
+    let reached : Result Reached Failure = first_stage memory features context iova kind (first_shape_of context) in
+    All-append PartFits (first_parts memory features context iova kind) (access_parts memory features context kind reached)
+    (first_parts_fit memory features context iova kind well below)
+    (access_fits memory features context kind reached well
+    (first_stage_fits memory features context iova kind (first_shape_of context) (first_root context.mode context.ppn well.first_root) below))
+stages_fit memory features iova kind (Err why) well below = All-nil PartFits
 
-directory_parts_fit : (m : Machine) (did : ℕ) → did < 2 ^ 24 → All PartFits (directory_parts m did)
-directory_parts_fit m did below =
+directory_parts_fit : (m : Machine) (did : ℕ) → All PartFits (directory_parts m did)
+directory_parts_fit m did =
     let items : List Met = path_of m.memory m.registers did in
-    each_by_width PartFits (not (is_too_wide (levels_of (mode_of m.registers)) did)) (wide.Directory did) (map part.Directory items) (λ is. below)
+    each_by_width PartFits (not (is_too_wide (levels_of (mode_of m.registers)) did)) (wide.Directory did) (map part.Directory items) (λ is. tt)
     (All-map PartFits part.Directory items (path_fits m.memory m.registers did))
 
-pub mode_fits : (own : Mode) (m : Machine) (request : Request) → request.did < 2 ^ 24 →
-    ((levels : ℕ) → own ≡ mode.Levels levels → All PartFits (stage_parts m.memory request.iova request.kind (located m.memory m.registers request.did))) →
+pub mode_fits : (own : Mode) (m : Machine) (request : Request) →
+    ((levels : ℕ) → own ≡ mode.Levels levels → All PartFits (stage_parts m.memory no_features request.iova request.kind (located m.memory m.registers request.did))) →
     All PartFits (parts_by own m request)
-mode_fits mode.Off m request below each = All-nil PartFits
-mode_fits mode.Bare m request below each = All-nil PartFits
-mode_fits (mode.Levels levels) m request below each =
+mode_fits mode.Off m request each = All-nil PartFits
+mode_fits mode.Bare m request each = All-nil PartFits
+mode_fits (mode.Levels levels) m request each =
     let found : Result Context Cause = located m.memory m.registers request.did in
-    All-append PartFits (directory_parts m request.did) (stage_parts m.memory request.iova request.kind found)
-    (directory_parts_fit m request.did below) (each levels refl)
+    All-append PartFits (directory_parts m request.did) (stage_parts m.memory no_features request.iova request.kind found)
+    (directory_parts_fit m request.did) (each levels refl)
 
 levels_fit : (n : ℕ) → n ≤ 4 → ModeFits (if n == 0 then mode.Off else if n == 1 then mode.Bare else mode.Levels (n - 1))
 levels_fit n few =
@@ -407,12 +417,12 @@ levels_fit n few =
     ] in by_off (n == 0) refl
 
 pub each_fits : (m : Machine) (request : Request) (parts : List Part) → parts ≡ parts_of m request → IsSound m.registers →
-    All PartFits (parts_by (mode_of m.registers) m request) → Fits (by_tables m request) → All PartFits parts
+    All PartFits (parts_by (mode_of m.registers) m request) → All PartFits parts
 unfolding parts_of
-each_fits m request parts are sound walk fits =
+each_fits m request parts are sound walk =
     let ddtp : Part = part.Ddtp (mode_of m.registers) (root_of m.registers) in
     let end : Part = part.End (by_tables m request) in
     let between : List Part = parts_by (mode_of m.registers) m request in
     subst (All PartFits) (sym are)
     (All-cons PartFits ddtp (between ++ end ∷ []) (levels_fit (field_of m.registers.ddtp 0 4) sound.mode, field_below m.registers.ddtp 10 44)
-    (All-append PartFits between (end ∷ []) walk (All-cons PartFits end [] fits (All-nil PartFits))))
+    (All-append PartFits between (end ∷ []) walk (All-cons PartFits end [] tt (All-nil PartFits))))

@@ -5,6 +5,8 @@ use Rattle.std.proofs.lemmas.List.Elements.{All-nil, All-cons, All-head, All-tai
 use Rattle.iom_bits.specs.declared.causes.Cause.{Cause}
 use Rattle.iom_bits.specs.declared.causes.Kind.{Kind}
 use Rattle.iom_bits.specs.declared.causes.Kind.TheVariants.{Read}
+use Rattle.iom_bits.specs.declared.features.Features.{Features}
+use Rattle.iom_bits.specs.Features.{no_features}
 use Rattle.iom_mem.specs.Memory.{Memory, word, words_at}
 use Rattle.iom_regs.specs.Table.{Registers}
 use Rattle.iom_regs.specs.Views.{mode_of, root_of}
@@ -25,9 +27,10 @@ use Rattle.iom_walk.specs.declared.outcome.Outcome.{Outcome}
 use Rattle.iom_walk.specs.declared.outcome.Outcome.TheVariants as outcome
 use Rattle.iom_walk.specs.declared.shape.Shape.{Shape}
 use Rattle.iom_walk.specs.declared.source.Got.{Got}
+use Rattle.iom_walk.specs.declared.shape.Format.{Format}
 use Rattle.iom_nested.specs.Faults.{Failure}
 use Rattle.iom_nested.specs.Nested.{first_stage}
-use Rattle.iom_nested.specs.Stages.{first_shape_of, got_behind, ram_got, second_shape_of, table_got, table_got_by}
+use Rattle.iom_nested.specs.Stages.{first_shape_of, format_of, got_behind, ram_got, second_shape_of, table_got, table_got_by}
 use Rattle.iom_nested.specs.declared.translation.Reached.{Reached}
 use Rattle.iom_core.specs.State.{Machine}
 use Rattle.iom_core.specs.declared.access.Request.{Request}
@@ -69,39 +72,39 @@ behind_pointer : {X : Type 0} (P : X → Type 0) (pointer : Bool) (rest : List X
 behind_pointer P true rest each = each
 behind_pointer P false rest each = All-nil P
 
-walk_from_met : (at : ℕ → Got) (shape : Shape) (address : ℕ) (kind : Kind) (table count : ℕ) →
-    All (λ entry. IsMet at (told kind entry)) (path_from at shape address table count)
+walk_from_met : (at : ℕ → Got) (format : Format) (address : ℕ) (kind : Kind) (table count : ℕ) →
+    All (λ entry. IsMet at (told format.features kind entry)) (path_from at format address table count)
 unfolding path_from
-walk_from_met at shape address kind table zero = All-nil (λ entry. IsMet at (told kind entry))
-walk_from_met at shape address kind table (suc count) =
-    let P : Entry → Type 0 = λ entry. IsMet at (told kind entry) in
-    let entry : Entry = entry_at at shape address table count in
-    let pointer : Bool = is_pointer (verdict_on Read entry) in
-    let rest : List Entry = path_from at shape address (next_table entry) count in
+walk_from_met at format address kind table zero = All-nil (λ entry. IsMet at (told format.features kind entry))
+walk_from_met at format address kind table (suc count) =
+    let P : Entry → Type 0 = λ entry. IsMet at (told format.features kind entry) in
+    let entry : Entry = entry_at at format address table count in
+    let pointer : Bool = is_pointer (verdict_on format.features Read entry) in
+    let rest : List Entry = path_from at format address (next_table entry) count in
     All-cons P entry (if pointer then rest else []) refl
-    (behind_pointer P pointer rest (walk_from_met at shape address kind (next_table entry) count))
+    (behind_pointer P pointer rest (walk_from_met at format address kind (next_table entry) count))
 
-walk_met : (at : ℕ → Got) (shape : Shape) (root address : ℕ) (kind : Kind) → All (IsMet at) (path_told at shape root address kind)
+walk_met : (at : ℕ → Got) (format : Format) (root address : ℕ) (kind : Kind) → All (IsMet at) (path_told at format root address kind)
 unfolding path_told
-walk_met at shape root address kind =
-    let path : List Entry = walk_path_of at shape root address in
-    elim (is_in_width shape address) as (λ wide. All (IsMet at) (if wide then map (told kind) path else [])) [
-      | true ↦ All-map (IsMet at) (told kind) path (walk_from_met at shape address kind root (levels shape))
+walk_met at format root address kind =
+    let path : List Entry = walk_path_of at format root address in
+    elim (is_in_width format.shape address) as (λ wide. All (IsMet at) (if wide then map (told format.features kind) path else [])) [
+      | true ↦ All-map (IsMet at) (told format.features kind) path (walk_from_met at format address kind root (levels format.shape))
       | false ↦ All-nil (IsMet at)
     ]
 
 -- the second stage
-second_by_read : (memory : Memory) (root : ℕ) (kind : Kind) (guest : ℕ) (shape : Option Shape) →
-    All (IsRead memory) (second_by memory root kind guest shape)
-second_by_read memory root kind guest None = All-nil (IsRead memory)
-second_by_read memory root kind guest (Some shape) =
-    let path : List PathEntry = path_told (ram_got memory) shape root guest kind in
+second_by_read : (memory : Memory) (features : Features) (root : ℕ) (kind : Kind) (guest : ℕ) (shape : Option Shape) →
+    All (IsRead memory) (second_by memory features root kind guest shape)
+second_by_read memory features root kind guest None = All-nil (IsRead memory)
+second_by_read memory features root kind guest (Some shape) =
+    let path : List PathEntry = path_told (ram_got memory) (format_of features shape) root guest kind in
     each_by_width (IsRead memory) (is_in_width shape guest) (wide.Second guest) (map (part.Second guest) path) (λ is. tt)
-    (All-map (IsRead memory) (part.Second guest) path (walk_met (ram_got memory) shape root guest kind))
+    (All-map (IsRead memory) (part.Second guest) path (walk_met (ram_got memory) (format_of features shape) root guest kind))
 
-second_read : (memory : Memory) (context : Context) (kind : Kind) (guest : ℕ) → All (IsRead memory) (second_parts memory context kind guest)
+second_read : (memory : Memory) (features : Features) (context : Context) (kind : Kind) (guest : ℕ) → All (IsRead memory) (second_parts memory features context kind guest)
 unfolding second_parts
-second_read memory context kind guest = second_by_read memory context.gppn kind guest (second_shape_of context)
+second_read memory features context kind guest = second_by_read memory features context.gppn kind guest (second_shape_of context)
 
 -- an entry of the first
 got_by : (memory : Memory) (place : ℕ) (end : Outcome) → IsGot memory (got_behind memory place end) (address_by place end)
@@ -110,59 +113,59 @@ got_by memory place outcome.Outside = λ word is. cc
 got_by memory place (outcome.Guest at) = λ word is. cc
 got_by memory place outcome.Fault = λ word is. cc
 
-got_of : (memory : Memory) (root place : ℕ) (shape : Option Shape) →
-    IsGot memory (table_got_by memory root shape place) (read_by memory root place shape)
-got_of memory root place None = refl
-got_of memory root place (Some shape) = got_by memory place (outcome_of (ram_got memory) shape root place Read)
+got_of : (memory : Memory) (features : Features) (root place : ℕ) (shape : Option Shape) →
+    IsGot memory (table_got_by memory features root shape place) (read_by memory features root place shape)
+got_of memory features root place None = refl
+got_of memory features root place (Some shape) = got_by memory place (outcome_of (ram_got memory) (format_of features shape) root place Read)
 
-first_read : (memory : Memory) (context : Context) (entry : PathEntry) → IsMet (table_got memory context) entry →
-    IsGot memory entry.got (read_at memory context entry.place)
+first_read : (memory : Memory) (features : Features) (context : Context) (entry : PathEntry) → IsMet (table_got memory features context) entry →
+    IsGot memory entry.got (read_at memory features context entry.place)
 unfolding read_at
-first_read memory context entry met =
-    subst (λ read. IsGot memory read (read_by memory context.gppn entry.place (second_shape_of context))) (sym met)
-    (got_of memory context.gppn entry.place (second_shape_of context))
+first_read memory features context entry met =
+    subst (λ read. IsGot memory read (read_by memory features context.gppn entry.place (second_shape_of context))) (sym met)
+    (got_of memory features context.gppn entry.place (second_shape_of context))
 
-entry_read : (memory : Memory) (context : Context) (entry : PathEntry) → IsMet (table_got memory context) entry →
-    All (IsRead memory) (entry_parts memory context entry)
-entry_read memory context entry met =
-    let first : Part = part.First entry (read_at memory context entry.place) in
-    All-append (IsRead memory) (second_parts memory context Read entry.place) (first ∷ [])
-    (second_read memory context Read entry.place)
-    (All-cons (IsRead memory) first [] (first_read memory context entry met) (All-nil (IsRead memory)))
+entry_read : (memory : Memory) (features : Features) (context : Context) (entry : PathEntry) → IsMet (table_got memory features context) entry →
+    All (IsRead memory) (entry_parts memory features context entry)
+entry_read memory features context entry met =
+    let first : Part = part.First entry (read_at memory features context entry.place) in
+    All-append (IsRead memory) (second_parts memory features context Read entry.place) (first ∷ [])
+    (second_read memory features context Read entry.place)
+    (All-cons (IsRead memory) first [] (first_read memory features context entry met) (All-nil (IsRead memory)))
 
-entries_read : (memory : Memory) (context : Context) (entries : List PathEntry) → All (IsMet (table_got memory context)) entries →
-    All (IsRead memory) (flat_map (entry_parts memory context) entries)
-entries_read memory context [] each = All-nil (IsRead memory)
-entries_read memory context (entry ∷ more) each =
-    All-append (IsRead memory) (entry_parts memory context entry) (flat_map (entry_parts memory context) more)
-    (entry_read memory context entry (All-head (IsMet (table_got memory context)) entry more each))
-    (entries_read memory context more (All-tail (IsMet (table_got memory context)) entry more each))
+entries_read : (memory : Memory) (features : Features) (context : Context) (entries : List PathEntry) → All (IsMet (table_got memory features context)) entries →
+    All (IsRead memory) (flat_map (entry_parts memory features context) entries)
+entries_read memory features context [] each = All-nil (IsRead memory)
+entries_read memory features context (entry ∷ more) each =
+    All-append (IsRead memory) (entry_parts memory features context entry) (flat_map (entry_parts memory features context) more)
+    (entry_read memory features context entry (All-head (IsMet (table_got memory features context)) entry more each))
+    (entries_read memory features context more (All-tail (IsMet (table_got memory features context)) entry more each))
 
-first_by_read : (memory : Memory) (context : Context) (iova : ℕ) (kind : Kind) (shape : Option Shape) →
-    All (IsRead memory) (first_by memory context iova kind shape)
-first_by_read memory context iova kind None = All-nil (IsRead memory)
-first_by_read memory context iova kind (Some shape) =
-    let path : List PathEntry = path_told (table_got memory context) shape context.ppn iova kind in
-    each_by_width (IsRead memory) (is_in_width shape iova) (wide.First iova) (flat_map (entry_parts memory context) path) (λ is. tt)
-    (entries_read memory context path (walk_met (table_got memory context) shape context.ppn iova kind))
+first_by_read : (memory : Memory) (features : Features) (context : Context) (iova : ℕ) (kind : Kind) (shape : Option Shape) →
+    All (IsRead memory) (first_by memory features context iova kind shape)
+first_by_read memory features context iova kind None = All-nil (IsRead memory)
+first_by_read memory features context iova kind (Some shape) =
+    let path : List PathEntry = path_told (table_got memory features context) (format_of features shape) context.ppn iova kind in
+    each_by_width (IsRead memory) (is_in_width shape iova) (wide.First iova) (flat_map (entry_parts memory features context) path) (λ is. tt)
+    (entries_read memory features context path (walk_met (table_got memory features context) (format_of features shape) context.ppn iova kind))
 
-first_parts_read : (memory : Memory) (context : Context) (iova : ℕ) (kind : Kind) → All (IsRead memory) (first_parts memory context iova kind)
+first_parts_read : (memory : Memory) (features : Features) (context : Context) (iova : ℕ) (kind : Kind) → All (IsRead memory) (first_parts memory features context iova kind)
 unfolding first_parts
-first_parts_read memory context iova kind = first_by_read memory context iova kind (first_shape_of context)
+first_parts_read memory features context iova kind = first_by_read memory features context iova kind (first_shape_of context)
 
 -- the access, and the whole
-access_read : (memory : Memory) (context : Context) (kind : Kind) (reached : Result Reached Failure) →
-    All (IsRead memory) (access_parts memory context kind reached)
-access_read memory context kind (Ok reached) = second_read memory context kind reached.addr
-access_read memory context kind (Err failure) = All-nil (IsRead memory)
+access_read : (memory : Memory) (features : Features) (context : Context) (kind : Kind) (reached : Result Reached Failure) →
+    All (IsRead memory) (access_parts memory features context kind reached)
+access_read memory features context kind (Ok reached) = second_read memory features context kind reached.addr
+access_read memory features context kind (Err failure) = All-nil (IsRead memory)
 
-pub stages_read : (memory : Memory) (iova : ℕ) (kind : Kind) (found : Result Context Cause) →
-    All (IsRead memory) (stage_parts memory iova kind found)
-stages_read memory iova kind (Ok context) =
-    let reached : Result Reached Failure = first_stage memory context iova kind (first_shape_of context) in
-    All-append (IsRead memory) (first_parts memory context iova kind) (access_parts memory context kind reached)
-    (first_parts_read memory context iova kind) (access_read memory context kind reached)
-stages_read memory iova kind (Err why) = All-nil (IsRead memory)
+pub stages_read : (memory : Memory) (features : Features) (iova : ℕ) (kind : Kind) (found : Result Context Cause) →
+    All (IsRead memory) (stage_parts memory features iova kind found)
+stages_read memory features iova kind (Ok context) =
+    let reached : Result Reached Failure = first_stage memory features context iova kind (first_shape_of context) in
+    All-append (IsRead memory) (first_parts memory features context iova kind) (access_parts memory features context kind reached)
+    (first_parts_read memory features context iova kind) (access_read memory features context kind reached)
+stages_read memory features iova kind (Err why) = All-nil (IsRead memory)
 
 directory_parts_read : (m : Machine) (did : ℕ) → All (IsRead m.memory) (directory_parts m did)
 directory_parts_read m did =
@@ -175,8 +178,8 @@ by_mode_read mode.Off m request = All-nil (IsRead m.memory)
 by_mode_read mode.Bare m request = All-nil (IsRead m.memory)
 by_mode_read (mode.Levels levels) m request =
     let found : Result Context Cause = located m.memory m.registers request.did in
-    All-append (IsRead m.memory) (directory_parts m request.did) (stage_parts m.memory request.iova request.kind found)
-    (directory_parts_read m request.did) (stages_read m.memory request.iova request.kind found)
+    All-append (IsRead m.memory) (directory_parts m request.did) (stage_parts m.memory no_features request.iova request.kind found)
+    (directory_parts_read m request.did) (stages_read m.memory no_features request.iova request.kind found)
 
 pub each_read : (m : Machine) (request : Request) → All (IsRead m.memory) (parts_of m request)
 unfolding parts_of

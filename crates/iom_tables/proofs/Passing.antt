@@ -6,6 +6,8 @@ use Rattle.iom_bits.specs.declared.causes.Cause.{Cause}
 use Rattle.iom_bits.specs.declared.causes.Cause.TheVariants.{TooWide}
 use Rattle.iom_bits.specs.declared.causes.Kind.{Kind}
 use Rattle.iom_bits.specs.declared.causes.Kind.TheVariants.{Read}
+use Rattle.iom_bits.specs.declared.features.Features.{Features}
+use Rattle.iom_bits.specs.Features.{no_features}
 use Rattle.iom_mem.specs.Memory.{Memory, word, words_at}
 use Rattle.iom_regs.specs.Table.{Registers}
 use Rattle.iom_regs.specs.Views.{mode_of, root_of}
@@ -32,9 +34,10 @@ use Rattle.iom_walk.specs.declared.shape.Shape.{Shape}
 use Rattle.iom_walk.specs.declared.source.Got.{Got}
 use Rattle.iom_walk.specs.declared.source.Got.TheVariants as got
 use Rattle.iom_walk.proofs.Entries.{pointer_for_each}
+use Rattle.iom_walk.specs.declared.shape.Format.{Format}
 use Rattle.iom_nested.specs.Faults.{Failure}
 use Rattle.iom_nested.specs.Nested.{behind_first, first_stage, hit_by, reached_by, second_stage, told_of, translation}
-use Rattle.iom_nested.specs.Stages.{first_shape_of, got_behind, ram_got, second_shape_of, table_got, table_got_by}
+use Rattle.iom_nested.specs.Stages.{first_shape_of, format_of, got_behind, ram_got, second_shape_of, table_got, table_got_by}
 use Rattle.iom_nested.specs.declared.translation.Fault.{Fault}
 use Rattle.iom_nested.specs.declared.translation.Hit.{Hit}
 use Rattle.iom_nested.specs.declared.translation.Reached.{Reached}
@@ -88,57 +91,57 @@ let_leaf global address entry ruling.NotAccessed word leaf is = cc
 let_leaf global address entry ruling.NotDirty word leaf is = cc
 
 -- an entry that was met and lets the walk on
-record IsLet (at : ℕ → Got) (kind : Kind) (entry : PathEntry) : Type 0 where
+record IsLet (at : ℕ → Got) (features : Features) (kind : Kind) (entry : PathEntry) : Type 0 where
   met : entry.got ≡ at entry.place
-  judged : entry.ruling ≡ ruling_of kind entry.level entry.got
+  judged : entry.ruling ≡ ruling_of features kind entry.level entry.got
   lets : Lets entry.ruling
 
-abbrev end_on : Kind → Bool → ℕ → List Entry → Outcome
-end_on kind global address path = conclude_at kind global address (find (λ entry. not (is_pointer (verdict_on kind entry))) path)
+abbrev end_on : Features → Kind → Bool → ℕ → List Entry → Outcome
+end_on features kind global address path = conclude_at features kind global address (find (λ entry. not (is_pointer (verdict_on features kind entry))) path)
 
-one_more : (at : ℕ → Got) (kind : Kind) (global : Bool) (address : ℕ) (entry : Entry) (rest : List Entry) (leaf : Leaf) (pointer : Bool) →
-    entry.got ≡ at entry.place → is_pointer (verdict_on kind entry) ≡ pointer →
-    (end_on kind global address rest ≡ outcome.Leaf leaf → All (λ e. IsLet at kind (told kind e)) rest) →
-    end_on kind global address (entry ∷ (if pointer then rest else [])) ≡ outcome.Leaf leaf →
-    All (λ e. IsLet at kind (told kind e)) (entry ∷ (if pointer then rest else []))
+one_more : (at : ℕ → Got) (features : Features) (kind : Kind) (global : Bool) (address : ℕ) (entry : Entry) (rest : List Entry) (leaf : Leaf) (pointer : Bool) →
+    entry.got ≡ at entry.place → is_pointer (verdict_on features kind entry) ≡ pointer →
+    (end_on features kind global address rest ≡ outcome.Leaf leaf → All (λ e. IsLet at features kind (told features kind e)) rest) →
+    end_on features kind global address (entry ∷ (if pointer then rest else [])) ≡ outcome.Leaf leaf →
+    All (λ e. IsLet at features kind (told features kind e)) (entry ∷ (if pointer then rest else []))
 unfolding verdict_of
-one_more at kind global address entry rest leaf true met is more ends =
-    let left : end_on kind global address rest ≡ outcome.Leaf leaf = rw is at ends in
-    All-cons (λ e. IsLet at kind (told kind e)) entry rest
-    (record { met = met; judged = refl; lets = let_pointer (ruling_of kind entry.level entry.got) (word_of entry.got) is }) (more left)
-one_more at kind global address entry rest leaf false met is more ends =
-    let last : conclude global address entry (verdict_on kind entry) ≡ outcome.Leaf leaf = rw is at ends in
-    All-cons (λ e. IsLet at kind (told kind e)) entry []
-    (record { met = met; judged = refl; lets = let_leaf global address entry (ruling_of kind entry.level entry.got) (word_of entry.got) leaf last })
-    (All-nil (λ e. IsLet at kind (told kind e)))
+one_more at features kind global address entry rest leaf true met is more ends =
+    let left : end_on features kind global address rest ≡ outcome.Leaf leaf = rw is at ends in
+    All-cons (λ e. IsLet at features kind (told features kind e)) entry rest
+    (record { met = met; judged = refl; lets = let_pointer (ruling_of features kind entry.level entry.got) (word_of entry.got) is }) (more left)
+one_more at features kind global address entry rest leaf false met is more ends =
+    let last : conclude global address entry (verdict_on features kind entry) ≡ outcome.Leaf leaf = rw is at ends in
+    All-cons (λ e. IsLet at features kind (told features kind e)) entry []
+    (record { met = met; judged = refl; lets = let_leaf global address entry (ruling_of features kind entry.level entry.got) (word_of entry.got) leaf last })
+    (All-nil (λ e. IsLet at features kind (told features kind e)))
 
-walk_from_lets : (at : ℕ → Got) (shape : Shape) (kind : Kind) (global : Bool) (address table count : ℕ) (leaf : Leaf) →
-    end_on kind global address (path_from at shape address table count) ≡ outcome.Leaf leaf →
-    All (λ e. IsLet at kind (told kind e)) (path_from at shape address table count)
+walk_from_lets : (at : ℕ → Got) (format : Format) (kind : Kind) (global : Bool) (address table count : ℕ) (leaf : Leaf) →
+    end_on format.features kind global address (path_from at format address table count) ≡ outcome.Leaf leaf →
+    All (λ e. IsLet at format.features kind (told format.features kind e)) (path_from at format address table count)
 unfolding path_from
-walk_from_lets at shape kind global address table zero leaf ends = All-nil (λ e. IsLet at kind (told kind e))
-walk_from_lets at shape kind global address table (suc count) leaf ends =
-    let entry : Entry = entry_at at shape address table count in
-    one_more at kind global address entry (path_from at shape address (next_table entry) count) leaf (is_pointer (verdict_on Read entry))
-    refl (sym (pointer_for_each kind count entry.got)) (walk_from_lets at shape kind global address (next_table entry) count leaf) ends
+walk_from_lets at format kind global address table zero leaf ends = All-nil (λ e. IsLet at format.features kind (told format.features kind e))
+walk_from_lets at format kind global address table (suc count) leaf ends =
+    let entry : Entry = entry_at at format address table count in
+    one_more at format.features kind global address entry (path_from at format address (next_table entry) count) leaf (is_pointer (verdict_on format.features Read entry))
+    refl (sym (pointer_for_each format.features kind count entry.got)) (walk_from_lets at format kind global address (next_table entry) count leaf) ends
 
-walk_lets : (at : ℕ → Got) (shape : Shape) (root address : ℕ) (kind : Kind) (leaf : Leaf) →
-    outcome_of at shape root address kind ≡ outcome.Leaf leaf → All (IsLet at kind) (path_told at shape root address kind)
+walk_lets : (at : ℕ → Got) (format : Format) (root address : ℕ) (kind : Kind) (leaf : Leaf) →
+    outcome_of at format root address kind ≡ outcome.Leaf leaf → All (IsLet at format.features kind) (path_told at format root address kind)
 unfolding outcome_of verdict_on_path path_told
-walk_lets at shape root address kind leaf =
-    let path : List Entry = walk_path_of at shape root address in
-    let told_path : List PathEntry = map (told kind) path in
-    elim (is_in_width shape address) as (λ wide. (if wide then verdict_on_path kind address path else outcome.Fault) ≡ outcome.Leaf leaf →
-    All (IsLet at kind) (if wide then told_path else [])) [
-      | true ↦ λ ends. All-map (IsLet at kind) (told kind) path (walk_from_lets at shape kind _ address root (levels shape) leaf ends)
-      | false ↦ λ ends. All-nil (IsLet at kind)
+walk_lets at format root address kind leaf =
+    let path : List Entry = walk_path_of at format root address in
+    let told_path : List PathEntry = map (told format.features kind) path in
+    elim (is_in_width format.shape address) as (λ wide. (if wide then verdict_on_path format.features kind address path else outcome.Fault) ≡ outcome.Leaf leaf →
+    All (IsLet at format.features kind) (if wide then told_path else [])) [
+      | true ↦ λ ends. All-map (IsLet at format.features kind) (told format.features kind) path (walk_from_lets at format kind _ address root (levels format.shape) leaf ends)
+      | false ↦ λ ends. All-nil (IsLet at format.features kind)
     ]
 
 -- what leads somewhere keeps the width rule
-leaf_in_width : (at : ℕ → Got) (shape : Shape) (root address : ℕ) (kind : Kind) (leaf : Leaf) →
-    outcome_of at shape root address kind ≡ outcome.Leaf leaf → is_in_width shape address ≡ false → ⊥
+leaf_in_width : (at : ℕ → Got) (format : Format) (root address : ℕ) (kind : Kind) (leaf : Leaf) →
+    outcome_of at format root address kind ≡ outcome.Leaf leaf → is_in_width format.shape address ≡ false → ⊥
 unfolding outcome_of
-leaf_in_width at shape root address kind leaf ends wide =
+leaf_in_width at format root address kind leaf ends wide =
     let other : outcome.Fault ≡ outcome.Leaf leaf = rw wide at ends in absurd (cc)
 
 -- the directory
@@ -200,65 +203,65 @@ directory_passes m did context found =
     (path_passes m.memory m.registers did context found)
 
 -- the second stage, where it leads an address
-abbrev Leads : Memory → ℕ → Kind → ℕ → Option Shape → Type 0
-Leads memory root kind guest None = Unit {0}
-Leads memory root kind guest (Some shape) = (leaf : Leaf) × (outcome_of (ram_got memory) shape root guest kind ≡ outcome.Leaf leaf)
+abbrev Leads : Memory → Features → ℕ → Kind → ℕ → Option Shape → Type 0
+Leads memory features root kind guest None = Unit {0}
+Leads memory features root kind guest (Some shape) = (leaf : Leaf) × (outcome_of (ram_got memory) (format_of features shape) root guest kind ≡ outcome.Leaf leaf)
 
-second_by_passes : (memory : Memory) (root : ℕ) (kind : Kind) (guest : ℕ) (shape : Option Shape) → Leads memory root kind guest shape →
-    All Passes (second_by memory root kind guest shape)
-second_by_passes memory root kind guest None leads = All-nil Passes
-second_by_passes memory root kind guest (Some shape) leads =
-    let path : List PathEntry = path_told (ram_got memory) shape root guest kind in
+second_by_passes : (memory : Memory) (features : Features) (root : ℕ) (kind : Kind) (guest : ℕ) (shape : Option Shape) → Leads memory features root kind guest shape →
+    All Passes (second_by memory features root kind guest shape)
+second_by_passes memory features root kind guest None leads = All-nil Passes
+second_by_passes memory features root kind guest (Some shape) leads =
+    let path : List PathEntry = path_told (ram_got memory) (format_of features shape) root guest kind in
     each_by_width Passes (is_in_width shape guest) (wide.Second guest) (map (part.Second guest) path)
-    (leaf_in_width (ram_got memory) shape root guest kind leads.0 leads.1)
+    (leaf_in_width (ram_got memory) (format_of features shape) root guest kind leads.0 leads.1)
     (All-map Passes (part.Second guest) path
-    (All-weaker (IsLet (ram_got memory) kind) (λ entry. Lets entry.ruling) (λ entry is. is.lets) path
-    (walk_lets (ram_got memory) shape root guest kind leads.0 leads.1)))
+    (All-weaker (IsLet (ram_got memory) features kind) (λ entry. Lets entry.ruling) (λ entry is. is.lets) path
+    (walk_lets (ram_got memory) (format_of features shape) root guest kind leads.0 leads.1)))
 
-second_passes : (memory : Memory) (context : Context) (kind : Kind) (guest : ℕ) →
-    Leads memory context.gppn kind guest (second_shape_of context) → All Passes (second_parts memory context kind guest)
+second_passes : (memory : Memory) (features : Features) (context : Context) (kind : Kind) (guest : ℕ) →
+    Leads memory features context.gppn kind guest (second_shape_of context) → All Passes (second_parts memory features context kind guest)
 unfolding second_parts
-second_passes memory context kind guest leads = second_by_passes memory context.gppn kind guest (second_shape_of context) leads
+second_passes memory features context kind guest leads = second_by_passes memory features context.gppn kind guest (second_shape_of context) leads
 
 -- what wasn't read lets no walk on
-outside_never : (kind : Kind) (level : ℕ) → ¬ Lets (ruling_of kind level got.Outside)
+outside_never : (features : Features) (kind : Kind) (level : ℕ) → ¬ Lets (ruling_of features kind level got.Outside)
 unfolding ruling_of
-outside_never kind level lets = elim lets [ inl is ↦ cc | inr is ↦ cc ]
+outside_never features kind level lets = elim lets [ inl is ↦ cc | inr is ↦ cc ]
 
-guest_never : (kind : Kind) (level : ℕ) → ¬ Lets (ruling_of kind level got.Guest)
+guest_never : (features : Features) (kind : Kind) (level : ℕ) → ¬ Lets (ruling_of features kind level got.Guest)
 unfolding ruling_of
-guest_never kind level lets = elim lets [ inl is ↦ cc | inr is ↦ cc ]
+guest_never features kind level lets = elim lets [ inl is ↦ cc | inr is ↦ cc ]
 
-entry_leads : (memory : Memory) (kind : Kind) (level place : ℕ) (end : Outcome) → Lets (ruling_of kind level (got_behind memory place end)) →
+entry_leads : (memory : Memory) (features : Features) (kind : Kind) (level place : ℕ) (end : Outcome) → Lets (ruling_of features kind level (got_behind memory place end)) →
     (leaf : Leaf) × (end ≡ outcome.Leaf leaf)
-entry_leads memory kind level place (outcome.Leaf leaf) lets = (leaf, refl)
-entry_leads memory kind level place outcome.Outside lets = absurd (outside_never kind level lets)
-entry_leads memory kind level place (outcome.Guest at) lets = absurd (guest_never kind level lets)
-entry_leads memory kind level place outcome.Fault lets = absurd (guest_never kind level lets)
+entry_leads memory features kind level place (outcome.Leaf leaf) lets = (leaf, refl)
+entry_leads memory features kind level place outcome.Outside lets = absurd (outside_never features kind level lets)
+entry_leads memory features kind level place (outcome.Guest at) lets = absurd (guest_never features kind level lets)
+entry_leads memory features kind level place outcome.Fault lets = absurd (guest_never features kind level lets)
 
-place_leads : (memory : Memory) (root : ℕ) (kind : Kind) (entry : PathEntry) (shape : Option Shape) →
-    IsLet (table_got_by memory root shape) kind entry → Leads memory root Read entry.place shape
-place_leads memory root kind entry None is = tt
-place_leads memory root kind entry (Some shape) is =
-    entry_leads memory kind entry.level entry.place (outcome_of (ram_got memory) shape root entry.place Read)
-    (subst (λ got. Lets (ruling_of kind entry.level got)) is.met (subst Lets is.judged is.lets))
+place_leads : (memory : Memory) (features : Features) (root : ℕ) (kind : Kind) (entry : PathEntry) (shape : Option Shape) →
+    IsLet (table_got_by memory features root shape) features kind entry → Leads memory features root Read entry.place shape
+place_leads memory features root kind entry None is = tt
+place_leads memory features root kind entry (Some shape) is =
+    entry_leads memory features kind entry.level entry.place (outcome_of (ram_got memory) (format_of features shape) root entry.place Read)
+    (subst (λ got. Lets (ruling_of features kind entry.level got)) is.met (subst Lets is.judged is.lets))
 
 -- the first stage
-first_entry_passes : (memory : Memory) (context : Context) (kind : Kind) (entry : PathEntry) → IsLet (table_got memory context) kind entry →
-    All Passes (entry_parts memory context entry)
-first_entry_passes memory context kind entry is =
-    let first : Part = part.First entry (read_at memory context entry.place) in
-    All-append Passes (second_parts memory context Read entry.place) (first ∷ [])
-    (second_passes memory context Read entry.place (place_leads memory context.gppn kind entry (second_shape_of context) is))
+first_entry_passes : (memory : Memory) (features : Features) (context : Context) (kind : Kind) (entry : PathEntry) → IsLet (table_got memory features context) features kind entry →
+    All Passes (entry_parts memory features context entry)
+first_entry_passes memory features context kind entry is =
+    let first : Part = part.First entry (read_at memory features context entry.place) in
+    All-append Passes (second_parts memory features context Read entry.place) (first ∷ [])
+    (second_passes memory features context Read entry.place (place_leads memory features context.gppn kind entry (second_shape_of context) is))
     (All-cons Passes first [] is.lets (All-nil Passes))
 
-entries_pass : (memory : Memory) (context : Context) (kind : Kind) (entries : List PathEntry) →
-    All (IsLet (table_got memory context) kind) entries → All Passes (flat_map (entry_parts memory context) entries)
-entries_pass memory context kind [] each = All-nil Passes
-entries_pass memory context kind (entry ∷ more) each =
-    All-append Passes (entry_parts memory context entry) (flat_map (entry_parts memory context) more)
-    (first_entry_passes memory context kind entry (All-head (IsLet (table_got memory context) kind) entry more each))
-    (entries_pass memory context kind more (All-tail (IsLet (table_got memory context) kind) entry more each))
+entries_pass : (memory : Memory) (features : Features) (context : Context) (kind : Kind) (entries : List PathEntry) →
+    All (IsLet (table_got memory features context) features kind) entries → All Passes (flat_map (entry_parts memory features context) entries)
+entries_pass memory features context kind [] each = All-nil Passes
+entries_pass memory features context kind (entry ∷ more) each =
+    All-append Passes (entry_parts memory features context entry) (flat_map (entry_parts memory features context) more)
+    (first_entry_passes memory features context kind entry (All-head (IsLet (table_got memory features context) features kind) entry more each))
+    (entries_pass memory features context kind more (All-tail (IsLet (table_got memory features context) features kind) entry more each))
 
 -- the access
 access_leads : (memory : Memory) (root : ℕ) (kind : Kind) (reached : Reached) (end : Outcome) (hit : Hit) → hit_by reached end ≡ Ok hit →
@@ -268,97 +271,97 @@ access_leads memory root kind reached outcome.Outside hit is = cc
 access_leads memory root kind reached (outcome.Guest place) hit is = cc
 access_leads memory root kind reached outcome.Fault hit is = cc
 
-access_by_leads : (memory : Memory) (context : Context) (kind : Kind) (reached : Reached) (shape : Option Shape) (hit : Hit) →
-    second_stage memory context kind shape reached ≡ Ok hit → Leads memory context.gppn kind reached.addr shape
-access_by_leads memory context kind reached None hit is = tt
-access_by_leads memory context kind reached (Some shape) hit is =
-    access_leads memory context.gppn kind reached (outcome_of (ram_got memory) shape context.gppn reached.addr kind) hit is
+access_by_leads : (memory : Memory) (features : Features) (context : Context) (kind : Kind) (reached : Reached) (shape : Option Shape) (hit : Hit) →
+    second_stage memory features context kind shape reached ≡ Ok hit → Leads memory features context.gppn kind reached.addr shape
+access_by_leads memory features context kind reached None hit is = tt
+access_by_leads memory features context kind reached (Some shape) hit is =
+    access_leads memory context.gppn kind reached (outcome_of (ram_got memory) (format_of features shape) context.gppn reached.addr kind) hit is
 
-access_passes : (memory : Memory) (context : Context) (kind : Kind) (reached : Reached) (hit : Hit) →
-    second_stage memory context kind (second_shape_of context) reached ≡ Ok hit → All Passes (access_parts memory context kind (Ok reached))
-access_passes memory context kind reached hit is =
-    second_passes memory context kind reached.addr (access_by_leads memory context kind reached (second_shape_of context) hit is)
+access_passes : (memory : Memory) (features : Features) (context : Context) (kind : Kind) (reached : Reached) (hit : Hit) →
+    second_stage memory features context kind (second_shape_of context) reached ≡ Ok hit → All Passes (access_parts memory features context kind (Ok reached))
+access_passes memory features context kind reached hit is =
+    second_passes memory features context kind reached.addr (access_by_leads memory features context kind reached (second_shape_of context) hit is)
 
 -- both stages
-end_passes : (memory : Memory) (context : Context) (iova : ℕ) (kind : Kind) (shape : Shape) (end : Outcome) (hit : Hit) →
-    outcome_of (table_got memory context) shape context.ppn iova kind ≡ end → behind_first memory context kind (reached_by iova end) ≡ Ok hit →
-    All Passes (first_by memory context iova kind (Some shape) ++ access_parts memory context kind (reached_by iova end))
-end_passes memory context iova kind shape (outcome.Leaf leaf) hit is found =
-    let path : List PathEntry = path_told (table_got memory context) shape context.ppn iova kind in
-    let reached : Reached = record { addr = leaf.frame * 4096 + iova % 4096; level = leaf.level; global = leaf.global } in
-    All-append Passes (first_by memory context iova kind (Some shape)) (access_parts memory context kind (Ok reached))
-    (each_by_width Passes (is_in_width shape iova) (wide.First iova) (flat_map (entry_parts memory context) path)
-    (leaf_in_width (table_got memory context) shape context.ppn iova kind leaf is)
-    (entries_pass memory context kind path (walk_lets (table_got memory context) shape context.ppn iova kind leaf is)))
-    (access_passes memory context kind reached hit found)
-end_passes memory context iova kind shape outcome.Outside hit is found = cc
-end_passes memory context iova kind shape (outcome.Guest place) hit is found = cc
-end_passes memory context iova kind shape outcome.Fault hit is found = cc
+end_passes : (memory : Memory) (features : Features) (context : Context) (iova : ℕ) (kind : Kind) (shape : Shape) (end : Outcome) (hit : Hit) →
+    outcome_of (table_got memory features context) (format_of features shape) context.ppn iova kind ≡ end → behind_first memory features context kind (reached_by iova end) ≡ Ok hit →
+    All Passes (first_by memory features context iova kind (Some shape) ++ access_parts memory features context kind (reached_by iova end))
+end_passes memory features context iova kind shape (outcome.Leaf leaf) hit is found =
+    let path : List PathEntry = path_told (table_got memory features context) (format_of features shape) context.ppn iova kind in
+    let reached : Reached = record { addr = leaf.frame * 4096 + iova % 4096; level = leaf.level; global = leaf.global; napot = leaf.napot } in
+    All-append Passes (first_by memory features context iova kind (Some shape)) (access_parts memory features context kind (Ok reached))
+    (each_by_width Passes (is_in_width shape iova) (wide.First iova) (flat_map (entry_parts memory features context) path)
+    (leaf_in_width (table_got memory features context) (format_of features shape) context.ppn iova kind leaf is)
+    (entries_pass memory features context kind path (walk_lets (table_got memory features context) (format_of features shape) context.ppn iova kind leaf is)))
+    (access_passes memory features context kind reached hit found)
+end_passes memory features context iova kind shape outcome.Outside hit is found = cc
+end_passes memory features context iova kind shape (outcome.Guest place) hit is found = cc
+end_passes memory features context iova kind shape outcome.Fault hit is found = cc
 
-stages_by_pass : (memory : Memory) (context : Context) (iova : ℕ) (kind : Kind) (shape : Option Shape) (hit : Hit) →
-    behind_first memory context kind (first_stage memory context iova kind shape) ≡ Ok hit →
-    All Passes (first_by memory context iova kind shape ++ access_parts memory context kind (first_stage memory context iova kind shape))
-stages_by_pass memory context iova kind None hit found =
-    access_passes memory context kind (record { addr = iova; level = 0; global = false }) hit found
-stages_by_pass memory context iova kind (Some shape) hit found =
-    end_passes memory context iova kind shape (outcome_of (table_got memory context) shape context.ppn iova kind) hit refl found
+stages_by_pass : (memory : Memory) (features : Features) (context : Context) (iova : ℕ) (kind : Kind) (shape : Option Shape) (hit : Hit) →
+    behind_first memory features context kind (first_stage memory features context iova kind shape) ≡ Ok hit →
+    All Passes (first_by memory features context iova kind shape ++ access_parts memory features context kind (first_stage memory features context iova kind shape))
+stages_by_pass memory features context iova kind None hit found =
+    access_passes memory features context kind (record { addr = iova; level = 0; global = false; napot = false }) hit found
+stages_by_pass memory features context iova kind (Some shape) hit found =
+    end_passes memory features context iova kind shape (outcome_of (table_got memory features context) (format_of features shape) context.ppn iova kind) hit refl found
 
-stages_pass : (memory : Memory) (context : Context) (iova : ℕ) (kind : Kind) (hit : Hit) →
-    behind_first memory context kind (first_stage memory context iova kind (first_shape_of context)) ≡ Ok hit →
-    All Passes (stage_parts memory iova kind (Ok context))
+stages_pass : (memory : Memory) (features : Features) (context : Context) (iova : ℕ) (kind : Kind) (hit : Hit) →
+    behind_first memory features context kind (first_stage memory features context iova kind (first_shape_of context)) ≡ Ok hit →
+    All Passes (stage_parts memory features iova kind (Ok context))
 unfolding first_parts
-stages_pass memory context iova kind hit found = stages_by_pass memory context iova kind (first_shape_of context) hit found
+stages_pass memory features context iova kind hit found = stages_by_pass memory features context iova kind (first_shape_of context) hit found
 
 -- a context both of whose stages are Bare hits the page itself
-bare_stages_pass : (memory : Memory) (context : Context) (iova : ℕ) (kind : Kind) → is_bare context ≡ true →
-    All Passes (stage_parts memory iova kind (Ok context))
-bare_stages_pass memory context iova kind bare =
+bare_stages_pass : (memory : Memory) (features : Features) (context : Context) (iova : ℕ) (kind : Kind) → is_bare context ≡ true →
+    All Passes (stage_parts memory features iova kind (Ok context))
+bare_stages_pass memory features context iova kind bare =
     let first : (context.mode == 0) ≡ true = search rules in
     let second : (context.gmode == 0) ≡ true = search rules in
-    stages_pass memory context iova kind (record { frame = iova / 4096; level = 0; global = false }) (rw (first, second) refl)
+    stages_pass memory features context iova kind (record { frame = iova / 4096; level = 0; global = false; napot = false }) (rw (first, second) refl)
 
 hit_of : (kind : Kind) (found : Result Hit Failure) (hit : Hit) → told_of kind found ≡ Ok hit → found ≡ Ok hit
 hit_of kind (Ok found) hit is = cc
 hit_of kind (Err failure) hit is = cc
 
-translated_stages_pass : (memory : Memory) (context : Context) (iova : ℕ) (kind : Kind) (hit : Hit) → translation memory context iova kind ≡ Ok hit →
-    All Passes (stage_parts memory iova kind (Ok context))
+translated_stages_pass : (memory : Memory) (features : Features) (context : Context) (iova : ℕ) (kind : Kind) (hit : Hit) → translation memory features context iova kind ≡ Ok hit →
+    All Passes (stage_parts memory features iova kind (Ok context))
 unfolding translation
-translated_stages_pass memory context iova kind hit is = stages_pass memory context iova kind hit (hit_of kind _ hit is)
+translated_stages_pass memory features context iova kind hit is = stages_pass memory features context iova kind hit (hit_of kind _ hit is)
 
 -- below a context, by the way that is led
-page_passes : (memory : Memory) (request : Request) (context : Context) (found : Result Hit Fault) →
-    translation memory context request.iova request.kind ≡ found → IsGranted (way_to context found) →
-    All Passes (stage_parts memory request.iova request.kind (Ok context))
-page_passes memory request context (Ok hit) is granted = translated_stages_pass memory context request.iova request.kind hit is
-page_passes memory request context (Err fault) is granted = absurd granted
+page_passes : (memory : Memory) (features : Features) (request : Request) (context : Context) (found : Result Hit Fault) →
+    translation memory features context request.iova request.kind ≡ found → IsGranted (way_to context found) →
+    All Passes (stage_parts memory features request.iova request.kind (Ok context))
+page_passes memory features request context (Ok hit) is granted = translated_stages_pass memory features context request.iova request.kind hit is
+page_passes memory features request context (Err fault) is granted = absurd granted
 
 -- by whether both stages are Bare
-abbrev pub under_where : Bool → Memory → Request → Context → Under
-under_where bare memory request context =
+abbrev pub under_where : Bool → Memory → Features → Request → Context → Under
+under_where bare memory features request context =
     if bare then record { way = ByContext context; page = None }
-    else record { way = way_to context (page_look memory [] request context).used; page = (page_look memory [] request context).filled }
+    else record { way = way_to context (page_look memory features [] request context).used; page = (page_look memory features [] request context).filled }
 
-under_passes : (memory : Memory) (request : Request) (context : Context) (bare : Bool) → is_bare context ≡ bare →
-    IsGranted (under_where bare memory request context).way →
-    All Passes (stage_parts memory request.iova request.kind (Ok context))
+under_passes : (memory : Memory) (features : Features) (request : Request) (context : Context) (bare : Bool) → is_bare context ≡ bare →
+    IsGranted (under_where bare memory features request context).way →
+    All Passes (stage_parts memory features request.iova request.kind (Ok context))
 unfolding page_look
-under_passes memory request context true is granted = bare_stages_pass memory context request.iova request.kind is
-under_passes memory request context false is granted =
-    let told = translation memory context request.iova request.kind in
-    page_passes memory request context told refl (subst (λ r. IsGranted (way_to context r)) (looked_none (request_key request context) told) granted)
+under_passes memory features request context true is granted = bare_stages_pass memory features context request.iova request.kind is
+under_passes memory features request context false is granted =
+    let told = translation memory features context request.iova request.kind in
+    page_passes memory features request context told refl (subst (λ r. IsGranted (way_to context r)) (looked_none (request_key request context) told) granted)
 
-pub context_passes : (memory : Memory) (request : Request) (context : Context) → IsGranted (led_under memory [] request context).way →
-    All Passes (stage_parts memory request.iova request.kind (Ok context))
-context_passes memory request context granted = under_passes memory request context (is_bare context) refl granted
+pub context_passes : (memory : Memory) (features : Features) (request : Request) (context : Context) → IsGranted (led_under memory features [] request context).way →
+    All Passes (stage_parts memory features request.iova request.kind (Ok context))
+context_passes memory features request context granted = under_passes memory features request context (is_bare context) refl granted
 
 found_passes : (m : Machine) (request : Request) (found : Result Context Cause) → located m.memory m.registers request.did ≡ found →
     IsGranted (led_by_context (uncached m) request (context_look (uncached m) request.did).filled found).way →
-    All Passes (directory_parts m request.did ++ stage_parts m.memory request.iova request.kind found)
+    All Passes (directory_parts m request.did ++ stage_parts m.memory no_features request.iova request.kind found)
 found_passes m request (Ok context) is granted =
-    All-append Passes (directory_parts m request.did) (stage_parts m.memory request.iova request.kind (Ok context))
+    All-append Passes (directory_parts m request.did) (stage_parts m.memory no_features request.iova request.kind (Ok context))
     (directory_passes m request.did context is)
-    (context_passes m.memory request context granted)
+    (context_passes m.memory no_features request context granted)
 found_passes m request (Err why) is granted = absurd granted
 
 mode_passes : (m : Machine) (request : Request) (own : Mode) → IsGranted ((led_by_mode own (uncached m) request).way) →

@@ -7,6 +7,8 @@ use Rattle.iom_bits.specs.declared.causes.Cause.{Cause}
 use Rattle.iom_bits.specs.declared.causes.Cause.TheVariants.{TooWide}
 use Rattle.iom_bits.specs.declared.causes.Kind.{Kind}
 use Rattle.iom_bits.specs.declared.causes.Kind.TheVariants.{Read}
+use Rattle.iom_bits.specs.declared.features.Features.{Features}
+use Rattle.iom_bits.specs.Features.{no_features}
 use Rattle.iom_mem.specs.Memory.{Memory, word, words_at}
 use Rattle.iom_regs.specs.Table.{Registers}
 use Rattle.iom_regs.specs.Views.{mode_of, root_of}
@@ -29,12 +31,13 @@ use Rattle.iom_walk.specs.declared.outcome.Leaf.{Leaf}
 use Rattle.iom_walk.specs.declared.outcome.Outcome.{Outcome}
 use Rattle.iom_walk.specs.declared.outcome.Outcome.TheVariants as outcome
 use Rattle.iom_walk.specs.declared.shape.Shape.{Shape}
-use Rattle.iom_walk.specs.declared.shape.Shape.TheVariants.{Sv39, Sv39x4, Sv48, Sv48x4}
+use Rattle.iom_walk.specs.declared.shape.Shape.TheVariants.{Sv39, Sv39x4, Sv48, Sv48x4, Sv57, Sv57x4}
 use Rattle.iom_walk.specs.declared.source.Got.{Got}
 use Rattle.iom_walk.proofs.Entries.{pointer_for_each}
+use Rattle.iom_walk.specs.declared.shape.Format.{Format}
 use Rattle.iom_nested.specs.Faults.{Failure}
 use Rattle.iom_nested.specs.Nested.{behind_first, first_stage, hit_by, reached_by, second_stage, told_of, translation}
-use Rattle.iom_nested.specs.Stages.{first_shape_of, ram_got, second_shape_of, table_got}
+use Rattle.iom_nested.specs.Stages.{first_shape_of, format_of, ram_got, second_shape_of, table_got}
 use Rattle.iom_nested.specs.declared.translation.Fault.{Fault}
 use Rattle.iom_nested.specs.declared.translation.Hit.{Hit}
 use Rattle.iom_nested.specs.declared.translation.Reached.{Reached}
@@ -151,12 +154,12 @@ directory_refuses m did cause is =
 abbrev NoLeaf : Outcome → Type 0
 NoLeaf end = (leaf : Leaf) → end ≢ outcome.Leaf leaf
 
-abbrev end_on : Kind → Bool → ℕ → List Entry → Outcome
-end_on kind global address path = conclude_at kind global address (find (λ entry. not (is_pointer (verdict_on kind entry))) path)
+abbrev end_on : Features → Kind → Bool → ℕ → List Entry → Outcome
+end_on features kind global address path = conclude_at features kind global address (find (λ entry. not (is_pointer (verdict_on features kind entry))) path)
 
 -- a row that neither points on nor maps
-abbrev Stops : Kind → Entry → Type 0
-Stops kind entry = ¬ Lets (ruling_of kind entry.level entry.got)
+abbrev Stops : Features → Kind → Entry → Type 0
+Stops features kind entry = ¬ Lets (ruling_of features kind entry.level entry.got)
 
 row_stops : (global : Bool) (address : ℕ) (entry : Entry) (row : Ruling) (word : ℕ) → is_pointer (consequence row word) ≡ false →
     NoLeaf (conclude global address entry (consequence row word)) → ¬ Lets row
@@ -166,76 +169,78 @@ row_stops global address entry row word points maps = λ lets. elim lets [
 ]
 
 -- there is no pointer in a last table
-no_last_pointer : (kind : Kind) (got : Got) → is_pointer (verdict_of kind 0 got) ≡ false
+no_last_pointer : (features : Features) (kind : Kind) (got : Got) → is_pointer (verdict_of features kind 0 got) ≡ false
 unfolding verdict_of ruling_of
-no_last_pointer kind got = grind (arith, common_steps)
+no_last_pointer features kind got = grind (arith, common_steps)
 
-end_stops : (kind : Kind) (global : Bool) (address : ℕ) (entry : Entry) (rest : List Entry) → is_pointer (verdict_on kind entry) ≡ false →
-    NoLeaf (end_on kind global address (entry ∷ rest)) → Stops kind entry
+end_stops : (features : Features) (kind : Kind) (global : Bool) (address : ℕ) (entry : Entry) (rest : List Entry) → is_pointer (verdict_on features kind entry) ≡ false →
+    NoLeaf (end_on features kind global address (entry ∷ rest)) → Stops features kind entry
 unfolding verdict_of
-end_stops kind global address entry rest points no_leaf =
-    let last : NoLeaf (conclude global address entry (verdict_on kind entry)) = rw points at no_leaf in
-    row_stops global address entry (ruling_of kind entry.level entry.got) (word_of entry.got) points last
+end_stops features kind global address entry rest points no_leaf =
+    let last : NoLeaf (conclude global address entry (verdict_on features kind entry)) = rw points at no_leaf in
+    row_stops global address entry (ruling_of features kind entry.level entry.got) (word_of entry.got) points last
 
-goes_on : (kind : Kind) (global : Bool) (address : ℕ) (entry : Entry) (rest : List Entry) (pointer : Bool) → is_pointer (verdict_on kind entry) ≡ pointer →
-    (NoLeaf (end_on kind global address rest) → Occurs (Stops kind) rest) →
-    NoLeaf (end_on kind global address (entry ∷ (if pointer then rest else []))) → Occurs (Stops kind) (entry ∷ (if pointer then rest else []))
-goes_on kind global address entry rest true is more no_leaf =
-    let left : NoLeaf (end_on kind global address rest) = rw is at no_leaf in inr (more left)
-goes_on kind global address entry rest false is more no_leaf = inl (end_stops kind global address entry [] is no_leaf)
+goes_on : (features : Features) (kind : Kind) (global : Bool) (address : ℕ) (entry : Entry) (rest : List Entry) (pointer : Bool) → is_pointer (verdict_on features kind entry) ≡ pointer →
+    (NoLeaf (end_on features kind global address rest) → Occurs (Stops features kind) rest) →
+    NoLeaf (end_on features kind global address (entry ∷ (if pointer then rest else []))) → Occurs (Stops features kind) (entry ∷ (if pointer then rest else []))
+goes_on features kind global address entry rest true is more no_leaf =
+    let left : NoLeaf (end_on features kind global address rest) = rw is at no_leaf in inr (more left)
+goes_on features kind global address entry rest false is more no_leaf = inl (end_stops features kind global address entry [] is no_leaf)
 
-walk_stops : (at : ℕ → Got) (shape : Shape) (kind : Kind) (global : Bool) (address table count : ℕ) →
-    NoLeaf (end_on kind global address (path_from at shape address table (suc count))) →
-    Occurs (Stops kind) (path_from at shape address table (suc count))
+walk_stops : (at : ℕ → Got) (format : Format) (kind : Kind) (global : Bool) (address table count : ℕ) →
+    NoLeaf (end_on format.features kind global address (path_from at format address table (suc count))) →
+    Occurs (Stops format.features kind) (path_from at format address table (suc count))
 unfolding path_from
-walk_stops at shape kind global address table zero no_leaf =
-    let entry : Entry = entry_at at shape address table zero in
-    inl (end_stops kind global address entry (if is_pointer (verdict_on Read entry) then path_from at shape address (next_table entry) zero else [])
-    (no_last_pointer kind entry.got) no_leaf)
-walk_stops at shape kind global address table (suc count) no_leaf =
-    let entry : Entry = entry_at at shape address table (suc count) in
-    goes_on kind global address entry (path_from at shape address (next_table entry) (suc count)) (is_pointer (verdict_on Read entry))
-    (sym (pointer_for_each kind (suc count) entry.got)) (walk_stops at shape kind global address (next_table entry) count) no_leaf
+walk_stops at format kind global address table zero no_leaf =
+    let entry : Entry = entry_at at format address table zero in
+    inl (end_stops format.features kind global address entry (if is_pointer (verdict_on format.features Read entry) then path_from at format address (next_table entry) zero else [])
+    (no_last_pointer format.features kind entry.got) no_leaf)
+walk_stops at format kind global address table (suc count) no_leaf =
+    let entry : Entry = entry_at at format address table (suc count) in
+    goes_on format.features kind global address entry (path_from at format address (next_table entry) (suc count)) (is_pointer (verdict_on format.features Read entry))
+    (sym (pointer_for_each format.features kind (suc count) entry.got)) (walk_stops at format kind global address (next_table entry) count) no_leaf
 
-root_stops : (at : ℕ → Got) (shape : Shape) (kind : Kind) (global : Bool) (address root count : ℕ) → 0 < count →
-    NoLeaf (end_on kind global address (path_from at shape address root count)) → Occurs (Stops kind) (path_from at shape address root count)
-root_stops at shape kind global address root zero some no_leaf = absurd (omega arith)
-root_stops at shape kind global address root (suc count) some no_leaf = walk_stops at shape kind global address root count no_leaf
+root_stops : (at : ℕ → Got) (format : Format) (kind : Kind) (global : Bool) (address root count : ℕ) → 0 < count →
+    NoLeaf (end_on format.features kind global address (path_from at format address root count)) → Occurs (Stops format.features kind) (path_from at format address root count)
+root_stops at format kind global address root zero some no_leaf = absurd (omega arith)
+root_stops at format kind global address root (suc count) some no_leaf = walk_stops at format kind global address root count no_leaf
 
 some_level : (shape : Shape) → 0 < levels shape
 some_level Sv39 = omega arith
 some_level Sv39x4 = omega arith
 some_level Sv48 = omega arith
 some_level Sv48x4 = omega arith
+some_level Sv57 = omega arith
+some_level Sv57x4 = omega arith
 
 abbrev IsStop : PathEntry → Type 0
 IsStop entry = ¬ Lets entry.ruling
 
-outcome_stops : (at : ℕ → Got) (shape : Shape) (root address : ℕ) (kind : Kind) → NoLeaf (outcome_of at shape root address kind) →
-    (is_in_width shape address ≡ false) ⊎ Occurs IsStop (path_told at shape root address kind)
+outcome_stops : (at : ℕ → Got) (format : Format) (root address : ℕ) (kind : Kind) → NoLeaf (outcome_of at format root address kind) →
+    (is_in_width format.shape address ≡ false) ⊎ Occurs IsStop (path_told at format root address kind)
 unfolding outcome_of verdict_on_path path_told
-outcome_stops at shape root address kind =
-    let path : List Entry = walk_path_of at shape root address in
-    let Goal : Bool → Type 0 = λ wide. is_in_width shape address ≡ wide → NoLeaf (if wide then verdict_on_path kind address path else outcome.Fault) →
-    (is_in_width shape address ≡ false) ⊎ Occurs IsStop (if wide then map (told kind) path else []) in
+outcome_stops at format root address kind =
+    let path : List Entry = walk_path_of at format root address in
+    let Goal : Bool → Type 0 = λ wide. is_in_width format.shape address ≡ wide → NoLeaf (if wide then verdict_on_path format.features kind address path else outcome.Fault) →
+    (is_in_width format.shape address ≡ false) ⊎ Occurs IsStop (if wide then map (told format.features kind) path else []) in
     let by_cases : (wide : Bool) → Goal wide = λ wide. elim wide as Goal [
-      | true ↦ λ is no_leaf. inr (in_mapped (Stops kind) IsStop (told kind) (λ entry is. is) path
-          (root_stops at shape kind _ address root (levels shape) (some_level shape) no_leaf))
+      | true ↦ λ is no_leaf. inr (in_mapped (Stops format.features kind) IsStop (told format.features kind) (λ entry is. is) path
+          (root_stops at format kind _ address root (levels format.shape) (some_level format.shape) no_leaf))
       | false ↦ λ is no_leaf. inl is
-    ] in by_cases (is_in_width shape address) refl
+    ] in by_cases (is_in_width format.shape address) refl
 
 -- the second stage, where it leads an address nowhere
-abbrev LeadsNot : Memory → ℕ → Kind → ℕ → Option Shape → Type 0
-LeadsNot memory root kind guest None = ⊥
-LeadsNot memory root kind guest (Some shape) = NoLeaf (outcome_of (ram_got memory) shape root guest kind)
+abbrev LeadsNot : Memory → Features → ℕ → Kind → ℕ → Option Shape → Type 0
+LeadsNot memory features root kind guest None = ⊥
+LeadsNot memory features root kind guest (Some shape) = NoLeaf (outcome_of (ram_got memory) (format_of features shape) root guest kind)
 
-second_by_stops : (memory : Memory) (root : ℕ) (kind : Kind) (guest : ℕ) (shape : Option Shape) → LeadsNot memory root kind guest shape →
-    Occurs Bars (second_by memory root kind guest shape)
-second_by_stops memory root kind guest None never = absurd never
-second_by_stops memory root kind guest (Some shape) stops =
-    let path : List PathEntry = path_told (ram_got memory) shape root guest kind in
+second_by_stops : (memory : Memory) (features : Features) (root : ℕ) (kind : Kind) (guest : ℕ) (shape : Option Shape) → LeadsNot memory features root kind guest shape →
+    Occurs Bars (second_by memory features root kind guest shape)
+second_by_stops memory features root kind guest None never = absurd never
+second_by_stops memory features root kind guest (Some shape) stops =
+    let path : List PathEntry = path_told (ram_got memory) (format_of features shape) root guest kind in
     refused_by_width (is_in_width shape guest) (wide.Second guest) (map (part.Second guest) path)
-    (elim (outcome_stops (ram_got memory) shape root guest kind stops) [
+    (elim (outcome_stops (ram_got memory) (format_of features shape) root guest kind stops) [
       | inl beyond ↦ inl beyond
       | inr some ↦ inr (in_mapped IsStop Bars (part.Second guest) (λ entry is. is) path some)
     ])
@@ -246,19 +251,19 @@ access_no_leaf reached outcome.Outside failure is = λ leaf other. cc
 access_no_leaf reached (outcome.Guest place) failure is = λ leaf other. cc
 access_no_leaf reached outcome.Fault failure is = λ leaf other. cc
 
-access_leads_not : (memory : Memory) (context : Context) (kind : Kind) (reached : Reached) (shape : Option Shape) (failure : Failure) →
-    second_stage memory context kind shape reached ≡ Err failure → LeadsNot memory context.gppn kind reached.addr shape
-access_leads_not memory context kind reached None failure is = absurd (cc)
-access_leads_not memory context kind reached (Some shape) failure is =
-    access_no_leaf reached (outcome_of (ram_got memory) shape context.gppn reached.addr kind) failure is
+access_leads_not : (memory : Memory) (features : Features) (context : Context) (kind : Kind) (reached : Reached) (shape : Option Shape) (failure : Failure) →
+    second_stage memory features context kind shape reached ≡ Err failure → LeadsNot memory features context.gppn kind reached.addr shape
+access_leads_not memory features context kind reached None failure is = absurd (cc)
+access_leads_not memory features context kind reached (Some shape) failure is =
+    access_no_leaf reached (outcome_of (ram_got memory) (format_of features shape) context.gppn reached.addr kind) failure is
 
-access_stops : (memory : Memory) (context : Context) (kind : Kind) (reached : Reached) (failure : Failure) →
-    second_stage memory context kind (second_shape_of context) reached ≡ Err failure →
-    Occurs Bars (access_parts memory context kind (Ok reached))
+access_stops : (memory : Memory) (features : Features) (context : Context) (kind : Kind) (reached : Reached) (failure : Failure) →
+    second_stage memory features context kind (second_shape_of context) reached ≡ Err failure →
+    Occurs Bars (access_parts memory features context kind (Ok reached))
 unfolding second_parts
-access_stops memory context kind reached failure is =
-    second_by_stops memory context.gppn kind reached.addr (second_shape_of context)
-    (access_leads_not memory context kind reached (second_shape_of context) failure is)
+access_stops memory features context kind reached failure is =
+    second_by_stops memory features context.gppn kind reached.addr (second_shape_of context)
+    (access_leads_not memory features context kind reached (second_shape_of context) failure is)
 
 -- the first
 first_no_leaf : (iova : ℕ) (end : Outcome) (failure : Failure) → reached_by iova end ≡ Err failure → NoLeaf end
@@ -267,73 +272,73 @@ first_no_leaf iova outcome.Outside failure is = λ leaf other. cc
 first_no_leaf iova (outcome.Guest place) failure is = λ leaf other. cc
 first_no_leaf iova outcome.Fault failure is = λ leaf other. cc
 
-first_by_stops : (memory : Memory) (context : Context) (iova : ℕ) (kind : Kind) (shape : Option Shape) (failure : Failure) →
-    first_stage memory context iova kind shape ≡ Err failure → Occurs Bars (first_by memory context iova kind shape)
-first_by_stops memory context iova kind None failure is = absurd (cc)
-first_by_stops memory context iova kind (Some shape) failure is =
-    let path : List PathEntry = path_told (table_got memory context) shape context.ppn iova kind in
-    refused_by_width (is_in_width shape iova) (wide.First iova) (flat_map (entry_parts memory context) path)
-    (elim (outcome_stops (table_got memory context) shape context.ppn iova kind
-    (first_no_leaf iova (outcome_of (table_got memory context) shape context.ppn iova kind) failure is)) [
+first_by_stops : (memory : Memory) (features : Features) (context : Context) (iova : ℕ) (kind : Kind) (shape : Option Shape) (failure : Failure) →
+    first_stage memory features context iova kind shape ≡ Err failure → Occurs Bars (first_by memory features context iova kind shape)
+first_by_stops memory features context iova kind None failure is = absurd (cc)
+first_by_stops memory features context iova kind (Some shape) failure is =
+    let path : List PathEntry = path_told (table_got memory features context) (format_of features shape) context.ppn iova kind in
+    refused_by_width (is_in_width shape iova) (wide.First iova) (flat_map (entry_parts memory features context) path)
+    (elim (outcome_stops (table_got memory features context) (format_of features shape) context.ppn iova kind
+    (first_no_leaf iova (outcome_of (table_got memory features context) (format_of features shape) context.ppn iova kind) failure is)) [
       | inl beyond ↦ inl beyond
-      | inr stops ↦ inr (in_flat IsStop Bars (entry_parts memory context)
-          (λ entry is. in_second Bars (second_parts memory context Read entry.place) (part.First entry (read_at memory context entry.place) ∷ []) (inl is))
+      | inr stops ↦ inr (in_flat IsStop Bars (entry_parts memory features context)
+          (λ entry is. in_second Bars (second_parts memory features context Read entry.place) (part.First entry (read_at memory features context entry.place) ∷ []) (inl is))
           path stops)
     ])
 
 -- both stages
-stages_stop : (memory : Memory) (context : Context) (iova : ℕ) (kind : Kind) (reached : Result Reached Failure) (failure : Failure) →
-    first_stage memory context iova kind (first_shape_of context) ≡ reached → behind_first memory context kind reached ≡ Err failure →
-    Occurs Bars (stage_parts memory iova kind (Ok context))
+stages_stop : (memory : Memory) (features : Features) (context : Context) (iova : ℕ) (kind : Kind) (reached : Result Reached Failure) (failure : Failure) →
+    first_stage memory features context iova kind (first_shape_of context) ≡ reached → behind_first memory features context kind reached ≡ Err failure →
+    Occurs Bars (stage_parts memory features iova kind (Ok context))
 unfolding first_parts
-stages_stop memory context iova kind (Ok reached) failure is found =
-    let access : Result Reached Failure → List Part = access_parts memory context kind in
-    let first : Result Reached Failure = first_stage memory context iova kind (first_shape_of context) in
-    in_second Bars (first_parts memory context iova kind) (access first)
-    (subst (λ r. Occurs Bars (access r)) (sym is) (access_stops memory context kind reached failure found))
-stages_stop memory context iova kind (Err why) failure is found =
-    in_first Bars (first_parts memory context iova kind)
-    (access_parts memory context kind (first_stage memory context iova kind (first_shape_of context)))
-    (first_by_stops memory context iova kind (first_shape_of context) why is)
+stages_stop memory features context iova kind (Ok reached) failure is found =
+    let access : Result Reached Failure → List Part = access_parts memory features context kind in
+    let first : Result Reached Failure = first_stage memory features context iova kind (first_shape_of context) in
+    in_second Bars (first_parts memory features context iova kind) (access first)
+    (subst (λ r. Occurs Bars (access r)) (sym is) (access_stops memory features context kind reached failure found))
+stages_stop memory features context iova kind (Err why) failure is found =
+    in_first Bars (first_parts memory features context iova kind)
+    (access_parts memory features context kind (first_stage memory features context iova kind (first_shape_of context)))
+    (first_by_stops memory features context iova kind (first_shape_of context) why is)
 
 failure_of : (kind : Kind) (found : Result Hit Failure) (fault : Fault) → told_of kind found ≡ Err fault → (failure : Failure) × (found ≡ Err failure)
 failure_of kind (Ok hit) fault is = absurd (cc)
 failure_of kind (Err failure) fault is = (failure, refl)
 
-translated_stages_stop : (memory : Memory) (context : Context) (iova : ℕ) (kind : Kind) (fault : Fault) → translation memory context iova kind ≡ Err fault →
-    Occurs Bars (stage_parts memory iova kind (Ok context))
+translated_stages_stop : (memory : Memory) (features : Features) (context : Context) (iova : ℕ) (kind : Kind) (fault : Fault) → translation memory features context iova kind ≡ Err fault →
+    Occurs Bars (stage_parts memory features iova kind (Ok context))
 unfolding translation
-translated_stages_stop memory context iova kind fault is =
-    let f = failure_of kind _ fault is in stages_stop memory context iova kind _ f.0 refl f.1
+translated_stages_stop memory features context iova kind fault is =
+    let f = failure_of kind _ fault is in stages_stop memory features context iova kind _ f.0 refl f.1
 
 -- below a context, by the way that is led
-page_refuses : (memory : Memory) (request : Request) (context : Context) (found : Result Hit Fault) →
-    translation memory context request.iova request.kind ≡ found → (IsGranted (way_to context found) → ⊥) →
-    Occurs Bars (stage_parts memory request.iova request.kind (Ok context))
-page_refuses memory request context (Ok hit) is denied = absurd (denied tt)
-page_refuses memory request context (Err fault) is denied = translated_stages_stop memory context request.iova request.kind fault is
+page_refuses : (memory : Memory) (features : Features) (request : Request) (context : Context) (found : Result Hit Fault) →
+    translation memory features context request.iova request.kind ≡ found → (IsGranted (way_to context found) → ⊥) →
+    Occurs Bars (stage_parts memory features request.iova request.kind (Ok context))
+page_refuses memory features request context (Ok hit) is denied = absurd (denied tt)
+page_refuses memory features request context (Err fault) is denied = translated_stages_stop memory features context request.iova request.kind fault is
 
-under_refuses : (memory : Memory) (request : Request) (context : Context) (bare : Bool) →
-    (IsGranted (under_where bare memory request context).way → ⊥) →
-    Occurs Bars (stage_parts memory request.iova request.kind (Ok context))
+under_refuses : (memory : Memory) (features : Features) (request : Request) (context : Context) (bare : Bool) →
+    (IsGranted (under_where bare memory features request context).way → ⊥) →
+    Occurs Bars (stage_parts memory features request.iova request.kind (Ok context))
 unfolding page_look
-under_refuses memory request context true denied = absurd (denied tt)
-under_refuses memory request context false denied =
-    let told = translation memory context request.iova request.kind in
-    page_refuses memory request context told refl (subst (λ r. IsGranted (way_to context r) → ⊥) (looked_none (request_key request context) told) denied)
+under_refuses memory features request context true denied = absurd (denied tt)
+under_refuses memory features request context false denied =
+    let told = translation memory features context request.iova request.kind in
+    page_refuses memory features request context told refl (subst (λ r. IsGranted (way_to context r) → ⊥) (looked_none (request_key request context) told) denied)
 
-pub context_refuses : (memory : Memory) (request : Request) (context : Context) → (IsGranted (led_under memory [] request context).way → ⊥) →
-    Occurs Bars (stage_parts memory request.iova request.kind (Ok context))
-context_refuses memory request context denied = under_refuses memory request context (is_bare context) denied
+pub context_refuses : (memory : Memory) (features : Features) (request : Request) (context : Context) → (IsGranted (led_under memory features [] request context).way → ⊥) →
+    Occurs Bars (stage_parts memory features request.iova request.kind (Ok context))
+context_refuses memory features request context denied = under_refuses memory features request context (is_bare context) denied
 
 found_refuses : (m : Machine) (request : Request) (found : Result Context Cause) → located m.memory m.registers request.did ≡ found →
     (IsGranted (led_by_context (uncached m) request (context_look (uncached m) request.did).filled found).way → ⊥) →
-    Occurs Bars (directory_parts m request.did ++ stage_parts m.memory request.iova request.kind found)
+    Occurs Bars (directory_parts m request.did ++ stage_parts m.memory no_features request.iova request.kind found)
 found_refuses m request (Ok context) is denied =
-    in_second Bars (directory_parts m request.did) (stage_parts m.memory request.iova request.kind (Ok context))
-    (context_refuses m.memory request context denied)
+    in_second Bars (directory_parts m request.did) (stage_parts m.memory no_features request.iova request.kind (Ok context))
+    (context_refuses m.memory no_features request context denied)
 found_refuses m request (Err why) is denied =
-    in_first Bars (directory_parts m request.did) (stage_parts m.memory request.iova request.kind (Err why))
+    in_first Bars (directory_parts m request.did) (stage_parts m.memory no_features request.iova request.kind (Err why))
     (directory_refuses m request.did why is)
 
 mode_refuses : (m : Machine) (request : Request) (own : Mode) → (IsGranted ((led_by_mode own (uncached m) request).way) → ⊥) →

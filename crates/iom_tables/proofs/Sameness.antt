@@ -55,8 +55,8 @@ context_of dtf custom gmode gppn gscid tav pscid mode ppn = record {
   ppn = ppn;
 }
 
-abbrev hit_of : ℕ → ℕ → Bool → Hit
-hit_of frame level global = record { frame = frame; level = level; global = global }
+abbrev hit_of : ℕ → ℕ → Bool → Bool → Hit
+hit_of frame level global napot = record { frame = frame; level = level; global = global; napot = napot }
 
 abbrev denial_of : Cause → ℕ → Bool → Denial
 denial_of cause iotval2 reported = record { cause = cause; iotval2 = iotval2; reported = reported }
@@ -88,10 +88,12 @@ same_hit : (h k : Hit) → is_same_hit h k ≡ true → h ≡ k
 same_hit h k is =
     let s1 = split _ _ is in
     let s2 = split _ _ s1.0 in
-    let frame : h.frame ≡ k.frame = eqb-true _ _ s2.0 in
-    let level : h.level ≡ k.level = eqb-true _ _ s2.1 in
-    let global : h.global ≡ k.global = same_flag _ _ s1.1 in
-    let made : hit_of h.frame h.level h.global ≡ hit_of k.frame k.level k.global = rw (frame, level, global) refl in made
+    let s3 = split _ _ s2.0 in
+    let frame : h.frame ≡ k.frame = eqb-true _ _ s3.0 in
+    let level : h.level ≡ k.level = eqb-true _ _ s3.1 in
+    let global : h.global ≡ k.global = same_flag _ _ s2.1 in
+    let napot : h.napot ≡ k.napot = same_flag _ _ s1.1 in
+    let made : hit_of h.frame h.level h.global h.napot ≡ hit_of k.frame k.level k.global k.napot = rw (frame, level, global, napot) refl in made
 
 -- the cause of a number
 abbrev cause_of : ℕ → Cause
@@ -129,7 +131,7 @@ context_itself : (c : Context) → is_same_context c c ≡ true
 context_itself c = rw (itself (flag c.dtf), itself c.custom, itself c.gmode, itself c.gppn, itself c.gscid, itself (flag c.tav), itself c.pscid, itself c.mode, itself c.ppn) refl
 
 hit_itself : (h : Hit) → is_same_hit h h ≡ true
-hit_itself h = rw (itself h.frame, itself h.level, itself (flag h.global)) refl
+hit_itself h = rw (itself h.frame, itself h.level, itself (flag h.global), itself (flag h.napot)) refl
 
 denial_itself : (x : Denial) → is_same_denial x x ≡ true
 denial_itself x = rw (itself (cause_number x.cause), itself x.iotval2, itself (flag x.reported)) refl

@@ -2,9 +2,10 @@
 use Rattle.std.proofs.Common.{◌≡◌, [], ◌∷◌, List, Ok, sym, subst}
 use Rattle.std.specs.Prelude.{All}
 use Rattle.std.proofs.lemmas.List.Elements.{All-nil, All-cons, All-append}
+use Rattle.iom_bits.specs.declared.features.Features.{Features}
 use Rattle.iom_mem.specs.Memory.{Memory}
 use Rattle.iom_ddt.specs.declared.context.Context.{Context}
-use Rattle.iom_core.specs.Access.{Fits, led_under}
+use Rattle.iom_core.specs.Access.{led_under}
 use Rattle.iom_core.specs.declared.access.Request.{Request}
 use Rattle.iom_tables.specs.Bounds.{PartFits}
 use Rattle.iom_tables.specs.Fetches.{IsRead}
@@ -16,25 +17,25 @@ use Rattle.iom_tables.proofs.Fetches.{stages_read}
 use Rattle.iom_tables.proofs.Passing.{context_passes}
 
 -- of the stages and of the end
-each_under : (P : Part → Type 0) (memory : Memory) (request : Request) (context : Context) (parts : List Part) →
-    parts ≡ parts_under memory request context → All P (stage_parts memory request.iova request.kind (Ok context)) →
-    P (part.End (led_under memory [] request context).way) → All P parts
+each_under : (P : Part → Type 0) (memory : Memory) (features : Features) (request : Request) (context : Context) (parts : List Part) →
+    parts ≡ parts_under memory features request context → All P (stage_parts memory features request.iova request.kind (Ok context)) →
+    P (part.End (led_under memory features [] request context).way) → All P parts
 unfolding parts_under
-each_under P memory request context parts are stages last =
-    let end : Part = part.End (led_under memory [] request context).way in
+each_under P memory features request context parts are stages last =
+    let end : Part = part.End (led_under memory features [] request context).way in
     subst (All P) (sym are)
-    (All-append P (stage_parts memory request.iova request.kind (Ok context)) (end ∷ []) stages (All-cons P end [] last (All-nil P)))
+    (All-append P (stage_parts memory features request.iova request.kind (Ok context)) (end ∷ []) stages (All-cons P end [] last (All-nil P)))
 
-pub under_read : (memory : Memory) (request : Request) (context : Context) (parts : List Part) → parts ≡ parts_under memory request context →
+pub under_read : (memory : Memory) (features : Features) (request : Request) (context : Context) (parts : List Part) → parts ≡ parts_under memory features request context →
     All (IsRead memory) parts
-under_read memory request context parts are =
-    each_under (IsRead memory) memory request context parts are (stages_read memory request.iova request.kind (Ok context)) tt
+under_read memory features request context parts are =
+    each_under (IsRead memory) memory features request context parts are (stages_read memory features request.iova request.kind (Ok context)) tt
 
-pub under_passes : (memory : Memory) (request : Request) (context : Context) (parts : List Part) → parts ≡ parts_under memory request context →
-    IsGranted (led_under memory [] request context).way → All Passes parts
-under_passes memory request context parts are granted =
-    each_under Passes memory request context parts are (context_passes memory request context granted) granted
+pub under_passes : (memory : Memory) (features : Features) (request : Request) (context : Context) (parts : List Part) → parts ≡ parts_under memory features request context →
+    IsGranted (led_under memory features [] request context).way → All Passes parts
+under_passes memory features request context parts are granted =
+    each_under Passes memory features request context parts are (context_passes memory features request context granted) granted
 
-pub under_fits : (memory : Memory) (request : Request) (context : Context) (parts : List Part) → parts ≡ parts_under memory request context →
-    All PartFits (stage_parts memory request.iova request.kind (Ok context)) → Fits (led_under memory [] request context).way → All PartFits parts
-under_fits memory request context parts are stages fits = each_under PartFits memory request context parts are stages fits
+pub under_fits : (memory : Memory) (features : Features) (request : Request) (context : Context) (parts : List Part) → parts ≡ parts_under memory features request context →
+    All PartFits (stage_parts memory features request.iova request.kind (Ok context)) → All PartFits parts
+under_fits memory features request context parts are stages = each_under PartFits memory features request context parts are stages tt

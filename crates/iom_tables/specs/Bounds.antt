@@ -1,13 +1,12 @@
 -- The bounds of what a part tells. A PPN has 44 bits, so a frame's address and that of an entry in its page have 56: RISC-V IOMMU
 -- Architecture 1.0, "Device-directory-table"; RISC-V Privileged Architecture 1.12, "Sv39: Page-Based 39-bit Virtual-Memory System".
--- A guest-physical address that the second stage translates has at most 50: the same, "Guest Physical Address Translation".
+-- A guest-physical address that the second stage translates has at most 59: the same, "Guest Physical Address Translation".
 use Rattle.std.specs.Prelude.{◌<◌, ◌≤◌, ◌^◌, IfSome}
 use Rattle.iom_ddt.specs.declared.listing.Met.{Met}
 use Rattle.iom_ddt.specs.declared.listing.Met.TheVariants as met
 use Rattle.iom_regs.specs.declared.views.Mode.{Mode}
 use Rattle.iom_regs.specs.declared.views.Mode.TheVariants as mode
 use Rattle.iom_walk.specs.declared.listing.PathEntry.{PathEntry}
-use Rattle.iom_core.specs.Access.{Fits}
 use Rattle.iom_tables.specs.declared.part.Part.{Part}
 use Rattle.iom_tables.specs.declared.part.Part.TheVariants as part
 use Rattle.iom_tables.specs.declared.part.Wide.{Wide}
@@ -26,11 +25,11 @@ MetFits (met.Leaf place words) = place < 2 ^ 56
 
 -- where an entry of a page table stands, and its level
 abbrev pub EntryFits : PathEntry → Type 0
-EntryFits entry = (entry.place < 2 ^ 56) × (entry.level < 4)
+EntryFits entry = (entry.place < 2 ^ 56) × (entry.level < 5)
 
--- a device id has 24 bits, an address 64
+-- an address has 64 bits
 abbrev pub WideFits : Wide → Type 0
-WideFits (wide.Directory did) = did < 2 ^ 24
+WideFits (wide.Directory did) = Unit {0}
 WideFits (wide.First iova) = iova < 2 ^ 64
 WideFits (wide.Second guest) = guest < 2 ^ 64
 
@@ -39,5 +38,5 @@ PartFits (part.Ddtp own root) = ModeFits own × (root < 2 ^ 44)
 PartFits (part.Directory met) = MetFits met
 PartFits (part.Wide what) = WideFits what
 PartFits (part.First entry addr) = EntryFits entry × IfSome addr (λ addr. addr < 2 ^ 56)
-PartFits (part.Second guest entry) = (guest < 2 ^ 50) × EntryFits entry
-PartFits (part.End way) = Fits way
+PartFits (part.Second guest entry) = (guest < 2 ^ 59) × EntryFits entry
+PartFits (part.End way) = Unit {0}

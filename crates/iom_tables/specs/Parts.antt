@@ -5,6 +5,8 @@ use Rattle.std.specs.Prelude.{ℕ, ◌+◌, ◌*◌, ◌%◌, Bool, true, false,
 use Rattle.iom_bits.specs.declared.causes.Cause.{Cause}
 use Rattle.iom_bits.specs.declared.causes.Kind.{Kind}
 use Rattle.iom_bits.specs.declared.causes.Kind.TheVariants.{Read}
+use Rattle.iom_bits.specs.declared.features.Features.{Features}
+use Rattle.iom_bits.specs.Features.{no_features}
 use Rattle.iom_mem.specs.Memory.{Memory}
 use Rattle.iom_regs.specs.Views.{mode_of, root_of}
 use Rattle.iom_regs.specs.declared.views.Mode.{Mode}
@@ -20,7 +22,7 @@ use Rattle.iom_walk.specs.declared.outcome.Outcome.TheVariants as outcome
 use Rattle.iom_walk.specs.declared.shape.Shape.{Shape}
 use Rattle.iom_nested.specs.Faults.{Failure}
 use Rattle.iom_nested.specs.Nested.{first_stage}
-use Rattle.iom_nested.specs.Stages.{first_shape_of, ram_got, second_shape_of, table_got}
+use Rattle.iom_nested.specs.Stages.{first_shape_of, format_of, ram_got, second_shape_of, table_got}
 use Rattle.iom_nested.specs.declared.translation.Reached.{Reached}
 use Rattle.iom_core.specs.State.{Machine}
 use Rattle.iom_core.specs.declared.access.Request.{Request}
@@ -37,13 +39,13 @@ by_width true what entries = entries
 by_width false what entries = part.Wide what ∷ []
 
 -- the entries of the second stage on the way from a guest-physical address; none where that stage is Bare
-abbrev pub second_by : Memory → ℕ → Kind → ℕ → Option Shape → List Part
-second_by memory root kind guest None = []
-second_by memory root kind guest (Some shape) =
-    by_width (is_in_width shape guest) (wide.Second guest) (map (part.Second guest) (path_told (ram_got memory) shape root guest kind))
+abbrev pub second_by : Memory → Features → ℕ → Kind → ℕ → Option Shape → List Part
+second_by memory features root kind guest None = []
+second_by memory features root kind guest (Some shape) =
+    by_width (is_in_width shape guest) (wide.Second guest) (map (part.Second guest) (path_told (ram_got memory) (format_of features shape) root guest kind))
 
-unfoldable pub second_parts : Memory → Context → Kind → ℕ → List Part
-second_parts memory context kind guest = second_by memory context.gppn kind guest (second_shape_of context)
+unfoldable pub second_parts : Memory → Features → Context → Kind → ℕ → List Part
+second_parts memory features context kind guest = second_by memory features context.gppn kind guest (second_shape_of context)
 
 -- the physical address that a walk of the second stage leads to
 abbrev pub address_by : ℕ → Outcome → Option ℕ
@@ -53,39 +55,39 @@ address_by guest (outcome.Guest place) = None
 address_by guest outcome.Fault = None
 
 -- the physical address that an entry of the first stage is read at: its place, or where the second stage leads that for a read
-abbrev pub read_by : Memory → ℕ → ℕ → Option Shape → Option ℕ
-read_by memory root place None = Some place
-read_by memory root place (Some shape) = address_by place (outcome_of (ram_got memory) shape root place Read)
+abbrev pub read_by : Memory → Features → ℕ → ℕ → Option Shape → Option ℕ
+read_by memory features root place None = Some place
+read_by memory features root place (Some shape) = address_by place (outcome_of (ram_got memory) (format_of features shape) root place Read)
 
-unfoldable pub read_at : Memory → Context → ℕ → Option ℕ
-read_at memory context place = read_by memory context.gppn place (second_shape_of context)
+unfoldable pub read_at : Memory → Features → Context → ℕ → Option ℕ
+read_at memory features context place = read_by memory features context.gppn place (second_shape_of context)
 
 -- an entry of the first stage, behind those of the second that its place is translated by
-abbrev pub entry_parts : Memory → Context → PathEntry → List Part
-entry_parts memory context entry =
-    second_parts memory context Read entry.place ++ part.First entry (read_at memory context entry.place) ∷ []
+abbrev pub entry_parts : Memory → Features → Context → PathEntry → List Part
+entry_parts memory features context entry =
+    second_parts memory features context Read entry.place ++ part.First entry (read_at memory features context entry.place) ∷ []
 
 -- the first stage, entry by entry; nothing where it is Bare
-abbrev pub first_by : Memory → Context → ℕ → Kind → Option Shape → List Part
-first_by memory context iova kind None = []
-first_by memory context iova kind (Some shape) =
+abbrev pub first_by : Memory → Features → Context → ℕ → Kind → Option Shape → List Part
+first_by memory features context iova kind None = []
+first_by memory features context iova kind (Some shape) =
     by_width (is_in_width shape iova) (wide.First iova)
-    (flat_map (entry_parts memory context) (path_told (table_got memory context) shape context.ppn iova kind))
+    (flat_map (entry_parts memory features context) (path_told (table_got memory features context) (format_of features shape) context.ppn iova kind))
 
-unfoldable pub first_parts : Memory → Context → ℕ → Kind → List Part
-first_parts memory context iova kind = first_by memory context iova kind (first_shape_of context)
+unfoldable pub first_parts : Memory → Features → Context → ℕ → Kind → List Part
+first_parts memory features context iova kind = first_by memory features context iova kind (first_shape_of context)
 
 -- the access itself: the entries of the second stage for its own kind, from the address that the first one reached
-abbrev pub access_parts : Memory → Context → Kind → Result Reached Failure → List Part
-access_parts memory context kind (Ok reached) = second_parts memory context kind reached.addr
-access_parts memory context kind (Err failure) = []
+abbrev pub access_parts : Memory → Features → Context → Kind → Result Reached Failure → List Part
+access_parts memory features context kind (Ok reached) = second_parts memory features context kind reached.addr
+access_parts memory features context kind (Err failure) = []
 
 -- both stages of the context that was found; nothing where none was
-abbrev pub stage_parts : Memory → ℕ → Kind → Result Context Cause → List Part
-stage_parts memory iova kind (Ok context) =
-    first_parts memory context iova kind
-    ++ access_parts memory context kind (first_stage memory context iova kind (first_shape_of context))
-stage_parts memory iova kind (Err why) = []
+abbrev pub stage_parts : Memory → Features → ℕ → Kind → Result Context Cause → List Part
+stage_parts memory features iova kind (Ok context) =
+    first_parts memory features context iova kind
+    ++ access_parts memory features context kind (first_stage memory features context iova kind (first_shape_of context))
+stage_parts memory features iova kind (Err why) = []
 
 -- the directory, item by item
 abbrev pub directory_parts : Machine → ℕ → List Part
@@ -99,7 +101,7 @@ parts_by mode.Off m request = []
 parts_by mode.Bare m request = []
 parts_by (mode.Levels levels) m request =
     directory_parts m request.did
-    ++ stage_parts m.memory request.iova request.kind (located m.memory m.registers request.did)
+    ++ stage_parts m.memory no_features request.iova request.kind (located m.memory m.registers request.did)
 
 -- ddtp first, and last the way that the request is led
 unfoldable pub parts_of : Machine → Request → List Part
@@ -109,6 +111,6 @@ parts_of m request =
     ++ part.End (by_tables m request) ∷ []
 
 -- below a context that is cached: both stages as the tables stand now, and the way that they lead the request
-unfoldable pub parts_under : Memory → Request → Context → List Part
-parts_under memory request context =
-    stage_parts memory request.iova request.kind (Ok context) ++ part.End (led_under memory [] request context).way ∷ []
+unfoldable pub parts_under : Memory → Features → Request → Context → List Part
+parts_under memory features request context =
+    stage_parts memory features request.iova request.kind (Ok context) ++ part.End (led_under memory features [] request context).way ∷ []

@@ -24,7 +24,8 @@ is_same_context c other =
     && c.ppn == other.ppn
 
 abbrev pub is_same_hit : Hit → Hit → Bool
-is_same_hit hit other = hit.frame == other.frame && hit.level == other.level && flag hit.global == flag other.global
+is_same_hit hit other =
+    hit.frame == other.frame && hit.level == other.level && flag hit.global == flag other.global && flag hit.napot == flag other.napot
 
 abbrev pub is_same_denial : Denial → Denial → Bool
 is_same_denial denial other =

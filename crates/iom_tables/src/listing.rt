@@ -3,8 +3,8 @@
 ghost use Rattle.std.specs.Prelude.{◌≡◌, ◌++◌, ◌+◌, ◌<◌, ◌≤◌, ◌^◌, ◌-◌, [], map, flat_map, slice_get, All, Any, IfOk, None, Ok, Result, Some, ◌≢◌};
 ghost use Rattle.arrayvec.specs.ArrayVec.{array_vec_len};
 ghost use Rattle.iom_regs.specs.Views.{mode_of};
-ghost use Rattle.iom_ddt.specs.Contexts.{IsWellFormed};
 ghost use Rattle.iom_ddt.specs.Directory.{levels_of, located, path_of};
+ghost use Rattle.iom_bits.specs.Features.{no_features};
 ghost use Rattle.iom_bits.specs.declared.causes.Kind.TheVariants.{Read};
 ghost use Rattle.iom_nested.specs.Faults.{Failure};
 ghost use Rattle.iom_nested.specs.Nested.{first_stage, told_of};
@@ -18,19 +18,19 @@ ghost use Rattle.iom_tables.specs.declared.part.Part.TheVariants as part;
 ghost use Rattle.iom_core.specs.Access.{led_under};
 ghost use Rattle.iom_core.specs.Looking.{by_tables};
 
-use crate::{Part, Wide};
+use crate::{Part, Way, Wide};
 use arrayvec::ArrayVec;
-use iom_bits::Kind;
+use iom_bits::{Features, Kind};
 use iom_core::{Platform, Request};
 use iom_ddt::{Context, is_too_wide, locate};
 use iom_mem::Ram;
 use iom_nested::{Fault, Physical, Reached, first_shape, first_stage_listed, second_shape};
 use iom_regs::Mode;
-use iom_walk::{Outcome, PathEntries, walk_listed};
+use iom_walk::{Format, Outcome, PathEntries, walk_listed};
 
-/// The parts of a walk, in order: at most ddtp, three of the directory, four entries of the first stage and five times four of the
+/// The parts of a walk, in order: at most ddtp, three of the directory, five entries of the first stage and six times five of the
 /// second, and the end.
-pub type Parts = ArrayVec<Part, 29>;
+pub type Parts = ArrayVec<Part, 40>;
 
 /// All that is looked at to lead a request where nothing is cached, in order ("Process to translate an IOVA").
 ///
@@ -38,9 +38,8 @@ pub type Parts = ArrayVec<Part, 29>;
 /// second stage that translate the entry's place, for a read. The second stage for the access itself is next, for the access's kind,
 /// and the end is the way that the request is led. A device id that is too wide stands in place of the directory, and an address that
 /// breaks the width rule of a stage in place of its entries. Where the request is granted no part refuses it; where it is denied one does.
-/// Each PPN told is below 2^44, and each address of an entry below 2^56. The device id is below 2^24, the IOVA any. No memory is taken.
+/// Each PPN told is below 2^44, and each address of an entry below 2^56. Any request has parts. No memory is taken.
 pub fn parts(platform: &Platform, request: &Request) -> Parts
-    requires { request.now.did < 2 ^ 24 }
     ensures parts { result.items ≡ parts_of platform.now.machine request.now }
     ensures read { All (IsRead platform.now.machine.memory) result.items }
     ensures passed { IsGranted (by_tables platform.now.machine request.now) → All Passes result.items }
@@ -48,7 +47,7 @@ pub fn parts(platform: &Platform, request: &Request) -> Parts
         Any (Refuses platform.now.machine request.now) result.items }
     ensures end { slice_get result.items (array_vec_len result - 1) ≡ Some (part.End (by_tables platform.now.machine request.now)) }
     ensures some { 2 ≤ array_vec_len result }
-    ensures most { array_vec_len result ≤ 29 }
+    ensures most { array_vec_len result ≤ 40 }
     ensures fits { All PartFits result.items }
 {
     let mut out = Parts::new();
@@ -59,7 +58,6 @@ pub fn parts(platform: &Platform, request: &Request) -> Parts
 /// Puts the same in place of what a list holds.
 #[tactic(auto, unfolding(crate::specs::Parts::parts_of))]
 pub fn put_parts(out: &mut Parts, platform: &Platform, request: &Request)
-    requires { request.now.did < 2 ^ 24 }
     ensures parts { out.new.items ≡ parts_of platform.now.machine request.now }
     ensures read { All (IsRead platform.now.machine.memory) out.new.items }
     ensures passed { IsGranted (by_tables platform.now.machine request.now) → All Passes out.new.items }
@@ -67,7 +65,7 @@ pub fn put_parts(out: &mut Parts, platform: &Platform, request: &Request)
         Any (Refuses platform.now.machine request.now) out.new.items }
     ensures end { slice_get out.new.items (array_vec_len out.new - 1) ≡ Some (part.End (by_tables platform.now.machine request.now)) }
     ensures some { 2 ≤ array_vec_len out.new }
-    ensures most { array_vec_len out.new ≤ 29 }
+    ensures most { array_vec_len out.new ≤ 40 }
     ensures fits { All PartFits out.new.items }
 {
     let registers = platform.registers();
@@ -83,10 +81,9 @@ pub fn put_parts(out: &mut Parts, platform: &Platform, request: &Request)
 /// stages, as the tables stand now, and the end, which is the way that they lead it. It takes the place of what the list holds.
 #[tactic(auto, unfolding(crate::specs::Parts::parts_under))]
 pub fn put_parts_under(out: &mut Parts, platform: &Platform, request: &Request, context: &Context)
-    requires { IsWellFormed context.now }
-    ensures parts { out.new.items ≡ parts_under platform.now.machine.memory request.now context.now }
+    ensures parts { out.new.items ≡ parts_under platform.now.machine.memory no_features request.now context.now }
     ensures read { All (IsRead platform.now.machine.memory) out.new.items }
-    ensures passed { IsGranted (led_under platform.now.machine.memory [] request.now context.now).way → All Passes out.new.items }
+    ensures passed { IsGranted (led_under platform.now.machine.memory no_features [] request.now context.now).way → All Passes out.new.items }
     ensures fits { All PartFits out.new.items }
 {
     out.clear();
@@ -94,13 +91,15 @@ pub fn put_parts_under(out: &mut Parts, platform: &Platform, request: &Request, 
     out.push(Part::End(platform.way_under(request, context)));
 }
 
+// A function that pushes a part names `Way`, which a part has: what is proved of a list of parts rests on the modules of the types that
+// the function names.
+
 // What is behind ddtp, where its mode has a directory.
 fn push_walk(out: &mut Parts, platform: &Platform, request: &Request)
-    requires width { request.now.did < 2 ^ 24 }
     requires room { array_vec_len out.old ≤ 1 }
     ensures items { out.new.items ≡ out.old.items
         ++ parts_by (mode_of platform.now.machine.registers) platform.now.machine request.now }
-    ensures len { array_vec_len out.new ≤ array_vec_len out.old + 27 }
+    ensures len { array_vec_len out.new ≤ array_vec_len out.old + 38 }
     ensures fits { All PartFits (parts_by (mode_of platform.now.machine.registers) platform.now.machine request.now) }
 {
     if let Mode::Levels(_) = platform.registers().mode() {
@@ -112,11 +111,11 @@ fn push_walk(out: &mut Parts, platform: &Platform, request: &Request)
 // The items of the directory, or a device id that is too wide for it.
 fn push_directory(out: &mut Parts, platform: &Platform, did: u32)
     requires directory { 1 ≤ levels_of (mode_of platform.now.machine.registers) }
-    requires width { did < 2 ^ 24 }
-    requires room { array_vec_len out.old ≤ 26 }
+    requires room { array_vec_len out.old ≤ 37 }
     ensures items { out.new.items ≡ out.old.items ++ directory_parts platform.now.machine did }
     ensures len { array_vec_len out.new ≤ array_vec_len out.old + 3 }
 {
+    let _: Option<Way> = None;
     if is_too_wide(platform.registers(), did) {
         out.push(Part::Wide(Wide::Directory { did }));
     } else {
@@ -127,11 +126,11 @@ fn push_directory(out: &mut Parts, platform: &Platform, did: u32)
 // The items of the directory.
 fn push_items(out: &mut Parts, platform: &Platform, did: u32)
     requires directory { 1 ≤ levels_of (mode_of platform.now.machine.registers) }
-    requires width { did < 2 ^ 24 }
-    requires room { array_vec_len out.old ≤ 26 }
+    requires room { array_vec_len out.old ≤ 37 }
     ensures items { out.new.items ≡ out.old.items ++ map part.Directory (path_of platform.now.machine.memory platform.now.machine.registers did) }
     ensures len { array_vec_len out.new ≤ array_vec_len out.old + 3 }
 {
+    let _: Option<Way> = None;
     let path = iom_ddt::path(platform.ram(), platform.registers(), did);
     for met in path.iter() {
         out.push(Part::Directory(*met));
@@ -141,12 +140,11 @@ fn push_items(out: &mut Parts, platform: &Platform, did: u32)
 // Both stages of the context that the directory has for the request.
 fn push_located(out: &mut Parts, platform: &Platform, request: &Request)
     requires directory { 1 ≤ levels_of (mode_of platform.now.machine.registers) }
-    requires width { request.now.did < 2 ^ 24 }
     requires room { array_vec_len out.old ≤ 5 }
-    ensures items { out.new.items ≡ out.old.items ++ stage_parts platform.now.machine.memory request.now.iova request.now.kind
+    ensures items { out.new.items ≡ out.old.items ++ stage_parts platform.now.machine.memory no_features request.now.iova request.now.kind
         (located platform.now.machine.memory platform.now.machine.registers request.now.did) }
-    ensures len { array_vec_len out.new ≤ array_vec_len out.old + 24 }
-    ensures fits { All PartFits (stage_parts platform.now.machine.memory request.now.iova request.now.kind
+    ensures len { array_vec_len out.new ≤ array_vec_len out.old + 35 }
+    ensures fits { All PartFits (stage_parts platform.now.machine.memory no_features request.now.iova request.now.kind
         (located platform.now.machine.memory platform.now.machine.registers request.now.did)) }
 {
     if let Ok(context) = &locate(platform.ram(), platform.registers(), request.did) {
@@ -156,16 +154,16 @@ fn push_located(out: &mut Parts, platform: &Platform, request: &Request)
 
 // Both stages of a context.
 fn push_stages(out: &mut Parts, platform: &Platform, request: &Request, context: &Context)
-    requires well_formed { IsWellFormed context.now }
     requires room { array_vec_len out.old ≤ 5 }
     ensures items { out.new.items ≡ out.old.items
-        ++ stage_parts platform.now.machine.memory request.now.iova request.now.kind (Ok context.now) }
-    ensures len { array_vec_len out.new ≤ array_vec_len out.old + 24 }
-    ensures fits { All PartFits (stage_parts platform.now.machine.memory request.now.iova request.now.kind (Ok context.now)) }
+        ++ stage_parts platform.now.machine.memory no_features request.now.iova request.now.kind (Ok context.now) }
+    ensures len { array_vec_len out.new ≤ array_vec_len out.old + 35 }
+    ensures fits { All PartFits (stage_parts platform.now.machine.memory no_features request.now.iova request.now.kind (Ok context.now)) }
 {
+    let _ = &context.fields;
     let ram = platform.ram();
-    let reached = push_first(out, ram, context, request.iova, request.kind);
-    push_access(out, ram, context, reached, request.kind);
+    let reached = push_first(out, ram, Features::none(), context, request.iova, request.kind);
+    push_access(out, ram, Features::none(), context, reached, request.kind);
 }
 
 // The first stage, entry by entry, or an IOVA that is too wide for it, and where it leads.
@@ -173,39 +171,40 @@ fn push_stages(out: &mut Parts, platform: &Platform, request: &Request, context:
 fn push_first(
     out: &mut Parts,
     ram: &Ram,
+    features: Features,
     context: &Context,
     iova: u64,
     kind: Kind,
 ) -> Result<Reached, Fault>
-    requires well_formed { IsWellFormed context.now }
-    requires room { array_vec_len out.old ≤ 9 }
-    ensures items { out.new.items ≡ out.old.items ++ first_parts ram.now context.now iova kind }
-    ensures len { array_vec_len out.new ≤ array_vec_len out.old + 20 }
+    requires room { array_vec_len out.old ≤ 10 }
+    ensures items { out.new.items ≡ out.old.items ++ first_parts ram.now features context.now iova kind }
+    ensures len { array_vec_len out.new ≤ array_vec_len out.old + 30 }
     ensures reached { result
-        ≡ told_of kind (first_stage ram.now context.now iova kind (first_shape_of context.now)) }
+        ≡ told_of kind (first_stage ram.now features context.now iova kind (first_shape_of context.now)) }
     ensures fits { IfOk result
-        (λ reached. (first_shape_of context.now ≢ None → reached.addr < 2 ^ 56) × (reached.level < 4)) }
+        (λ reached. (first_shape_of context.now ≢ None → reached.addr < 2 ^ 56) × (reached.level < 5)) }
 {
+    let _: Option<Way> = None;
     let mut entries = PathEntries::new();
-    let reached = first_stage_listed(&mut entries, ram, context, iova, kind);
+    let reached = first_stage_listed(&mut entries, ram, features, context, iova, kind);
     match first_shape(context) {
         None => {}
-        Some(shape) if shape.covers(iova) => push_entries(out, ram, context, &entries),
+        Some(shape) if shape.covers(iova) => push_entries(out, ram, features, context, &entries),
         Some(_) => out.push(Part::Wide(Wide::First { iova })),
     }
     reached
 }
 
 // Entries of the first stage, each behind those of the second.
-fn push_entries(out: &mut Parts, ram: &Ram, context: &Context, entries: &PathEntries)
-    requires well_formed { IsWellFormed context.now }
-    requires few { array_vec_len entries.now ≤ 4 }
-    requires room { array_vec_len out.old ≤ 9 }
-    ensures items { out.new.items ≡ out.old.items ++ flat_map (entry_parts ram.now context.now) entries.now.items }
-    ensures len { array_vec_len out.new ≤ array_vec_len out.old + 20 }
+fn push_entries(out: &mut Parts, ram: &Ram, features: Features, context: &Context, entries: &PathEntries)
+    requires few { array_vec_len entries.now ≤ 5 }
+    requires room { array_vec_len out.old ≤ 10 }
+    ensures items { out.new.items ≡ out.old.items ++ flat_map (entry_parts ram.now features context.now) entries.now.items }
+    ensures len { array_vec_len out.new ≤ array_vec_len out.old + 30 }
 {
+    let _: Option<Way> = None;
     for entry in entries.iter() {
-        let addr = push_second(out, ram, context, entry.place, Kind::Read);
+        let addr = push_second(out, ram, features, context, entry.place, Kind::Read);
         let entry = *entry;
         out.push(Part::First { entry, addr });
     }
@@ -215,30 +214,31 @@ fn push_entries(out: &mut Parts, ram: &Ram, context: &Context, entries: &PathEnt
 fn push_access(
     out: &mut Parts,
     ram: &Ram,
+    features: Features,
     context: &Context,
     reached: Result<Reached, Fault>,
     kind: Kind,
 )
-    requires well_formed { IsWellFormed context.now }
-    requires room { array_vec_len out.old ≤ 25 }
+    requires room { array_vec_len out.old ≤ 35 }
     ensures items { (found : Result Reached Failure) → reached ≡ told_of kind found →
-        out.new.items ≡ out.old.items ++ access_parts ram.now context.now kind found }
-    ensures len { array_vec_len out.new ≤ array_vec_len out.old + 4 }
+        out.new.items ≡ out.old.items ++ access_parts ram.now features context.now kind found }
+    ensures len { array_vec_len out.new ≤ array_vec_len out.old + 5 }
 {
+    let _: Option<Way> = None;
     if let Ok(reached) = reached {
-        let _addr = push_second(out, ram, context, reached.addr, kind);
+        let _addr = push_second(out, ram, features, context, reached.addr, kind);
     }
 }
 
 // The second stage from a guest-physical address on, entry by entry, or that address where it is too wide for it; and where it leads.
 #[tactic(auto, unfolding(crate::specs::Parts::second_parts, crate::specs::Parts::read_at, iom_walk::specs::Outcome::outcome_of))]
-fn push_second(out: &mut Parts, ram: &Ram, context: &Context, guest: u64, kind: Kind) -> Option<u64>
-    requires well_formed { IsWellFormed context.now }
-    requires room { array_vec_len out.old ≤ 25 }
-    ensures items { out.new.items ≡ out.old.items ++ second_parts ram.now context.now kind guest }
-    ensures len { array_vec_len out.new ≤ array_vec_len out.old + 4 }
-    ensures addr { kind ≡ Read → result ≡ read_at ram.now context.now guest }
+fn push_second(out: &mut Parts, ram: &Ram, features: Features, context: &Context, guest: u64, kind: Kind) -> Option<u64>
+    requires room { array_vec_len out.old ≤ 35 }
+    ensures items { out.new.items ≡ out.old.items ++ second_parts ram.now features context.now kind guest }
+    ensures len { array_vec_len out.new ≤ array_vec_len out.old + 5 }
+    ensures addr { kind ≡ Read → result ≡ read_at ram.now features context.now guest }
 {
+    let _: Option<Way> = None;
     let Some(shape) = second_shape(context) else {
         return Some(guest);
     };
@@ -250,8 +250,8 @@ fn push_second(out: &mut Parts, ram: &Ram, context: &Context, guest: u64, kind: 
     let outcome = walk_listed(
         &mut entries,
         &Physical { ram },
-        shape,
-        context.gppn,
+        Format { shape, features },
+        context.fields.gppn,
         guest,
         kind,
     );
@@ -264,11 +264,12 @@ fn push_second(out: &mut Parts, ram: &Ram, context: &Context, guest: u64, kind: 
 
 // Entries of the second stage, from a guest-physical address on.
 fn push_path(out: &mut Parts, entries: &PathEntries, guest: u64)
-    requires few { array_vec_len entries.now ≤ 4 }
-    requires room { array_vec_len out.old ≤ 25 }
+    requires few { array_vec_len entries.now ≤ 5 }
+    requires room { array_vec_len out.old ≤ 35 }
     ensures items { out.new.items ≡ out.old.items ++ map (part.Second guest) entries.now.items }
     ensures len { array_vec_len out.new ≤ array_vec_len out.old + array_vec_len entries.now }
 {
+    let _: Option<Way> = None;
     for met in entries.iter() {
         out.push(Part::Second { guest, entry: *met });
     }

@@ -15,14 +15,14 @@ pub enum Part {
     /// An entry of the first stage, whose place is guest-physical under a second stage, else physical; `addr` is the physical
     /// address that it was read at, None where the second stage leads its place nowhere.
     First { entry: PathEntry, addr: Option<u64> },
-    /// An entry of the second stage, at its physical place, on the way from the guest-physical address `guest`, at most 50 bits.
+    /// An entry of the second stage, at its physical place, on the way from the guest-physical address `guest`, at most 59 bits.
     Second { guest: u64, entry: PathEntry },
     /// The way that the request is led.
     End(Way),
 }
 
 /// A device id that is too wide for the directory ("Process to locate the Device-context"), or an address that is too wide for a stage
-/// ("Sv39", "Sv48" and "Guest Physical Address Translation" of RISC-V Privileged Architecture).
+/// ("Sv39", "Sv48", "Sv57" and "Guest Physical Address Translation" of RISC-V Privileged Architecture).
 #[derive(Clone, Copy, PartialEq)]
 pub enum Wide {
     /// A device id, below 2^24, with bits above those that the directory's levels take.

@@ -1,6 +1,6 @@
 use iom_bits::Kind;
 use iom_cache::{ContextCache, Key, Place, TransCache, key_of};
-use iom_ddt::Context;
+use iom_ddt::{Context, ContextFields};
 use iom_nested::Hit;
 use iom_queue::Command;
 use std::alloc::{AllocError, Global};
@@ -10,36 +10,42 @@ const HIT: Hit = Hit {
     frame: 0x80010,
     level: 0,
     global: false,
+    napot: false,
 };
 
 const GLOBAL: Hit = Hit {
     frame: 0x80010,
     level: 0,
     global: true,
+    napot: false,
 };
 
 const SUPERPAGE: Hit = Hit {
     frame: 0x80010,
     level: 1,
     global: false,
+    napot: false,
 };
 
 const LARGEST: Hit = Hit {
     frame: 0x80010,
     level: 3,
     global: false,
+    napot: false,
 };
 
 const CONTEXT: Context = Context {
-    dtf: false,
-    custom: 0,
-    gmode: 8,
-    gppn: 0x80020,
-    gscid: 7,
-    tav: false,
-    pscid: 3,
-    mode: 0,
-    ppn: 0,
+    fields: ContextFields {
+        dtf: false,
+        custom: 0,
+        gmode: 8,
+        gppn: 0x80020,
+        gscid: 7,
+        tav: false,
+        pscid: 3,
+        mode: 0,
+        ppn: 0,
+    },
 };
 
 // A key of device 5 under process 3.
@@ -87,9 +93,9 @@ fn gvma(gv: bool, gscid: u16) -> Command {
     }
 }
 
-// Fills where no live place has the key, with a hit that fits.
+// Fills where no live place has the key.
 fn fill(cache: &mut TransCache, key: Key, hit: Hit) {
-    if cache.find(&key).is_none() && hit.frame < 1 << 44 && hit.level < 4 {
+    if cache.find(&key).is_none() {
         cache.fill(key, hit);
     }
 }
@@ -115,7 +121,7 @@ fn is_dropped(alloc: Global, command: Command, key: Key, hit: Hit) -> Result<boo
 fn filled_contexts(alloc: Global, end: u32) -> Result<ContextCache, AllocError> {
     let mut cache = ContextCache::new(alloc)?;
     for did in 0..end {
-        if cache.find(did).is_none() && CONTEXT.is_well_formed() {
+        if cache.find(did).is_none() {
             cache.fill(did, CONTEXT);
         }
     }

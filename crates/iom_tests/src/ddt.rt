@@ -2,10 +2,10 @@ ghost use Rattle.std.specs.Prelude.{Ok, Err};
 
 use crate::first_wrong;
 use iom_bits::Cause;
-use iom_ddt::{Context, context_of, encode_context};
+use iom_ddt::{Context, ContextFields, context_of, encode_context};
 
 // Every field set: both stages, a guest and a process.
-const FULL: Context = Context {
+const FULL: ContextFields = ContextFields {
     dtf: true,
     custom: 0xa5,
     gmode: 8,
@@ -25,7 +25,7 @@ const FULL_WORDS: [u64; 4] = [
 ];
 
 // The same with four levels in both stages.
-const FOUR_LEVELS: Context = Context {
+const FOUR_LEVELS: ContextFields = ContextFields {
     gmode: 9,
     mode: 9,
     ..FULL
@@ -38,14 +38,20 @@ const FOUR_LEVELS_WORDS: [u64; 4] = [
     0x9000_0000_0000_0030,
 ];
 
+// Whether these fields are a context's, and these its words.
+fn is_encoding(fields: ContextFields, words: [u64; 4]) -> bool {
+    match (Context::new(fields), context_of(words)) {
+        (Some(context), Ok(found)) => encode_context(&context) == words && found == context,
+        _ => false,
+    }
+}
+
 // A context with every field set, and one of four levels.
 #[test]
 fn encodes_and_decodes(rt: HostRuntime) {
     let facts = [
-        encode_context(&FULL) == FULL_WORDS,
-        context_of(FULL_WORDS) == Ok(FULL),
-        encode_context(&FOUR_LEVELS) == FOUR_LEVELS_WORDS,
-        context_of(FOUR_LEVELS_WORDS) == Ok(FOUR_LEVELS),
+        is_encoding(FULL, FULL_WORDS),
+        is_encoding(FOUR_LEVELS, FOUR_LEVELS_WORDS),
     ];
     assert_eq!(rt; first_wrong(&facts), None);
 }

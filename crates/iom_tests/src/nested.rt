@@ -1,16 +1,16 @@
 ghost use Rattle.std.specs.Prelude.{Ok, Err};
 
 use crate::first_wrong;
-use iom_bits::{Cause, Kind};
-use iom_ddt::Context;
+use iom_bits::{Cause, Features, Kind};
+use iom_ddt::{Context, ContextFields};
 use iom_mem::{MemFault, Ram};
-use iom_nested::{Fault, Hit, Second, translate};
+use iom_nested::{Fault, Hit, Second, second_shape, translate};
 use iom_walk::{Got, Words};
 use std::alloc::Global;
 use std::test::Fail;
 
 // Both stages: the first stage's root is at the guest's page 0x30, the second's at page 0x80020.
-const BOTH: Context = Context {
+const BOTH: ContextFields = ContextFields {
     dtf: false,
     custom: 0,
     gmode: 8,
@@ -66,29 +66,26 @@ fn memory(alloc: Global, words: &[(u64, u64)], last: (u64, u64)) -> Result<Ram, 
 }
 
 // An IOVA under a context; the frame, the level and whether it is global.
-type Found = (Context, u64, Kind, u64, u8, bool);
+type Found = (ContextFields, u64, Kind, u64, u8, bool);
 
 // An IOVA under a context; the cause and iotval2 of the fault.
-type Failure = (Context, u64, Kind, Cause, u64);
+type Failure = (ContextFields, u64, Kind, Cause, u64);
 
 // What an IOVA leads to under a context; None where the context has no stage or isn't well formed.
-fn led(ram: &Ram, context: &Context, iova: u64, kind: Kind) -> Option<Result<Hit, Fault>> {
-    if !context.is_well_formed() || context.is_bare() {
+fn led(ram: &Ram, fields: &ContextFields, iova: u64, kind: Kind) -> Option<Result<Hit, Fault>> {
+    let context = Context::new(*fields)?;
+    if context.is_bare() {
         return None;
     }
-    Some(translate(ram, context, iova, kind))
+    Some(translate(ram, Features::none(), &context, iova, kind))
 }
 
 // The number of the first that is otherwise.
 fn found_otherwise(ram: &Ram, cases: &[Found]) -> Option<usize> {
     for (i, (context, iova, kind, frame, level, global)) in cases.iter().enumerate() {
-        let hit = Hit {
-            frame: *frame,
-            level: *level,
-            global: *global,
-        };
-        if led(ram, context, *iova, *kind) != Some(Ok(hit)) {
-            return Some(i);
+        match led(ram, context, *iova, *kind) {
+            Some(Ok(hit)) if (hit.frame, hit.level, hit.global) == (*frame, *level, *global) => {}
+            _ => return Some(i),
         }
     }
     None
@@ -123,19 +120,19 @@ fn otherwise(
     ])
 }
 
-const BARE_SECOND: Context = Context { gmode: 0, ..BOTH };
+const BARE_SECOND: ContextFields = ContextFields { gmode: 0, ..BOTH };
 
-const BARE_FIRST: Context = Context { mode: 0, ..BOTH };
+const BARE_FIRST: ContextFields = ContextFields { mode: 0, ..BOTH };
 
 // The first stage alone, with its root in memory.
-const FIRST: Context = Context {
+const FIRST: ContextFields = ContextFields {
     gmode: 0,
     ppn: 0x80030,
     ..BOTH
 };
 
 // The second stage's root outside memory.
-const OUTSIDE: Context = Context {
+const OUTSIDE: ContextFields = ContextFields {
     gppn: 0x4000,
     ..BOTH
 };
@@ -276,19 +273,19 @@ const FOUR_LEVELS: &[(u64, u64)] = &[
     (0x8003_2008, 0xcc01),
 ];
 
-const FOUR: Context = Context {
+const FOUR: ContextFields = ContextFields {
     gmode: 9,
     mode: 9,
     ..BOTH
 };
 
-const FIRST_OF_THREE: Context = Context { mode: 8, ..FOUR };
+const FIRST_OF_THREE: ContextFields = ContextFields { mode: 8, ..FOUR };
 
-const SECOND_OF_THREE: Context = Context { gmode: 8, ..FOUR };
+const SECOND_OF_THREE: ContextFields = ContextFields { gmode: 8, ..FOUR };
 
-const BARE_FIRST_OF_FOUR: Context = Context { mode: 0, ..FOUR };
+const BARE_FIRST_OF_FOUR: ContextFields = ContextFields { mode: 0, ..FOUR };
 
-const BARE_FIRST_OF_THREE: Context = Context {
+const BARE_FIRST_OF_THREE: ContextFields = ContextFields {
     mode: 0,
     ..SECOND_OF_THREE
 };
@@ -343,11 +340,11 @@ fn each_stage_has_its_own_levels(rt: HostRuntime) -> Result<(), Fail> {
 
 // What the guest has at an address, under a context that has a second stage.
 fn guest_word(ram: &Ram, addr: u64) -> Option<Got> {
-    if BOTH.is_well_formed() {
-        Some(Second::new(ram, &BOTH).word(addr))
-    } else {
-        None
+    let context = Context::new(BOTH)?;
+    if second_shape(&context).is_none() {
+        return None;
     }
+    Some(Second::new(ram, Features::none(), &context).word(addr))
 }
 
 // A word of the guest's memory, one outside memory and one that the second stage doesn't map.

@@ -1,3 +1,4 @@
+use iom_bits::{Features, Vectors};
 use iom_regs::{Mode, Queue, Regs, Which};
 
 // A read's number; 0 for a write that is taken; None for what is refused.
@@ -168,4 +169,50 @@ fn registers_are_as_in_the_table(rt: HostRuntime) {
     assert_eq!(rt; taken(&mut regs, REFUSED), None);
     assert_eq!(rt; otherwise_shown(&mut regs, EVENTS), None);
     assert!(rt; is_seen_so(&regs));
+}
+
+const ALL: Features = Features {
+    svnapot: true,
+    svpbmt: true,
+    sv57: true,
+    sv57x4: true,
+    nl: true,
+    s: true,
+    vectors: Vectors::Four,
+};
+
+const TWO: Features = Features {
+    svnapot: true,
+    svpbmt: false,
+    sv57: false,
+    sv57x4: false,
+    nl: false,
+    s: true,
+    vectors: Vectors::Two,
+};
+
+// With all features, and four vectors.
+const ALL_WRITES: &[Written] = &[
+    (0, 8, 0, 0xc38_100e_8e10),
+    (760, 8, 0xffff_ffff_ffff_ffff, 0x33),
+    (764, 4, 0xffff_ffff, 0),
+    (760, 4, 0x46, 0x2),
+];
+
+// With S, and two vectors.
+const TWO_WRITES: &[Written] = &[
+    (0, 8, 0, 0x838_1006_0610),
+    (760, 8, 0x2310, 0x10),
+    (760, 4, 0x23, 0x1),
+];
+
+// Registers of IOMMUs with all features, with two vectors, and with none.
+#[test]
+fn features_are_shown(rt: HostRuntime) {
+    assert_eq!(rt; otherwise_written(&mut Regs::with_features(ALL), ALL_WRITES), None);
+    assert_eq!(rt; otherwise_written(&mut Regs::with_features(TWO), TWO_WRITES), None);
+    assert_eq!(rt;
+        otherwise_written(&mut Regs::reset(), &[(760, 8, 0x2310, 0)]),
+        None
+    );
 }

@@ -1,5 +1,5 @@
-use iom_bits::Kind;
-use iom_walk::{Got, Leaf, Outcome, Shape, Words, walk};
+use iom_bits::{Features, Kind, Vectors};
+use iom_walk::{Format, Got, Leaf, Outcome, Shape, Words, walk};
 
 // The entry `word` at the address `place`.
 #[derive(Clone, Copy)]
@@ -80,8 +80,39 @@ fn leaf(frame: u64, level: u8, global: bool) -> Outcome {
         frame,
         level,
         global,
+        napot: false,
     })
 }
+
+// The end of a walk at a leaf of 64 KiB.
+fn napot(frame: u64) -> Outcome {
+    Outcome::Leaf(Leaf {
+        frame,
+        level: 0,
+        global: false,
+        napot: true,
+    })
+}
+
+const NO_FEATURES: Features = Features {
+    svnapot: false,
+    svpbmt: false,
+    sv57: false,
+    sv57x4: false,
+    nl: false,
+    s: false,
+    vectors: Vectors::One,
+};
+
+const SVNAPOT: Features = Features {
+    svnapot: true,
+    ..NO_FEATURES
+};
+
+const SVPBMT: Features = Features {
+    svpbmt: true,
+    ..NO_FEATURES
+};
 
 // An address that no walk asks for.
 const NOWHERE: u64 = 1;
@@ -114,6 +145,7 @@ const LAST: Entry = Entry {
 #[derive(Clone, Copy)]
 struct Case {
     tables: Tables,
+    features: Features,
     shape: Shape,
     addr: u64,
     kind: Kind,
@@ -123,7 +155,11 @@ struct Case {
 // The number of the first walk that ends otherwise.
 fn otherwise(cases: &[Case]) -> Option<usize> {
     for (i, case) in cases.iter().enumerate() {
-        if walk(&case.tables, case.shape, 0x80000, case.addr, case.kind) != case.want {
+        let format = Format {
+            shape: case.shape,
+            features: case.features,
+        };
+        if walk(&case.tables, format, 0x80000, case.addr, case.kind) != case.want {
             return Some(i);
         }
     }
@@ -134,6 +170,7 @@ fn otherwise(cases: &[Case]) -> Option<usize> {
 fn read_at(shape: Shape, addr: u64, tables: Tables, want: Outcome) -> Case {
     Case {
         tables,
+        features: NO_FEATURES,
         shape,
         addr,
         kind: Kind::Read,
@@ -143,6 +180,14 @@ fn read_at(shape: Shape, addr: u64, tables: Tables, want: Outcome) -> Case {
 
 fn read(tables: Tables, want: Outcome) -> Case {
     read_at(Shape::Sv39, ADDR, tables, want)
+}
+
+// A read on an IOMMU that has these features.
+fn read_with(features: Features, tables: Tables, want: Outcome) -> Case {
+    Case {
+        features,
+        ..read(tables, want)
+    }
 }
 
 fn write(tables: Tables, want: Outcome) -> Case {
@@ -258,6 +303,116 @@ fn walks_four_levels(rt: HostRuntime) {
         read_at(Shape::Sv48x4, 0x8000_0000_0000, none, Outcome::Outside),
         read_at(Shape::Sv48x4, 0x3_ffff_ffff_ffff, none, Outcome::Outside),
         read_at(Shape::Sv48x4, 0x4_0000_0000_0000, none, Outcome::Fault),
+    ];
+    assert_eq!(rt; otherwise(&cases), None);
+}
+
+// Addresses of five levels, narrow, wide and too wide.
+#[test]
+fn walks_five_levels(rt: HostRuntime) {
+    let none = holding(NONE, NONE, NONE);
+    // the root's entries 1 and 0x403 point to the root itself
+    let narrow = below(
+        word_at(0x8000_0008, 0x2000_0001),
+        holding(ROOT, MIDDLE, LAST),
+    );
+    let leaf_at_1 = word_at(0x8000_2038, 0x2008_00d7);
+    let wide = below(
+        word_at(0x8000_2018, 0x2000_0001),
+        holding(ROOT, MIDDLE, leaf_at_1),
+    );
+    // leaves of 2^36 pages
+    let aligned = below(word_at(0x8000_0008, 0x4000_0000_00d7), none);
+    let misaligned = below(word_at(0x8000_0008, 0x2000_0000_00d7), none);
+    let circle = below(word_at(0x8000_0000, 0x2000_0001), none);
+    let largest = leaf(0x10_080c_0a07, 4, false);
+    let cases = [
+        read_at(
+            Shape::Sv57,
+            0x1_0080_c0a0_7abc,
+            narrow,
+            leaf(0x80010, 0, false),
+        ),
+        read_at(
+            Shape::Sv57x4,
+            0x403_0181_40ea_5000,
+            wide,
+            leaf(0x802a5, 1, false),
+        ),
+        read_at(Shape::Sv57, 0x1_0080_c0a0_7abc, aligned, largest),
+        read_at(Shape::Sv57x4, 0x1_0080_c0a0_7abc, misaligned, Outcome::Fault),
+        read_at(Shape::Sv57, 0, circle, Outcome::Fault),
+        read_at(Shape::Sv57, 0xff_ffff_ffff_ffff, none, Outcome::Outside),
+        read_at(Shape::Sv57, 0x100_0000_0000_0000, none, Outcome::Fault),
+        read_at(Shape::Sv57, 0xff00_0000_0000_0000, none, Outcome::Outside),
+        read_at(Shape::Sv57, 0x7f00_0000_0000_0000, none, Outcome::Fault),
+        read_at(Shape::Sv57x4, 0x100_0000_0000_0000, none, Outcome::Outside),
+        read_at(Shape::Sv57x4, 0x7ff_ffff_ffff_ffff, none, Outcome::Outside),
+        read_at(Shape::Sv57x4, 0x800_0000_0000_0000, none, Outcome::Fault),
+    ];
+    assert_eq!(rt; otherwise(&cases), None);
+}
+
+// The tables of ADDR with another last entry.
+fn ending_in(word: u64) -> Tables {
+    holding(ROOT, MIDDLE, word_at(0x8000_2038, word))
+}
+
+// The same with bits of a leaf's word set in the pointer before the last entry.
+fn pointing_with(bits: u64) -> Tables {
+    holding(ROOT, word_at(0x8000_1028, 0x2000_0801 | bits), LAST)
+}
+
+// The same ending in a leaf of this frame with N.
+fn napot_of(ppn: u64) -> Tables {
+    ending_in(1 << 63 | ppn << 10 | 0xd7)
+}
+
+// The same ending in a leaf with these bits set above its PPN.
+fn typed(bits: u64) -> Tables {
+    ending_in(bits | 0x2000_40d7)
+}
+
+// The same ending in a leaf of level 1 with N.
+fn napot_at_level_1() -> Tables {
+    holding(ROOT, word_at(0x8000_1028, 1 << 63 | 0x2008_00d7), NONE)
+}
+
+// N, bit 63: in a leaf of level 0 with PPN[3:0] = 8 it maps 64 KiB, where Svnapot is offered; elsewhere it is reserved.
+#[test]
+fn takes_napot_leaves(rt: HostRuntime) {
+    let cases = [
+        // the address's page number ends in 7
+        read_with(SVNAPOT, napot_of(0x80018), napot(0x80017)),
+        read_with(NO_FEATURES, napot_of(0x80018), Outcome::Fault),
+        read_with(SVPBMT, napot_of(0x80018), Outcome::Fault),
+        read_with(SVNAPOT, napot_of(0x80010), Outcome::Fault),
+        read_with(SVNAPOT, napot_of(0x80014), Outcome::Fault),
+        read_with(SVNAPOT, napot_of(0x80019), Outcome::Fault),
+        read_with(SVNAPOT, napot_of(0x8001c), Outcome::Fault),
+        read_with(SVNAPOT, napot_at_level_1(), Outcome::Fault),
+        read_with(SVNAPOT, pointing_with(1 << 63), Outcome::Fault),
+        read_with(SVNAPOT, ending_in(1 << 62 | 0x2000_40d7), Outcome::Fault),
+        read_with(SVNAPOT, ending_in(0x2000_40d7), leaf(0x80010, 0, false)),
+    ];
+    assert_eq!(rt; otherwise(&cases), None);
+}
+
+// PBMT, bits 62:61: 1 and 2 may be in a leaf, where Svpbmt is offered; elsewhere it is 0. Bits 60:54 are 0 always.
+#[test]
+fn takes_memory_types(rt: HostRuntime) {
+    let found = leaf(0x80010, 0, false);
+    let cases = [
+        read_with(SVPBMT, typed(0), found),
+        read_with(SVPBMT, typed(1 << 61), found),
+        read_with(SVPBMT, typed(2 << 61), found),
+        read_with(SVPBMT, typed(3 << 61), Outcome::Fault),
+        read_with(SVPBMT, typed(1 << 60), Outcome::Fault),
+        read_with(SVPBMT, typed(1 << 54), Outcome::Fault),
+        read_with(NO_FEATURES, typed(1 << 61), Outcome::Fault),
+        read_with(SVNAPOT, typed(2 << 61), Outcome::Fault),
+        read_with(SVPBMT, pointing_with(1 << 61), Outcome::Fault),
+        read_with(SVPBMT, pointing_with(2 << 61), Outcome::Fault),
     ];
     assert_eq!(rt; otherwise(&cases), None);
 }

@@ -4,9 +4,11 @@ use Rattle.std.proofs.lemmas.Nat.{pow-add}
 use Rattle.std.proofs.Math.Nat.{div-div-eq-div-mul}
 use Rattle.iom_bits.specs.Bits.{has_bit}
 use Rattle.iom_bits.specs.declared.causes.Kind.{Kind}
+use Rattle.iom_bits.specs.declared.features.Features.{Features}
 use Rattle.iom_walk.specs.declared.source.Got.{Got}
+use Rattle.iom_walk.specs.declared.shape.Format.{Format}
 use Rattle.iom_walk.specs.declared.shape.Shape.{Shape}
-use Rattle.iom_walk.specs.declared.shape.Shape.TheVariants.{Sv39, Sv39x4, Sv48, Sv48x4}
+use Rattle.iom_walk.specs.declared.shape.Shape.TheVariants.{Sv39, Sv39x4, Sv48, Sv48x4, Sv57, Sv57x4}
 use Rattle.iom_walk.specs.declared.outcome.Outcome.TheVariants as outcome
 use Rattle.iom_walk.specs.Shape.{index_of, index_width, is_in_width, levels}
 use Rattle.iom_walk.specs.declared.entry.Verdict.{Verdict}
@@ -32,13 +34,15 @@ same_width Sv39 a b same = rw (same_bits a b 26 same, same_bits a b 27 same) ref
 same_width Sv39x4 a b same = rw (same_bits a b 29 same) refl
 same_width Sv48 a b same = rw (same_bits a b 35 same, same_bits a b 36 same) refl
 same_width Sv48x4 a b same = rw (same_bits a b 38 same) refl
+same_width Sv57 a b same = rw (same_bits a b 44 same, same_bits a b 45 same) refl
+same_width Sv57x4 a b same = rw (same_bits a b 47 same) refl
 
-same_path : (at : ℕ → Got) (shape : Shape) (a b table count : ℕ) → a / 4096 ≡ b / 4096 →
-    path_from at shape a table count ≡ path_from at shape b table count
+same_path : (at : ℕ → Got) (format : Format) (a b table count : ℕ) → a / 4096 ≡ b / 4096 →
+    path_from at format a table count ≡ path_from at format b table count
 unfolding path_from
-same_path at shape a b table zero same = refl
-same_path at shape a b table (suc count) same =
-    rw (same_index shape a b count same, same_path at shape a b (next_table (entry_at at shape b table count)) count same) refl
+same_path at format a b table zero same = refl
+same_path at format a b table (suc count) same =
+    rw (same_index format.shape a b count same, same_path at format a b (next_table (entry_at at format b table count)) count same) refl
 
 same_leaf : (global : Bool) (a b : ℕ) (entry : Entry) (told : Verdict) → a / 4096 ≡ b / 4096 →
     conclude global a entry told ≡ conclude global b entry told
@@ -48,13 +52,13 @@ same_leaf global a b entry verdict.Fault same = refl
 same_leaf global a b entry (verdict.Pointer word) same = refl
 same_leaf global a b entry (verdict.Leaf word) same = rw same refl
 
-same_conclusion : (kind : Kind) (global : Bool) (a b : ℕ) (entry : Option Entry) → a / 4096 ≡ b / 4096 →
-    conclude_at kind global a entry ≡ conclude_at kind global b entry
-same_conclusion kind global a b None same = refl
-same_conclusion kind global a b (Some entry) same = same_leaf global a b entry (verdict_on kind entry) same
+same_conclusion : (features : Features) (kind : Kind) (global : Bool) (a b : ℕ) (entry : Option Entry) → a / 4096 ≡ b / 4096 →
+    conclude_at features kind global a entry ≡ conclude_at features kind global b entry
+same_conclusion features kind global a b None same = refl
+same_conclusion features kind global a b (Some entry) same = same_leaf global a b entry (verdict_on features kind entry) same
 
 pub one_end : OneEndAPage
 unfolding outcome_of verdict_on_path
-one_end at shape root a b kind same =
-    rw (same_width shape a b same, same_path at shape a b root (levels shape) same)
-    (ap (λ end. if is_in_width shape b then end else outcome.Fault) (same_conclusion kind _ a b _ same))
+one_end at format root a b kind same =
+    rw (same_width format.shape a b same, same_path at format a b root (levels format.shape) same)
+    (ap (λ end. if is_in_width format.shape b then end else outcome.Fault) (same_conclusion format.features kind _ a b _ same))

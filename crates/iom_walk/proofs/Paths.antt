@@ -4,7 +4,7 @@ use Rattle.std.specs.Prelude.{slice_get, if◌then◌else◌}
 use Rattle.iom_bits.specs.declared.causes.Kind.{Kind}
 use Rattle.iom_bits.specs.declared.causes.Kind.TheVariants.{Read}
 use Rattle.iom_walk.specs.declared.source.Got.{Got}
-use Rattle.iom_walk.specs.declared.shape.Shape.{Shape}
+use Rattle.iom_walk.specs.declared.shape.Format.{Format}
 use Rattle.iom_walk.specs.declared.outcome.Outcome.{Outcome}
 use Rattle.iom_walk.specs.Shape.{levels}
 use Rattle.iom_walk.specs.Verdict.{is_pointer}
@@ -13,69 +13,69 @@ use Rattle.iom_walk.specs.Outcome.{outcome_of, IsOutcome}
 use Rattle.iom_walk.proofs.Entries.{pointer_for_each}
 
 -- the first entry of a path
-first_is : (at : ℕ → Got) (shape : Shape) (address table count : ℕ) (entry : Entry) → Some (entry_at at shape address table count) ≡ Some entry →
-    entry ≡ entry_at at shape address table (suc count - 1)
-first_is at shape address table count entry got =
-    let same : entry ≡ entry_at at shape address table count = cc in
-    same ∙ ap (entry_at at shape address table) (omega arith)
+first_is : (at : ℕ → Got) (format : Format) (address table count : ℕ) (entry : Entry) → Some (entry_at at format address table count) ≡ Some entry →
+    entry ≡ entry_at at format address table (suc count - 1)
+first_is at format address table count entry got =
+    let same : entry ≡ entry_at at format address table count = cc in
+    same ∙ ap (entry_at at format address table) (omega arith)
 
 -- an entry, and behind it the path from the table that it points to, where it is a pointer
-joined : (at : ℕ → Got) (shape : Shape) (address table count : ℕ) (pointer : Bool) (rest : List Entry) →
-    is_pointer (verdict_on Read (entry_at at shape address table count)) ≡ pointer →
-    IsPathFrom at shape address (next_table (entry_at at shape address table count)) count rest →
-    IsPathFrom at shape address table (suc count) (entry_at at shape address table count ∷ (if pointer then rest else []))
-joined at shape address table count true rest points path =
-    let here : Entry = entry_at at shape address table count in
-    let pointer : IsPointer here = λ kind. sym (pointer_for_each kind count here.got) ∙ points in
+joined : (at : ℕ → Got) (format : Format) (address table count : ℕ) (pointer : Bool) (rest : List Entry) →
+    is_pointer (verdict_on format.features Read (entry_at at format address table count)) ≡ pointer →
+    IsPathFrom at format address (next_table (entry_at at format address table count)) count rest →
+    IsPathFrom at format address table (suc count) (entry_at at format address table count ∷ (if pointer then rest else []))
+joined at format address table count true rest points path =
+    let here : Entry = entry_at at format address table count in
+    let pointer : IsPointer format.features here = λ kind. sym (pointer_for_each format.features kind count here.got) ∙ points in
     record {
       within = omega (arith, path.within);
-      first = first_is at shape address table count;
+      first = first_is at format address table count;
       linked = λ k. elim k as (λ k. (entry next : Entry) → slice_get (here ∷ rest) k ≡ Some entry → slice_get (here ∷ rest) (suc k) ≡ Some next →
-          IsPointer entry × (next ≡ entry_at at shape address (next_table entry) (entry.level - 1))) [
+          IsPointer format.features entry × (next ≡ entry_at at format address (next_table entry) (entry.level - 1))) [
             | zero ↦ λ entry next got got_next.
-                let Links : Entry → Type 0 = λ x. IsPointer x × (next ≡ entry_at at shape address (next_table x) (x.level - 1)) in
+                let Links : Entry → Type 0 = λ x. IsPointer format.features x × (next ≡ entry_at at format address (next_table x) (x.level - 1)) in
                 let same : here ≡ entry = cc in
                 subst Links same (pointer, path.first next got_next)
             | suc k ↦ path.linked k
           ];
     }
-joined at shape address table count false rest points path =
-    let here : Entry = entry_at at shape address table count in
+joined at format address table count false rest points path =
+    let here : Entry = entry_at at format address table count in
     record {
       within = omega arith;
-      first = first_is at shape address table count;
+      first = first_is at format address table count;
       linked = λ k entry next got got_next. absurd cc;
     }
 
-path_from_is_path : (at : ℕ → Got) (shape : Shape) (address table count : ℕ) →
-    IsPathFrom at shape address table count (path_from at shape address table count)
+path_from_is_path : (at : ℕ → Got) (format : Format) (address table count : ℕ) →
+    IsPathFrom at format address table count (path_from at format address table count)
 unfolding path_from
-path_from_is_path at shape address table zero = record {
+path_from_is_path at format address table zero = record {
   within = omega arith;
   first = λ entry got. absurd cc;
   linked = λ k entry next got got_next. absurd cc;
 }
-path_from_is_path at shape address table (suc count) =
-    joined at shape address table count (is_pointer (verdict_on Read (entry_at at shape address table count)))
-    (path_from at shape address (next_table (entry_at at shape address table count)) count) refl
-    (path_from_is_path at shape address (next_table (entry_at at shape address table count)) count)
+path_from_is_path at format address table (suc count) =
+    joined at format address table count (is_pointer (verdict_on format.features Read (entry_at at format address table count)))
+    (path_from at format address (next_table (entry_at at format address table count)) count) refl
+    (path_from_is_path at format address (next_table (entry_at at format address table count)) count)
 
 -- what stands behind the first entry of a path
-record IsRest (at : ℕ → Got) (shape : Shape) (address table count : ℕ) (rest : List Entry) : Type 0 where
-  points : is_pointer (verdict_on Read (entry_at at shape address table count)) ≡ true
-  path : IsPathFrom at shape address (next_table (entry_at at shape address table count)) count rest
+record IsRest (at : ℕ → Got) (format : Format) (address table count : ℕ) (rest : List Entry) : Type 0 where
+  points : is_pointer (verdict_on format.features Read (entry_at at format address table count)) ≡ true
+  path : IsPathFrom at format address (next_table (entry_at at format address table count)) count rest
 
-met_first : (at : ℕ → Got) (shape : Shape) (address table count : ℕ) (entry : Entry) (more : List Entry) →
-    IsPathFrom at shape address table (suc count) (entry ∷ more) → entry ≡ entry_at at shape address table count
-met_first at shape address table count entry more path =
-    path.first entry refl ∙ ap (entry_at at shape address table) (omega arith)
+met_first : (at : ℕ → Got) (format : Format) (address table count : ℕ) (entry : Entry) (more : List Entry) →
+    IsPathFrom at format address table (suc count) (entry ∷ more) → entry ≡ entry_at at format address table count
+met_first at format address table count entry more path =
+    path.first entry refl ∙ ap (entry_at at format address table) (omega arith)
 
-rest_of : (at : ℕ → Got) (shape : Shape) (address table count : ℕ) (entry next : Entry) (more : List Entry) →
-    IsPathFrom at shape address table (suc count) (entry ∷ next ∷ more) → IsRest at shape address table count (next ∷ more)
-rest_of at shape address table count entry next more path =
-    let here : Entry = entry_at at shape address table count in
-    let Links : Entry → Type 0 = λ x. IsPointer x × (next ≡ entry_at at shape address (next_table x) (x.level - 1)) in
-    let same : entry ≡ here = met_first at shape address table count entry (next ∷ more) path in
+rest_of : (at : ℕ → Got) (format : Format) (address table count : ℕ) (entry next : Entry) (more : List Entry) →
+    IsPathFrom at format address table (suc count) (entry ∷ next ∷ more) → IsRest at format address table count (next ∷ more)
+rest_of at format address table count entry next more path =
+    let here : Entry = entry_at at format address table count in
+    let Links : Entry → Type 0 = λ x. IsPointer format.features x × (next ≡ entry_at at format address (next_table x) (x.level - 1)) in
+    let same : entry ≡ here = met_first at format address table count entry (next ∷ more) path in
     let link : Links here = subst Links same (path.linked 0 entry next refl refl) in
     record {
       points = link.0 Read;
@@ -87,16 +87,16 @@ rest_of at shape address table count entry next more path =
     }
 
 -- no path is longer
-none_longer : (at : ℕ → Got) (shape : Shape) (address table count : ℕ) (path : List Entry) → IsPathFrom at shape address table count path →
-    length path ≤ length (path_from at shape address table count)
+none_longer : (at : ℕ → Got) (format : Format) (address table count : ℕ) (path : List Entry) → IsPathFrom at format address table count path →
+    length path ≤ length (path_from at format address table count)
 unfolding path_from
-none_longer at shape address table zero path is_path = is_path.within
-none_longer at shape address table (suc count) [] is_path = omega arith
-none_longer at shape address table (suc count) (entry ∷ []) is_path = omega arith
-none_longer at shape address table (suc count) (entry ∷ next ∷ more) is_path =
-    let rest : IsRest at shape address table count (next ∷ more) = rest_of at shape address table count entry next more is_path in
-    let shorter : length (next ∷ more) ≤ length (path_from at shape address (next_table (entry_at at shape address table count)) count) =
-    none_longer at shape address (next_table (entry_at at shape address table count)) count (next ∷ more) rest.path in
+none_longer at format address table zero path is_path = is_path.within
+none_longer at format address table (suc count) [] is_path = omega arith
+none_longer at format address table (suc count) (entry ∷ []) is_path = omega arith
+none_longer at format address table (suc count) (entry ∷ next ∷ more) is_path =
+    let rest : IsRest at format address table count (next ∷ more) = rest_of at format address table count entry next more is_path in
+    let shorter : length (next ∷ more) ≤ length (path_from at format address (next_table (entry_at at format address table count)) count) =
+    none_longer at format address (next_table (entry_at at format address table count)) count (next ∷ more) rest.path in
     rw rest.points (omega (arith, shorter))
 
 empty : (path : List Entry) → length path ≡ 0 → [] ≡ path
@@ -104,38 +104,38 @@ empty [] e = refl
 empty (entry ∷ more) e = absurd (omega arith)
 
 -- a path as long as that is that
-same_length : (at : ℕ → Got) (shape : Shape) (address table count : ℕ) (path : List Entry) → IsPathFrom at shape address table count path →
-    length path ≡ length (path_from at shape address table count) → path ≡ path_from at shape address table count
+same_length : (at : ℕ → Got) (format : Format) (address table count : ℕ) (path : List Entry) → IsPathFrom at format address table count path →
+    length path ≡ length (path_from at format address table count) → path ≡ path_from at format address table count
 unfolding path_from
-same_length at shape address table zero [] is_path e = refl
-same_length at shape address table zero (entry ∷ more) is_path e = absurd (omega arith)
-same_length at shape address table (suc count) [] is_path e = absurd (omega arith)
-same_length at shape address table (suc count) (entry ∷ []) is_path e =
-    let here : Entry = entry_at at shape address table count in
-    let first : entry ≡ here = met_first at shape address table count entry [] is_path in
-    let rest : List Entry = if is_pointer (verdict_on Read here) then path_from at shape address (next_table here) count else [] in
+same_length at format address table zero [] is_path e = refl
+same_length at format address table zero (entry ∷ more) is_path e = absurd (omega arith)
+same_length at format address table (suc count) [] is_path e = absurd (omega arith)
+same_length at format address table (suc count) (entry ∷ []) is_path e =
+    let here : Entry = entry_at at format address table count in
+    let first : entry ≡ here = met_first at format address table count entry [] is_path in
+    let rest : List Entry = if is_pointer (verdict_on format.features Read here) then path_from at format address (next_table here) count else [] in
     rw first (ap (λ xs. here ∷ xs) (empty rest (omega (arith, e))))
-same_length at shape address table (suc count) (entry ∷ next ∷ more) is_path e =
-    let here : Entry = entry_at at shape address table count in
-    let first : entry ≡ here = met_first at shape address table count entry (next ∷ more) is_path in
-    let rest : IsRest at shape address table count (next ∷ more) = rest_of at shape address table count entry next more is_path in
-    let whole : suc (length (next ∷ more)) ≡ suc (length (path_from at shape address (next_table here) count)) = e ∙ rw rest.points refl in
+same_length at format address table (suc count) (entry ∷ next ∷ more) is_path e =
+    let here : Entry = entry_at at format address table count in
+    let first : entry ≡ here = met_first at format address table count entry (next ∷ more) is_path in
+    let rest : IsRest at format address table count (next ∷ more) = rest_of at format address table count entry next more is_path in
+    let whole : suc (length (next ∷ more)) ≡ suc (length (path_from at format address (next_table here) count)) = e ∙ rw rest.points refl in
     rw (first, rest.points) (ap (λ xs. here ∷ xs)
-    (same_length at shape address (next_table here) count (next ∷ more) rest.path (omega (arith, whole))))
+    (same_length at format address (next_table here) count (next ∷ more) rest.path (omega (arith, whole))))
 
-pub is_outcome : (at : ℕ → Got) (shape : Shape) (root address : ℕ) (kind : Kind) (end : Outcome) →
-    end ≡ outcome_of at shape root address kind → IsOutcome at shape root address kind end
+pub is_outcome : (at : ℕ → Got) (format : Format) (root address : ℕ) (kind : Kind) (end : Outcome) →
+    end ≡ outcome_of at format root address kind → IsOutcome at format root address kind end
 unfolding outcome_of
-is_outcome at shape root address kind end told =
-    let path : List Entry = path_of at shape root address in
-    let is_path : IsPathFrom at shape address root (levels shape) path = path_from_is_path at shape address root (levels shape) in
-    let most : (other : List Entry) → IsPathFrom at shape address root (levels shape) other → length other ≤ length path =
-    none_longer at shape address root (levels shape) in
+is_outcome at format root address kind end told =
+    let path : List Entry = path_of at format root address in
+    let is_path : IsPathFrom at format address root (levels format.shape) path = path_from_is_path at format address root (levels format.shape) in
+    let most : (other : List Entry) → IsPathFrom at format address root (levels format.shape) other → length other ≤ length path =
+    none_longer at format address root (levels format.shape) in
     record {
       some_path = λ wide. (path, record { is_path = is_path; longest = most });
       of_path = λ other wide longest.
           let as_long : length other ≡ length path = omega (arith, most other longest.is_path, longest.longest path is_path) in
-          let same : other ≡ path = same_length at shape address root (levels shape) other longest.is_path as_long in
+          let same : other ≡ path = same_length at format address root (levels format.shape) other longest.is_path as_long in
           told ∙ rw (wide, same) refl;
       of_none = λ wide. told ∙ rw wide refl;
     }

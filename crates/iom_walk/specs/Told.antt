@@ -2,22 +2,23 @@
 -- entries that decides of it.
 use Rattle.std.specs.Prelude.{ℕ, List, [], map, if◌then◌else◌}
 use Rattle.iom_bits.specs.declared.causes.Kind.{Kind}
+use Rattle.iom_bits.specs.declared.features.Features.{Features}
 use Rattle.iom_walk.specs.declared.listing.PathEntry.{PathEntry}
-use Rattle.iom_walk.specs.declared.shape.Shape.{Shape}
+use Rattle.iom_walk.specs.declared.shape.Format.{Format}
 use Rattle.iom_walk.specs.declared.source.Got.{Got}
 use Rattle.iom_walk.specs.Path.{Entry, path_of}
 use Rattle.iom_walk.specs.Shape.{is_in_width}
 use Rattle.iom_walk.specs.Verdict.{ruling_of}
 
-abbrev pub told : Kind → Entry → PathEntry
-told kind entry = record {
+abbrev pub told : Features → Kind → Entry → PathEntry
+told features kind entry = record {
   place = entry.place;
   level = entry.level;
   got = entry.got;
-  ruling = ruling_of kind entry.level entry.got;
+  ruling = ruling_of features kind entry.level entry.got;
 }
 
 -- an address that breaks the width rule has no path
-unfoldable pub path_told : (ℕ → Got) → Shape → ℕ → ℕ → Kind → List PathEntry
-path_told at shape root address kind =
-    if is_in_width shape address then map (told kind) (path_of at shape root address) else []
+unfoldable pub path_told : (ℕ → Got) → Format → ℕ → ℕ → Kind → List PathEntry
+path_told at format root address kind =
+    if is_in_width format.shape address then map (told format.features kind) (path_of at format root address) else []

@@ -1,10 +1,12 @@
 -- What an entry of a page table says to a walk: RISC-V Privileged Architecture 1.12, "Virtual Address Translation Process",
 -- steps 2 to 7, with the entries of "Sv39: Page-Based 39-bit Virtual-Memory System". Every access is one of user mode, and no
--- walk sets A or D: RISC-V IOMMU Architecture 1.0, "Process to translate an IOVA", with GADE and SADE 0.
+-- walk sets A or D: RISC-V IOMMU Architecture 1.0, "Process to translate an IOVA", with GADE and SADE 0. N and PBMT are those of
+-- "Svnapot" and "Svpbmt", which an IOMMU may offer.
 use Rattle.std.specs.Prelude.{ℕ, ◌*◌, ◌%◌, ◌^◌, ◌==◌, ◌&&◌, ◌||◌, Bool, true, false, not, List, [], ◌∷◌, if◌then◌else◌}
 use Rattle.iom_bits.specs.Bits.{has_bit, field_of}
 use Rattle.iom_bits.specs.declared.causes.Kind.{Kind}
 use Rattle.iom_bits.specs.declared.causes.Kind.TheVariants.{Read, Write}
+use Rattle.iom_bits.specs.declared.features.Features.{Features}
 use Rattle.iom_walk.specs.declared.source.Got.{Got}
 use Rattle.iom_walk.specs.declared.source.Got.TheVariants as got
 use Rattle.iom_walk.specs.declared.entry.Verdict.{Verdict}
@@ -12,7 +14,7 @@ use Rattle.iom_walk.specs.declared.entry.Verdict.TheVariants as verdict
 use Rattle.iom_walk.specs.declared.entry.Ruling.{Ruling}
 use Rattle.iom_walk.specs.declared.entry.Ruling.TheVariants as ruling
 
--- the fields of an entry: flags, bits 9:8 for software, the PPN, ten reserved bits
+-- the fields of an entry: flags, bits 9:8 for software, the PPN, seven reserved bits, PBMT, N
 abbrev pub is_valid : ℕ → Bool
 is_valid word = has_bit word 0
 
@@ -40,8 +42,13 @@ is_dirty word = has_bit word 7
 abbrev pub ppn : ℕ → ℕ
 ppn word = field_of word 10 44
 
-abbrev pub reserved : ℕ → ℕ
-reserved word = field_of word 54 10
+-- the memory type: 0 is that of the memory itself, 1 and 2 are others
+abbrev pub pbmt : ℕ → ℕ
+pbmt word = field_of word 61 2
+
+-- N: a leaf of 64 KiB, of which each of sixteen pages has a copy
+abbrev pub is_napot : ℕ → Bool
+is_napot word = has_bit word 63
 
 -- R = W = X = 0
 abbrev pub has_no_access : ℕ → Bool
@@ -50,6 +57,22 @@ has_no_access word = not (is_readable word) && not (is_writable word) && not (is
 -- of an entry with R = W = X = 0: A, D or U is set, which are reserved in a pointer
 abbrev pub has_leaf_bits : ℕ → Bool
 has_leaf_bits word = is_accessed word || is_dirty word || is_user word
+
+-- N may be set: under Svnapot in a leaf at level 0 whose PPN[3:0] is 8
+abbrev pub may_be_napot : Features → ℕ → ℕ → Bool
+may_be_napot features level word =
+    features.svnapot && not (has_no_access word) && level == 0 && ppn word % 2 ^ 4 == 8
+
+-- PBMT may be other than 0: under Svpbmt in a leaf, as 1 or 2
+abbrev pub may_be_typed : Features → ℕ → Bool
+may_be_typed features word = features.svpbmt && not (has_no_access word) && not (pbmt word == 3)
+
+-- one of bits 63:54 is set where it is reserved
+unfoldable pub is_reserved : Features → ℕ → ℕ → Bool
+is_reserved features level word =
+    not (field_of word 54 7 == 0)
+    || is_napot word && not (may_be_napot features level word)
+    || not (pbmt word == 0) && not (may_be_typed features word)
 
 -- the PPN of a leaf that maps 2^(9 * level) pages isn't a multiple of that number
 abbrev pub is_misaligned : ℕ → ℕ → Bool
@@ -110,13 +133,13 @@ pointer_rows =
     ∷ leaf_rows
 
 -- the table: before these, what couldn't be read (step 2), V = 0, R = 0 with W = 1 and reserved bits (step 3)
-abbrev pub rows : List Row
-rows =
+abbrev pub rows : Features → List Row
+rows features =
     record { applies = λ _ _ got. is_outside got; ruling = ruling.Outside }
     ∷ record { applies = λ _ _ got. is_guest got; ruling = ruling.Guest }
     ∷ on_word (λ _ _ word. not (is_valid word)) ruling.Invalid
     ∷ on_word (λ _ _ word. not (is_readable word) && is_writable word) ruling.WriteOnly
-    ∷ on_word (λ _ _ word. not (reserved word == 0)) ruling.Reserved
+    ∷ on_word (λ _ level word. is_reserved features level word) ruling.Reserved
     ∷ pointer_rows
 
 -- the first row that applies decides
@@ -125,8 +148,8 @@ first_of [] kind level got = ruling.Invalid
 first_of (row ∷ more) kind level got =
     if row.applies kind level got then row.ruling else first_of more kind level got
 
-unfoldable pub ruling_of : Kind → ℕ → Got → Ruling
-ruling_of = first_of rows
+unfoldable pub ruling_of : Features → Kind → ℕ → Got → Ruling
+ruling_of features = first_of (rows features)
 
 -- what an entry with this word says by each row
 abbrev pub consequence : Ruling → ℕ → Verdict
@@ -146,8 +169,8 @@ consequence ruling.NotWritable word = verdict.Fault
 consequence ruling.NotAccessed word = verdict.Fault
 consequence ruling.NotDirty word = verdict.Fault
 
-unfoldable pub verdict_of : Kind → ℕ → Got → Verdict
-verdict_of kind level got = consequence (ruling_of kind level got) (word_of got)
+unfoldable pub verdict_of : Features → Kind → ℕ → Got → Verdict
+verdict_of features kind level got = consequence (ruling_of features kind level got) (word_of got)
 
 abbrev pub is_pointer : Verdict → Bool
 is_pointer verdict.Outside = false

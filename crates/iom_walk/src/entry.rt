@@ -3,10 +3,10 @@
 ghost use Rattle.std.specs.Prelude.{◌≡◌, ◌*◌, ◌<◌, ◌^◌, true};
 ghost use Rattle.iom_bits.specs.declared.causes.Kind.{Kind};
 ghost use Rattle.iom_walk.specs.declared.source.Got.TheVariants.{Word};
-ghost use Rattle.iom_walk.specs.Verdict.{consequence, first_of, has_no_access, leaf_rows, pointer_rows, ppn, ruling_of, verdict_of, word_of};
+ghost use Rattle.iom_walk.specs.Verdict.{consequence, first_of, has_no_access, is_reserved, leaf_rows, pointer_rows, ppn, ruling_of, verdict_of, word_of};
 
 use crate::source::Got;
-use iom_bits::{Kind, field, has_bit};
+use iom_bits::{Features, Kind, field, has_bit};
 
 // The flags of an entry, each by its bit.
 const VALID: u32 = 0;
@@ -25,6 +25,9 @@ pub const GLOBAL: u32 = 5;
 const ACCESSED: u32 = 6;
 
 const DIRTY: u32 = 7;
+
+/// The bit of a leaf that makes it map 64 KiB: N, bit 63, of Svnapot.
+pub const NAPOT: u32 = 63;
 
 /// What a page-table entry (PTE) says to a walk.
 #[derive(Clone, Copy)]
@@ -52,7 +55,8 @@ pub enum Ruling {
     Invalid,
     /// R is 0 and W is 1.
     WriteOnly,
-    /// One of the reserved bits 63:54 is set.
+    /// One of bits 63:54 is set that is reserved: N, bit 63, without Svnapot, in a pointer, and in a leaf that isn't at level 0 or whose
+    /// PPN[3:0] isn't 8; PBMT, bits 62:61, without Svpbmt, in a pointer, and where it is 3; the others always.
     Reserved,
     /// R, W and X are 0, and A, D or U is set, which are reserved in a pointer.
     ReservedInPointer,
@@ -85,23 +89,23 @@ pub fn ppn_of(word: u64) -> u64
     field(word, 10, 44)
 }
 
-/// How many pages of 4096 bytes a leaf of this level, 0 to 3, maps: 1, 2^9, 2^18 or 2^27.
-pub fn pages_of(level: u8) -> u64
-    requires { level < 4 }
+/// How many pages of 4096 bytes a leaf of this level, 0 to 4, maps where N is 0: 1, 2^9, 2^18, 2^27 or 2^36.
+pub fn pages_at(level: u8) -> u64
+    requires { level < 5 }
     ensures { result ≡ 2 ^ (9 * level) }
 {
     1 << (9 * level as u32)
 }
 
-/// The row of the table of entries that decides of an entry of this level, 0 to 3, where `got` was read at its address and `kind`
+/// The row of the table of entries that decides of an entry of this level, 0 to 4, where `got` was read at its address and `kind`
 /// is the access ("Virtual Address Translation Process").
 #[tactic(auto, unfolding(crate::specs::Verdict::ruling_of))]
-pub fn judged_by(got: Got, level: u8, kind: Kind) -> Ruling
-    requires { level < 4 }
-    ensures { result ≡ ruling_of kind level got }
+pub fn judged_by(features: Features, got: Got, level: u8, kind: Kind) -> Ruling
+    requires { level < 5 }
+    ensures { result ≡ ruling_of features kind level got }
 {
     match got {
-        Got::Word(word) => word_judged_by(word, level, kind),
+        Got::Word(word) => word_judged_by(features, word, level, kind),
         Got::Outside => Ruling::Outside,
         Got::Guest => Ruling::Guest,
     }
@@ -109,21 +113,33 @@ pub fn judged_by(got: Got, level: u8, kind: Kind) -> Ruling
 
 // The row that decides of a word that was read.
 #[tactic(auto, unfolding(crate::specs::Verdict::ruling_of))]
-fn word_judged_by(word: u64, level: u8, kind: Kind) -> Ruling
-    requires { level < 4 }
-    ensures { result ≡ ruling_of kind level (Word word) }
+fn word_judged_by(features: Features, word: u64, level: u8, kind: Kind) -> Ruling
+    requires { level < 5 }
+    ensures { result ≡ ruling_of features kind level (Word word) }
 {
     if !has_bit(word, VALID) {
         Ruling::Invalid
     } else if !has_bit(word, READABLE) && has_bit(word, WRITABLE) {
         Ruling::WriteOnly
-    } else if field(word, 54, 10) != 0 {
+    } else if has_reserved(features, word, level) {
         Ruling::Reserved
     } else if has_no_access(word) {
         pointer_judged_by(word, level)
     } else {
         leaf_judged_by(word, level, kind)
     }
+}
+
+// Whether one of bits 63:54 is set that is reserved.
+#[tactic(auto, unfolding(crate::specs::Verdict::is_reserved))]
+fn has_reserved(features: Features, word: u64, level: u8) -> bool
+    ensures { result ≡ is_reserved features level word }
+{
+    let is_leaf = !has_no_access(word);
+    let pbmt = field(word, 61, 2);
+    let may_be_napot = features.svnapot && is_leaf && level == 0 && ppn_of(word) % 16 == 8;
+    let may_be_typed = features.svpbmt && is_leaf && pbmt != 3;
+    field(word, 54, 7) != 0 || has_bit(word, NAPOT) && !may_be_napot || pbmt != 0 && !may_be_typed
 }
 
 // The row that decides of an entry that allows no access of any kind, and so is no leaf.
@@ -142,11 +158,11 @@ fn pointer_judged_by(word: u64, level: u8) -> Ruling
 
 // The row that decides of an entry that allows an access, and so is a leaf.
 fn leaf_judged_by(word: u64, level: u8, kind: Kind) -> Ruling
-    requires { level < 4 }
+    requires { level < 5 }
     ensures { result ≡ first_of leaf_rows kind level (Word word) }
 {
     let is_write = matches!(kind, Kind::Write);
-    if ppn_of(word) % pages_of(level) != 0 {
+    if ppn_of(word) % pages_at(level) != 0 {
         Ruling::Misaligned
     } else if !has_bit(word, USER) {
         Ruling::NotUser
@@ -170,14 +186,14 @@ fn has_no_access(word: u64) -> bool
     !has_bit(word, READABLE) && !has_bit(word, WRITABLE) && !has_bit(word, EXECUTABLE)
 }
 
-/// What an entry of this level, 0 to 3, says to a walk, where `got` was read at its address and `kind` is the access ("Virtual
+/// What an entry of this level, 0 to 4, says to a walk, where `got` was read at its address and `kind` is the access ("Virtual
 /// Address Translation Process").
 #[tactic(auto, unfolding(crate::specs::Verdict::verdict_of))]
-pub fn judge(got: Got, level: u8, kind: Kind) -> Verdict
-    requires { level < 4 }
-    ensures { result ≡ verdict_of kind level got }
+pub fn judge(features: Features, got: Got, level: u8, kind: Kind) -> Verdict
+    requires { level < 5 }
+    ensures { result ≡ verdict_of features kind level got }
 {
-    verdict_by(judged_by(got, level, kind), got)
+    verdict_by(judged_by(features, got, level, kind), got)
 }
 
 /// The same by the row that decides.

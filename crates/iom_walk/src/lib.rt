@@ -5,7 +5,7 @@
 pub use entry::{Ruling, Verdict};
 pub use listing::{PathEntries, PathEntry, path, walk_listed};
 pub use outcome::{Leaf, Outcome};
-pub use shape::Shape;
+pub use shape::{Format, Shape};
 pub use source::{Got, Words};
 pub use walking::{one_end_a_page, walk};
 

@@ -9,7 +9,7 @@ ghost use Rattle.iom_walk.specs.Told.{path_told, told};
 
 use crate::entry::{GLOBAL, Ruling, Verdict, judged_by, ppn_of, verdict_by};
 use crate::outcome::{Outcome, leaf_of};
-use crate::shape::Shape;
+use crate::shape::Format;
 use crate::source::{Got, Words};
 use arrayvec::ArrayVec;
 use iom_bits::{Kind, has_bit};
@@ -21,7 +21,7 @@ pub struct PathEntry {
     pub place: u64,
     /// What was read there.
     pub got: Got,
-    /// The level of its table, 0 to 3.
+    /// The level of its table, 0 to 4.
     pub level: u8,
     /// The row of the table of entries that decides of it.
     pub ruling: Ruling,
@@ -39,17 +39,17 @@ impl Default for PathEntry {
 }
 
 /// The entries that a walk meets, from that of the root on. The last is the first that isn't a pointer, or one of level 0.
-pub type PathEntries = ArrayVec<PathEntry, 4>;
+pub type PathEntries = ArrayVec<PathEntry, 5>;
 
-/// The entries that `walk` meets, each with the row that decides of it; none where `addr` is wider than the shape allows. The
+/// The entries that `walk` meets, each with the row that decides of it; none where `addr` is wider than the format's shape allows. The
 /// arguments are those of `walk`: `addr` is an IOVA or a guest-physical address, and `root` a PPN below 2^44.
-pub fn path<W: Words>(words: &W, shape: Shape, root: u64, addr: u64, kind: Kind) -> PathEntries
+pub fn path<W: Words>(words: &W, format: Format, root: u64, addr: u64, kind: Kind) -> PathEntries
     requires { root < 2 ^ 44 }
-    ensures path { result.items ≡ path_told (W.at words.now) shape root addr kind }
-    ensures levels { array_vec_len result ≤ levels shape }
+    ensures path { result.items ≡ path_told (W.at words.now) format root addr kind }
+    ensures levels { array_vec_len result ≤ levels format.shape }
 {
     let mut met = PathEntries::new();
-    let _end = walk_listed(&mut met, words, shape, root, addr, kind);
+    let _end = walk_listed(&mut met, words, format, root, addr, kind);
     met
 }
 
@@ -59,20 +59,20 @@ pub fn path<W: Words>(words: &W, shape: Shape, root: u64, addr: u64, kind: Kind)
 pub fn walk_listed<W: Words>(
     met: &mut PathEntries,
     words: &W,
-    shape: Shape,
+    format: Format,
     root: u64,
     addr: u64,
     kind: Kind,
 ) -> Outcome
     requires root { root < 2 ^ 44 }
     requires empty { met.old.items ≡ [] }
-    ensures path { met.new.items ≡ path_told (W.at words.now) shape root addr kind }
-    ensures levels { array_vec_len met.new ≤ levels shape }
-    ensures outcome { result ≡ outcome_of (W.at words.now) shape root addr kind }
-    ensures leaf { LeafFits shape result }
+    ensures path { met.new.items ≡ path_told (W.at words.now) format root addr kind }
+    ensures levels { array_vec_len met.new ≤ levels format.shape }
+    ensures outcome { result ≡ outcome_of (W.at words.now) format root addr kind }
+    ensures leaf { LeafFits format.shape result }
 {
-    if shape.covers(addr) {
-        listed(met, words, shape, root, addr, kind)
+    if format.shape.covers(addr) {
+        listed(met, words, format, root, addr, kind)
     } else {
         Outcome::Fault
     }
@@ -82,24 +82,24 @@ pub fn walk_listed<W: Words>(
 fn listed<W: Words>(
     met: &mut PathEntries,
     words: &W,
-    shape: Shape,
+    format: Format,
     root: u64,
     addr: u64,
     kind: Kind,
 ) -> Outcome
     requires root { root < 2 ^ 44 }
     requires empty { met.old.items ≡ [] }
-    ensures path { met.new.items ≡ map (told kind) (path_of (W.at words.now) shape root addr) }
-    ensures levels { array_vec_len met.new ≤ levels shape }
-    ensures outcome { result ≡ verdict_on_path kind addr (path_of (W.at words.now) shape root addr) }
-    ensures leaf { LeafFits shape result }
+    ensures path { met.new.items ≡ map (told format.features kind) (path_of (W.at words.now) format root addr) }
+    ensures levels { array_vec_len met.new ≤ levels format.shape }
+    ensures outcome { result ≡ verdict_on_path format.features kind addr (path_of (W.at words.now) format root addr) }
+    ensures leaf { LeafFits format.shape result }
 {
     let mut table = root;
     let mut global = false;
-    for level in (0..shape.levels()).rev() {
-        let place = table * 4096 + shape.index(addr, level) * 8;
+    for level in (0..format.shape.levels()).rev() {
+        let place = table * 4096 + format.shape.index(addr, level) * 8;
         let got = words.word(place);
-        let ruling = judged_by(got, level, kind);
+        let ruling = judged_by(format.features, got, level, kind);
         met.push(PathEntry {
             place,
             level,

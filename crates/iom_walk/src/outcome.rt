@@ -1,10 +1,10 @@
 //! How a walk ends.
 
-ghost use Rattle.std.specs.Prelude.{◌≡◌, ◌*◌, ◌%◌, ◌<◌, ◌^◌, ◌||◌};
-ghost use Rattle.iom_walk.specs.Verdict.{ppn, is_global};
-ghost use Rattle.iom_walk.specs.Outcome.{leaf_of};
+ghost use Rattle.std.specs.Prelude.{◌≡◌, ◌<◌, ◌^◌, ◌||◌};
+ghost use Rattle.iom_walk.specs.Verdict.{is_global};
+ghost use Rattle.iom_walk.specs.Outcome.{leaf_of, pages_of};
 
-use crate::entry::{GLOBAL, pages_of, ppn_of};
+use crate::entry::{GLOBAL, NAPOT, pages_at, ppn_of};
 use iom_bits::has_bit;
 
 /// A mapping that a walk found.
@@ -14,10 +14,12 @@ pub struct Leaf {
     /// or a guest-physical one where another stage follows.
     pub frame: u64,
     /// The level that the leaf was met at, below the number of levels. It maps 2^(9 * level) pages of 4096
-    /// bytes.
+    /// bytes, or sixteen where `napot` is set.
     pub level: u8,
     /// Whether the leaf or an entry before it has G set: the mapping belongs to every address space.
     pub global: bool,
+    /// Whether the leaf has N set, and so maps 64 KiB ("Svnapot").
+    pub napot: bool,
 }
 
 /// How a walk ends.
@@ -33,18 +35,32 @@ pub enum Outcome {
     Fault,
 }
 
-/// The mapping of `addr`, an IOVA or a guest-physical address, by the leaf `word` of this level, 0 to 3; `global` says whether an
+/// The mapping of `addr`, an IOVA or a guest-physical address, by the leaf `word` of this level, 0 to 4; `global` says whether an
 /// entry before it has G set.
 #[tactic(auto, using(crate::proofs::Frames::frame_fits))]
 pub fn leaf_of(word: u64, addr: u64, level: u8, global: bool) -> Leaf
-    requires shallow { level < 4 }
-    requires aligned { ppn word % 2 ^ (9 * level) ≡ 0 }
+    requires { level < 5 }
     ensures leaf { result ≡ leaf_of (global || is_global word) addr level word }
     ensures fits { result.frame < 2 ^ 44 }
 {
+    let (ppn, pages) = (ppn_of(word), pages_of(word, level));
     Leaf {
-        frame: ppn_of(word) + (addr >> 12) % pages_of(level),
+        frame: ppn - ppn % pages + (addr >> 12) % pages,
         level,
         global: global || has_bit(word, GLOBAL),
+        napot: has_bit(word, NAPOT),
+    }
+}
+
+// How many pages of 4096 bytes this leaf of this level, 0 to 4, maps.
+fn pages_of(word: u64, level: u8) -> u64
+    requires { level < 5 }
+    ensures value { result ≡ pages_of level word }
+    ensures some { 0 < result }
+{
+    if has_bit(word, NAPOT) {
+        16
+    } else {
+        pages_at(level)
     }
 }

@@ -2,10 +2,10 @@
 
 ghost use Rattle.std.specs.Prelude.{◌≡◌, ◌<◌, ◌≤◌, ◌^◌};
 
-use iom_bits::{field, has_bit};
+use iom_bits::{Features, field, has_bit};
 
 /// The mode of a page table: how many levels there are, how an address is divided into indexes, and how wide it may be (RISC-V
-/// Privileged Architecture, "Sv39", "Sv48" and "Two-Stage Address Translation").
+/// Privileged Architecture, "Sv39", "Sv48", "Sv57" and "Two-Stage Address Translation").
 #[derive(Clone, Copy)]
 pub enum Shape {
     /// Three levels. Bits 63:39 of an address repeat bit 38.
@@ -18,6 +18,20 @@ pub enum Shape {
     /// Four levels, of which the root has four times as many entries. An address, a guest-physical one, is below
     /// 2^50.
     Sv48x4,
+    /// Five levels. Bits 63:57 of an address repeat bit 56.
+    Sv57,
+    /// Five levels, of which the root has four times as many entries. An address, a guest-physical one, is below
+    /// 2^59.
+    Sv57x4,
+}
+
+/// The format of page tables: their shape, and the features that say which bits of an entry are reserved.
+#[derive(Clone, Copy)]
+pub struct Format {
+    /// The shape.
+    pub shape: Shape,
+    /// The IOMMU's features, of which Svnapot and Svpbmt matter here.
+    pub features: Features,
 }
 
 impl Shape {
@@ -26,11 +40,12 @@ impl Shape {
     /// How many levels there are. The level of the root is one less; that of the last table is 0.
     pub(crate) fn levels(self) -> u8
         ensures value { result ≡ levels self }
-        ensures most { result ≤ 4 }
+        ensures most { result ≤ 5 }
     {
         match self {
             Shape::Sv39 | Shape::Sv39x4 => 3,
             Shape::Sv48 | Shape::Sv48x4 => 4,
+            Shape::Sv57 | Shape::Sv57x4 => 5,
         }
     }
 
@@ -40,13 +55,13 @@ impl Shape {
         ensures most { result ≤ 2 }
     {
         match self {
-            Shape::Sv39 | Shape::Sv48 => 0,
-            Shape::Sv39x4 | Shape::Sv48x4 => 2,
+            Shape::Sv39 | Shape::Sv48 | Shape::Sv57 => 0,
+            Shape::Sv39x4 | Shape::Sv48x4 | Shape::Sv57x4 => 2,
         }
     }
 
     /// The index of the entry that `addr`, an IOVA or a guest-physical address, is met at in a table of level `level`, VPN[level]
-    /// in the standard: below 2^11 in a root of Sv39x4 or Sv48x4, below 2^9 in all other tables.
+    /// in the standard: below 2^11 in a root of Sv39x4, Sv48x4 or Sv57x4, below 2^9 in all other tables.
     #[tactic(auto, unfolding(crate::specs::Shape::index_of))]
     pub(crate) fn index(self, addr: u64, level: u8) -> u64
         requires { level < levels self }
@@ -72,6 +87,8 @@ impl Shape {
             Shape::Sv39x4 => field(addr, 41, 23) == 0,
             Shape::Sv48 => field(addr, 48, 16) == if has_bit(addr, 47) { 0xffff } else { 0 },
             Shape::Sv48x4 => field(addr, 50, 14) == 0,
+            Shape::Sv57 => field(addr, 57, 7) == if has_bit(addr, 56) { 0x7f } else { 0 },
+            Shape::Sv57x4 => field(addr, 59, 5) == 0,
         }
     }
 }

@@ -7,22 +7,22 @@ ghost use Rattle.iom_walk.specs.Pages.{OneEndAPage};
 
 use crate::entry::{GLOBAL, Verdict, judge, ppn_of};
 use crate::outcome::{Outcome, leaf_of};
-use crate::shape::Shape;
+use crate::shape::Format;
 use crate::source::Words;
 use iom_bits::{Kind, has_bit};
 
-/// How a walk of page tables of this shape ends, for an access of kind `kind` to `addr`, an IOVA or a guest-physical address
+/// How a walk of page tables of this format ends, for an access of kind `kind` to `addr`, an IOVA or a guest-physical address
 /// (RISC-V Privileged Architecture, "Virtual Address Translation Process"). `root` is the PPN of the root, below 2^44: its address
 /// divided by 4096. That address and the entries' are addresses in `words`, each below 2^56 + 2^14.
 #[tactic(auto, using(crate::proofs::Paths::is_outcome), unfolding(crate::specs::Outcome::outcome_of))]
-pub fn walk<W: Words>(words: &W, shape: Shape, root: u64, addr: u64, kind: Kind) -> Outcome
+pub fn walk<W: Words>(words: &W, format: Format, root: u64, addr: u64, kind: Kind) -> Outcome
     requires { root < 2 ^ 44 }
-    ensures outcome { result ≡ outcome_of (W.at words.now) shape root addr kind }
-    ensures path { IsOutcome (W.at words.now) shape root addr kind result }
-    ensures leaf { LeafFits shape result }
+    ensures outcome { result ≡ outcome_of (W.at words.now) format root addr kind }
+    ensures path { IsOutcome (W.at words.now) format root addr kind result }
+    ensures leaf { LeafFits format.shape result }
 {
-    if shape.covers(addr) {
-        descend(words, shape, root, addr, kind)
+    if format.shape.covers(addr) {
+        descend(words, format, root, addr, kind)
     } else {
         Outcome::Fault
     }
@@ -35,16 +35,16 @@ pub fn one_end_a_page()
 {}
 
 // The walk of an address that is no wider than its shape allows.
-fn descend<W: Words>(words: &W, shape: Shape, root: u64, addr: u64, kind: Kind) -> Outcome
+fn descend<W: Words>(words: &W, format: Format, root: u64, addr: u64, kind: Kind) -> Outcome
     requires { root < 2 ^ 44 }
-    ensures outcome { result ≡ verdict_on_path kind addr (path_of (W.at words.now) shape root addr) }
-    ensures leaf { LeafFits shape result }
+    ensures outcome { result ≡ verdict_on_path format.features kind addr (path_of (W.at words.now) format root addr) }
+    ensures leaf { LeafFits format.shape result }
 {
     let mut table = root;
     let mut global = false;
-    for level in (0..shape.levels()).rev() {
-        let place = table * 4096 + shape.index(addr, level) * 8;
-        match judge(words.word(place), level, kind) {
+    for level in (0..format.shape.levels()).rev() {
+        let place = table * 4096 + format.shape.index(addr, level) * 8;
+        match judge(format.features, words.word(place), level, kind) {
             Verdict::Outside => return Outcome::Outside,
             Verdict::Guest => return Outcome::Guest(place),
             Verdict::Fault => return Outcome::Fault,

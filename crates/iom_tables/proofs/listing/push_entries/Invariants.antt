@@ -7,7 +7,7 @@ use Rattle.iom_tables.proofs.listing.push_entries.Given as goal
 -- what was told, and then what is left, is all that is to be told
 abbrev pub invariant-loop-entry : goal.invariant-loop-entry
 invariant-loop-entry l = record {
-  room : array_vec_len l.out ≤ array_vec_len l.initial.out + 5 * l.entry-index;
-  left : l.out.items ++ flat_map (entry_parts l.ram l.context) (drop l.entry-index l.entry-items)
-      ≡ l.initial.out.items ++ flat_map (entry_parts l.ram l.context) l.entry-items;
+  room : array_vec_len l.out ≤ array_vec_len l.initial.out + 6 * l.entry-index;
+  left : l.out.items ++ flat_map (entry_parts l.ram l.features l.context) (drop l.entry-index l.entry-items)
+      ≡ l.initial.out.items ++ flat_map (entry_parts l.ram l.features l.context) l.entry-items;
 }

@@ -2,8 +2,8 @@
 use Rattle.std.proofs.Common.{rules}
 use Rattle.iom_walk.proofs.entry.leaf_judged_by.Goals as goal
 
-pub returns-then-ppn_of-pages_of-ne0 : goal.returns-then-ppn_of-pages_of-ne0
-returns-then-ppn_of-pages_of-ne0 c = search rules
+pub returns-then-ppn_of-pages_at-ne0 : goal.returns-then-ppn_of-pages_at-ne0
+returns-then-ppn_of-pages_at-ne0 c = search rules
 
 pub returns-then-not-has_bit : goal.returns-then-not-has_bit
 returns-then-not-has_bit c = search rules

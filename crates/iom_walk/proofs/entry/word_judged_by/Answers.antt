@@ -11,9 +11,9 @@ pub returns-then-has_bit : goal.returns-then-has_bit
 unfolding ruling_of
 returns-then-has_bit c = search rules
 
-pub returns-then-field-ne0 : goal.returns-then-field-ne0
+pub returns-then-has_reserved : goal.returns-then-has_reserved
 unfolding ruling_of
-returns-then-field-ne0 c = search rules
+returns-then-has_reserved c = search rules
 
 pub returns-then-has_no_access : goal.returns-then-has_no_access
 unfolding ruling_of

@@ -15,8 +15,8 @@ invariant-loop-level g l =
     let at = g.W.Words.at l.words in
     record {
       table_fits : l.table < 2 ^ 44;
-      room : array_vec_len l.met + l.level ≤ levels l.shape;
-      left : l.met.items ++ rest at l.shape l.addr l.kind l.table l.level ≡ map (told l.kind) (path_of at l.shape l.root l.addr);
-      verdict : verdict_below l.kind l.global l.addr (path_from at l.shape l.addr l.table l.level)
-          ≡ verdict_on_path l.kind l.addr (path_of at l.shape l.root l.addr);
+      room : array_vec_len l.met + l.level ≤ levels l.format.shape;
+      left : l.met.items ++ rest at l.format l.addr l.kind l.table l.level ≡ map (told l.format.features l.kind) (path_of at l.format l.root l.addr);
+      verdict : verdict_below l.format.features l.kind l.global l.addr (path_from at l.format l.addr l.table l.level)
+          ≡ verdict_on_path l.format.features l.kind l.addr (path_of at l.format l.root l.addr);
     }

@@ -2,7 +2,7 @@ use Rattle.std.proofs.Common.{◌||◌, ◌-◌, refl, ◌∙◌, ap}
 use Rattle.iom_walk.specs.declared.outcome.Outcome.TheVariants as outcome
 use Rattle.iom_walk.specs.Verdict.{is_global}
 use Rattle.iom_walk.specs.Outcome.{leaf_of}
-use Rattle.iom_walk.proofs.Entries.{leaf_word, leaf_aligned}
+use Rattle.iom_walk.proofs.Entries.{leaf_word}
 use Rattle.iom_walk.proofs.Walks.{begins, runs_out, stops, turns}
 use Rattle.iom_walk.proofs.walking.descend.Goals as goal
 
@@ -24,14 +24,11 @@ returns-in-Fault-clause-outcome g c =
     stops _ _ _ _ _ _ _ _ _ _ _ c.loop-level.invariant.left c.loop-level-test.true c.index.ensures.index
     c.word.ensures c.in-Fault.ensures refl
 
-pub leaf_of-requires-clause-aligned : goal.leaf_of-requires-clause-aligned
-leaf_of-requires-clause-aligned g c = leaf_aligned _ _ _ _ c.in-Leaf.ensures
-
 pub returns-in-Leaf-clause-outcome : goal.returns-in-Leaf-clause-outcome
 returns-in-Leaf-clause-outcome g c =
     ap outcome.Leaf (c.leaf_of.ensures.leaf
     ∙ ap (λ n. leaf_of (c.loop-level.global || is_global n) c.args.addr (c.loop-level.level - 1) c.in-Leaf.word)
-    (leaf_word _ _ _ _ c.in-Leaf.ensures))
+    (leaf_word _ _ _ _ _ c.in-Leaf.ensures))
     ∙ stops _ _ _ _ _ _ _ _ _ _ _ c.loop-level.invariant.left c.loop-level-test.true c.index.ensures.index
     c.word.ensures c.in-Leaf.ensures refl
 

@@ -10,6 +10,6 @@ invariant-loop-level g l =
     let at = g.W.Words.at l.words in
     record {
       table_fits : l.table < 2 ^ 44;
-      left : verdict_below l.kind l.global l.addr (path_from at l.shape l.addr l.table l.level)
-          ≡ verdict_on_path l.kind l.addr (path_of at l.shape l.root l.addr);
+      left : verdict_below l.format.features l.kind l.global l.addr (path_from at l.format l.addr l.table l.level)
+          ≡ verdict_on_path l.format.features l.kind l.addr (path_of at l.format l.root l.addr);
     }

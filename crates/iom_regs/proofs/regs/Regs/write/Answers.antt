@@ -3,6 +3,7 @@ use Rattle.std.proofs.lemmas.Grind.{common_steps}
 use Rattle.iom_regs.specs.Controls.{IsCqcsr, IsFqcsr}
 use Rattle.iom_regs.specs.Table.{Registers}
 use Rattle.iom_regs.proofs.Controls.{cqcsr_bits, cqcsr_written, fqcsr_bits, fqcsr_written}
+use Rattle.iom_regs.proofs.Features.{features_kept}
 use Rattle.iom_regs.proofs.regs.Regs.write.Goals as goal
 
 pub returns-clause-written : goal.returns-clause-written
@@ -24,3 +25,8 @@ returns-clause-fqcsr c = λ at.
 
 pub invariant_of-self : goal.invariant_of-self
 invariant_of-self c = search rules
+
+pub returns-clause-features : goal.returns-clause-features
+returns-clause-features c =
+    ap (λ (r : Registers). r.features) (returns-clause-written c)
+    ∙ features_kept c.args.self.now c.args.off c.args.size c.args.value

@@ -1,0 +1,5 @@
+pub mod Lists
+pub mod Numbers
+pub mod Alike
+pub mod Reached
+pub mod Owed

@@ -1,0 +1,5 @@
+pub mod Systems
+pub mod Choices
+pub mod Models
+pub mod Settled
+pub mod Laws

@@ -1,0 +1,41 @@
+-- No write changes what an IOMMU offers.
+use Rattle.std.proofs.Common.{◌≡◌, ◌==◌, ℕ, Bool, true, false, nat_le, if◌then◌else◌, refl}
+use Rattle.iom_bits.specs.Bits.{field_of}
+use Rattle.iom_regs.specs.Table.{Registers, Name, Slot, Capabilities, Fctl, Ddtp, Cqb, Cqh, Cqt, Fqb, Fqh, Fqt, Cqcsr, Fqcsr, Ipsr, Icvec, Whole, Low, High, Free, is_on, slot_at, written, written_at, written_wide, after_write}
+
+either : (b : Bool) (r new old : Registers) → new.features ≡ r.features → old.features ≡ r.features →
+    (if b then new else old).features ≡ r.features
+either true r new old first second = first
+either false r new old first second = second
+
+kept_by : (name : Name) (value : ℕ) (r : Registers) → (written name value r).features ≡ r.features
+kept_by Capabilities value r = refl
+kept_by Fctl value r = refl
+kept_by Ddtp value r = either (nat_le (field_of value 0 4) 4) r _ r refl refl
+kept_by Cqb value r = either (is_on r.cqcsr) r r _ refl refl
+kept_by Cqh value r = refl
+kept_by Cqt value r = refl
+kept_by Fqb value r = either (is_on r.fqcsr) r r _ refl refl
+kept_by Fqh value r = refl
+kept_by Fqt value r = refl
+kept_by Cqcsr value r = refl
+kept_by Fqcsr value r = refl
+kept_by Ipsr value r = refl
+kept_by Icvec value r = refl
+
+kept_by_four : (slot : Slot) (value : ℕ) (r : Registers) → (written_at slot value r).features ≡ r.features
+kept_by_four (Whole name) value r = kept_by name value r
+kept_by_four (Low name) value r = kept_by name _ r
+kept_by_four (High name) value r = kept_by name _ r
+kept_by_four Free value r = refl
+
+kept_by_eight : (slot : Slot) (value : ℕ) (r : Registers) → (written_wide slot value r).features ≡ r.features
+kept_by_eight (Whole name) value r = refl
+kept_by_eight (Low name) value r = kept_by name value r
+kept_by_eight (High name) value r = refl
+kept_by_eight Free value r = refl
+
+pub features_kept : (r : Registers) (off size value : ℕ) → (after_write r off size value).features ≡ r.features
+features_kept r off size value =
+    either (size == 4) r (written_at (slot_at off) value r) (written_wide (slot_at off) value r)
+    (kept_by_four (slot_at off) value r) (kept_by_eight (slot_at off) value r)

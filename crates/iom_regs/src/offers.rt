@@ -1,0 +1,64 @@
+ghost use Rattle.std.specs.Prelude.{◌≡◌};
+ghost use Rattle.iom_regs.specs.Offers.{capabilities_of, icvec_of};
+
+use iom_bits::{Features, Vectors, field, flag};
+
+// capabilities ("IOMMU capabilities"): the version, 1.0, and the bits of paging modes and extensions.
+const VERSION: u64 = 0x10;
+
+const SV39: u32 = 9;
+
+const SV48: u32 = 10;
+
+const SV57: u32 = 11;
+
+const SVPBMT: u32 = 15;
+
+const SV39X4: u32 = 17;
+
+const SV48X4: u32 = 18;
+
+const SV57X4: u32 = 19;
+
+const NL: u32 = 42;
+
+const S: u32 = 43;
+
+// IGS: interrupts by wire alone.
+const IGS_BY_WIRE: u64 = 1 << 28;
+
+// PAS: physical addresses of 56 bits.
+const PAS_OF_56: u64 = 56 << 32;
+
+// What each IOMMU here has.
+const EACH: u64 = VERSION
+    + (1 << SV39)
+    + (1 << SV48)
+    + (1 << SV39X4)
+    + (1 << SV48X4)
+    + IGS_BY_WIRE
+    + PAS_OF_56;
+
+/// What capabilities reads with these features ("IOMMU capabilities"). Svnapot has no bit there.
+pub fn capabilities(features: Features) -> u64
+    ensures { result ≡ capabilities_of features }
+{
+    EACH + (flag(features.sv57) << SV57)
+        + (flag(features.svpbmt) << SVPBMT)
+        + (flag(features.sv57x4) << SV57X4)
+        + (flag(features.nl) << NL)
+        + (flag(features.s) << S)
+}
+
+/// What icvec keeps of a written number ("Interrupt-cause-to-vector register"): of civ (bits 3:0) and of fiv (bits 7:4) as many of
+/// the lowest bits as number a vector.
+pub fn vectors_kept(vectors: Vectors, value: u64) -> u64
+    ensures value { result ≡ icvec_of vectors value }
+    ensures whole { icvec_of vectors result ≡ result }
+{
+    match vectors {
+        Vectors::One => 0,
+        Vectors::Two => field(value, 0, 1) + (field(value, 4, 1) << 4),
+        Vectors::Four => field(value, 0, 2) + (field(value, 4, 2) << 4),
+    }
+}

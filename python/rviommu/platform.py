@@ -1,0 +1,448 @@
+"""The platform: a handle of the C library, whose functions are the methods here."""
+from __future__ import annotations
+
+import ctypes
+import operator
+import os
+import threading
+from typing import Any, Optional, SupportsIndex, TextIO, TypeVar, Union
+
+from . import forms
+from ._library import LIBRARY, Handle
+from .errors import AssemblyError, BadAccess, BusError, Denied, ImageError, Misuse, NoDevice, Outside, QueueStopped, Refusal
+from .values import Context, Located, Page, Part, Value, Way, Why
+
+Bytes = Union[bytes, bytearray, memoryview]
+Entry = TypeVar("Entry", bound=Value)
+
+_VALUE, _DONE, _BYTES, _IDLE, _DENIED, _BUS_ERROR, _BAD_ACCESS, _NO_DEVICE, _MISUSE = range(9)
+_OK, _OUT_OF_MEMORY, _OUTSIDE, _LITTLE_ROOM, _NO_DISK = 0, 7, 10, 11, 12
+_LIVE, _EMPTY = 0, 1
+_STALE = 3
+_MOST_STEPS = 32
+_MOST_BYTES = 64
+_MOST_MEMORY = 64 << 20
+_ROOM = 321
+# Fewer than 32 pieces, wherever pages end.
+_RECORDED_BYTES = 1024
+_BUILT_IN = "ram 0x80000000 0x100000\n"
+_FQB, _FQH, _FQT, _CQB, _CQH, _CQT, _CQCSR = 0x28, 0x30, 0x34, 0x18, 0x20, 0x24, 0x48
+# Of cqcsr: cqmf, cmd_to and cmd_ill, each of which stops the queue; cqon.
+_CQ_ERRORS, _CQON = 7 << 8, 1 << 16
+
+_REFUSALS: dict[int, type[Refusal]] = {_BUS_ERROR: BusError, _BAD_ACCESS: BadAccess, _NO_DEVICE: NoDevice, _MISUSE: Misuse}
+
+
+def _words(status: int) -> str:
+    words, length = ctypes.create_string_buffer(32), ctypes.c_size_t()
+    LIBRARY.rviommu_text(status, words, len(words), length)
+    return words.value.decode()
+
+
+def _started(status: int) -> None:
+    if status == _OUT_OF_MEMORY:
+        raise MemoryError
+    if status != _OK:
+        raise ImageError(_words(status))
+
+
+def _number(value: SupportsIndex) -> int:
+    """A number for the library, which has 64 bits there."""
+    number = operator.index(value)
+    if not 0 <= number < 1 << 64:
+        raise ValueError(f"{number:#x} is no number of 64 bits")
+    return number
+
+
+def _length(value: SupportsIndex) -> int:
+    """How many bytes, at most as many as memory can have."""
+    length = operator.index(value)
+    if not 0 <= length <= _MOST_MEMORY:
+        raise ValueError(f"{length} is no length: at most {_MOST_MEMORY} bytes")
+    return length
+
+
+def _room(count: int) -> Any:
+    return (ctypes.c_uint8 * max(count, 1))()
+
+
+def assemble(text: Union[str, Bytes]) -> bytes:
+    """The image that a text of statements describes."""
+    given = text.encode() if isinstance(text, str) else bytes(text)
+    length, line, room = ctypes.c_size_t(), ctypes.c_uint64(), 4096
+    while True:
+        image = _room(room)
+        status = LIBRARY.rviommu_assemble(given, len(given), image, room, length, line)
+        if status == _OK:
+            return bytes(image[: length.value])
+        if status == _OUT_OF_MEMORY:
+            raise MemoryError
+        if status != _LITTLE_ROOM:
+            raise AssemblyError(_words(status), line.value)
+        room = length.value
+
+
+class Platform:
+    """A platform: of an image, bytes as `assemble` gives them, or else of 1 MiB of memory at 0x80000000 and no block device. It is
+    closed by `close`, at the end of a `with`, or with its last use.
+
+    Where `record` names a file, each step is written into it as a line of a script with its answer, and the image into the file of that name
+    with `.image` behind it: `rviommu check RECORD.image < RECORD` plays it again, and so do `debug` and `explain`."""
+
+    def __init__(self, image: Optional[Bytes] = None, record: Optional[Union[str, os.PathLike[str]]] = None) -> None:
+        self._begin()
+        if image is None:
+            _started(LIBRARY.rviommu_open_built_in(self._handle))
+        else:
+            given = bytes(image)
+            _started(LIBRARY.rviommu_open(given, len(given), self._handle))
+        if record is not None:
+            path = os.fspath(record)
+            with open(path + ".image", "wb") as file:
+                file.write(assemble(_BUILT_IN) if image is None else bytes(image))
+            # Each line is in the file when its step is done.
+            self._record = open(path, "w", encoding="ascii", buffering=1)
+
+    def _begin(self) -> None:
+        # Every use of the handle holds this lock: one thread at a time.
+        self._lock = threading.RLock()
+        self._handle = Handle()
+        self._most = _MOST_STEPS
+        self._record: Optional[TextIO] = None
+        self._recorded = 0
+
+    def __enter__(self) -> Platform:
+        return self
+
+    def __exit__(self, *_: object) -> None:
+        self.close()
+
+    def __del__(self) -> None:
+        # An instance whose making failed has no handle.
+        if "_handle" in vars(self):
+            self.close()
+
+    def __repr__(self) -> str:
+        with self._lock:
+            if not self._handle.own:
+                return "<Platform, closed>"
+            base, size = self.memory_place
+            return f"<Platform of {size:#x} bytes of memory at {base:#x}>"
+
+    def close(self) -> None:
+        """Gives the platform's memory back. A closed one is left as it is; its other methods raise `ValueError`."""
+        with self._lock:
+            LIBRARY.rviommu_close(self._handle)
+            if self._record:
+                self._record.close()
+
+    def _call(self, name: str, *operands: Any) -> Any:
+        """Calls a function of the library on the open handle."""
+        with self._lock:
+            if not self._handle.own:
+                raise ValueError("the platform is closed")
+            answer = getattr(LIBRARY, "rviommu_" + name)(self._handle, *operands)
+            if self._record:
+                self._write_steps(self._record)
+            return answer
+
+    def _write_steps(self, record: TextIO) -> None:
+        """Writes the steps that aren't in the record yet."""
+        now = LIBRARY.rviommu_steps(self._handle)
+        answer, length = ctypes.create_string_buffer(_ROOM), ctypes.c_size_t()
+        for number in range(self._recorded, now):
+            question = b"trace %d" % (min(now, _MOST_STEPS) - (now - number))
+            LIBRARY.rviommu_line(self._handle, question, len(question), answer, _ROOM, length)
+            record.write(" # => ".join(answer.value.decode().split(" -> ", 1)) + "\n")
+        self._recorded = now
+
+    def copy(self) -> Platform:
+        """An equal platform, which goes its own way from here, and counts its steps on. Its trace and its reasons, as many as are kept
+        here, are those of its own steps."""
+        made = Platform.__new__(Platform)
+        made._begin()
+        with self._lock:
+            _started(self._call("copy", made._handle))
+            made._most = self._most
+        return made
+
+    def __copy__(self) -> Platform:
+        return self.copy()
+
+    def __deepcopy__(self, memo: dict[int, Any]) -> Platform:
+        return self.copy()
+
+    def keep_reasons(self, most: SupportsIndex, accesses_only: bool = False) -> None:
+        """Keeps from now on why the last `most` steps went as they did, or the last `most` that make an access of a device, for `why`.
+        Those kept so far are forgotten."""
+        count = _number(most)
+        with self._lock:
+            if self._call("keep_reasons", count, accesses_only) != _OK:
+                raise MemoryError
+            self._most = count
+
+    def line(self, text: Union[str, Bytes]) -> str:
+        """Carries out a line of the script, text or bytes; its answer, empty for a blank line."""
+        given = text.encode() if isinstance(text, str) else bytes(text)
+        answer, length = ctypes.create_string_buffer(_ROOM), ctypes.c_size_t()
+        self._call("line", given, len(given), answer, _ROOM, length)
+        return answer.raw[: length.value].decode()
+
+    def _step(self, name: str, *operands: Any, number: Optional[ctypes.c_uint64] = None) -> int:
+        """Carries out a step; its answer's kind, where it is no refusal."""
+        answer: int = self._call(name, *operands, *([] if number is None else [number]))
+        if answer == _DENIED and number is not None:
+            raise Denied(number.value)
+        if answer in _REFUSALS:
+            raise _REFUSALS[answer](name)
+        return answer
+
+    def _value(self, name: str, *operands: SupportsIndex) -> int:
+        number = ctypes.c_uint64()
+        self._step(name, *map(_number, operands), number=number)
+        return number.value
+
+    # The hart
+    def load(self, address: SupportsIndex, size: SupportsIndex = 8) -> int:
+        """The number of the bytes at a physical address."""
+        return self._value("load", address, size)
+
+    def store(self, address: SupportsIndex, value: SupportsIndex, size: SupportsIndex = 8) -> None:
+        """Writes a number at a physical address."""
+        self._step("store", _number(address), _number(size), _number(value))
+
+    def put(self, address: SupportsIndex, form: Union[forms.Form, Bytes]) -> None:
+        """Stores a form, as a `Context` or a `Pte`, or bytes, whose number is a multiple of 8, word by word."""
+        data = form.bytes() if isinstance(form, forms.Form) else bytes(form)
+        if len(data) % 8:
+            raise ValueError("bytes are put by words of 8")
+        with self._lock:
+            for at in range(0, len(data), 8):
+                self.store(operator.index(address) + at, int.from_bytes(data[at : at + 8], "little"))
+
+    def reg_read(self, offset: SupportsIndex, size: SupportsIndex = 8) -> int:
+        """The value of a register of the IOMMU."""
+        return self._value("reg_read", offset, size)
+
+    def reg_write(self, offset: SupportsIndex, value: SupportsIndex, size: SupportsIndex = 8) -> None:
+        """Writes a register of the IOMMU."""
+        self._step("reg_write", _number(offset), _number(size), _number(value))
+
+    # Devices
+    def dma_read(self, did: SupportsIndex, iova: SupportsIndex, length: SupportsIndex) -> bytes:
+        """The bytes that a device reads: 1 to 64, in one page."""
+        # A longer read is refused whatever its length, so it needs no more room than this.
+        count = min(_length(length), _MOST_BYTES + 1)
+        data, cause = _room(count), ctypes.c_uint64()
+        self._step("dma_read", _number(did), _number(iova), data, count, number=cause)
+        return bytes(data[:count])
+
+    def dma_write(self, did: SupportsIndex, iova: SupportsIndex, data: Bytes) -> None:
+        """A device writes 1 to 64 bytes, in one page."""
+        given = bytes(data)
+        self._step("dma_write", _number(did), _number(iova), given, len(given), number=ctypes.c_uint64())
+
+    def dma_read_all(self, did: SupportsIndex, iova: SupportsIndex, length: SupportsIndex) -> bytes:
+        """The bytes that a device reads: any number, over pages, in pieces of at most 64 bytes, each a step. A refusal's `done` is how many
+        bytes came before the piece that was refused."""
+        count = _length(length)
+        data = _room(count)
+        self._in_pieces("dma_read_all", _number(did), _number(iova), data, count)
+        return bytes(data[:count])
+
+    def dma_write_all(self, did: SupportsIndex, iova: SupportsIndex, data: Bytes) -> None:
+        """A device writes any number of bytes, likewise."""
+        given = bytes(data)
+        self._in_pieces("dma_write_all", _number(did), _number(iova), (ctypes.c_uint8 * max(len(given), 1)).from_buffer_copy(given or b"\0"), len(given))
+
+    def _in_pieces(self, name: str, did: int, iova: int, data: Any, length: int) -> None:
+        at = 0
+        with self._lock:
+            while True:
+                # A record reads the last 32 steps after each call, so it takes no more than these in one.
+                count = min(length - at, _RECORDED_BYTES) if self._record and length - 1 < (1 << 64) - iova else length - at
+                done = ctypes.c_size_t()
+                try:
+                    self._step(name, did, iova + at, ctypes.byref(data, at), count, done, number=ctypes.c_uint64())
+                except Refusal as refusal:
+                    refusal.done = at + done.value
+                    raise
+                at += count
+                if at == length:
+                    return
+
+    def dev_read(self, device: SupportsIndex, offset: SupportsIndex, size: SupportsIndex = 4) -> int:
+        """The value of a register of a block device."""
+        return self._value("dev_read", device, offset, size)
+
+    def dev_write(self, device: SupportsIndex, offset: SupportsIndex, value: SupportsIndex, size: SupportsIndex = 4) -> None:
+        """Writes a register of a block device."""
+        self._step("dev_write", _number(device), _number(offset), _number(size), _number(value))
+
+    def dev_step(self, device: SupportsIndex) -> bool:
+        """A block device goes on by one access; False where it is idle."""
+        return self._step("dev_step", _number(device), number=ctypes.c_uint64()) == _DONE
+
+    # The IOMMU
+    def command(self) -> bool:
+        """The command unit takes a command; False where it is idle."""
+        return self._step("command") == _DONE
+
+    def _take_commands(self) -> None:
+        """Lets the command unit take all commands. Raises `QueueStopped` where it doesn't."""
+        while self.command():
+            pass
+        cqcsr = self.reg_look(_CQCSR, 4)
+        if cqcsr & _CQ_ERRORS or not cqcsr & _CQON:
+            raise QueueStopped("stopped" if cqcsr & _CQON else "off", cqcsr)
+
+    def send(self, *commands: Union[forms.Form, Bytes]) -> None:
+        """Puts commands into the command queue that cqb names, moves cqt, and lets the command unit take them all. Raises
+        `QueueStopped` where the queue is off or stopped, before or by one of the commands; those after it aren't put."""
+        with self._lock:
+            self._take_commands()
+            cqb = self.reg_read(_CQB)
+            base, entries = (cqb >> 10 & (1 << 44) - 1) << 12, 2 << (cqb & 0x1F)
+            for command in commands:
+                tail = self.reg_read(_CQT, 4)
+                self.put(base + 16 * tail, command)
+                self.reg_write(_CQT, (tail + 1) % entries, 4)
+                self._take_commands()
+
+    def take_fault(self) -> Optional[forms.FaultRecord]:
+        """The oldest record of the fault queue that fqb names, which fqh then passes; None where there is none."""
+        with self._lock:
+            head = self.reg_read(_FQH, 4)
+            if head == self.reg_read(_FQT, 4):
+                return None
+            fqb = self.reg_read(_FQB)
+            record = self.memory(((fqb >> 10 & (1 << 44) - 1) << 12) + 32 * head, 32)
+            self.reg_write(_FQH, (head + 1) % (2 << (fqb & 0x1F)), 4)
+            return forms.FaultRecord.from_bytes(record)
+
+    # Looking
+    @property
+    def steps(self) -> int:
+        """The number of the last step: how many the platform was given, those of the one that it was copied from among them."""
+        number: int = self._call("steps")
+        return number
+
+    @property
+    def interrupt(self) -> int:
+        """Which interrupts are pending, the value of ipsr: bit 0 that of the command queue, bit 1 that of the fault queue."""
+        pending: int = self._call("interrupt")
+        return pending
+
+    def reg_look(self, offset: SupportsIndex, size: SupportsIndex = 8) -> int:
+        """The value that `reg_read` would answer, without a step."""
+        value = ctypes.c_uint64()
+        if self._call("reg_look", _number(offset), _number(size), value) != _OK:
+            raise BadAccess("reg_look")
+        return value.value
+
+    @property
+    def memory_place(self) -> tuple[int, int]:
+        """The first physical address of memory, and its size."""
+        base, size = ctypes.c_uint64(), ctypes.c_uint64()
+        self._call("memory_place", base, size)
+        return base.value, size.value
+
+    def memory(self, address: SupportsIndex, length: SupportsIndex) -> bytes:
+        """The bytes of memory from a physical address on."""
+        at, count = _number(address), _length(length)
+        data = _room(count)
+        if self._call("memory", at, data, count) == _OUTSIDE:
+            raise Outside(f"{count} bytes at {at:#x}")
+        return bytes(data[:count])
+
+    def disk(self, device: SupportsIndex, offset: SupportsIndex = 0, length: Optional[SupportsIndex] = None) -> bytes:
+        """The bytes of a block device's disk from an offset on, to its end where no length is given."""
+        number, at, size = _number(device), _number(offset), ctypes.c_uint64()
+        if self._call("disk_size", number, size) == _NO_DISK:
+            raise NoDevice("disk")
+        count = max(size.value - at, 0) if length is None else _number(length)
+        if at + count > size.value:
+            raise Outside(f"{count} bytes at {at} of a disk")
+        data = _room(count)
+        self._call("disk", number, at, data, count)
+        return bytes(data[:count])
+
+    def _places(self, name: str, kind: type[Entry]) -> list[Optional[Entry]]:
+        found: list[Optional[Entry]] = []
+        with self._lock:
+            while True:
+                entry = kind()
+                told = self._call(name, len(found), entry)
+                if told not in (_LIVE, _EMPTY):
+                    return found
+                found.append(entry if told == _LIVE else None)
+
+    def pages(self) -> list[Optional[Page]]:
+        """The places of the translation cache, the IOTLB, oldest first; None for an empty one."""
+        return self._places("page", Page)
+
+    def contexts(self) -> list[Optional[Context]]:
+        """The places of the context cache, the DDTC, oldest first; None for an empty one."""
+        return self._places("context", Context)
+
+    def _device(self, did: SupportsIndex) -> int:
+        number = operator.index(did)
+        if not 0 <= number < 1 << 24:
+            raise ValueError(f"{number:#x} is no device id")
+        return number
+
+    def walk(self, did: SupportsIndex, iova: SupportsIndex, is_write: bool = False) -> list[Part]:
+        """The parts of a walk: all that is looked at to lead a request where nothing is cached. The first is ddtp, the last the end."""
+        device, at = self._device(did), _number(iova)
+        parts, part = [], Part()
+        with self._lock:
+            while self._call("part", device, at, is_write, len(parts), part) == _OK:
+                parts.append(part)
+                part = Part()
+        return parts
+
+    def stale(self, did: SupportsIndex, iova: SupportsIndex, is_write: bool = False) -> Optional[Way]:
+        """The way that the tables say of a request that the caches lead otherwise; None where they don't."""
+        way = Way()
+        return way if self._call("stale", self._device(did), _number(iova), is_write, way) == _STALE else None
+
+    def _stale_place(self, name: str, place: SupportsIndex, now: Entry) -> Optional[Entry]:
+        return now if self._call(name, _number(place), now) == _STALE else None
+
+    def stale_page(self, place: SupportsIndex) -> Optional[Way]:
+        """The way that the tables say of a place of the translation cache that holds something else; None where it doesn't."""
+        return self._stale_place("stale_page", place, Way())
+
+    def stale_context(self, place: SupportsIndex) -> Optional[Located]:
+        """What ddtp and the directory say of the device of a place of the context cache that holds something else; None where it
+        doesn't."""
+        return self._stale_place("stale_context", place, Located())
+
+    def why(self, step: Optional[SupportsIndex] = None) -> Optional[Why]:
+        """Why one of the steps went as it did whose reasons are kept, the oldest step 0; the last where none is named. None where there
+        is no such step."""
+        why = Why()
+        with self._lock:
+            place = self._count_reasons(why) - 1 if step is None else _number(step)
+            found = place >= 0 and self._call("why", place, why) == _OK
+        return why if found else None
+
+    def _count_reasons(self, why: Why) -> int:
+        """How many reasons there are, which is found by halves."""
+        low, high = 0, self._most
+        while low < high:
+            middle = (low + high) // 2
+            low, high = (middle + 1, high) if self._call("why", middle, why) == _OK else (low, middle)
+        return low
+
+    def page_origin(self, place: SupportsIndex) -> Optional[tuple[int, int]]:
+        """The numbers of the steps that filled a place of the translation cache: of the context under which it was filled, and of the
+        place; None where there are fewer places."""
+        context, walk = ctypes.c_uint64(), ctypes.c_uint64()
+        found = self._call("page_origin", _number(place), context, walk) == _OK
+        return (context.value, walk.value) if found else None
+
+    def context_origin(self, place: SupportsIndex) -> Optional[int]:
+        """The number of the step that filled a place of the context cache; None where there are fewer places."""
+        number = ctypes.c_uint64()
+        return number.value if self._call("context_origin", _number(place), number) == _OK else None
