@@ -26,7 +26,7 @@ class Debugs(Case):
         self.assertEqual((status, errors), WELL)
         seen = out.decode().splitlines()
         self.assertEqual(seen[::2], seen[1::2])
-        self.assertEqual(len(seen), 2 * (12 + 23))
+        self.assertEqual(len(seen), 2 * (13 + 23))
         self.assertEqual([it for it in seen if not it.startswith("0x")], [])
 
     def test_broke_block_device_until(self):

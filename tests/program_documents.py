@@ -44,6 +44,7 @@ UNMAPPED = [*CACHED, UNMAP.decode().strip()]
 TO_DDTP = [*CACHED, "reg write ddtp 1"]
 # Of each row of the table of debug's lines, for each answer that it names the lines that lead there, on an image with tables and a disk.
 DEBUG_SAMPLES = {
+    "vectors": {"0x0": ["reg write cqb 0x20000000", "reg write cqcsr 3", "reg write cqt 1", "cmd", "vectors"], "none": ["vectors"]},
     "dump ADDR LEN": {"outside": ["dump 0 1"]},
     "disk N BYTE LEN": {"outside": ["disk 0 1024 1"], "none": ["disk 1 0 1"]},
     "dev show N": {"none": ["dev show 1"]},

@@ -22,10 +22,7 @@ for number in 13 14 15; do
     done <<END
 device_reads_what_the_hart_stored $made
 caches_and_a_trace_are_made AllocError
-copy_for_the_access AllocError
-copy_for_the_walk AllocError
-copy_for_the_current_context AllocError
-copy_for_the_context_of_the_walk AllocError
+copy_for_the_steps AllocError
 copies_go_their_own_ways AllocError
 block_device_is_copied AllocError
 platform_with_a_device_is_copied AllocError

@@ -484,7 +484,7 @@ class Forms(unittest.TestCase):
         return platform.line(f"show {kind} {RAM:#x}")
 
     def test_commands(self):
-        for form in (Vma(), Vma(page=0x40201, pscid=9, gscid=3), Gvma(gscid=3), Gvma(page=1, gscid=2), Fence(), Fence(addr=0x80000004, data=0x1234), Iodir(), Iodir(did=7)):
+        for form in (Vma(), Vma(page=0x40201, pscid=9, gscid=3), Gvma(gscid=3), Gvma(page=1, gscid=2), Vma(page=3, nl=True, s=True), Fence(), Fence(addr=0x80000004, data=0x1234), Iodir(), Iodir(did=7)):
             with self.subTest(form=form):
                 told = self.told("cmd", form)
                 self.assertFalse(told.startswith("u64"), told)

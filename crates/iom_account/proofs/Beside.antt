@@ -1,5 +1,5 @@
 -- What stands beside a live place.
-use Rattle.std.proofs.Common.{◌≡◌, ◌∙◌, ◌<◌, ℕ, zero, suc, List, [], ◌∷◌, get_or, Bool, true, false, Option, Some, None, if◌then◌else◌, refl, ap, subst, arith}
+use Rattle.std.proofs.Common.{◌≡◌, ◌∙◌, ◌<◌, ◌≤◌, ℕ, zero, suc, List, [], ◌∷◌, get_or, replicate, take, Bool, true, false, Option, Some, None, if◌then◌else◌, refl, ap, subst, arith}
 use Rattle.iom_cache.specs.Origins.{stamped_by}
 use Rattle.iom_cache.specs.Places.{find, place_of}
 use Rattle.iom_cache.proofs.Stamped.{Stamped}
@@ -29,3 +29,9 @@ noted_at-same {X} room filled other note told first (suc k) fills notes =
     ap (λ (ss : List ℕ). stamped_by room (note k) (filled k) ss) below
     ∙ ap (λ (f : Option X). stamped_by room (note k) f (noted_at room other told first k)) (fills k (omega arith))
     ∙ ap (λ (s : ℕ). stamped_by room s (other k) (noted_at room other told first k)) (notes k (omega arith))
+
+-- the first of many zeros
+pub zeros_first : (count room : ℕ) → count ≤ room → take count (replicate {A = ℕ} room 0) ≡ replicate {A = ℕ} count 0
+zeros_first zero room within = refl
+zeros_first (suc count) zero within = absurd (omega arith)
+zeros_first (suc count) (suc room) within = ap (λ (xs : List ℕ). 0 ∷ xs) (zeros_first count room (omega arith))

@@ -1,5 +1,4 @@
 pub mod Beside
-pub mod Searched
 pub mod Noted
 pub mod Runs
 pub mod Followed
@@ -7,5 +6,6 @@ pub mod Accessed
 pub mod Told
 pub mod Stepped
 pub mod Placed
+pub mod Counted
 pub mod Telling
 pub mod Ring

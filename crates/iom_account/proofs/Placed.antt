@@ -16,12 +16,10 @@ use Rattle.iom_cache.proofs.Same.{same_did_itself, same_key_itself}
 use Rattle.iom_cache.proofs.Since.{Since}
 use Rattle.iom_cache.proofs.Stamped.{Stamped}
 use Rattle.iom_core.specs.Access.{request_key}
-use Rattle.iom_core.specs.Histories.{fills_at}
 use Rattle.iom_core.specs.State.{State}
 use Rattle.iom_core.specs.Table.{request_of_step}
-use Rattle.iom_core.specs.Warrants.{IsFreshContext, IsUncached, context_filled, context_filled_at, executed_at, moment, page_filled, page_filled_at, request_at}
+use Rattle.iom_core.specs.Warrants.{IsFreshContext, IsUncached, context_filled, context_filled_at, executed_at, fills_context, fills_page, moment, page_filled, page_filled_at, request_at}
 use Rattle.iom_core.specs.declared.access.Request.{Request}
-use Rattle.iom_core.specs.declared.history.Entry.TheVariants as entry
 use Rattle.iom_core.specs.declared.step.Step.{Step}
 use Rattle.iom_core.proofs.Fresh.{fresh_context}
 use Rattle.iom_core.proofs.Ways.{filled_context}
@@ -61,7 +59,7 @@ module _ (start : State) (steps : List Step) (numbers : List ℕ) (none : IsUnca
   nothing_asked = ap (option_and_then (request_of_step (moment start steps n))) (slice_get_past steps n (omega arith))
 
   last_context : (did : ℕ) (context : Context) (k : ℕ) → Since same_did drops_context (context_filled_at start steps) (executed_at start steps) n (did, context) k →
-      IsLast (λ j. fills same_did did (context_filled_at start steps j)) n k
+      IsLast (fills_context start steps did) n k
   last_context did context k since = record {
     within = let before = since.before in omega arith;
     passes = ap (fills same_did did) since.source ∙ same_did_itself did;
@@ -74,7 +72,7 @@ module _ (start : State) (steps : List Step) (numbers : List ℕ) (none : IsUnca
   }
 
   last_page : (key : Key) (hit : Hit) (k : ℕ) → Since same_key drops_page (page_filled_at start steps) (executed_at start steps) n (key, hit) k →
-      IsLast (λ j. fills same_key key (page_filled_at start steps j)) n k
+      IsLast (fills_page start steps key) n k
   last_page key hit k since = record {
     within = let before = since.before in omega arith;
     passes = ap (fills same_key key) since.source ∙ same_key_itself key;
@@ -106,7 +104,7 @@ module _ (start : State) (steps : List Step) (numbers : List ℕ) (none : IsUnca
   page_filled_by key hit walk base h b =
       let w = h.c in
       let last = last_page key hit w h.since in
-      let same : b.c ≡ w = IsLast-unique (λ j. fills same_key key (page_filled_at start steps j)) n b.c w (last_page key hit b.c b.since) last in
+      let same : b.c ≡ w = IsLast-unique (fills_page start steps key) n b.c w (last_page key hit b.c b.since) last in
       let f = filler (moment start steps w) (request_at start steps w) key hit h.since.source in
       let request = f.request in
       let old = f.page.context in
@@ -114,9 +112,9 @@ module _ (start : State) (steps : List Step) (numbers : List ℕ) (none : IsUnca
       let did : key.did ≡ request.did = ap (λ (k : Key). k.did) own ∙ device_of request old in
       let t = base_told start steps numbers none w key hit h.since.source in
       let context = fresh_context start steps w request old none f.is f.page.used f.page.filled in
-      let base_last : IsLast (fills_at start steps (entry.Context request.did)) w t.c =
-      subst (λ (d : ℕ). IsLast (fills_at start steps (entry.Context d)) w t.c) did t.last in
-      let one = IsLast-unique (fills_at start steps (entry.Context request.did)) w _ t.c context.origin base_last in
+      let base_last : IsLast (fills_context start steps request.did) w t.c =
+      subst (λ (d : ℕ). IsLast (fills_context start steps d) w t.c) did t.last in
+      let one = IsLast-unique (fills_context start steps request.did) w _ t.c context.origin base_last in
       record {
         c = t.c;
         w = w;
@@ -124,7 +122,7 @@ module _ (start : State) (steps : List Step) (numbers : List ℕ) (none : IsUnca
         context = old;
         own = own;
         fresh = record {
-          origin = subst (λ (k : Key). IsLast (λ j. fills same_key k (page_filled_at start steps j)) n w) own last;
+          origin = subst (λ (k : Key). IsLast (fills_page start steps k) n w) own last;
           translated = f.page.translated;
           kept = subst (λ (k : Key). (j : ℕ) → w ≤ j → j < n → drops_at drops_page (executed_at start steps j) k hit ≡ false) own h.since.kept;
         };

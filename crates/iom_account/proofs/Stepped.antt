@@ -1,23 +1,24 @@
--- What a step of a history that follows a platform keeps and tells.
+-- What a step of a history that goes along with a platform keeps and tells.
 use Rattle.std.proofs.Common.{◌≡◌, ◌∙◌, ◌++◌, ℕ, suc, List, [], ◌∷◌, length, Option, Some, None, refl, sym, ap, subst}
-use Rattle.std.specs.Prelude.{◌↔◌}
-use Rattle.std.specs.Option.{option_map}
+use Rattle.std.specs.Prelude.{◌↔◌, IfSome, slice_get}
+use Rattle.std.specs.Option.{option_and_then, option_map}
 use Rattle.iom_core.specs.Access.{led}
 use Rattle.iom_core.specs.Looking.{nothing_seen, noticed}
 use Rattle.iom_core.specs.State.{State}
 use Rattle.iom_core.specs.Table.{Asking, asked, next, request_in, request_of_step, told_by_step}
-use Rattle.iom_core.specs.Warrants.{HasNone, IsDenied, moment, request_at, way_at}
+use Rattle.iom_core.specs.Warrants.{IsDenied, IsUncached, moment, request_at, way_at}
 use Rattle.iom_core.specs.declared.access.Request.{Request}
 use Rattle.iom_core.specs.declared.looking.Seen.{Seen}
 use Rattle.iom_core.specs.declared.step.Step.{Step}
 use Rattle.iom_core.specs.declared.way.Way.{Way}
 use Rattle.iom_core.specs.declared.way.Way.TheVariants.{Context as ByContext, Register as ByRegister, Denied, Walked}
-use Rattle.iom_account.specs.Following.{ComesFrom, Follows, HasNoAccess, Notes, noted, noted_so, origin_on, origin_so}
+use Rattle.iom_core.proofs.Moments.{moment-suc, next_by}
+use Rattle.iom_account.specs.Following.{ComesFrom, Follows, HasNoAccess, Notes, noted, noted_so, notes_at, number_of, origin_on, origin_so}
 use Rattle.iom_account.specs.declared.origin.Origin.{Origin}
 use Rattle.iom_account.proofs.Accessed.{noted_is}
-use Rattle.iom_account.proofs.Followed.{followed}
-use Rattle.iom_account.proofs.Runs.{length_more, moment_all, moment_last, request_last}
-use Rattle.iom_account.proofs.Told.{by_way, notes_at}
+use Rattle.iom_account.proofs.Followed.{bases_kept, contexts_kept, number_last, walks_kept}
+use Rattle.iom_account.proofs.Runs.{end_more, item_last, length_more, moment_last}
+use Rattle.iom_account.proofs.Told.{by_asked}
 
 -- no origin is told where an access is denied, and of no other
 none_denied : (notes : Notes) (after : State) (request : Request) (number : ℕ) (way : Way) →
@@ -37,29 +38,69 @@ none_asked before after (Some asking) notes seen number is =
     subst (λ (w : Way). (origin_on notes after request number w ≡ None) ↔ IsDenied (led before.machine request).way) (sym way)
     (none_denied notes after request number (led before.machine request).way)
 
-pub none_told : (before after : State) (taken : Step) (request : Option Request) (notes : Notes) (seen : Seen) (number : ℕ) (found : Option Origin) →
-    request ≡ request_of_step before taken → seen ≡ told_by_step noticed nothing_seen before.machine (asked before taken) →
-    found ≡ origin_so notes after request number seen.way → (found ≡ None) ↔ HasNoAccess before (request_of_step before taken)
-none_told before after taken request notes seen number found own is told =
-    subst (λ (o : Option Origin). (o ≡ None) ↔ HasNoAccess before (request_of_step before taken))
-    (sym (told ∙ ap (λ (r : Option Request). origin_so notes after r number seen.way) own))
+pub none_told : (before after : State) (taken : Step) (notes : Notes) (seen : Seen) (number : ℕ) (found : Option Origin) →
+    seen ≡ told_by_step noticed nothing_seen before.machine (asked before taken) →
+    found ≡ origin_so notes after (request_of_step before taken) number seen.way → (found ≡ None) ↔ HasNoAccess before (request_of_step before taken)
+none_told before after taken notes seen number found is told =
+    subst (λ (o : Option Origin). (o ≡ None) ↔ HasNoAccess before (request_of_step before taken)) (sym told)
     (none_asked before after (asked before taken) notes seen number is)
 
-module _ (history new : Notes) (platform after : State) (taken : Step) (request : Option Request) (seen : Seen) (number : ℕ)
-    (own : request ≡ request_of_step platform taken) (left : after ≡ (next platform taken).state)
-    (is : seen ≡ told_by_step noticed nothing_seen platform.machine (asked platform taken))
-    (kept : new ≡ noted_so after request seen number history)
-    (start : State) (steps : List Step) (numbers : List ℕ) (h : Follows history platform start steps numbers) where
-  pub follows_step : Follows new after start (steps ++ taken ∷ []) (numbers ++ number ∷ [])
-  follows_step =
-      let notes : new ≡ noted platform after (request_of_step platform taken) number history =
-      kept ∙ ap (λ (r : Option Request). noted_so after r seen number history) own
-      ∙ noted_is platform after (asked platform taken) seen number history is in
-      let Kept : Notes → State → Type 0 = λ notes s. Follows notes s start (steps ++ taken ∷ []) (numbers ++ number ∷ []) in
-      subst (λ (notes : Notes). Kept notes after) (sym notes)
-      (subst (λ (s : State). Kept (noted platform s (request_of_step platform taken) number history) s) (sym left)
-      (followed history platform start steps numbers taken number h))
+-- what a step notes, and the way that it saw
+pub notes_of_step : (history new : Notes) (platform after : State) (taken : Step) (request : Option Request) (seen : Seen) (number : ℕ) →
+    request ≡ request_of_step platform taken → seen ≡ told_by_step noticed nothing_seen platform.machine (asked platform taken) →
+    new ≡ noted_so after request seen number history → new ≡ noted platform after (request_of_step platform taken) number history
+notes_of_step history new platform after taken request seen number own is kept =
+    kept ∙ ap (λ (r : Option Request). noted_so after r seen number history) own ∙ noted_is platform after (asked platform taken) seen number history is
 
+way_seen : (state : State) (asking : Option Asking) (seen : Seen) → seen ≡ told_by_step noticed nothing_seen state.machine asking →
+    IfSome (option_map request_in asking) (λ request. (led state.machine request).way ≡ seen.way)
+way_seen state None seen is = tt
+way_seen state (Some asking) seen is = sym (ap (λ (s : Seen). s.way) is)
+
+-- Step k of a run that a history goes along with: what it leaves, and where the translation comes from that it used.
+module _ (start : State) (steps : List Step) (numbers : List ℕ) (k : ℕ) (taken : Step) (number : ℕ)
+    (is : slice_get steps k ≡ Some taken) (own : number ≡ number_of numbers k)
+    (history new : Notes) (platform after : State) (seen : Seen)
+    (at : platform ≡ moment start steps k) (kept : history ≡ notes_at start steps numbers k)
+    (left : after ≡ (next platform taken).state) (so : seen ≡ told_by_step noticed nothing_seen platform.machine (asked platform taken))
+    (notes : new ≡ noted platform after (request_of_step platform taken) number history) where
+  asked_there : request_of_step platform taken ≡ request_at start steps k
+  asked_there =
+      ap (λ (s : State). request_of_step s taken) at
+      ∙ sym (ap (option_and_then (request_of_step (moment start steps k))) is)
+
+  pub leaves_moment : after ≡ moment start steps (suc k)
+  leaves_moment =
+      left ∙ ap (λ (s : State). (next s taken).state) at
+      ∙ sym (moment-suc start steps k ∙ ap (next_by (moment start steps k)) is)
+
+  pub leaves_notes : new ≡ notes_at start steps numbers (suc k)
+  leaves_notes =
+      notes ∙ ap (λ (s : State). noted s after (request_of_step platform taken) number history) at
+      ∙ ap (λ (s : State). noted (moment start steps k) s (request_of_step platform taken) number history) leaves_moment
+      ∙ ap (λ (r : Option Request). noted (moment start steps k) (moment start steps (suc k)) r number history) asked_there
+      ∙ ap (λ (s : ℕ). noted (moment start steps k) (moment start steps (suc k)) (request_at start steps k) s history) own
+      ∙ ap (noted (moment start steps k) (moment start steps (suc k)) (request_at start steps k) (number_of numbers k)) kept
+
+  pub origin_there : IsUncached start → (found : Option Origin) → found ≡ origin_so new after (request_of_step platform taken) number seen.way →
+      ComesFrom start steps numbers k found
+  origin_there none found told =
+      let led_so : IfSome (request_at start steps k) (λ request. way_at start steps k request ≡ seen.way) =
+      subst (λ (r : Option Request). IfSome r (λ request. way_at start steps k request ≡ seen.way)) asked_there
+      (subst (λ (s : State). IfSome (request_of_step platform taken) (λ request. (led s.machine request).way ≡ seen.way)) at
+      (way_seen platform (asked platform taken) seen so)) in
+      subst (ComesFrom start steps numbers k)
+      (sym (told ∙ ap (λ (r : Option Request). origin_so new after r number seen.way) asked_there
+      ∙ ap (λ (ns : Notes). origin_so ns after (request_at start steps k) number seen.way) leaves_notes
+      ∙ ap (λ (s : State). origin_so (notes_at start steps numbers (suc k)) s (request_at start steps k) number seen.way) leaves_moment))
+      (by_asked start steps numbers none k number (request_at start steps k) seen.way refl led_so)
+
+-- the same of steps with one step more
+module _ (history new : Notes) (platform after : State) (taken : Step) (seen : Seen) (number : ℕ)
+    (left : after ≡ (next platform taken).state)
+    (so : seen ≡ told_by_step noticed nothing_seen platform.machine (asked platform taken))
+    (notes : new ≡ noted platform after (request_of_step platform taken) number history)
+    (start : State) (steps : List Step) (numbers : List ℕ) (h : Follows history platform start steps numbers) where
   abbrev more : List Step
   more = steps ++ taken ∷ []
 
@@ -69,33 +110,35 @@ module _ (history new : Notes) (platform after : State) (taken : Step) (request 
   abbrev n : ℕ
   n = length steps
 
-  asked_there : request_at start more n ≡ request_of_step platform taken
-  asked_there = request_last start steps taken ∙ ap (λ (s : State). request_of_step s taken) (sym h.reached)
+  own : number ≡ number_of told n
+  own = sym (number_last start steps taken numbers number h.numbered)
 
-  by_asking : (asking : Option Asking) → request_at start more n ≡ option_map request_in asking →
-      seen ≡ told_by_step noticed nothing_seen platform.machine asking →
-      ComesFrom start more told n (origin_so new after (option_map request_in asking) number seen.way)
-  by_asking None there so = record {
-    warrant = None;
-    explains = subst (HasNone start more n) (sym there) tt;
-    told = refl;
+  at : platform ≡ moment start more n
+  at = h.reached ∙ sym (moment_last start steps taken)
+
+  kept : history ≡ notes_at start more told n
+  kept = λ i. record {
+    contexts = (h.contexts ∙ sym (contexts_kept start steps taken numbers number h.numbered)) i;
+    walks = (h.walks ∙ sym (walks_kept start steps taken numbers number h.numbered)) i;
+    bases = (h.bases ∙ sym (bases_kept start steps taken numbers number h.numbered)) i;
   }
-  by_asking (Some asking) there so =
-      let one = request_in asking in
-      let kept_on = follows_step in
-      let notes : new ≡ notes_at start more told h.uncached (suc n) =
-      (λ i. record { contexts = kept_on.contexts i; walks = kept_on.walks i; bases = kept_on.bases i })
-      ∙ ap (notes_at start more told h.uncached) (length_more steps taken) in
-      let at : moment start more (suc n) ≡ after =
-      ap (moment start more) (sym (length_more steps taken)) ∙ moment_all start more ∙ sym kept_on.reached in
-      let here : moment start more n ≡ platform = moment_last start steps taken ∙ sym h.reached in
-      let way : way_at start more n one ≡ seen.way = ap (λ (s : State). (led s.machine one).way) here ∙ sym (ap (λ (s : Seen). s.way) so) in
-      subst (λ (s : State). ComesFrom start more told n (origin_on new s one number seen.way)) at
-      (subst (λ (ns : Notes). ComesFrom start more told n (origin_on ns (moment start more (suc n)) one number seen.way)) (sym notes)
-      (by_way start more told h.uncached n one number there seen.way way))
 
-  pub origin_step : (found : Option Origin) → found ≡ origin_so new after request number seen.way → ComesFrom start more told n found
-  origin_step found told_so =
-      subst (λ (o : Option Origin). ComesFrom start more told n o)
-      (sym (told_so ∙ ap (λ (r : Option Request). origin_so new after r number seen.way) own))
-      (by_asking (asked platform taken) asked_there is)
+  pub follows_step : Follows new after start more told
+  follows_step =
+      let is = item_last steps taken in
+      let kept_on : new ≡ notes_at start more told (length more) =
+      leaves_notes start more told n taken number is own history new platform after seen at kept left so notes
+      ∙ ap (notes_at start more told) (sym (length_more steps taken)) in
+      record {
+        uncached = h.uncached;
+        reached = left ∙ ap (λ (s : State). (next s taken).state) h.reached ∙ sym (end_more start steps taken);
+        numbered = length_more numbers number ∙ ap suc h.numbered ∙ sym (length_more steps taken);
+        contexts = ap (λ (ns : Notes). ns.contexts) kept_on;
+        walks = ap (λ (ns : Notes). ns.walks) kept_on;
+        bases = ap (λ (ns : Notes). ns.bases) kept_on;
+      }
+
+  pub origin_step : (found : Option Origin) → found ≡ origin_so new after (request_of_step platform taken) number seen.way →
+      ComesFrom start more told n found
+  origin_step found is =
+      origin_there start more told n taken number (item_last steps taken) own history new platform after seen at kept left so notes h.uncached found is

@@ -1,6 +1,6 @@
 -- What a history tells of a step explains it.
 use Rattle.std.proofs.Common.{◌≡◌, ◌∙◌, ℕ, suc, List, Option, Some, None, refl, sym, ap, subst}
-use Rattle.std.specs.Prelude.{slice_get}
+use Rattle.std.specs.Prelude.{IfSome, slice_get}
 use Rattle.std.specs.Option.{option_and_then}
 use Rattle.iom_ddt.specs.declared.context.Context.{Context}
 use Rattle.iom_nested.specs.declared.translation.Hit.{Hit}
@@ -15,22 +15,24 @@ use Rattle.iom_cache.proofs.Stamped.{Stamped}
 use Rattle.iom_core.specs.Access.{request_key}
 use Rattle.iom_core.specs.declared.way.Way.TheVariants.{Register as ByRegister, Context as ByContext, Walked, Denied}
 use Rattle.iom_core.specs.declared.way.Way.{Way}
-use Rattle.iom_core.specs.Histories.{fills_at}
 use Rattle.iom_core.specs.State.{State, context_room, page_room}
 use Rattle.iom_core.specs.Table.{executed, next, request_of_step}
-use Rattle.iom_core.specs.Warrants.{HasNone, IsDenied, IsUncached, context_filled, context_filled_at, executed_at, moment, page_filled, page_filled_at, request_at, way_at}
+use Rattle.iom_core.specs.Warrants.{Explains, HasNone, IsByContext, IsDenied, IsUncached, IsWalked, IsWarrant, context_filled, context_filled_at, executed_at, fills_context, fills_page, moment, page_filled, page_filled_at, request_at, way_at}
 use Rattle.iom_core.specs.declared.access.Request.{Request}
-use Rattle.iom_core.specs.declared.history.Entry.TheVariants as entry
 use Rattle.iom_core.specs.declared.step.Step.{Step}
+use Rattle.iom_core.specs.declared.warrant.Warrant.{Warrant}
 use Rattle.iom_core.specs.declared.warrant.Warrant.TheVariants as warrant
-use Rattle.iom_core.proofs.Found.{by_context, by_register, by_walk, context_with, walk_with}
+use Rattle.iom_core.proofs.Explained.{explained}
 use Rattle.iom_core.proofs.Moments.{context_filled-unused, moment-suc, next-contexts, next-pages, next_by, page_filled-unused}
 use Rattle.iom_core.proofs.Ways.{FilledPage, filled_page}
 use Rattle.iom_account.specs.Beside.{beside, noted_at}
-use Rattle.iom_account.specs.Following.{ComesFrom, Notes, base_at, base_by, bases_at, contexts_at, number_of, origin_on, told, walks_at}
+use Rattle.iom_account.specs.Following.{ComesFrom, Notes, base_at, base_by, bases_at, contexts_at, number_of, notes_at, origin_on, origin_so, told, walks_at}
 use Rattle.iom_account.specs.declared.origin.Origin.TheVariants as origin
 use Rattle.iom_account.proofs.Accessed.{accessed_contexts, accessed_pages, found_context, found_led, found_page, leading}
 use Rattle.iom_account.proofs.Noted.{LastNoted, Noted, Noted-always, last_noted}
+
+some_same : {a b : Request} → Some a ≡ Some b → a ≡ b
+some_same is = cc
 
 -- a step changes the caches so, or nothing does past the last one
 contexts_by : (state : State) (taken : Option Step) → (next_by state taken).machine.contexts
@@ -63,13 +65,6 @@ filler state (Some request) key hit filled = record { request = request; is = re
 module _ (start : State) (steps : List Step) (numbers : List ℕ) (none : IsUncached start) where
   abbrev after : ℕ → State
   after k = moment start steps (suc k)
-
-  abbrev pub notes_at : ℕ → Notes
-  notes_at k = record {
-    contexts = contexts_at start steps numbers k;
-    walks = walks_at start steps numbers k;
-    bases = bases_at start steps numbers k;
-  }
 
   abbrev ContextNoted : ℕ → ℕ × Context → ℕ → Type 0
   ContextNoted = Noted same_did drops_context (context_filled_at start steps) (executed_at start steps) (number_of numbers)
@@ -136,7 +131,7 @@ module _ (start : State) (steps : List Step) (numbers : List ℕ) (none : IsUnca
   -- the base of a walk is the number of the last step that filled the device's context up to then
   pub record BaseTold (w did : ℕ) : Type 0 where
     pub c : ℕ
-    pub last : IsLast (fills_at start steps (entry.Context did)) w c
+    pub last : IsLast (fills_context start steps did) w c
     pub told : base_at start steps numbers w ≡ number_of numbers c
 
   pub base_told : (w : ℕ) (key : Key) (hit : Hit) → page_filled_at start steps w ≡ Some (key, hit) → BaseTold w key.did
@@ -157,14 +152,18 @@ module _ (start : State) (steps : List Step) (numbers : List ℕ) (none : IsUnca
         told = ap (base_by (after w) (contexts_at start steps numbers (suc w)) (number_of numbers w)) f.is ∙ l.told;
       })
 
-  told_with : (k w c : ℕ) → k ≡ w → (s : ℕ) → s ≡ base_at start steps numbers k → base_at start steps numbers w ≡ number_of numbers c → s ≡ number_of numbers c
-  told_with k w c same s told is = told ∙ ap (base_at start steps numbers) same ∙ is
-
   module _ (n : ℕ) (request : Request) (d : ℕ) (asked : request_at start steps n ≡ Some request) where
-    by_ddtp : way_at start steps n request ≡ ByRegister → ComesFrom start steps numbers n (Some origin.Register)
-    by_ddtp is = record {
-      warrant = Some warrant.Register;
-      explains = (request, asked, by_register start steps n request is);
+    -- the origin that is told of a way comes from what explains the step
+    abbrev Goal : Way → Type 0
+    Goal way = ComesFrom start steps numbers n (origin_on (notes_at start steps numbers (suc n)) (after n) request d way)
+
+    by_none : (way : Way) → way_at start steps n request ≡ way → IsDenied way → Goal way
+    by_none ByRegister is never = absurd never
+    by_none (ByContext context) is never = absurd never
+    by_none (Walked context hit) is never = absurd never
+    by_none (Denied denial) is here = record {
+      warrant = None;
+      explains = subst (HasNone start steps n) (sym asked) (subst IsDenied (sym is) here);
       told = refl;
     }
 
@@ -176,52 +175,61 @@ module _ (start : State) (steps : List Step) (numbers : List ℕ) (none : IsUnca
         ∙ ap (find (same_did request.did)) (accessed_contexts (moment start steps n) at.taken request at.asked)
         ∙ found_led (moment start steps n).machine request context is
 
-    by_bare : (context : Context) → way_at start steps n request ≡ ByContext context →
-        ComesFrom start steps numbers n (Some (origin.Context (beside (same_did request.did) (after n).machine.contexts (contexts_at start steps numbers (suc n)) d)))
-    by_bare context is =
-        let f = by_context start steps n request context none asked is in
-        let l = last_context n request.did d context (found_there context (ap leading is)) in
-        record {
-          warrant = Some (warrant.Context l.c);
-          explains = (request, asked, context_with start steps n request f l.c l.last);
-          told = ap (λ (s : ℕ). Some (origin.Context s)) l.told;
-        }
+    current_is : (context : Context) (c : ℕ) → leading (way_at start steps n request) ≡ Some context → IsLast (fills_context start steps request.did) n c →
+        beside (same_did request.did) (after n).machine.contexts (contexts_at start steps numbers (suc n)) d ≡ number_of numbers c
+    current_is context c is last =
+        let l = last_context n request.did d context (found_there context is) in
+        l.told ∙ ap (number_of numbers) (IsLast-unique (fills_context start steps request.did) n l.c c l.last last)
 
-    by_pages : (context : Context) (hit : Hit) → way_at start steps n request ≡ Walked context hit →
-        ComesFrom start steps numbers n (Some (origin.Walked
-        (beside (same_key (request_key request context)) (after n).machine.pages (bases_at start steps numbers (suc n)) d)
-        (beside (same_key (request_key request context)) (after n).machine.pages (walks_at start steps numbers (suc n)) d)
-        (beside (same_did request.did) (after n).machine.contexts (contexts_at start steps numbers (suc n)) d)))
-    by_pages context hit is =
-        let key = request_key request context in
-        let f = by_walk start steps n request context hit none asked is in
+    by_bare : (c : ℕ) (h : IsByContext start steps n request c) → Goal (ByContext h.context)
+    by_bare c h = record {
+      warrant = Some (warrant.Context c);
+      explains = (request, asked, h);
+      told = ap (λ (s : ℕ). Some (origin.Context s)) (current_is h.context c (ap leading h.used) h.fresh.origin);
+    }
+
+    by_pages : (c w c' : ℕ) (h : IsWalked start steps n request c w c') → Goal (Walked h.now h.hit)
+    by_pages c w c' h =
+        let key = request_key request h.now in
         let at = asking n request asked in
-        let page : find (same_key key) (after n).machine.pages ≡ Some hit =
+        let page : find (same_key key) (after n).machine.pages ≡ Some h.hit =
         ap (λ (s : State). find (same_key key) s.machine.pages) (after_is n at.taken at.is)
         ∙ ap (find (same_key key)) (accessed_pages (moment start steps n) at.taken request at.asked)
-        ∙ found_page (moment start steps n).machine request context hit is in
-        let walk = last_page (number_of numbers) n d key hit page in
-        let base = last_page (base_at start steps numbers) n d key hit page in
-        let current = last_context n request.did d context (found_there context (ap leading is)) in
-        let same : base.c ≡ walk.c = IsLast-unique (fills_at start steps (entry.Page key)) n base.c walk.c base.last walk.last in
-        let b = base_told walk.c key hit walk.source in
-        let old : IsLast (fills_at start steps (entry.Context request.did)) walk.c b.c =
-        subst (λ (did : ℕ). IsLast (fills_at start steps (entry.Context did)) walk.c b.c) (device_of request context) b.last in
-        let base_is = told_with base.c walk.c b.c same
-        (beside (same_key key) (after n).machine.pages (bases_at start steps numbers (suc n)) d) base.told b.told in
+        ∙ found_page (moment start steps n).machine request h.now h.hit h.used in
+        let walk = last_page (number_of numbers) n d key h.hit page in
+        let base = last_page (base_at start steps numbers) n d key h.hit page in
+        let last : IsLast (fills_page start steps key) n w = subst (λ (k : Key). IsLast (fills_page start steps k) n w) (sym h.same_key) h.page.origin in
+        let same : walk.c ≡ w = IsLast-unique (fills_page start steps key) n walk.c w walk.last last in
+        let same_base : base.c ≡ w = IsLast-unique (fills_page start steps key) n base.c w base.last last in
+        let b = base_told w key h.hit (ap (page_filled_at start steps) (sym same) ∙ walk.source) in
+        let old : IsLast (fills_context start steps request.did) w b.c =
+        subst (λ (did : ℕ). IsLast (fills_context start steps did) w b.c) (device_of request h.now) b.last in
+        let base_is = base.told ∙ ap (base_at start steps numbers) same_base ∙ b.told
+        ∙ ap (number_of numbers) (IsLast-unique (fills_context start steps request.did) w b.c c old h.old_context.origin) in
+        let walk_is = walk.told ∙ ap (number_of numbers) same in
+        let now_is = current_is h.now c' (ap leading h.used) h.now_context.origin in
         record {
-          warrant = Some (warrant.Walked b.c walk.c current.c);
-          explains = (request, asked, walk_with start steps n request context f b.c walk.c current.c walk.last current.last old);
-          told = λ i. Some (origin.Walked (base_is i) (walk.told i) (current.told i));
+          warrant = Some (warrant.Walked c w c');
+          explains = (request, asked, h);
+          told = λ i. Some (origin.Walked (base_is i) (walk_is i) (now_is i));
         }
 
-    pub by_way : (way : Way) → way_at start steps n request ≡ way →
-        ComesFrom start steps numbers n (origin_on (notes_at (suc n)) (after n) request d way)
-    by_way ByRegister is = by_ddtp is
-    by_way (ByContext context) is = by_bare context is
-    by_way (Walked context hit) is = by_pages context hit is
-    by_way (Denied denial) is = record {
-      warrant = None;
-      explains = subst (HasNone start steps n) (sym asked) (subst IsDenied (sym is) tt);
-      told = refl;
-    }
+    by_warrant : (found : Warrant) → IsWarrant start steps n request found → Goal (way_at start steps n request)
+    by_warrant warrant.Register h = subst Goal (sym h.used) (record { warrant = Some warrant.Register; explains = (request, asked, h); told = refl })
+    by_warrant (warrant.Context c) h = subst Goal (sym h.used) (by_bare c h)
+    by_warrant (warrant.Walked c w c') h = subst Goal (sym h.used) (by_pages c w c' h)
+
+    by_found : (found : Option Warrant) → Explains start steps n found → Goal (way_at start steps n request)
+    by_found None has = by_none (way_at start steps n request) refl (subst (HasNone start steps n) asked has)
+    by_found (Some found) (other, is, has) =
+        let own : other ≡ request = some_same (sym is ∙ asked) in
+        by_warrant found (subst (λ (r : Request). IsWarrant start steps n r found) own has)
+
+  -- and of a step that asks nothing
+  pub by_asked : (n d : ℕ) (asked : Option Request) (way : Way) → request_at start steps n ≡ asked →
+      IfSome asked (λ request. way_at start steps n request ≡ way) →
+      ComesFrom start steps numbers n (origin_so (notes_at start steps numbers (suc n)) (after n) asked d way)
+  by_asked n d None way is led = record { warrant = None; explains = subst (HasNone start steps n) (sym is) tt; told = refl }
+  by_asked n d (Some request) way is led =
+      let it = explained start steps none n in
+      subst (Goal n request d is) led (by_found n request d is it.0 it.1)

@@ -1,5 +1,5 @@
 -- A history beside a platform: which steps filled what its caches hold, each told by the number that the caller gave it.
-use Rattle.std.specs.Prelude.{ℕ, suc, ◌≡◌, ◌++◌, Bool, true, false, List, [], ◌∷◌, length, get_or, Option, Some, None}
+use Rattle.std.specs.Prelude.{ℕ, zero, suc, ◌≡◌, ◌++◌, Bool, true, false, List, [], ◌∷◌, length, get_or, Option, Some, None}
 use Rattle.std.specs.Option.{option_map}
 use Rattle.iom_ddt.specs.declared.context.Context.{Context}
 use Rattle.iom_nested.specs.declared.translation.Hit.{Hit}
@@ -34,6 +34,16 @@ told numbers warrant.Register = origin.Register
 told numbers (warrant.Context context) = origin.Context (number_of numbers context)
 told numbers (warrant.Walked context walk current) =
     origin.Walked (number_of numbers context) (number_of numbers walk) (number_of numbers current)
+
+-- numbers that count the steps from 0, and a warrant whose moments are told by these
+abbrev pub counted : ℕ → List ℕ
+counted zero = []
+counted (suc n) = counted n ++ n ∷ []
+
+abbrev pub warrant_of : Origin → Warrant
+warrant_of origin.Register = warrant.Register
+warrant_of (origin.Context context) = warrant.Context context
+warrant_of (origin.Walked context walk current) = warrant.Walked context walk current
 
 -- a step made no access, or one that was denied
 abbrev pub HasNoAccess : State → Option Request → Type 0
@@ -100,6 +110,13 @@ base_at start steps numbers k =
 abbrev pub bases_at : State → List Step → List ℕ → ℕ → List ℕ
 bases_at start steps numbers k =
     noted_at page_room (page_filled_at start steps) (base_at start steps numbers) (first_stamps start.machine.pages) k
+
+abbrev pub notes_at : State → List Step → List ℕ → ℕ → Notes
+notes_at start steps numbers k = record {
+  contexts = contexts_at start steps numbers k;
+  walks = walks_at start steps numbers k;
+  bases = bases_at start steps numbers k;
+}
 
 -- The history goes along with the platform: from a start whose caches hold nothing these steps were carried out, with these
 -- numbers, and it keeps what their fills noted.

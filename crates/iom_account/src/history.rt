@@ -6,9 +6,9 @@ ghost use Rattle.iom_core.specs.Looking.{noticed, nothing_seen};
 ghost use Rattle.iom_core.specs.Table.{asked, next, request_of_step, told_by_step};
 ghost use Rattle.iom_core.specs.Warrants.{IsUncached};
 ghost use Rattle.iom_account.specs.Beside.{beside};
-ghost use Rattle.iom_account.specs.Following.{ComesFrom, ContextFrom, Follows, HasNoAccess, PageFrom, context_noted, noted_so, numbers_of, origin_on, origin_so, walk_noted};
+ghost use Rattle.iom_account.specs.Following.{ComesFrom, ContextFrom, Follows, HasNoAccess, PageFrom, context_noted, noted, noted_so, numbers_of, origin_on, origin_so, walk_noted};
 
-use crate::notes::{context_place, count_contexts, count_pages, equal, note, zeros};
+use crate::notes::{equal, note, zeros};
 use crate::origin::Origin;
 use arrayvec::ArrayVec;
 use iom_cache::key_of;
@@ -66,10 +66,9 @@ impl History {
     pub fn new(platform: &Platform) -> History
         ensures { IsUncached platform.now → Follows result platform.now platform.now [] [] }
     {
-        let contexts = count_contexts(platform.contexts());
-        let pages = count_pages(platform.trans());
+        let pages = platform.trans().len();
         History {
-            contexts: zeros(contexts),
+            contexts: zeros(platform.contexts().len()),
             walks: zeros(pages),
             bases: zeros(pages),
         }
@@ -99,6 +98,8 @@ impl History {
         ensures state { platform.new ≡ (next platform.old step.now).state }
         ensures request { result.request ≡ request_of_step platform.old step.now }
         ensures seen { result.seen ≡ told_by_step noticed nothing_seen platform.old.machine (asked platform.old step.now) }
+        ensures noted { self.new ≡ noted platform.old platform.new (request_of_step platform.old step.now) number self.old }
+        ensures told { result.origin ≡ origin_so self.new platform.new (request_of_step platform.old step.now) number result.seen.way }
         // Whatever the caches held, it tells no origin of a step that made no access or was denied, and one of every other.
         ensures none { (result.origin ≡ None) ↔ HasNoAccess platform.old (request_of_step platform.old step.now) }
 
@@ -148,7 +149,7 @@ impl History {
     pub fn context_of(&self, platform: &Platform, did: u32) -> Option<u64>
         ensures { result ≡ slice_get self.now.contexts (place_of (same_did did) platform.now.machine.contexts) }
     {
-        self.context_beside(context_place(platform.contexts(), did) as u64)
+        self.context_beside(platform.contexts().place_of(did) as u64)
     }
 
     // The number beside place `i` of the context cache.
@@ -240,7 +241,7 @@ impl History {
     fn context_number(&self, platform: &Platform, did: u32, number: u64) -> u64
         ensures { result ≡ beside (same_did did) platform.now.machine.contexts self.now.contexts number }
     {
-        let place = context_place(platform.contexts(), did);
+        let place = platform.contexts().place_of(did);
         number_at(self.contexts.as_slice(), place, number)
     }
 }

@@ -4,11 +4,13 @@
 #![tactic(auto)]
 
 pub use account::Account;
+pub use explaining::explain;
 pub use history::{Filled, History, Taken};
 pub use origin::Origin;
 pub use reason::Reason;
 
 mod account;
+mod explaining;
 mod history;
 mod kept;
 mod notes;

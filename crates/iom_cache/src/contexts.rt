@@ -33,7 +33,7 @@ impl Model for ContextCache {
 
 impl ContextCache {
     ghost use Rattle.std.specs.Prelude.{◌≡◌, ◌≤◌, [], Some, None, length, slice_get, IfOk};
-    ghost use Rattle.iom_cache.specs.Places.{find, IsHeld, filled_by, emptied_by, place_in};
+    ghost use Rattle.iom_cache.specs.Places.{find, place_of, IsHeld, filled_by, emptied_by, place_in};
     ghost use Rattle.iom_cache.specs.Keys.{same_did};
     ghost use Rattle.iom_cache.specs.Drops.{drops_context};
 
@@ -72,6 +72,28 @@ impl ContextCache {
             }
         }
         None
+    }
+
+    /// How many places there are, live or empty.
+    pub fn len(&self) -> usize
+        ensures count { result ≡ length self.now }
+        ensures within { result ≤ 16 }
+    {
+        self.places.len()
+    }
+
+    /// The place that is live with this device id, counted from the oldest, 0; as many as there are places where none is.
+    pub fn place_of(&self, did: u32) -> usize
+        ensures { result ≡ place_of (same_did did) self.now }
+    {
+        for (at, place) in self.places.iter().enumerate() {
+            if let Some((own, _)) = place
+                && did == *own
+            {
+                return at;
+            }
+        }
+        self.places.len()
     }
 
     /// Appends a place for a device id that no live place has. Where there are 16 places the oldest, live or empty, leaves.

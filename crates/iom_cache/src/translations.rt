@@ -75,6 +75,14 @@ impl TransCache {
         })
     }
 
+    /// How many places there are, live or empty.
+    pub fn len(&self) -> usize
+        ensures count { result ≡ length self.now }
+        ensures within { result ≤ 64 }
+    {
+        self.places.len()
+    }
+
     /// What the live place with this key says; None where there is none.
     pub fn find(&self, key: &Key) -> Option<Hit>
         ensures found { result ≡ find (same_key key.now) self.now }

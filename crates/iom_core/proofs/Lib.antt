@@ -13,6 +13,4 @@ pub mod Slots
 pub mod Effects
 pub mod Moved
 pub mod Reaches
-pub mod Search
 pub mod Filled
-pub mod Found

@@ -5,7 +5,6 @@ use Rattle.iom_bits.specs.declared.causes.Cause.{Cause}
 use Rattle.iom_bits.specs.declared.causes.Cause.TheVariants as cause
 use Rattle.iom_bits.specs.declared.causes.Kind.{Kind}
 use Rattle.iom_bits.specs.declared.causes.Kind.TheVariants as kind
-use Rattle.iom_bits.specs.Features.{no_features}
 use Rattle.iom_bits.specs.declared.features.Features.{Features}
 use Rattle.iom_mem.specs.Memory.{Memory, bytes_at, put}
 use Rattle.iom_regs.specs.Table.{Registers}
@@ -94,7 +93,7 @@ led_under memory features pages request context =
 -- by the context, which is filled before the page is walked, so also where the walk fails
 abbrev pub led_by_context : Machine → Request → Option (ℕ × Context) → Result Context Cause → Led
 led_by_context m request fill (Ok context) =
-    record { way = (led_under m.memory no_features m.pages request context).way; by = Some context; context = fill; page = (led_under m.memory no_features m.pages request context).page }
+    record { way = (led_under m.memory m.registers.features m.pages request context).way; by = Some context; context = fill; page = (led_under m.memory m.registers.features m.pages request context).page }
 led_by_context m request fill (Err why) = refused why fill
 
 -- by the mode: with Off all is disallowed, with Bare the address is the IOVA itself, otherwise the directory has the device's

@@ -6,4 +6,3 @@ pub mod Table
 pub mod Run
 pub mod Warrants
 pub mod Reach
-pub mod Histories

@@ -2,7 +2,6 @@
 -- in-memory data structures" and "IOMMU command-queue commands". Steps are counted from 0; moment k is the state before step k.
 use Rattle.std.specs.Prelude.{ℕ, ◌≡◌, ◌<◌, ◌≤◌, ◌&&◌, Bool, true, false, not, List, take, slice_get, Option, Some, None, Ok}
 use Rattle.std.specs.Option.{option_and_then}
-use Rattle.iom_bits.specs.Features.{no_features}
 use Rattle.iom_regs.specs.Views.{mode_of}
 use Rattle.iom_regs.specs.declared.views.Mode.TheVariants as mode
 use Rattle.iom_ddt.specs.Contexts.{is_bare}
@@ -53,6 +52,13 @@ context_filled_at start steps k = context_filled (moment start steps k) (request
 abbrev pub page_filled_at : State → List Step → ℕ → Option (Key × Hit)
 page_filled_at start steps k = page_filled (moment start steps k) (request_at start steps k)
 
+-- whether step k filled the context of a device, or the page of a key
+abbrev pub fills_context : State → List Step → ℕ → ℕ → Bool
+fills_context start steps did k = fills same_did did (context_filled_at start steps k)
+
+abbrev pub fills_page : State → List Step → Key → ℕ → Bool
+fills_page start steps key k = fills same_key key (page_filled_at start steps k)
+
 -- the way that a request was led at moment n
 abbrev pub way_at : State → List Step → ℕ → Request → Way
 way_at start steps n request = (led (moment start steps n).machine request).way
@@ -60,15 +66,15 @@ way_at start steps n request = (led (moment start steps n).machine request).way
 -- Step k is the last up to n that filled the device's context; the directory gave this context then; and no step from k to
 -- n - 1 executed an IODIR that drops it.
 pub record IsFreshContext (start : State) (steps : List Step) (did n k : ℕ) (context : Context) : Type 0 where
-  pub origin : IsLast (λ j. fills same_did did (context_filled_at start steps j)) n k
+  pub origin : IsLast (fills_context start steps did) n k
   pub located : located (moment start steps k).machine.memory (moment start steps k).machine.registers did ≡ Ok context
   pub kept : (j : ℕ) → k ≤ j → j < n → drops_at drops_context (executed_at start steps j) did context ≡ false
 
 -- Step k is the last up to n that filled the request's key under this context; the page tables of then lead the request to
 -- this hit; and no step from k to n - 1 executed an IOTINVAL that drops it.
 pub record IsFreshPage (start : State) (steps : List Step) (request : Request) (context : Context) (hit : Hit) (n k : ℕ) : Type 0 where
-  pub origin : IsLast (λ j. fills same_key (request_key request context) (page_filled_at start steps j)) n k
-  pub translated : translation (moment start steps k).machine.memory no_features context request.iova request.kind ≡ Ok hit
+  pub origin : IsLast (fills_page start steps (request_key request context)) n k
+  pub translated : translation (moment start steps k).machine.memory (moment start steps k).machine.registers.features context request.iova request.kind ≡ Ok hit
   pub kept : (j : ℕ) → k ≤ j → j < n → drops_at drops_page (executed_at start steps j) (request_key request context) hit ≡ false
 
 -- Step n was led by ddtp, whose mode is Bare.
@@ -130,11 +136,11 @@ is_iodir_of_all (Some (Iodir dv did)) = not dv
 is_iodir_of_all _ = false
 
 abbrev pub is_vma_of_all : Option Command → Bool
-is_vma_of_all (Some (Vma av page pscv pscid gv gscid)) = not av && not pscv && not gv
+is_vma_of_all (Some (Vma av page pscv pscid gv gscid nl s)) = not av && not pscv && not gv
 is_vma_of_all _ = false
 
 abbrev pub is_gvma_of_all : Option Command → Bool
-is_gvma_of_all (Some (Gvma av page pscid gv gscid)) = not av && not gv
+is_gvma_of_all (Some (Gvma av page pscid gv gscid nl s)) = not av && not gv
 is_gvma_of_all _ = false
 
 -- A full invalidation: contexts first, at step i; then translations of both kinds, at steps v and g in either order. Other

@@ -223,7 +223,7 @@ fn by_directory<C: Caches, W: Witness>(
     match caches.context(request.did) {
         Some(context) => {
             witness.tell(Event::Context(Source::Found, request.did, context));
-            by_context(ram, Features::none(), caches, request, &context, witness)
+            by_context(ram, registers.features(), caches, request, &context, witness)
         }
         None => by_new_context(ram, registers, caches, request, witness),
     }
@@ -258,7 +258,7 @@ fn by_new_context<C: Caches, W: Witness>(
     match locate(ram, registers, request.did) {
         Ok(context) => {
             witness.tell(Event::Context(Source::Read, request.did, context));
-            let reached = by_context(ram, Features::none(), caches, request, &context, witness);
+            let reached = by_context(ram, registers.features(), caches, request, &context, witness);
             caches.fill_context(request.did, context);
             reached
         }

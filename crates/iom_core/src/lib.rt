@@ -2,7 +2,6 @@
 #![tactic(auto)]
 
 pub use access::{Denial, Request};
-pub use history::explain;
 pub use law::freshness;
 pub use looking::Seen;
 pub use platform::Platform;
@@ -13,11 +12,11 @@ pub use way::Way;
 pub use witness::{Event, Source, Witness};
 
 mod access;
+mod asking;
 mod caches;
 mod command;
 mod devices;
 mod hart;
-mod history;
 mod law;
 mod looking;
 mod machine;

@@ -1,7 +1,6 @@
 //! What a request would do as the next access, with nothing changed.
 
 ghost use Rattle.std.specs.Prelude.{◌≡◌, []};
-ghost use Rattle.iom_bits.specs.Features.{no_features};
 ghost use Rattle.iom_core.specs.Access.{led_under};
 ghost use Rattle.iom_core.specs.Looking.{nothing_seen, seen_in, uncached};
 
@@ -10,7 +9,6 @@ use crate::caches::{Looking, Nothing};
 use crate::platform::Platform;
 use crate::way::Way;
 use crate::witness::{Event, Source, Witness};
-use iom_bits::Features;
 use iom_ddt::Context;
 
 /// What leads an access, as it was told of it.
@@ -117,10 +115,19 @@ impl Platform {
 
     /// The way of a request below this context of its device, as the tables lead it now.
     pub fn way_under(&self, request: &Request, context: &Context) -> Way
-        ensures way { result ≡ (led_under self.now.machine.memory no_features [] request.now context.now).way }
+        ensures way { result ≡ (led_under self.now.machine.memory self.now.machine.registers.features [] request.now context.now).way }
     {
         let mut seen = Seen::nothing();
-        let _ = by_context(&self.machine.ram, Features::none(), &mut Nothing, request, context, &mut seen);
+        let machine = &self.machine;
+        let mut none = Nothing;
+        let _ = by_context(
+            &machine.ram,
+            machine.registers.features(),
+            &mut none,
+            request,
+            context,
+            &mut seen,
+        );
         seen.way
     }
 }

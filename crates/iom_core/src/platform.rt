@@ -154,11 +154,12 @@ impl Platform {
         ensures reach { Reaches self.old step.now answer.new self.new }
         ensures refused { Refuses answer.new self.old self.new }
     {
-        self.take(step, answer, &mut ());
+        self.step_told(step, answer, &mut ());
     }
 
     /// The same, and a witness is told of the access that the step makes, if it makes one: by which context and to which page it is
     /// led, where these come from, and the way.
+    #[inline(always)]
     pub fn step_told<W: Witness>(&mut self, step: &Step, answer: &mut Answer, witness: &mut W)
         ensures answer { answer.new ≡ (next self.old step.now).answer }
         ensures state { self.new ≡ (next self.old step.now).state }

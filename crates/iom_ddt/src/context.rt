@@ -1,5 +1,6 @@
 ghost use Rattle.std.specs.Prelude.{◌≡◌, ◌↔◌, IsSome, IfSome};
 
+use iom_bits::Features;
 use std::marker::Model;
 
 /// The fields of a device context (base format, "Device-context fields"). Each fits the bits that are named at it.
@@ -14,9 +15,9 @@ pub struct ContextFields {
     pub pscid: u32,
     /// iohgatp.GSCID, 16 bits: the guest's soft-context id.
     pub gscid: u16,
-    /// iohgatp.MODE, the second stage: 0 Bare, 8 Sv39x4, 9 Sv48x4.
+    /// iohgatp.MODE, the second stage: 0 Bare, 8 Sv39x4, 9 Sv48x4, 10 Sv57x4.
     pub gmode: u8,
-    /// fsc.MODE, the first stage: 0 Bare, 8 Sv39, 9 Sv48.
+    /// fsc.MODE, the first stage: 0 Bare, 8 Sv39, 9 Sv48, 10 Sv57.
     pub mode: u8,
     /// tc bits 31:24, for custom use. They change nothing.
     pub custom: u8,
@@ -47,9 +48,9 @@ impl Model for Context {
 }
 
 impl Context {
-    ghost use Rattle.iom_ddt.specs.Contexts.{is_bare, IsWellFormed};
+    ghost use Rattle.iom_ddt.specs.Contexts.{has_modes, is_bare, IsWellFormed};
 
-    /// The context of these fields, if they are well formed: both modes are 0, 8 or 9, the second stage's root is aligned to 16 KiB
+    /// The context of these fields, if they are well formed: both modes are 0, 8, 9 or 10, the second stage's root is aligned to 16 KiB
     /// unless that stage is Bare, and each field fits its bits ("Device-context configuration checks").
     pub fn new(fields: ContextFields) -> Option<Context>
         ensures formed { IsSome result ↔ IsWellFormed fields }
@@ -57,11 +58,19 @@ impl Context {
     {
         let fits = fields.gppn >> 44 == 0 && fields.pscid >> 20 == 0 && fields.ppn >> 44 == 0;
         let aligned = fields.gmode == 0 || fields.gppn % 4 == 0;
-        if fits && aligned && matches!(fields.gmode, 0 | 8 | 9) && matches!(fields.mode, 0 | 8 | 9) {
+        if fits && aligned && matches!(fields.gmode, 0 | 8 | 9 | 10) && matches!(fields.mode, 0 | 8 | 9 | 10) {
             Some(Context { fields })
         } else {
             None
         }
+    }
+
+    /// Whether an IOMMU with these features has both modes: 10 only as Sv57 in the first stage, as Sv57x4 in the second ("IOMMU
+    /// capabilities").
+    pub fn has_modes(self, features: Features) -> bool
+        ensures { result ≡ has_modes features self }
+    {
+        (features.sv57 || self.fields.mode != 10) && (features.sv57x4 || self.fields.gmode != 10)
     }
 
     /// Whether neither stage translates: iohgatp.MODE and fsc.MODE are Bare, and the IOVA is the physical address.

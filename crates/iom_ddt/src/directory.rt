@@ -30,7 +30,7 @@ pub fn locate(ram: &Ram, registers: &Regs, did: u32) -> Result<Context, Cause>
     for level in (1..levels).rev() {
         table = pointed_by(ram, table * 4096 + ddi(did, level) * 8)?;
     }
-    context_at(ram, table * 4096 + ddi(did, 0) * 32)
+    context_at(ram, registers, table * 4096 + ddi(did, 0) * 32)
 }
 
 /// How many levels of tables the directory has, 1 to 3; 0 where there is none.
@@ -84,12 +84,15 @@ pub(crate) fn pointed_by(ram: &Ram, place: u64) -> Result<u64, Cause>
 }
 
 // The context at this physical address.
-fn context_at(ram: &Ram, place: u64) -> Result<Context, Cause>
-    ensures verdict { decided_by (Leaf place (words_at ram.now place 4)) ≡ Some result }
-    ensures meaning { IsContextOf (words_at ram.now place 4) result }
+fn context_at(ram: &Ram, registers: &Regs, place: u64) -> Result<Context, Cause>
+    ensures verdict { decided_by registers.now.features (Leaf place (words_at ram.now place 4)) ≡ Some result }
+    ensures meaning { IsContextOf registers.now.features (words_at ram.now place 4) result }
 {
-    match ram.words_at(place) {
-        Some(words) => context_of(words),
-        None => Err(Cause::DirAccess),
+    let Some(words) = ram.words_at(place) else {
+        return Err(Cause::DirAccess);
+    };
+    match context_of(words) {
+        Ok(context) if !context.has_modes(registers.features()) => Err(Cause::DirBad),
+        found => found,
     }
 }

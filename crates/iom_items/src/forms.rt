@@ -21,7 +21,12 @@ fn vma(words: &[&[u8]]) -> Option<Command>
     ensures value { result ≡ vma (map (λ word. word.now) words.now) }
     ensures fits { IfSome result CommandFits }
 {
-    if !are_operands(&[b"av", b"page", b"pscv", b"pscid", b"gv", b"gscid"], words) {
+    if !are_operands(
+        &[
+            b"av", b"page", b"pscv", b"pscid", b"gv", b"gscid", b"nl", b"s",
+        ],
+        words,
+    ) {
         return None;
     }
     Some(Command::Vma {
@@ -31,6 +36,8 @@ fn vma(words: &[&[u8]]) -> Option<Command>
         pscid: limited(b"pscid", 1 << 20, words)? as u32,
         gv: flag_for(b"gv", words)?,
         gscid: limited(b"gscid", 1 << 16, words)? as u16,
+        nl: flag_for(b"nl", words)?,
+        s: flag_for(b"s", words)?,
     })
 }
 
@@ -40,7 +47,10 @@ fn gvma(words: &[&[u8]]) -> Option<Command>
     ensures value { result ≡ gvma (map (λ word. word.now) words.now) }
     ensures fits { IfSome result CommandFits }
 {
-    if !are_operands(&[b"av", b"page", b"pscid", b"gv", b"gscid"], words) {
+    if !are_operands(
+        &[b"av", b"page", b"pscid", b"gv", b"gscid", b"nl", b"s"],
+        words,
+    ) {
         return None;
     }
     Some(Command::Gvma {
@@ -49,6 +59,8 @@ fn gvma(words: &[&[u8]]) -> Option<Command>
         pscid: limited(b"pscid", 1 << 20, words)? as u32,
         gv: flag_for(b"gv", words)?,
         gscid: limited(b"gscid", 1 << 16, words)? as u16,
+        nl: flag_for(b"nl", words)?,
+        s: flag_for(b"s", words)?,
     })
 }
 

@@ -1,10 +1,11 @@
 ghost use Rattle.std.specs.Prelude.{◌≡◌, ◌+◌, ◌*◌, ◌++◌, ◌<◌, ◌≤◌, [], ◌∷◌, length};
 ghost use Rattle.std.specs.Option.{option_map};
+ghost use Rattle.iom_bits.specs.Bits.{flag};
 ghost use Rattle.iom_text.specs.Texts.{hexed};
 ghost use Rattle.iom_mem.specs.Memory.{words_at};
 ghost use Rattle.iom_ddt.specs.Words.{words_of};
 ghost use Rattle.iom_items.specs.declared.item.Item.TheVariants as item;
-ghost use Rattle.iom_items.specs.Lines.{operand, command_text, record_text, context_text, numbers_text, words_text, line_of, item_line};
+ghost use Rattle.iom_items.specs.Lines.{operand, with_operands, not_zero, command_text, record_text, context_text, numbers_text, words_text, line_of, item_line};
 
 use crate::item::Item;
 use arrayvec::ArrayVec;
@@ -38,6 +39,17 @@ fn push_operand(out: &mut Line, key: &[u8], value: u64)
     push_text(out, hexed(value).as_slice());
 }
 
+// Appends an operand of one bit, where it is set.
+fn push_set(out: &mut Line, key: &[u8], set: bool)
+    requires { length out.old.items + length key.now + 20 ≤ 256 }
+    ensures text { out.new.items ≡ with_operands out.old.items (not_zero ((key.now, flag set) ∷ [])) }
+    ensures room { length out.new.items ≤ length out.old.items + length key.now + 20 }
+{
+    if set {
+        push_operand(out, key, 1);
+    }
+}
+
 // A line that begins with a text.
 fn begun(text: &[u8]) -> Line
     requires { length text.now ≤ 256 }
@@ -49,6 +61,7 @@ fn begun(text: &[u8]) -> Line
 }
 
 // The line of a command: `cmd`, its name and its operands.
+#[tactic(auto, using(crate::proofs::Shown::one_more))]
 fn command_line(command: &Command) -> Line
     ensures { result.items ≡ command_text command.now }
 {
@@ -60,6 +73,8 @@ fn command_line(command: &Command) -> Line
             pscid,
             gv,
             gscid,
+            nl,
+            s,
         } => {
             let mut line = begun(b"cmd vma");
             push_operand(&mut line, b"av", flag(av));
@@ -68,6 +83,8 @@ fn command_line(command: &Command) -> Line
             push_operand(&mut line, b"pscid", pscid as u64);
             push_operand(&mut line, b"gv", flag(gv));
             push_operand(&mut line, b"gscid", gscid as u64);
+            push_set(&mut line, b"nl", nl);
+            push_set(&mut line, b"s", s);
             line
         }
         Command::Gvma {
@@ -76,6 +93,8 @@ fn command_line(command: &Command) -> Line
             pscid,
             gv,
             gscid,
+            nl,
+            s,
         } => {
             let mut line = begun(b"cmd gvma");
             push_operand(&mut line, b"av", flag(av));
@@ -83,6 +102,8 @@ fn command_line(command: &Command) -> Line
             push_operand(&mut line, b"pscid", pscid as u64);
             push_operand(&mut line, b"gv", flag(gv));
             push_operand(&mut line, b"gscid", gscid as u64);
+            push_set(&mut line, b"nl", nl);
+            push_set(&mut line, b"s", s);
             line
         }
         Command::Fence {

@@ -3,9 +3,9 @@
 ghost use Rattle.std.specs.Prelude.{◌<◌, IfOk, length};
 ghost use Rattle.iom_core.specs.Warrants.{IsUncached};
 
-use iom_account::{History, Origin};
+use iom_account::{History, Origin, explain};
 use iom_asm::LoadFault;
-use iom_core::{Answer, Platform, Step, explain};
+use iom_core::{Answer, Platform, Step};
 use std::alloc::{AllocError, Global};
 
 /// A step that is explained otherwise than a history told it.

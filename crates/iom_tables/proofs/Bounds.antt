@@ -10,7 +10,6 @@ use Rattle.iom_bits.specs.declared.causes.Cause.TheVariants.{DirBad, DirInvalid}
 use Rattle.iom_bits.specs.declared.causes.Kind.{Kind}
 use Rattle.iom_bits.specs.declared.causes.Kind.TheVariants.{Read}
 use Rattle.iom_bits.specs.declared.features.Features.{Features}
-use Rattle.iom_bits.specs.Features.{no_features}
 use Rattle.iom_mem.specs.Memory.{Memory, word, words_at}
 use Rattle.iom_regs.specs.Sound.{IsSound}
 use Rattle.iom_regs.specs.Table.{Registers}
@@ -394,13 +393,13 @@ directory_parts_fit m did =
     (All-map PartFits part.Directory items (path_fits m.memory m.registers did))
 
 pub mode_fits : (own : Mode) (m : Machine) (request : Request) →
-    ((levels : ℕ) → own ≡ mode.Levels levels → All PartFits (stage_parts m.memory no_features request.iova request.kind (located m.memory m.registers request.did))) →
+    ((levels : ℕ) → own ≡ mode.Levels levels → All PartFits (stage_parts m.memory m.registers.features request.iova request.kind (located m.memory m.registers request.did))) →
     All PartFits (parts_by own m request)
 mode_fits mode.Off m request each = All-nil PartFits
 mode_fits mode.Bare m request each = All-nil PartFits
 mode_fits (mode.Levels levels) m request each =
     let found : Result Context Cause = located m.memory m.registers request.did in
-    All-append PartFits (directory_parts m request.did) (stage_parts m.memory no_features request.iova request.kind found)
+    All-append PartFits (directory_parts m request.did) (stage_parts m.memory m.registers.features request.iova request.kind found)
     (directory_parts_fit m request.did) (each levels refl)
 
 levels_fit : (n : ℕ) → n ≤ 4 → ModeFits (if n == 0 then mode.Off else if n == 1 then mode.Bare else mode.Levels (n - 1))

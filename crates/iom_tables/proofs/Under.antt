@@ -32,9 +32,9 @@ under_read memory features request context parts are =
     each_under (IsRead memory) memory features request context parts are (stages_read memory features request.iova request.kind (Ok context)) tt
 
 pub under_passes : (memory : Memory) (features : Features) (request : Request) (context : Context) (parts : List Part) → parts ≡ parts_under memory features request context →
-    IsGranted (led_under memory features [] request context).way → All Passes parts
+    IsGranted (led_under memory features [] request context).way → All (Passes features) parts
 under_passes memory features request context parts are granted =
-    each_under Passes memory features request context parts are (context_passes memory features request context granted) granted
+    each_under (Passes features) memory features request context parts are (context_passes memory features request context granted) granted
 
 pub under_fits : (memory : Memory) (features : Features) (request : Request) (context : Context) (parts : List Part) → parts ≡ parts_under memory features request context →
     All PartFits (stage_parts memory features request.iova request.kind (Ok context)) → All PartFits parts

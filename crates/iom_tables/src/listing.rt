@@ -4,7 +4,6 @@ ghost use Rattle.std.specs.Prelude.{◌≡◌, ◌++◌, ◌+◌, ◌<◌, ◌�
 ghost use Rattle.arrayvec.specs.ArrayVec.{array_vec_len};
 ghost use Rattle.iom_regs.specs.Views.{mode_of};
 ghost use Rattle.iom_ddt.specs.Directory.{levels_of, located, path_of};
-ghost use Rattle.iom_bits.specs.Features.{no_features};
 ghost use Rattle.iom_bits.specs.declared.causes.Kind.TheVariants.{Read};
 ghost use Rattle.iom_nested.specs.Faults.{Failure};
 ghost use Rattle.iom_nested.specs.Nested.{first_stage, told_of};
@@ -42,7 +41,7 @@ pub type Parts = ArrayVec<Part, 40>;
 pub fn parts(platform: &Platform, request: &Request) -> Parts
     ensures parts { result.items ≡ parts_of platform.now.machine request.now }
     ensures read { All (IsRead platform.now.machine.memory) result.items }
-    ensures passed { IsGranted (by_tables platform.now.machine request.now) → All Passes result.items }
+    ensures passed { IsGranted (by_tables platform.now.machine request.now) → All (Passes platform.now.machine.registers.features) result.items }
     ensures refused { (IsGranted (by_tables platform.now.machine request.now) → ⊥) →
         Any (Refuses platform.now.machine request.now) result.items }
     ensures end { slice_get result.items (array_vec_len result - 1) ≡ Some (part.End (by_tables platform.now.machine request.now)) }
@@ -60,7 +59,7 @@ pub fn parts(platform: &Platform, request: &Request) -> Parts
 pub fn put_parts(out: &mut Parts, platform: &Platform, request: &Request)
     ensures parts { out.new.items ≡ parts_of platform.now.machine request.now }
     ensures read { All (IsRead platform.now.machine.memory) out.new.items }
-    ensures passed { IsGranted (by_tables platform.now.machine request.now) → All Passes out.new.items }
+    ensures passed { IsGranted (by_tables platform.now.machine request.now) → All (Passes platform.now.machine.registers.features) out.new.items }
     ensures refused { (IsGranted (by_tables platform.now.machine request.now) → ⊥) →
         Any (Refuses platform.now.machine request.now) out.new.items }
     ensures end { slice_get out.new.items (array_vec_len out.new - 1) ≡ Some (part.End (by_tables platform.now.machine request.now)) }
@@ -81,9 +80,9 @@ pub fn put_parts(out: &mut Parts, platform: &Platform, request: &Request)
 /// stages, as the tables stand now, and the end, which is the way that they lead it. It takes the place of what the list holds.
 #[tactic(auto, unfolding(crate::specs::Parts::parts_under))]
 pub fn put_parts_under(out: &mut Parts, platform: &Platform, request: &Request, context: &Context)
-    ensures parts { out.new.items ≡ parts_under platform.now.machine.memory no_features request.now context.now }
+    ensures parts { out.new.items ≡ parts_under platform.now.machine.memory platform.now.machine.registers.features request.now context.now }
     ensures read { All (IsRead platform.now.machine.memory) out.new.items }
-    ensures passed { IsGranted (led_under platform.now.machine.memory no_features [] request.now context.now).way → All Passes out.new.items }
+    ensures passed { IsGranted (led_under platform.now.machine.memory platform.now.machine.registers.features [] request.now context.now).way → All (Passes platform.now.machine.registers.features) out.new.items }
     ensures fits { All PartFits out.new.items }
 {
     out.clear();
@@ -141,10 +140,10 @@ fn push_items(out: &mut Parts, platform: &Platform, did: u32)
 fn push_located(out: &mut Parts, platform: &Platform, request: &Request)
     requires directory { 1 ≤ levels_of (mode_of platform.now.machine.registers) }
     requires room { array_vec_len out.old ≤ 5 }
-    ensures items { out.new.items ≡ out.old.items ++ stage_parts platform.now.machine.memory no_features request.now.iova request.now.kind
+    ensures items { out.new.items ≡ out.old.items ++ stage_parts platform.now.machine.memory platform.now.machine.registers.features request.now.iova request.now.kind
         (located platform.now.machine.memory platform.now.machine.registers request.now.did) }
     ensures len { array_vec_len out.new ≤ array_vec_len out.old + 35 }
-    ensures fits { All PartFits (stage_parts platform.now.machine.memory no_features request.now.iova request.now.kind
+    ensures fits { All PartFits (stage_parts platform.now.machine.memory platform.now.machine.registers.features request.now.iova request.now.kind
         (located platform.now.machine.memory platform.now.machine.registers request.now.did)) }
 {
     if let Ok(context) = &locate(platform.ram(), platform.registers(), request.did) {
@@ -156,14 +155,14 @@ fn push_located(out: &mut Parts, platform: &Platform, request: &Request)
 fn push_stages(out: &mut Parts, platform: &Platform, request: &Request, context: &Context)
     requires room { array_vec_len out.old ≤ 5 }
     ensures items { out.new.items ≡ out.old.items
-        ++ stage_parts platform.now.machine.memory no_features request.now.iova request.now.kind (Ok context.now) }
+        ++ stage_parts platform.now.machine.memory platform.now.machine.registers.features request.now.iova request.now.kind (Ok context.now) }
     ensures len { array_vec_len out.new ≤ array_vec_len out.old + 35 }
-    ensures fits { All PartFits (stage_parts platform.now.machine.memory no_features request.now.iova request.now.kind (Ok context.now)) }
+    ensures fits { All PartFits (stage_parts platform.now.machine.memory platform.now.machine.registers.features request.now.iova request.now.kind (Ok context.now)) }
 {
     let _ = &context.fields;
-    let ram = platform.ram();
-    let reached = push_first(out, ram, Features::none(), context, request.iova, request.kind);
-    push_access(out, ram, Features::none(), context, reached, request.kind);
+    let (ram, features) = (platform.ram(), platform.registers().features());
+    let reached = push_first(out, ram, features, context, request.iova, request.kind);
+    push_access(out, ram, features, context, reached, request.kind);
 }
 
 // The first stage, entry by entry, or an IOVA that is too wide for it, and where it leads.

@@ -338,6 +338,94 @@ fn each_stage_has_its_own_levels(rt: HostRuntime) -> Result<(), Fail> {
     Ok(())
 }
 
+// Both stages of five levels: first-stage tables at the guest's pages 0x30 to 0x34, the second stage two tables and a page of 1 GiB.
+const FIVE_LEVELS: &[(u64, u64)] = &[
+    (0x8002_0000, 0x80024 << 10 | 1),
+    (0x8002_4000, 0x80025 << 10 | 1),
+    (0x8002_5000, 0x2000_00d7),
+    (0x8003_0008, 0xc401),
+    (0x8003_1008, 0xc801),
+    (0x8003_2008, 0xcc01),
+    (0x8003_3008, 0xd001),
+];
+
+const FIVE: ContextFields = ContextFields {
+    gmode: 10,
+    mode: 10,
+    ..BOTH
+};
+
+const FIRST_OF_FOUR: ContextFields = ContextFields { mode: 9, ..FIVE };
+
+const BARE_FIRST_OF_FIVE: ContextFields = ContextFields { mode: 0, ..FIVE };
+
+const IN_FIVE: &[Found] = &[
+    (FIVE, 0x1_0080_4020_1abc, Kind::Write, 0x80040, 0, false),
+    (BARE_FIRST_OF_FIVE, 0x20_0abc, Kind::Read, 0x80200, 0, false),
+];
+
+const NOT_IN_FIVE: &[Failure] = &[
+    // In four levels the fourth table is the last.
+    (
+        FIRST_OF_FOUR,
+        0x80_4020_1abc,
+        Kind::Read,
+        Cause::Page(Kind::Read),
+        0,
+    ),
+    // Beyond the width of five levels.
+    (
+        BARE_FIRST_OF_FIVE,
+        0x800_0000_0000_0003,
+        Kind::Read,
+        Cause::Guest(Kind::Read),
+        0x800_0000_0000_0000,
+    ),
+];
+
+#[test]
+fn stages_of_five_levels(rt: HostRuntime) -> Result<(), Fail> {
+    let last = (0x8003_4008, 0x1_00d7);
+    let found = otherwise(rt.alloc(), FIVE_LEVELS, last, IN_FIVE, NOT_IN_FIVE)?;
+    assert_eq!(rt; found, [None, None]);
+    Ok(())
+}
+
+// Where an IOVA leads on an IOMMU with Svnapot: the frame, and whether the first stage's leaf is one of 64 KiB.
+fn with_svnapot(ram: &Ram, iova: u64) -> Option<(u64, bool)> {
+    let features = Features {
+        svnapot: true,
+        ..Features::none()
+    };
+    let context = Context::new(BOTH)?;
+    if context.is_bare() {
+        return None;
+    }
+    match translate(ram, features, &context, iova, Kind::Read) {
+        Ok(hit) => Some((hit.frame, hit.napot)),
+        Err(_) => None,
+    }
+}
+
+// Leaves of 64 KiB: one of the first stage, whose hits say so, and one of the second.
+#[test]
+fn leaves_of_64_kib(rt: HostRuntime) -> Result<(), Fail> {
+    let mut whole = memory(rt.alloc(), TABLES, SECOND_WHOLE)?;
+    put(
+        &mut whole,
+        &[(0x8003_2018, 1 << 63 | 0x48 << 10 | 0xd7)],
+    );
+    let behind = (0x8002_62b0, 1 << 63 | 0x80058 << 10 | 0xd7);
+    let small = memory(rt.alloc(), SECOND_SMALL, behind)?;
+    let facts = [
+        with_svnapot(&whole, 0x4020_3abc) == Some((0x80043, true)),
+        with_svnapot(&whole, 0x4020_1abc) == Some((0x80040, false)),
+        with_svnapot(&small, 0x4045_6abc) == Some((0x80056, false)),
+    ];
+    assert_eq!(rt; first_wrong(&facts), None);
+    Ok(())
+}
+
 // What the guest has at an address, under a context that has a second stage.
 fn guest_word(ram: &Ram, addr: u64) -> Option<Got> {
     let context = Context::new(BOTH)?;

@@ -1,10 +1,10 @@
 //! Which moments warrant what a read used.
 
 use crate::devices::devices;
-use iom_account::{History, Origin};
+use iom_account::{History, Origin, explain};
 use iom_bits::Kind;
 use iom_cache::Key;
-use iom_core::{Answer, Platform, Step, Warrant, explain};
+use iom_core::{Answer, Platform, Step, Warrant};
 use iom_mem::Ram;
 use std::alloc::Global;
 use std::test::Fail;

@@ -1,5 +1,5 @@
 use Rattle.std.proofs.Common.{◌∙◌, List, ℕ, take, ap}
-use Rattle.iom_account.proofs.Searched.{zeros_first}
+use Rattle.iom_account.proofs.Beside.{zeros_first}
 use Rattle.iom_account.proofs.notes.zeros.Goals as goal
 
 pub returns : goal.returns

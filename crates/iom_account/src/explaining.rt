@@ -1,0 +1,57 @@
+//! Where the translation comes from that a step used, of steps that are carried out anew.
+
+ghost use Rattle.std.specs.Prelude.{◌≡◌, ◌<◌, length, IfOk};
+ghost use Rattle.std.specs.Option.{option_map};
+ghost use Rattle.iom_core.specs.Run.{end_of};
+ghost use Rattle.iom_core.specs.State.{State};
+ghost use Rattle.iom_core.specs.Warrants.{Explains, IsUncached};
+ghost use Rattle.iom_account.specs.Following.{counted, notes_at, warrant_of};
+
+use crate::history::History;
+use crate::origin::Origin;
+use iom_core::{Answer, Platform, Step, Warrant};
+use std::alloc::{AllocError, Global};
+
+/// Where the translation comes from that step `n` used, below the number of steps, if they are carried out from `start` on, whose
+/// caches hold nothing; None where the step makes no access or is denied. The fault is want of memory: it plays the steps on a copy
+/// of `start`.
+pub fn explain(
+    alloc: Global,
+    start: &Platform,
+    steps: &[Step],
+    n: usize,
+) -> Result<Option<Warrant>, AllocError>
+    requires below { n < length steps.now }
+    requires uncached { IsUncached start.now }
+    ensures { IfOk result (λ found. Explains start.now steps.now n found) }
+{
+    let mut platform = start.try_clone(alloc)?;
+    let mut history = History::new(&platform);
+    let mut answer = Answer::Done;
+    for (k, step) in steps[..n].iter().enumerate() {
+        history.step(&mut platform, step, k as u64, &mut answer);
+    }
+    let taken = history.step(&mut platform, &steps[n], n as u64, &mut answer);
+    Ok(warrant_of(taken.origin))
+}
+
+// The warrant that is told by the numbers of steps that are counted from 0.
+fn warrant_of(origin: Option<Origin>) -> Option<Warrant>
+    ensures { result ≡ option_map warrant_of origin }
+{
+    Some(match origin? {
+        Origin::Register => Warrant::Register,
+        Origin::Context { context } => Warrant::Context {
+            context: context as usize,
+        },
+        Origin::Walked {
+            context,
+            walk,
+            current,
+        } => Warrant::Walked {
+            context: context as usize,
+            walk: walk as usize,
+            current: current as usize,
+        },
+    })
+}

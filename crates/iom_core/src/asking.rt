@@ -1,0 +1,50 @@
+//! What a step asks of the IOMMU.
+
+ghost use Rattle.std.specs.Prelude.{◌≡◌};
+ghost use Rattle.iom_core.specs.Table.{request_of_step};
+ghost use Rattle.iom_core.specs.declared.step.Step.TheVariants as step;
+
+use crate::access::Request;
+use crate::platform::device_request;
+use crate::{Platform, Step};
+use iom_bits::Kind;
+use iom_blk::Want;
+
+impl Platform {
+    /// What a step asks of the IOMMU, if it is the next one: a device's access, a block device's too. None where it makes none.
+    #[tactic(auto, unfolding(crate::specs::Table::asked))]
+    pub fn request_of(&self, step: &Step) -> Option<Request>
+        ensures { result ≡ request_of_step self.now step.now }
+    {
+        match step {
+            Step::DmaRead { did, iova, len } => device_request(*did, *iova, *len, Kind::Read),
+            Step::DmaWrite { did, iova, bytes } => {
+                device_request(*did, *iova, bytes.len() as u64, Kind::Write)
+            }
+            Step::Device { dev } => self.request_of_device(*dev),
+            _ => None,
+        }
+    }
+
+    // What a block device asks of the IOMMU.
+    #[tactic(auto, unfolding(crate::specs::Table::asked))]
+    fn request_of_device(&self, dev: u64) -> Option<Request>
+        ensures { result ≡ request_of_step self.now (step.Device dev) }
+    {
+        let n = dev as usize;
+        if n >= self.devices.len() {
+            return None;
+        }
+        let (did, device) = &self.devices[n];
+        let (iova, kind) = match device.want() {
+            Want::Nothing => return None,
+            Want::Read { iova, .. } => (iova, Kind::Read),
+            Want::Write { iova, .. } => (iova, Kind::Write),
+        };
+        Some(Request {
+            did: *did,
+            iova,
+            kind,
+        })
+    }
+}

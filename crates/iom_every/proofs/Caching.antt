@@ -1,0 +1,50 @@
+-- This model is an IOMMU that keeps what it likes.
+use Rattle.std.proofs.Common.{◌≡◌, ◌∙◌, Bool, List, [], ◌∷◌, Option, Some, None, refl, sym}
+use Rattle.iom_cache.specs.Places.{NoneLive}
+use Rattle.iom_choices.specs.Models.{IsCaching, end_of}
+use Rattle.iom_choices.specs.Settled.{IsSettled}
+use Rattle.iom_choices.proofs.Alike.{uses_may}
+use Rattle.iom_core.specs.Access.{led}
+use Rattle.iom_core.specs.declared.step.Step.{Step}
+use Rattle.iom_core.specs.Looking.{by_tables}
+use Rattle.iom_core.specs.State.{State}
+use Rattle.iom_core.specs.Warrants.{IsUncached}
+use Rattle.iom_core.specs.declared.access.Request.{Request}
+use Rattle.iom_every.specs.Entries.{Entry}
+use Rattle.iom_every.specs.Every.{May, cached, iommu, platform, uses_in}
+use Rattle.iom_every.specs.Rows.{bare}
+use Rattle.iom_every.specs.Uses.{Look}
+use Rattle.iom_every.specs.Ways.{way_of}
+use Rattle.iom_every.proofs.Kept.{kept}
+use Rattle.iom_every.proofs.Led.{led_is}
+use Rattle.iom_every.proofs.Rows.{row_is}
+
+pub caching : (ahead : Bool) → IsCaching (iommu ahead) platform
+caching ahead = record {
+  state = λ state taken. (row_is ahead state taken).left;
+  answer = λ state taken. (row_is ahead state taken).answered;
+  kept = λ state taken e h. kept ahead state taken e h;
+}
+
+-- where nothing is used, a request is led as the tables say
+pub by_tables_is : (state : State) (request : Request) → (way_of (bare state) [] request).led ≡ by_tables state.machine request
+by_tables_is state request = led_is (bare state) request
+
+none_used : {K V : Type 0} (as_use : K → V → Look × Entry) (places : List (Option (K × V))) → NoneLive places → uses_in as_use places ≡ []
+none_used as_use [] none = refl
+none_used as_use (None ∷ places) none = none_used as_use places none
+none_used as_use (Some held ∷ places) none = absurd none
+
+-- an uncached state uses nothing
+pub nothing_cached : (state : State) → IsUncached state → cached state ≡ []
+nothing_cached state none = rw (none_used _ state.machine.contexts none.contexts, none_used _ state.machine.pages none.pages) refl
+
+-- where a request is settled, this model leads it as the tables say
+pub fresh : (ahead : Bool) (start : State) (steps : List Step) (request : Request) → IsUncached start → IsSettled (iommu ahead) (May ahead start steps) (bare (end_of platform start steps)) (Some request) →
+    (led (end_of platform start steps).machine request).way ≡ by_tables (end_of platform start steps).machine request
+fresh ahead start steps request none settled =
+    let state : State = end_of platform start steps in
+    let same : Some (way_of (bare state) (cached state) request).led ≡ Some (way_of (bare state) [] request).led =
+    settled (cached state) (uses_may (iommu ahead) platform (caching ahead) start (nothing_cached start none) steps) in
+    let ways : (way_of (bare state) (cached state) request).led ≡ (way_of (bare state) [] request).led = cc in
+    sym (led_is state request) ∙ ways ∙ by_tables_is state request

@@ -1,0 +1,12 @@
+pub mod Found
+pub mod Walked
+pub mod Led
+pub mod Rows
+pub mod Directory
+pub mod Emptied
+pub mod Kept
+pub mod Caching
+pub mod Runs
+pub mod Reading
+pub mod Midway
+pub mod Below

@@ -1,0 +1,323 @@
+-- What a walk reads: each valid entry that it meets, and no other.
+use Rattle.std.proofs.Common.{◌≡◌, ◌++◌, ◌||◌, ◌-◌, ◌/◌, ℕ, Bool, true, false, List, [], ◌∷◌, get_or, map, Option, Some, None, Result, Ok, Err, if◌then◌else◌, refl, ap, sym, subst, inl, inr}
+use Rattle.std.specs.Prelude.{flat_map}
+use Rattle.std.specs.List.{AllByRecursion}
+use Rattle.iom_bits.specs.Bits.{has_bit}
+use Rattle.iom_bits.specs.Features.{no_features}
+use Rattle.iom_bits.specs.declared.causes.Cause.{Cause}
+use Rattle.iom_bits.specs.declared.causes.Kind.{Kind}
+use Rattle.iom_bits.specs.declared.features.Features.{Features}
+use Rattle.iom_mem.specs.Memory.{Memory}
+use Rattle.iom_regs.specs.Views.{mode_of}
+use Rattle.iom_regs.specs.declared.views.Mode.{Mode}
+use Rattle.iom_regs.specs.declared.views.Mode.TheVariants.{Off, Bare, Levels}
+use Rattle.iom_ddt.specs.Contexts.{is_bare}
+use Rattle.iom_ddt.specs.declared.context.Context.{Context}
+use Rattle.iom_ddt.specs.declared.listing.Met.{Met as Listed}
+use Rattle.iom_ddt.specs.declared.listing.Met.TheVariants as listed
+use Rattle.iom_ddt.specs.Directory.{path_of}
+use Rattle.iom_ddt.specs.Words.{context_in}
+use Rattle.iom_walk.specs.Path.{Entry as Met}
+use Rattle.iom_walk.specs.Verdict.{is_global, is_valid, word_of}
+use Rattle.iom_walk.specs.declared.shape.Shape.{Shape}
+use Rattle.iom_nested.specs.Faults.{Failure}
+use Rattle.iom_nested.specs.Stages.{first_shape_of, format_of, second_shape_of}
+use Rattle.iom_nested.specs.declared.translation.Fault.{Fault}
+use Rattle.iom_nested.specs.declared.translation.Hit.{Hit}
+use Rattle.iom_nested.specs.declared.translation.Reached.{Reached}
+use Rattle.iom_cache.specs.Keys.{gscid_of}
+use Rattle.iom_core.specs.Access.{request_key, way_to}
+use Rattle.iom_core.specs.State.{Machine, State}
+use Rattle.iom_core.specs.declared.access.Request.{Request}
+use Rattle.iom_core.specs.declared.step.Step.{Step}
+use Rattle.iom_core.specs.declared.way.Way.{Way as Led}
+use Rattle.iom_core.specs.declared.way.Way.TheVariants.{Context as ByContext}
+use Rattle.iom_choices.specs.Models.{end_of}
+use Rattle.iom_choices.specs.Systems.{IsAmong, Way, aimed, reads_of}
+use Rattle.iom_choices.proofs.Lists.{among-left, among-right, each_append}
+use Rattle.iom_every.specs.Entries.{Entry, Held, OfDirectory, OfDevice, OfFirst, OfPage, OfSecond, id_part, pages_at}
+use Rattle.iom_every.specs.Every.{May, iommu, platform}
+use Rattle.iom_every.specs.Guards.{IsReadAs, IsValid}
+use Rattle.iom_every.specs.Rows.{bare}
+use Rattle.iom_every.specs.Stages.{first_by, first_met, first_reads, in_memory, reads_for_access, reads_for_entry, second_reads, stage_reads, translation_by}
+use Rattle.iom_every.specs.Uses.{AtLeaf, Below, Entered, Look, access_use, entry_use, first_use, page_use, used_by}
+use Rattle.iom_every.specs.Walks.{held_in, is_global_use, kept_of, met}
+use Rattle.iom_every.specs.Ways.{below, by_context, by_mode, depth_of, directory_in, directory_reads, entered, located_by, page_by, page_way, under, way_of, whole_of}
+
+-- of each of a list
+each_map : {X Y : Type 0} (P : Y → Type 0) (f : X → Y) (xs : List X) → AllByRecursion (λ (x : X). P (f x)) xs → AllByRecursion P (map f xs)
+each_map P f [] h = tt
+each_map P f (x ∷ xs) h = (h.0, each_map P f xs h.1)
+
+each_flat : {X Y : Type 0} (P : Y → Type 0) (f : X → List Y) (xs : List X) → ((x : X) → AllByRecursion P (f x)) → AllByRecursion P (flat_map f xs)
+each_flat P f [] h = tt
+each_flat P f (x ∷ xs) h = each_append P (f x) (flat_map f xs) (h x) (each_flat P f xs h)
+
+pub of_each : {X : Type 0} (P : X → Type 0) (xs : List X) (x : X) → AllByRecursion P xs → IsAmong xs x → P x
+of_each P [] x h among = absurd among
+of_each P (y ∷ xs) x h (inl same) = subst P same h.0
+of_each P (y ∷ xs) x h (inr among) = of_each P xs x h.1 among
+
+among_map : {X Y : Type 0} (f : X → Y) (xs : List X) (x : X) → IsAmong xs x → IsAmong (map f xs) (f x)
+among_map f [] x among = absurd among
+among_map f (y ∷ xs) x (inl same) = inl (ap f same)
+among_map f (y ∷ xs) x (inr among) = inr (among_map f xs x among)
+
+among_flat_map : {X Y : Type 0} (f : X → List Y) (xs : List X) (x : X) (y : Y) → IsAmong xs x → IsAmong (f x) y → IsAmong (flat_map f xs) y
+among_flat_map f [] x y among has = absurd among
+among_flat_map {X} {Y} f (z ∷ xs) x y (inl same) has = among-left (f z) (flat_map f xs) y (subst (λ (x : X). IsAmong (f x) y) (sym same) has)
+among_flat_map f (z ∷ xs) x y (inr among) has = among-right (f z) (flat_map f xs) y (among_flat_map f xs x y among has)
+
+-- each entry that is kept of a path is valid
+held_valid : (features : Features) (global : Bool) (address : ℕ) (path : List Met) → AllByRecursion (λ (held : Held). is_valid held.word ≡ true) (held_in features global address path)
+unfolding held_in
+held_valid features global address [] = tt
+held_valid features global address (entry ∷ path) =
+    let here : Bool = global || is_global (word_of entry.got) in
+    let rest : List Held = held_in features here address path in
+    let kept : Held = kept_of features here address entry in
+    let P : Held → Type 0 = λ held. is_valid held.word ≡ true in
+    let Goal : Bool → Type 0 = λ b. is_valid (word_of entry.got) ≡ b → AllByRecursion P (if b then kept ∷ rest else rest) in
+    let by_valid : (b : Bool) → Goal b = λ b. elim b as Goal [
+      | true ↦ λ is. (is, held_valid features here address path)
+      | false ↦ λ is. held_valid features here address path
+    ] in by_valid (is_valid (word_of entry.got)) refl
+
+-- each valid entry of a path is kept
+pub record IsHeldAs (features : Features) (global : Bool) (address : ℕ) (entry : Met) (helds : List Held) : Type 0 where
+  pub held : Held
+  pub among : IsAmong helds held
+  pub level : held.level ≡ entry.level
+  pub pages : held.pages ≡ pages_at features entry.level (word_of entry.got)
+  pub part : held.part ≡ address / 4096 / held.pages
+  pub word : held.word ≡ word_of entry.got
+  pub own : is_global (word_of entry.got) ≡ true → held.global ≡ true
+
+or_right : (a b : Bool) → b ≡ true → (a || b) ≡ true
+or_right true b is = refl
+or_right false b is = is
+
+held_has : (features : Features) (global : Bool) (address : ℕ) (path : List Met) (entry : Met) → IsAmong path entry → is_valid (word_of entry.got) ≡ true → IsHeldAs features global address entry (held_in features global address path)
+unfolding held_in
+held_has features global address [] entry among valid = absurd among
+held_has features global address (first ∷ path) entry (inl same) valid =
+    let is : is_valid (word_of first.got) ≡ true = subst (λ (met : Met). is_valid (word_of met.got) ≡ true) (sym same) valid in
+    let here : Bool = global || is_global (word_of first.got) in
+    let rest : List Held = held_in features here address path in
+    let kept : Held = kept_of features here address first in
+    record {
+      held = kept;
+      among = subst (λ (b : Bool). IsAmong (if b then kept ∷ rest else rest) kept) (sym is) (inl refl);
+      level = ap (λ (met : Met). met.level) same;
+      pages = ap (λ (met : Met). pages_at features met.level (word_of met.got)) same;
+      part = refl;
+      word = ap (λ (met : Met). word_of met.got) same;
+      own = λ g. or_right global _ (subst (λ (met : Met). is_global (word_of met.got) ≡ true) (sym same) g);
+    }
+held_has features global address (first ∷ path) entry (inr among) valid =
+    let here : Bool = global || is_global (word_of first.got) in
+    let rest : List Held = held_in features here address path in
+    let kept : Held = kept_of features here address first in
+    let h : IsHeldAs features here address entry rest = held_has features here address path entry among valid in
+    record {
+      held = h.held;
+      among = elim (is_valid (word_of first.got)) as (λ b. IsAmong (if b then kept ∷ rest else rest) h.held) [
+        | true ↦ inr h.among
+        | false ↦ h.among
+      ];
+      level = h.level;
+      pages = h.pages;
+      part = h.part;
+      word = h.word;
+      own = h.own;
+    }
+
+-- an entry that is kept, with its tags, among all that is read
+read_as : (features : Features) (tagged : Held → Entry) (address : ℕ) (entry : Met) (global : Bool) (path : List Met) (reads : List Entry) → IsAmong path entry → is_valid (word_of entry.got) ≡ true →
+    ((e : Entry) → IsAmong (map tagged (held_in features global address path)) e → IsAmong reads e) → IsReadAs features tagged address entry reads
+read_as features tagged address entry global path reads among valid more =
+    let h : IsHeldAs features global address entry (held_in features global address path) = held_has features global address path entry among valid in
+    record { held = h.held; among = more (tagged h.held) (among_map tagged (held_in features global address path) h.held h.among); level = h.level; pages = h.pages; part = h.part; word = h.word; global = h.own }
+
+-- the entries of the first stage
+pub first_read : (memory : Memory) (features : Features) (source : List (Look × Entry)) (context : Context) (iova : ℕ) (kind : Kind) (shape : Shape) (entry : Met) → first_shape_of context ≡ Some shape →
+    IsAmong (first_met memory features source context iova shape) entry → is_valid (word_of entry.got) ≡ true →
+    IsReadAs features (OfFirst (gscid_of context) context.pscid) iova entry (stage_reads memory features source context iova kind)
+unfolding stage_reads
+first_read memory features source context iova kind shape entry stage among valid =
+    let reached : List Entry = reads_for_access memory features source context (second_shape_of context) (first_by memory features source context iova kind (first_shape_of context)) in
+    let own : List Entry = map (OfFirst (gscid_of context) context.pscid) (held_in features (is_global_use (used_by (first_use context shape iova) source)) iova (first_met memory features source context iova shape)) in
+    let behind : List Entry = flat_map (reads_for_entry memory features source context (second_shape_of context)) (first_met memory features source context iova shape) in
+    read_as features (OfFirst (gscid_of context) context.pscid) iova entry (is_global_use (used_by (first_use context shape iova) source)) (first_met memory features source context iova shape) _ among valid
+    (λ e has. among-left (first_reads memory features source context iova (first_shape_of context)) reached e
+    (subst (λ (o : Option Shape). IsAmong (first_reads memory features source context iova o) e) (sym stage) (among-left own behind e has)))
+
+-- those of the second that are met for an entry of the first
+pub second_read : (memory : Memory) (features : Features) (source : List (Look × Entry)) (context : Context) (iova : ℕ) (kind : Kind) (shape second : Shape) (first entry : Met) → first_shape_of context ≡ Some shape → second_shape_of context ≡ Some second →
+    IsAmong (first_met memory features source context iova shape) first →
+    IsAmong (met (in_memory memory) (format_of features second) context.gppn first.place (used_by (entry_use context second first.level first.place) source)) entry → is_valid (word_of entry.got) ≡ true →
+    IsReadAs features (OfSecond context.gscid) first.place entry (stage_reads memory features source context iova kind)
+unfolding stage_reads
+second_read memory features source context iova kind shape second first entry stage behind_it among_first among valid =
+    let reached : List Entry = reads_for_access memory features source context (second_shape_of context) (first_by memory features source context iova kind (first_shape_of context)) in
+    let own : List Entry = map (OfFirst (gscid_of context) context.pscid) (held_in features (is_global_use (used_by (first_use context shape iova) source)) iova (first_met memory features source context iova shape)) in
+    let behind : List Entry = flat_map (reads_for_entry memory features source context (second_shape_of context)) (first_met memory features source context iova shape) in
+    let used : Option Held = used_by (entry_use context second first.level first.place) source in
+    read_as features (OfSecond context.gscid) first.place entry (is_global_use used) (met (in_memory memory) (format_of features second) context.gppn first.place used) _ among valid
+    (λ e has. among-left (first_reads memory features source context iova (first_shape_of context)) reached e
+    (subst (λ (o : Option Shape). IsAmong (first_reads memory features source context iova o) e) (sym stage)
+    (among-right own behind e (among_flat_map (reads_for_entry memory features source context (second_shape_of context)) (first_met memory features source context iova shape) first e among_first
+    (subst (λ (o : Option Shape). IsAmong (reads_for_entry memory features source context o first) e) (sym behind_it) has)))))
+
+-- and for the access itself
+pub access_read : (memory : Memory) (features : Features) (source : List (Look × Entry)) (context : Context) (iova : ℕ) (kind : Kind) (second : Shape) (reached : Reached) (entry : Met) → second_shape_of context ≡ Some second →
+    first_by memory features source context iova kind (first_shape_of context) ≡ Ok reached →
+    IsAmong (met (in_memory memory) (format_of features second) context.gppn reached.addr (used_by (access_use context second reached.addr) source)) entry → is_valid (word_of entry.got) ≡ true →
+    IsReadAs features (OfSecond context.gscid) reached.addr entry (stage_reads memory features source context iova kind)
+unfolding stage_reads
+access_read memory features source context iova kind second reached entry behind_it leads among valid =
+    let used : Option Held = used_by (access_use context second reached.addr) source in
+    let firsts : List Entry = first_reads memory features source context iova (first_shape_of context) in
+    read_as features (OfSecond context.gscid) reached.addr entry (is_global_use used) (met (in_memory memory) (format_of features second) context.gppn reached.addr used) _ among valid
+    (λ e has. among-right firsts (reads_for_access memory features source context (second_shape_of context) (first_by memory features source context iova kind (first_shape_of context))) e
+    (subst (λ (r : Result Reached Failure). IsAmong (reads_for_access memory features source context (second_shape_of context) r) e) (sym leads)
+    (subst (λ (o : Option Shape). IsAmong (reads_for_access memory features source context o (Ok reached)) e) (sym behind_it) has)))
+
+-- Nothing else is read.
+second_valid : (memory : Memory) (features : Features) (context : Context) (shape : Shape) (address : ℕ) (used : Option Held) → AllByRecursion IsValid (second_reads memory features context shape address used)
+second_valid memory features context shape address used = each_map IsValid (OfSecond context.gscid) _ (held_valid features (is_global_use used) address (met (in_memory memory) (format_of features shape) context.gppn address used))
+
+entry_valid : (memory : Memory) (features : Features) (source : List (Look × Entry)) (context : Context) (second : Option Shape) (entry : Met) → AllByRecursion IsValid (reads_for_entry memory features source context second entry)
+entry_valid memory features source context None entry = tt
+entry_valid memory features source context (Some shape) entry = second_valid memory features context shape entry.place (used_by (entry_use context shape entry.level entry.place) source)
+
+access_valid : (memory : Memory) (features : Features) (source : List (Look × Entry)) (context : Context) (second : Option Shape) (found : Result Reached Failure) → AllByRecursion IsValid (reads_for_access memory features source context second found)
+access_valid memory features source context None found = tt
+access_valid memory features source context (Some shape) (Err failure) = tt
+access_valid memory features source context (Some shape) (Ok reached) = second_valid memory features context shape reached.addr (used_by (access_use context shape reached.addr) source)
+
+first_valid : (memory : Memory) (features : Features) (source : List (Look × Entry)) (context : Context) (iova : ℕ) (first : Option Shape) → AllByRecursion IsValid (first_reads memory features source context iova first)
+first_valid memory features source context iova None = tt
+first_valid memory features source context iova (Some shape) = each_append IsValid _ _
+    (each_map IsValid (OfFirst (gscid_of context) context.pscid) _ (held_valid features (is_global_use (used_by (first_use context shape iova) source)) iova (first_met memory features source context iova shape)))
+    (each_flat IsValid (reads_for_entry memory features source context (second_shape_of context)) (first_met memory features source context iova shape) (entry_valid memory features source context (second_shape_of context)))
+
+stages_valid : (memory : Memory) (features : Features) (source : List (Look × Entry)) (context : Context) (iova : ℕ) (kind : Kind) → AllByRecursion IsValid (stage_reads memory features source context iova kind)
+unfolding stage_reads
+stages_valid memory features source context iova kind = each_append IsValid _ _
+    (first_valid memory features source context iova (first_shape_of context))
+    (access_valid memory features source context (second_shape_of context) (first_by memory features source context iova kind (first_shape_of context)))
+
+whole_valid : (request : Request) (context : Context) (found : Result Hit Fault) → AllByRecursion IsValid (whole_of request context found)
+whole_valid request context (Ok hit) = (tt, tt)
+whole_valid request context (Err fault) = tt
+
+page_valid : (memory : Memory) (source : List (Look × Entry)) (request : Request) (context : Context) (found : Option Hit) → AllByRecursion IsValid (page_by memory source request context found).reads
+page_valid memory source request context (Some hit) = tt
+page_valid memory source request context None = each_append IsValid _ _
+    (stages_valid memory no_features source context request.iova request.kind)
+    (whole_valid request context (translation_by memory no_features source context request.iova request.kind))
+
+under_valid : (memory : Memory) (source : List (Look × Entry)) (request : Request) (context : Context) → AllByRecursion IsValid (under memory source request context).reads
+under_valid memory source request context =
+    let ours : Way Entry Led = record { led = way_to context (page_way memory source request context).led; reads = (page_way memory source request context).reads } in
+    let direct : Way Entry Led = record { led = ByContext context; reads = [] } in
+    let reads : Way Entry Led → List Entry = λ way. way.reads in
+    elim (is_bare context) as (λ b. AllByRecursion IsValid (reads (if b then direct else ours))) [
+      | true ↦ tt
+      | false ↦ page_valid memory source request context _
+    ]
+
+directory_valid : (did level : ℕ) (path : List Listed) → AllByRecursion IsValid (directory_in did level path)
+directory_valid did level [] = tt
+directory_valid did level (listed.Entry place None ∷ more) = tt
+directory_valid did level (listed.Entry place (Some word) ∷ more) =
+    let rest : List Entry = directory_in did (level - 1) more in
+    let Goal : Bool → Type 0 = λ b. has_bit word 0 ≡ b → AllByRecursion IsValid (if b then OfDirectory level (id_part level did) word ∷ rest else []) in
+    let by_valid : (b : Bool) → Goal b = λ b. elim b as Goal [
+      | true ↦ λ is. (is, directory_valid did (level - 1) more)
+      | false ↦ λ is. tt
+    ] in by_valid (has_bit word 0) refl
+directory_valid did level (listed.Leaf place None ∷ more) = tt
+directory_valid did level (listed.Leaf place (Some words) ∷ more) =
+    let Goal : Bool → Type 0 = λ b. has_bit (get_or words 0 0) 0 ≡ b → AllByRecursion IsValid (if b then OfDevice did (context_in words) ∷ [] else []) in
+    let by_valid : (b : Bool) → Goal b = λ b. elim b as Goal [
+      | true ↦ λ is. ((words, is, refl), tt)
+      | false ↦ λ is. tt
+    ] in by_valid (has_bit (get_or words 0 0) 0) refl
+
+entered_valid : (m : Machine) (did : ℕ) (found : Option Entered) → AllByRecursion IsValid (directory_reads m did found)
+entered_valid m did None = directory_valid did (depth_of m - 1) (path_of m.memory m.registers did)
+entered_valid m did (Some (AtLeaf said)) = tt
+entered_valid m did (Some (Below level word)) = directory_valid did (level - 1) (below m did level word)
+
+by_valid : (memory : Memory) (source : List (Look × Entry)) (request : Request) (reads : List Entry) (found : Result Context Cause) → AllByRecursion IsValid reads → AllByRecursion IsValid (by_context memory source request reads found).reads
+by_valid memory source request reads (Ok context) h = each_append IsValid reads _ h (under_valid memory source request context)
+by_valid memory source request reads (Err why) h = h
+
+mode_valid : (mode : Mode) (m : Machine) (source : List (Look × Entry)) (request : Request) → AllByRecursion IsValid (by_mode mode m source request).reads
+mode_valid Off m source request = tt
+mode_valid Bare m source request = tt
+mode_valid (Levels levels) m source request =
+    by_valid m.memory source request _ (located_by m request.did (entered m source request.did)) (entered_valid m request.did (entered m source request.did))
+
+pub way_valid : (state : State) (source : List (Look × Entry)) (request : Request) → AllByRecursion IsValid (way_of state source request).reads
+unfolding way_of
+way_valid state source request = mode_valid (mode_of state.machine.registers) state.machine source request
+
+reads_valid : (ahead : Bool) (state : State) (source : List (Look × Entry)) (request : Option Request) → AllByRecursion IsValid (reads_of (iommu ahead) state source request)
+reads_valid ahead state source None = tt
+reads_valid ahead state source (Some request) = way_valid state source request
+
+-- so nothing else may be held
+pub may_valid : (ahead : Bool) (start : State) (steps : List Step) (entry : Entry) → May ahead start steps entry → IsValid entry
+may_valid ahead start [] entry may = absurd may
+may_valid ahead start (last ∷ steps) entry may = elim may.1 [
+  | inl before ↦ may_valid ahead start steps entry before
+  | inr read ↦ of_each IsValid _ entry (reads_valid ahead (bare (end_of platform start steps)) read.source (aimed (iommu ahead) (bare (end_of platform start steps)) last read.target)) read.among
+]
+
+-- What a request reads: the entries of the directory, and below a context those of both stages and the whole translation.
+in_context : (memory : Memory) (source : List (Look × Entry)) (request : Request) (reads : List Entry) (found : Result Context Cause) (e : Entry) → IsAmong reads e → IsAmong (by_context memory source request reads found).reads e
+in_context memory source request reads (Ok context) e among = among-left reads (under memory source request context).reads e among
+in_context memory source request reads (Err why) e among = among
+
+pub directory_read : (state : State) (source : List (Look × Entry)) (request : Request) (levels : ℕ) → mode_of state.machine.registers ≡ Levels levels → (e : Entry) →
+    IsAmong (directory_reads state.machine request.did (entered state.machine source request.did)) e → IsAmong (way_of state source request).reads e
+unfolding way_of
+directory_read state source request levels is e among =
+    subst (λ (mode : Mode). IsAmong (by_mode mode state.machine source request).reads e) (sym is)
+    (in_context state.machine.memory source request _ (located_by state.machine request.did (entered state.machine source request.did)) e among)
+
+pub page_reads : (state : State) (source : List (Look × Entry)) (request : Request) (context : Context) (levels : ℕ) → mode_of state.machine.registers ≡ Levels levels →
+    located_by state.machine request.did (entered state.machine source request.did) ≡ Ok context → is_bare context ≡ false → used_by (page_use (request_key request context)) source ≡ None →
+    (e : Entry) → IsAmong (page_by state.machine.memory source request context None).reads e → IsAmong (way_of state source request).reads e
+unfolding way_of
+page_reads state source request context levels is located bare_not none e among =
+    let m : Machine = state.machine in
+    let dir : List Entry = directory_reads m request.did (entered m source request.did) in
+    let ours : Way Entry Led = record { led = way_to context (page_way m.memory source request context).led; reads = (page_way m.memory source request context).reads } in
+    let direct : Way Entry Led = record { led = ByContext context; reads = [] } in
+    let reads : Way Entry Led → List Entry = λ way. way.reads in
+    let here : IsAmong (page_way m.memory source request context).reads e =
+    subst (λ (found : Option Hit). IsAmong (page_by m.memory source request context found).reads e) (sym none) among in
+    let below_it : IsAmong (under m.memory source request context).reads e =
+    subst (λ (b : Bool). IsAmong (reads (if b then direct else ours)) e) (sym bare_not) here in
+    subst (λ (mode : Mode). IsAmong (by_mode mode m source request).reads e) (sym is)
+    (subst (λ (found : Result Context Cause). IsAmong (by_context m.memory source request dir found).reads e) (sym located)
+    (among-right dir (under m.memory source request context).reads e below_it))
+
+pub stages_read : (state : State) (source : List (Look × Entry)) (request : Request) (context : Context) (levels : ℕ) → mode_of state.machine.registers ≡ Levels levels →
+    located_by state.machine request.did (entered state.machine source request.did) ≡ Ok context → is_bare context ≡ false → used_by (page_use (request_key request context)) source ≡ None →
+    (e : Entry) → IsAmong (stage_reads state.machine.memory no_features source context request.iova request.kind) e → IsAmong (way_of state source request).reads e
+stages_read state source request context levels is located bare_not none e among =
+    page_reads state source request context levels is located bare_not none e (among-left (stage_reads state.machine.memory no_features source context request.iova request.kind) _ e among)
+
+pub whole_read : (state : State) (source : List (Look × Entry)) (request : Request) (context : Context) (levels : ℕ) (hit : Hit) → mode_of state.machine.registers ≡ Levels levels →
+    located_by state.machine request.did (entered state.machine source request.did) ≡ Ok context → is_bare context ≡ false → used_by (page_use (request_key request context)) source ≡ None →
+    translation_by state.machine.memory no_features source context request.iova request.kind ≡ Ok hit → IsAmong (way_of state source request).reads (OfPage (request_key request context) hit)
+whole_read state source request context levels hit is located bare_not none hits =
+    let stages : List Entry = stage_reads state.machine.memory no_features source context request.iova request.kind in
+    page_reads state source request context levels is located bare_not none (OfPage (request_key request context) hit)
+    (subst (λ (found : Result Hit Fault). IsAmong (stages ++ whole_of request context found) (OfPage (request_key request context) hit)) (sym hits)
+    (among-right stages (OfPage (request_key request context) hit ∷ []) _ (inl refl)))

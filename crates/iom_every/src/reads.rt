@@ -1,0 +1,68 @@
+ghost use Rattle.std.specs.Prelude.{◌≡◌, ℕ, Bool, true, false, List, Option, Some, None, Ok};
+ghost use Rattle.iom_bits.specs.declared.causes.Kind.{Kind};
+ghost use Rattle.iom_bits.specs.Features.{no_features};
+ghost use Rattle.iom_bits.specs.declared.features.Features.{Features};
+ghost use Rattle.iom_mem.specs.Memory.{Memory};
+ghost use Rattle.iom_regs.specs.Views.{mode_of};
+ghost use Rattle.iom_regs.specs.declared.views.Mode.TheVariants.{Levels};
+ghost use Rattle.iom_ddt.specs.Contexts.{is_bare};
+ghost use Rattle.iom_ddt.specs.declared.context.Context.{Context};
+ghost use Rattle.iom_walk.specs.Path.{Entry as Met};
+ghost use Rattle.iom_walk.specs.Verdict.{is_valid, word_of};
+ghost use Rattle.iom_walk.specs.declared.shape.Shape.{Shape};
+ghost use Rattle.iom_nested.specs.Stages.{first_shape_of, format_of, second_shape_of};
+ghost use Rattle.iom_nested.specs.declared.translation.Hit.{Hit};
+ghost use Rattle.iom_nested.specs.declared.translation.Reached.{Reached};
+ghost use Rattle.iom_cache.specs.Keys.{gscid_of};
+ghost use Rattle.iom_core.specs.Access.{request_key};
+ghost use Rattle.iom_core.specs.State.{State};
+ghost use Rattle.iom_core.specs.declared.access.Request.{Request};
+ghost use Rattle.iom_core.specs.declared.step.Step.{Step};
+ghost use Rattle.iom_choices.specs.Systems.{IsAmong};
+ghost use Rattle.iom_every.specs.Entries.{Entry, OfFirst, OfPage, OfSecond};
+ghost use Rattle.iom_every.specs.Every.{May};
+ghost use Rattle.iom_every.specs.Guards.{IsReadAs, IsValid};
+ghost use Rattle.iom_every.specs.Stages.{first_by, first_met, in_memory, stage_reads, translation_by};
+ghost use Rattle.iom_every.specs.Uses.{Look, access_use, entry_use, page_use, used_by};
+ghost use Rattle.iom_every.specs.Walks.{met};
+ghost use Rattle.iom_every.specs.Ways.{directory_reads, entered, located_by, way_of};
+
+/// No entry may be held whose V is 0 ("Caching in-memory data structures").
+pub fn valid_entries_alone()
+    ensures { (ahead : Bool) (start : State) (steps : List Step) (entry : Entry) → May ahead start steps entry → IsValid entry }
+{}
+
+/// Each valid entry that a translation meets is among what it reads, with the ids of its context: those of the first stage, those of the
+/// second for each of them, and those of the second for the access.
+pub fn met_entries_are_read()
+    ensures first { (memory : Memory) (features : Features) (source : List (Look × Entry)) (context : Context) (iova : ℕ) (kind : Kind) (shape : Shape) (entry : Met) →
+        first_shape_of context ≡ Some shape → IsAmong (first_met memory features source context iova shape) entry → is_valid (word_of entry.got) ≡ true →
+        IsReadAs features (OfFirst (gscid_of context) context.pscid) iova entry (stage_reads memory features source context iova kind) }
+    ensures second { (memory : Memory) (features : Features) (source : List (Look × Entry)) (context : Context) (iova : ℕ) (kind : Kind) (shape second : Shape) (first entry : Met) →
+        first_shape_of context ≡ Some shape → second_shape_of context ≡ Some second → IsAmong (first_met memory features source context iova shape) first →
+        IsAmong (met (in_memory memory) (format_of features second) context.gppn first.place (used_by (entry_use context second first.level first.place) source)) entry →
+        is_valid (word_of entry.got) ≡ true →
+        IsReadAs features (OfSecond context.gscid) first.place entry (stage_reads memory features source context iova kind) }
+    ensures access { (memory : Memory) (features : Features) (source : List (Look × Entry)) (context : Context) (iova : ℕ) (kind : Kind) (second : Shape) (reached : Reached) (entry : Met) →
+        second_shape_of context ≡ Some second → first_by memory features source context iova kind (first_shape_of context) ≡ Ok reached →
+        IsAmong (met (in_memory memory) (format_of features second) context.gppn reached.addr (used_by (access_use context second reached.addr) source)) entry →
+        is_valid (word_of entry.got) ≡ true →
+        IsReadAs features (OfSecond context.gscid) reached.addr entry (stage_reads memory features source context iova kind) }
+{}
+
+/// A request under a directory reads what is met of the directory; and below a context with a stage, where no whole translation is used,
+/// all that its translation reads, and the whole translation where it leads to a hit.
+pub fn requests_read()
+    ensures directory { (state : State) (source : List (Look × Entry)) (request : Request) (levels : ℕ) → mode_of state.machine.registers ≡ Levels levels →
+        (entry : Entry) → IsAmong (directory_reads state.machine request.did (entered state.machine source request.did)) entry →
+        IsAmong (way_of state source request).reads entry }
+    ensures stages { (state : State) (source : List (Look × Entry)) (request : Request) (context : Context) (levels : ℕ) → mode_of state.machine.registers ≡ Levels levels →
+        located_by state.machine request.did (entered state.machine source request.did) ≡ Ok context → is_bare context ≡ false →
+        used_by (page_use (request_key request context)) source ≡ None →
+        (entry : Entry) → IsAmong (stage_reads state.machine.memory no_features source context request.iova request.kind) entry → IsAmong (way_of state source request).reads entry }
+    ensures whole { (state : State) (source : List (Look × Entry)) (request : Request) (context : Context) (levels : ℕ) (hit : Hit) → mode_of state.machine.registers ≡ Levels levels →
+        located_by state.machine request.did (entered state.machine source request.did) ≡ Ok context → is_bare context ≡ false →
+        used_by (page_use (request_key request context)) source ≡ None →
+        translation_by state.machine.memory no_features source context request.iova request.kind ≡ Ok hit →
+        IsAmong (way_of state source request).reads (OfPage (request_key request context) hit) }
+{}
