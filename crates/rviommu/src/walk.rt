@@ -63,8 +63,7 @@ impl Walk {
         request: &Request,
         seen: &Seen,
         draft: &mut Draft,
-    ) -> Result<(), AllocError>
-    {
+    ) -> Result<(), AllocError> {
         if let Some((Source::Found, context)) = &seen.context
             && !is_current(platform, request, context)
         {
@@ -88,8 +87,7 @@ impl Walk {
 }
 
 // Whether the directory has this context of a request's device.
-fn is_current(platform: &Platform, request: &Request, context: &Context) -> bool
-{
+fn is_current(platform: &Platform, request: &Request, context: &Context) -> bool {
     match platform.registers().mode() {
         Mode::Off | Mode::Bare => false,
         Mode::Levels(_) => match locate(platform.ram(), platform.registers(), request.did) {
