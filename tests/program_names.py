@@ -20,7 +20,7 @@ CRATES = stands_on()
 OTHERS = {name for _, uses in listed().values() for name in uses} - set(CRATES)
 # What a document says of a number, and where the code or a clause has it.
 NUMBERS = [
-    ("docs/PROMISES.md", "beyond 2^20 lines or 2^26 bytes", "crates/iom_tool/specs/Running.antt", "(length text ≡ 2 ^ 26) ⊎ (length (ended_lines text) ≡ 2 ^ 20)"),
+    ("docs/PROMISES.md", "beyond 2^20 lines or 2^26 bytes", "crates/iom_reader/specs/Running.antt", "(length text ≡ 2 ^ 26) ⊎ (length (ended_lines text) ≡ 2 ^ 20)"),
     ("docs/CONTRIBUTING.md", "the 320 bytes of a `Reply`", "crates/iom_tool/src/draft.rt", "bytes: [u8; 320],"),
     ("README.md", "each process with 2 to 3 GB of memory", "packaging/build.py", "BYTES_A_JOB = 3 << 30"),
     ("README.md", "glibc 2.36 or later", "packaging/package.py", 'LIBC = "libc6 (>= 2.36)"'),

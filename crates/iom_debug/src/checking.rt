@@ -171,7 +171,13 @@ impl Answerer for Checking<'_> {
         let answer = self.debugger.line(self.number, line);
         let tables = self.tables();
         self.page.clear();
-        put_verdict(&mut self.page, self.number, line, answer.as_slice(), tables.as_slice());
+        put_verdict(
+            &mut self.page,
+            self.number,
+            line,
+            answer.as_slice(),
+            tables.as_slice(),
+        );
         self.passed = and_one(
             passes(wanted(line), answer.as_slice(), tables.as_slice()),
             self.passed,
@@ -219,12 +225,12 @@ pub fn check<R: Read, W: Write>(
     requires can_read { read_failed reader.old ≡ false }
     requires can_write { write_failed writer.old ≡ false }
     ensures checked { IfOk result (λ passed. IsChecked (record {
-          desk = desk checking.old.debugger.platform.now checking.old.debugger.trace.now checking.old.debugger.reasons.now;
-          number = checking.old.number;
-          is_stale_told = checking.old.is_stale_told;
-          passed = checking.old.passed;
-          failed = checking.old.failed;
-        }) (R.remaining reader.old.inner.now) (R.remaining reader.new.inner.now)
+      desk = desk checking.old.debugger.platform.now checking.old.debugger.trace.now checking.old.debugger.reasons.now;
+      number = checking.old.number;
+      is_stale_told = checking.old.is_stale_told;
+      passed = checking.old.passed;
+      failed = checking.old.failed;
+    }) (R.remaining reader.old.inner.now) (R.remaining reader.new.inner.now)
         (W.contents writer.old.inner.now) (W.contents writer.new.inner.now) passed) }
 {
     answer_all(checking, reader, writer)?;

@@ -4,8 +4,8 @@
 pub use console::Console;
 pub use draft::Draft;
 pub use feeder::Feeder;
-pub use reading::step_of;
 pub use iom_reader::{RunFault, WatchedReader, WatchedWriter};
+pub use reading::step_of;
 pub use running::{run, run_watched};
 pub use session::{Reply, Session};
 pub use told::{answer_text, put_entry};

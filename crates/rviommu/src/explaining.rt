@@ -176,12 +176,7 @@ impl Teller {
     }
 
     // The same. The fault is want of memory.
-    fn tell_answered(
-        &mut self,
-        number: u64,
-        line: &[u8],
-        answer: &[u8],
-    ) -> Result<(), AllocError> {
+    fn tell_answered(&mut self, number: u64, line: &[u8], answer: &[u8]) -> Result<(), AllocError> {
         self.text.push_number(number)?;
         self.text.push_escaped(before_comment(line))?;
         self.text.push(b" -> ")?;

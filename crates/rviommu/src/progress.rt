@@ -54,25 +54,6 @@ impl<'r, R: Clock + Eprint + Files, I: Read> Progress<'r, R, I> {
         }
     }
 
-    // Tells that so many bytes of the script are played, if it takes long. What can't be told goes untold.
-    fn reach(&mut self, bytes: u64) {
-        let Some(watch) = &mut self.watch else {
-            return;
-        };
-        let is_long = match watch.start.elapsed(self.rt) {
-            Ok(time) => time >= Duration::from_secs(PATIENCE),
-            Err(_) => false,
-        };
-        let hundredths = bytes.min(watch.size).saturating_mul(100);
-        let percent = hundredths.checked_div(watch.size);
-        if !is_long || percent == watch.told {
-            return;
-        }
-        watch.told = percent;
-        let (rt, word, percent) = (self.rt, self.word, percent.unwrap_or(0));
-        let _ = rt.eprint(format_args!("\r{word}: {percent} %"));
-    }
-
     /// Clears what was told.
     pub fn clear(&mut self) {
         if let Some(Watch { told: Some(_), .. }) = self.watch {
@@ -86,9 +67,28 @@ impl<R: Clock + Eprint + Files, I: Read> Read for Progress<'_, R, I> {
 
     // What was read before is played by now.
     fn read(&mut self, buffer: &mut [u8]) -> io::Result<usize> {
-        self.reach(self.taken);
+        reach(self.rt, self.word, &mut self.watch, self.taken);
         let count = self.input.read(buffer)?;
         self.taken = self.taken.saturating_add(count as u64);
         Ok(count)
     }
+}
+
+// Tells that so many bytes of the script are played, if it takes long. What can't be told goes untold.
+fn reach(rt: &(impl Clock + Eprint), word: &str, watch: &mut Option<Watch>, bytes: u64) {
+    let Some(watch) = watch else {
+        return;
+    };
+    let is_long = match watch.start.elapsed(rt) {
+        Ok(time) => time >= Duration::from_secs(PATIENCE),
+        Err(_) => false,
+    };
+    let hundredths = bytes.min(watch.size).saturating_mul(100);
+    let percent = hundredths.checked_div(watch.size);
+    if !is_long || percent == watch.told {
+        return;
+    }
+    watch.told = percent;
+    let percent = percent.unwrap_or(0);
+    let _ = rt.eprint(format_args!("\r{word}: {percent} %"));
 }
