@@ -1,17 +1,19 @@
 -- The canonical line of an item: its statement with all operands in order, but for the NL and S of an IOTINVAL that are 0, numbers
 -- as `0x` and plain lower-case hex; words that are no such item are told as words.
-use Rattle.std.specs.Prelude.{ℕ, ◌++◌, ◌==◌, List, [], ◌∷◌, get_or, codes, Option, Some, None, if◌then◌else◌}
+use Rattle.std.specs.Prelude.{ℕ, ◌++◌, ◌==◌, Bool, true, List, [], ◌∷◌, get_or, codes, Option, Some, None, if◌then◌else◌}
 use Rattle.std.specs.Option.{option_map}
 use Rattle.std.specs.Result.{result_ok}
 use Rattle.iom_bits.specs.Bits.{flag}
+use Rattle.iom_bits.specs.declared.features.Features.{Features}
 use Rattle.iom_text.specs.Texts.{hexed}
 use Rattle.iom_mem.specs.Memory.{Memory, words_at}
 use Rattle.iom_ddt.specs.declared.context.Context.{Context}
+use Rattle.iom_ddt.specs.Contexts.{has_modes}
 use Rattle.iom_ddt.specs.Words.{context_in}
 use Rattle.iom_queue.specs.declared.command.Command.{Command}
 use Rattle.iom_queue.specs.declared.command.Command.TheVariants.{Vma, Gvma, Fence, Iodir}
 use Rattle.iom_queue.specs.declared.record.Record.{Record}
-use Rattle.iom_queue.specs.Commands.{command_of}
+use Rattle.iom_queue.specs.Commands.{command_of, is_offered}
 use Rattle.iom_queue.specs.Records.{record_of}
 use Rattle.iom_items.specs.declared.item.Item.{Item}
 use Rattle.iom_items.specs.declared.item.Item.TheVariants as item
@@ -114,3 +116,21 @@ line_of item.Word words = words_text words
 -- the line of the item at a physical address; None: a byte of it is outside
 unfoldable pub item_line : Memory → Item → ℕ → Option (List ℕ)
 item_line memory item addr = option_map (line_of item) (words_at memory addr (words_in item))
+
+-- An IOMMU with these features takes the words as the item that they stand for: a context needs the modes of its stages, a command the
+-- capabilities of its bits.
+abbrev pub all_of : {X : Type 0} → (X → Bool) → Option X → Bool
+all_of test None = true
+all_of test (Some x) = test x
+
+abbrev pub is_taken : Features → Item → List ℕ → Bool
+is_taken features item.Cmd words = all_of (is_offered features) (command_of words)
+is_taken features item.Context words = all_of (has_modes features) (result_ok (context_in words))
+is_taken features _ words = true
+
+-- the line there: words that aren't taken so are told as words
+abbrev pub line_on : Features → Item → List ℕ → List ℕ
+line_on features item words = if is_taken features item words then line_of item words else words_text words
+
+unfoldable pub item_line_on : Memory → Features → Item → ℕ → Option (List ℕ)
+item_line_on memory features item addr = option_map (line_on features item) (words_at memory addr (words_in item))

@@ -6,7 +6,7 @@ pub use capabilities::features_for;
 pub use forms::{Words, words_for};
 pub use given::operands_are_what_is_given;
 pub use item::Item;
-pub use lines::{Line, context_line, item_line};
+pub use lines::{Line, context_line, item_line, item_line_on};
 pub use telling::items_are_told_again;
 
 mod capabilities;

@@ -5,14 +5,14 @@ ghost use Rattle.iom_text.specs.Texts.{hexed};
 ghost use Rattle.iom_mem.specs.Memory.{words_at};
 ghost use Rattle.iom_ddt.specs.Words.{words_of};
 ghost use Rattle.iom_items.specs.declared.item.Item.TheVariants as item;
-ghost use Rattle.iom_items.specs.Lines.{operand, with_operands, not_zero, command_text, record_text, context_text, numbers_text, words_text, line_of, item_line};
+ghost use Rattle.iom_items.specs.Lines.{operand, with_operands, not_zero, command_text, record_text, context_text, numbers_text, words_text, line_of, line_on, item_line, item_line_on};
 
 use crate::item::Item;
 use arrayvec::ArrayVec;
-use iom_bits::{field, flag};
+use iom_bits::{Features, field, flag};
 use iom_ddt::{Context, context_of};
 use iom_mem::Ram;
-use iom_queue::{Command, Record, decode_command, decode_record};
+use iom_queue::{Command, Record, decode_command, decode_record, is_offered};
 use iom_text::hexed;
 
 /// The line of an item, at most 256 bytes, without a line end.
@@ -269,4 +269,37 @@ pub fn item_line(ram: &Ram, item: Item, addr: u64) -> Option<Line>
         Item::Pte => pte_line(word_at(ram, addr)?),
         Item::Word => words_line(&[word_at(ram, addr)?]),
     })
+}
+
+// The line of a command on an IOMMU with these features, or of the two words where they stand for none there.
+fn pair_line_on(features: Features, words: [u64; 2]) -> Line
+    ensures { result.items ≡ line_on features item.Cmd words }
+{
+    match decode_command(words) {
+        Some(command) if is_offered(features, &command) => command_line(&command),
+        _ => words_line(&words),
+    }
+}
+
+// The line of a context on an IOMMU with these features, or of the four words where they stand for none there.
+fn context_line_on(features: Features, words: [u64; 4]) -> Line
+    ensures { result.items ≡ line_on features item.Context words }
+{
+    match context_of(words) {
+        Ok(context) if context.has_modes(features) => context_line(&context),
+        _ => words_line(&words),
+    }
+}
+
+/// As `item_line`, on an IOMMU with these features: the words of a context with a mode that it lacks, and of a command with a bit
+/// whose capability it lacks, are told as words.
+#[tactic(auto, unfolding(crate::specs::Lines::item_line_on, crate::specs::Lines::item_line))]
+pub fn item_line_on(ram: &Ram, features: Features, item: Item, addr: u64) -> Option<Line>
+    ensures { option_map (λ line. line.items) result ≡ item_line_on ram.now features item addr }
+{
+    match item {
+        Item::Cmd => Some(pair_line_on(features, ram.words_at(addr)?)),
+        Item::Context => Some(context_line_on(features, ram.words_at(addr)?)),
+        _ => item_line(ram, item, addr),
+    }
 }

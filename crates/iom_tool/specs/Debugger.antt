@@ -2,6 +2,7 @@
 use Rattle.std.specs.Prelude.{ℕ, ◌++◌, Bool, List, [], codes, Option, Some, None, slice_get, if◌then◌else◌}
 use Rattle.std.specs.Option.{unwrap_or}
 use Rattle.iom_bits.specs.Bits.{flag}
+use Rattle.iom_bits.specs.declared.features.Features.{Features}
 use Rattle.iom_bits.specs.declared.causes.Kind.{Kind}
 use Rattle.iom_bits.specs.declared.causes.Kind.TheVariants.{Read, Write}
 use Rattle.iom_mem.specs.Memory.{Memory}
@@ -12,7 +13,7 @@ use Rattle.iom_cache.specs.declared.key.Key.{Key}
 use Rattle.iom_cache.specs.declared.place.Place.{Place}
 use Rattle.iom_cache.specs.declared.place.Place.TheVariants.{Beyond, Empty, Live}
 use Rattle.iom_items.specs.declared.item.Item.{Item}
-use Rattle.iom_items.specs.Lines.{context_text, item_line}
+use Rattle.iom_items.specs.Lines.{context_text, item_line, item_line_on}
 use Rattle.iom_tool.specs.Console.{Console}
 use Rattle.iom_text.specs.Texts.{hexed}
 use Rattle.iom_tool.specs.Texts.{entry_text}
@@ -59,8 +60,12 @@ context_place_text (Live did context) = codes "did=" ++ hexed did ++ codes " " +
 abbrev pub item_text : Memory → Item → ℕ → List ℕ
 item_text memory kind addr = unwrap_or (item_line memory kind addr) (codes "outside")
 
+-- the same on an IOMMU with these features
+abbrev pub shown_text : Memory → Features → Item → ℕ → List ℕ
+shown_text memory features kind addr = unwrap_or (item_line_on memory features kind addr) (codes "outside")
+
 abbrev pub answer_in : Console → Question → List ℕ
 answer_in now (question.Page i) = place_text (place_in (slice_get now.state.machine.pages i))
 answer_in now (question.Context i) = context_place_text (place_in (slice_get now.state.machine.contexts i))
-answer_in now (question.Show kind addr) = item_text now.state.machine.memory kind addr
+answer_in now (question.Show kind addr) = shown_text now.state.machine.memory now.state.machine.registers.features kind addr
 answer_in now (question.Trace i) = entry_text (slice_get now.trace i)

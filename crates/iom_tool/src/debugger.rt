@@ -1,17 +1,17 @@
 ghost use Rattle.std.specs.Prelude.{◌≡◌, ◌+◌, ◌++◌, ◌<◌, ◌≤◌, length, codes};
 ghost use Rattle.iom_text.specs.Texts.{hexed};
 ghost use Rattle.iom_tool.specs.Console.{console};
-ghost use Rattle.iom_tool.specs.Debugger.{answer_in, context_place_text, id_text, item_text, kind_text, named, page_text, place_text};
+ghost use Rattle.iom_tool.specs.Debugger.{answer_in, context_place_text, id_text, kind_text, named, page_text, place_text, shown_text};
 
 use crate::draft::Draft;
 use crate::script::Question;
 use crate::text::{push_entry, push_hexed, push_text};
 use crate::trace::Trace;
-use iom_bits::Kind;
+use iom_bits::{Features, Kind};
 use iom_cache::{Key, Place};
 use iom_core::Platform;
 use iom_ddt::Context;
-use iom_items::{Item, context_line, item_line};
+use iom_items::{Item, context_line, item_line_on};
 use iom_mem::Ram;
 use iom_nested::Hit;
 
@@ -25,7 +25,15 @@ pub fn push_answer_in(out: &mut Draft, platform: &Platform, trace: &Trace, quest
     match question {
         Question::Page(i) => push_place(out, platform.trans().place(i)),
         Question::Context(i) => push_context_place(out, platform.contexts().place(i)),
-        Question::Show(kind, addr) => push_item(out, platform.ram(), kind, addr),
+        Question::Show(kind, addr) => {
+            push_item(
+                out,
+                platform.ram(),
+                platform.registers().features(),
+                kind,
+                addr,
+            )
+        }
         Question::Trace(i) => push_entry(out, trace.entry(i)),
     }
 }
@@ -62,13 +70,13 @@ fn push_context_place(out: &mut Draft, place: Place<u32, Context>)
     push_text(out, context_line(&context).as_slice());
 }
 
-// Puts the line of an item, or that a byte of it is outside memory.
-fn push_item(out: &mut Draft, ram: &Ram, kind: Item, addr: u64)
+// Puts the line of an item on an IOMMU with these features, or that a byte of it is outside memory.
+fn push_item(out: &mut Draft, ram: &Ram, features: Features, kind: Item, addr: u64)
     requires { length out.old ≡ 0 }
-    ensures text { out.new ≡ out.old ++ item_text ram.now kind addr }
+    ensures text { out.new ≡ out.old ++ shown_text ram.now features kind addr }
     ensures room { length out.new < 320 }
 {
-    match item_line(ram, kind, addr) {
+    match item_line_on(ram, features, kind, addr) {
         Some(line) => push_text(out, line.as_slice()),
         None => push_text(out, b"outside"),
     }
