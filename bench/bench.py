@@ -1,4 +1,4 @@
-#!/usr/bin/env python3
+#!/usr/bin/env -S python3 -B
 """bench.py PROGRAM [OTHER]    Lines per second of PROGRAM, and of OTHER beside it, on six scripts.
 
 Five scripts have 1,000,000 lines: mode Bare, and one stage and both with 24 pages (all found in the translation cache once it
@@ -11,15 +11,15 @@ follow each other. Their outputs must be the same, byte for byte. The status is 
 import filecmp
 import os
 import statistics
-import subprocess
 import sys
 import tempfile
 import time
 
+import generate
+
 LINES = 1_000_000
 SHORT = 32
 STARTS = 1000
-SEED = 1
 # name, stages, pages, lines, starts, times
 SCRIPTS = [
     ("mode Bare", 0, 256, LINES, 1, 25),
@@ -51,11 +51,9 @@ def line_count(path):
 
 def measured(programs, room, name, stages, pages, lines, starts, times):
     """Prints the speeds on one script; returns whether the outputs are the same and have an answer for each line."""
-    generate = os.path.join(os.path.dirname(os.path.abspath(__file__)), "generate.py")
     script = f"{room}/script"
-    with open(script, "wb") as out:
-        words = [str(word) for word in (stages, pages, lines, SEED)]
-        subprocess.run([sys.executable, generate, *words], stdout=out, check=True)
+    with open(script, "w", encoding="ascii") as out:
+        generate.write(out, stages, pages, lines)
     outputs = [f"{room}/output{at}" for at in range(len(programs))]
     taken = [[] for _ in programs]
     for turn in range(times):
@@ -76,16 +74,23 @@ def measured(programs, room, name, stages, pages, lines, starts, times):
     return is_same and is_whole
 
 
-def main():
+def named(most, usage):
+    """The programs that the words name, as many as `most` at most."""
     programs = [os.path.abspath(word) for word in sys.argv[1:]]
-    if len(programs) not in (1, 2):
-        sys.exit("usage: bench.py PROGRAM [OTHER]")
+    if not 1 <= len(programs) <= most:
+        sys.exit(usage)
     for program in programs:
         if not os.access(program, os.X_OK) or os.path.isdir(program):
-            sys.exit(f"bench: {program} is no program")
+            sys.exit(f"{program} is no program")
+    return programs
+
+
+def main():
+    programs = named(2, __doc__)
     with tempfile.TemporaryDirectory(prefix="rviommu-bench-") as room:
         is_well = [measured(programs, room, *script) for script in SCRIPTS]
     sys.exit(0 if all(is_well) else 1)
 
 
-main()
+if __name__ == "__main__":
+    main()

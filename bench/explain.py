@@ -1,4 +1,4 @@
-#!/usr/bin/env python3
+#!/usr/bin/env -S python3 -B
 """explain.py PROGRAM    Lines per second of `explain` beside those of a run, on 300,000 device reads in 24 and in 176 pages.
 
 The reads are those of the scripts of bench.py, behind the lines that set the IOMMU up: one stage and both, with 24 pages (all found in the
@@ -7,24 +7,28 @@ those of the processor, the system's among them, so that waiting for the disk, w
 times, in turn; the ratio is the median over the turns of their speeds, explain's to the run's. The status is 1 where a run fails, or explain
 doesn't tell each line.
 """
+import io
 import os
 import statistics
 import subprocess
 import sys
 import tempfile
 
-READS, TIMES, SEED = 300_000, 9, 1
+import generate
+from bench import named
+
+READS, TIMES = 300_000, 9
 SCRIPTS = [("one stage, 24 pages", 1, 24), ("one stage, 176 pages", 1, 176), ("both stages, 24 pages", 2, 24), ("both stages, 176 pages", 2, 176)]
 
 
 def write_script(path, stages, pages):
     """Writes the lines that set up, and then as many reads; returns how many lines there are."""
-    generate = os.path.join(os.path.dirname(os.path.abspath(__file__)), "generate.py")
-    words = [sys.executable, generate, str(stages), str(pages), str(READS * 4), str(SEED)]
-    made = subprocess.run(words, stdout=subprocess.PIPE, check=True).stdout.splitlines(keepends=True)
-    first = next(at for at, line in enumerate(made) if line.startswith(b"reg write 16")) + 1
-    reads = [line for line in made[first:] if line.startswith(b"dma read")][:READS]
-    with open(path, "wb") as file:
+    made = io.StringIO()
+    generate.write(made, stages, pages, READS * 4)
+    made = made.getvalue().splitlines(keepends=True)
+    first = next(at for at, line in enumerate(made) if line.startswith("reg write 16")) + 1
+    reads = [line for line in made[first:] if line.startswith("dma read")][:READS]
+    with open(path, "w", encoding="ascii") as file:
         file.writelines(made[:first] + reads)
     return first + len(reads)
 
@@ -32,7 +36,8 @@ def write_script(path, stages, pages):
 def timed(words, script, output):
     """The processor seconds of a run."""
     with open(script, "rb") as given, open(output, "wb") as out:
-        _, status, used = os.wait4(subprocess.Popen(words, stdin=given, stdout=out).pid, 0)
+        ran = subprocess.Popen(words, stdin=given, stdout=out)
+        _, status, used = os.wait4(ran.pid, 0)
     if status:
         sys.exit(f"{' '.join(words)} failed")
     return used.ru_utime + used.ru_stime
@@ -54,9 +59,7 @@ def measured(program, room, name, stages, pages):
 
 
 def main():
-    if len(sys.argv) != 2:
-        sys.exit("usage: explain.py PROGRAM")
-    program = os.path.abspath(sys.argv[1])
+    (program,) = named(1, __doc__)
     with tempfile.TemporaryDirectory(prefix="rviommu-explain-") as room:
         is_well = [measured(program, room, *script) for script in SCRIPTS]
     sys.exit(0 if all(is_well) else 1)

@@ -1,4 +1,4 @@
-#!/usr/bin/env python3
+#!/usr/bin/env -S python3 -B
 """generate.py STAGES PAGES LINES SEED    Writes a script of LINES lines to standard output, the same one for the same words.
 
 The first lines set the IOMMU up: mode Bare where STAGES is 0; else device 5 with a first stage alone (1), or both (2), each
@@ -71,6 +71,18 @@ def accesses(pages, count, random_bytes):
     return "".join(made)
 
 
+def write(out, stages, count, lines, seed=1):
+    """Writes such a script to a file of text."""
+    random_bytes = random.Random(seed).randbytes
+    pages = Pages(stages, count)
+    out.writelines(f"{line}\n" for line in SET_UP[stages])
+    lines -= len(SET_UP[stages])
+    while lines:
+        block = min(lines, BLOCK)
+        out.write(accesses(pages, block, random_bytes))
+        lines -= block
+
+
 def main():
     try:
         stages, count, lines, seed = (int(word) for word in sys.argv[1:])
@@ -80,14 +92,8 @@ def main():
         sys.exit("generate.py: STAGES is 0, 1 or 2, PAGES at most 176 (256 for 0), and LINES enough to set up")
     # a reader that has seen enough ends this program quietly
     signal.signal(signal.SIGPIPE, signal.SIG_DFL)
-    random_bytes = random.Random(seed).randbytes
-    pages = Pages(stages, count)
-    sys.stdout.write("".join(f"{line}\n" for line in SET_UP[stages]))
-    lines -= len(SET_UP[stages])
-    while lines:
-        block = min(lines, BLOCK)
-        sys.stdout.write(accesses(pages, block, random_bytes))
-        lines -= block
+    write(sys.stdout, stages, count, lines, seed)
 
 
-main()
+if __name__ == "__main__":
+    main()

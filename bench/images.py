@@ -1,4 +1,4 @@
-#!/usr/bin/env python3
+#!/usr/bin/env -S python3 -B
 """images.py PROGRAM [OTHER]    Seconds that PROGRAM, and OTHER beside it, take to load, to assemble and to list.
 
 Loaded, for an empty script, is an image of 64 MiB whose one chunk fills its memory. Assembled are texts of 10,000, 100,000 and
@@ -8,13 +8,14 @@ programs are given, the ratio is that of their speeds, the first to the second, 
 byte. The status is 1 where it differs or a run fails.
 """
 import filecmp
-import os
 import random
 import struct
 import subprocess
 import sys
 import tempfile
 import time
+
+from bench import named
 
 BASE = 0x80000000
 SIZE = 1 << 26
@@ -73,12 +74,7 @@ def measured(programs, room, name, words, count, unit):
 
 
 def main():
-    programs = [os.path.abspath(word) for word in sys.argv[1:]]
-    if len(programs) not in (1, 2):
-        sys.exit("usage: images.py PROGRAM [OTHER]")
-    for program in programs:
-        if not os.access(program, os.X_OK) or os.path.isdir(program):
-            sys.exit(f"images: {program} is no program")
+    programs = named(2, __doc__)
     with tempfile.TemporaryDirectory(prefix="rviommu-images-") as room:
         image, text = f"{room}/image", f"{room}/text"
         write_image(image)

@@ -1,4 +1,4 @@
-#!/usr/bin/env python3
+#!/usr/bin/env -S python3 -B
 """instructions.py PROGRAM [OTHER]    Instructions of PROGRAM, and of OTHER beside it, counted by callgrind: no clock is read.
 
 The scripts are those of bench.py, shorter: what a line takes is the difference of two lengths, divided by the lines between
@@ -18,10 +18,11 @@ import subprocess
 import sys
 import tempfile
 
+import generate
+
 SHORT = 2_000
 LONG = 22_000
 SEED = 1
-HERE = os.path.dirname(os.path.abspath(__file__))
 # name, stages, pages
 SCRIPTS = [
     ("mode Bare", 0, 256),
@@ -53,9 +54,8 @@ def address(dice, size):
 
 
 def generated(path, stages, pages, lines):
-    words = [str(word) for word in (stages, pages, lines, SEED)]
-    with open(path, "wb") as out:
-        subprocess.run([sys.executable, os.path.join(HERE, "generate.py"), *words], stdout=out, check=True)
+    with open(path, "w", encoding="ascii") as out:
+        generate.write(out, stages, pages, lines)
 
 
 def of_kind(path, line, lines):

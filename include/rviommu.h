@@ -58,7 +58,7 @@ enum rviommu_answer {
 /* Whether something other than a step was done, and else why not. rviommu_text has the words. */
 enum rviommu_status {
     RVIOMMU_OK = 0,
-    RVIOMMU_BAD_MAGIC = 1,     /* of an image: the first eight bytes are neither "RVIOMMU1" nor "RVIOMMU2" */
+    RVIOMMU_BAD_MAGIC = 1,     /* of an image: the first eight bytes are none of "RVIOMMU1", "RVIOMMU2" and "RVIOMMU3" */
     RVIOMMU_TRUNCATED = 2,     /* the bytes end within the image */
     RVIOMMU_TRAILING = 3,      /* bytes follow the image */
     RVIOMMU_BAD_RAM = 4,       /* there is no memory of this base and size */
@@ -70,7 +70,8 @@ enum rviommu_status {
     RVIOMMU_OUTSIDE = 10,      /* a byte is outside memory, or behind the end of a disk */
     RVIOMMU_LITTLE_ROOM = 11,  /* the buffer is too short */
     RVIOMMU_NO_DISK = 12,      /* no such block device */
-    RVIOMMU_NOT_THERE = 13     /* there are fewer parts, steps or places, or the device id isn't below 2^24 */
+    RVIOMMU_NOT_THERE = 13,    /* there are fewer parts, steps or places, or the device id isn't below 2^24 */
+    RVIOMMU_BAD_CAPABILITIES = 14 /* an image of version 3 states a capability that there is not, or a bad number of vectors */
 };
 
 /* What stands at a place of a cache. */
@@ -102,8 +103,8 @@ struct rviommu_context_place {
     uint32_t did;    /* the device id */
     uint32_t pscid;  /* ta.PSCID */
     uint32_t gscid;  /* iohgatp.GSCID */
-    uint32_t gmode;  /* iohgatp.MODE: 0 Bare, 8 Sv39x4, 9 Sv48x4 */
-    uint32_t mode;   /* fsc.MODE: 0 Bare, 8 Sv39, 9 Sv48 */
+    uint32_t gmode;  /* iohgatp.MODE: 0 Bare, 8 Sv39x4, 9 Sv48x4, 10 Sv57x4 */
+    uint32_t mode;   /* fsc.MODE: 0 Bare, 8 Sv39, 9 Sv48, 10 Sv57 */
     uint32_t custom; /* tc bits 31:24 */
     bool dtf;        /* tc.DTF */
     bool tav;        /* ta bit 0 */
@@ -239,8 +240,8 @@ uint32_t rviommu_version(void);
  */
 
 /* Opens the platform that an image starts: its memory and block devices, the registers at reset, nothing cached. Answers
- * RVIOMMU_OK, RVIOMMU_OUT_OF_MEMORY, or RVIOMMU_BAD_MAGIC to RVIOMMU_BAD_DEVICE for the first check that fails; the handle is
- * closed then. */
+ * RVIOMMU_OK, RVIOMMU_OUT_OF_MEMORY, or RVIOMMU_BAD_MAGIC to RVIOMMU_BAD_DEVICE or RVIOMMU_BAD_CAPABILITIES for the first check
+ * that fails; the handle is closed then. */
 enum rviommu_status rviommu_open(const uint8_t *image, size_t length, rviommu_t *handle);
 
 /* Opens 1 MiB of memory at physical address 0x80000000, all 0, with no block device. Answers RVIOMMU_OK, or

@@ -205,9 +205,7 @@ class WholeBuild:
         self.started = time.monotonic()
 
     def write(self, folder):
-        crates = listed()
-        uses = {name: uses for name, (_, uses) in crates.items()}
-        whole.Whole(self.top, uses, CRATES).write(folder, crates[self.top][0])
+        whole.Whole(self.top).write(folder, listed()[self.top][0])
 
     def tell(self, done, of):
         passed = time.monotonic() - self.started

@@ -1,11 +1,17 @@
-"""The crates of crates.txt."""
+"""The repository's place, its version, and the crates of crates.txt."""
 import os
+import re
 from pathlib import Path
 
 # The repository. The tools and the tests take all paths in it from here.
 TOP = Path(__file__).resolve().parent.parent
 FOLDER = TOP / "crates"
 LIST = TOP / "crates.txt"
+
+
+def version():
+    """The newest version of CHANGELOG.md, and its date."""
+    return re.search(r"(?m)^## (\d+\.\d+\.\d+) \((\d{4}-\d\d-\d\d)\)$", (TOP / "CHANGELOG.md").read_text(encoding="utf-8")).groups()
 
 
 def listed():

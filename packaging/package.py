@@ -14,14 +14,13 @@ import gzip
 import hashlib
 import io
 import os
-import re
 import shutil
 import subprocess
 import sys
 import tarfile
 import tempfile
 
-from crates import TOP
+from crates import TOP, version
 
 MADE = os.path.join(TOP, "dist")
 MAINTAINER = "rviommu maintainers <maintainers@users.noreply.lacingprune.example>"
@@ -84,11 +83,8 @@ def read(name):
 
 def version_and_date():
     """The newest version of CHANGELOG.md, and the seconds at which its day began."""
-    newest = re.search(r"^## (\d+\.\d+\.\d+) \((\d{4})-(\d\d)-(\d\d)\)$", read("CHANGELOG.md").decode(), re.MULTILINE)
-    if not newest:
-        sys.exit("package: CHANGELOG.md has no line '## VERSION (YYYY-MM-DD)'")
-    day = datetime.datetime(*map(int, newest.groups()[1:]), tzinfo=datetime.timezone.utc)
-    return newest[1], int(day.timestamp())
+    number, date = version()
+    return number, int(datetime.datetime.fromisoformat(f"{date}T00:00:00+00:00").timestamp())
 
 
 def stripped(path, *words):

@@ -13,36 +13,30 @@ they name one another:
 
 A module of a crate's root is public in the whole one, since definitions of other crates name its types.
 """
-import os
 import re
+from pathlib import Path
 
-PARTS = ("src", "specs", "proofs")
+import crates
+from kit import PARTS
+
 TACTICS = "#![tactic(auto)]\n"
 
 
 def texts(folder):
     """The code, definitions and proofs of a crate, by their paths in its folder."""
     for part in PARTS:
-        for at, _, files in os.walk(os.path.join(folder, part)):
-            for it in files:
-                if it.endswith((".rt", ".antt")):
-                    path = os.path.join(at, it)
-                    with open(path, encoding="utf-8") as file:
-                        yield os.path.relpath(path, folder), file.read()
+        for path in sorted((folder / part).rglob("*")):
+            if path.suffix in (".rt", ".antt"):
+                yield str(path.relative_to(folder)), path.read_text(encoding="utf-8")
 
 
 class Whole:
-    """The whole crate: `uses` has each crate of the repository with what it stands on, the libraries of the toolchain among them."""
+    """The whole crate of one and of all that it stands on."""
 
-    def __init__(self, top, uses, crates):
-        self.top, self.crates = top, crates
-        wanted, to_do = set(), [top]
-        while to_do:
-            name = to_do.pop()
-            if name in uses and name not in wanted:
-                wanted.add(name)
-                to_do += uses[name]
-        self.below = [it for it in uses if it in wanted and it != top]
+    def __init__(self, top):
+        uses = {name: uses for name, (_, uses) in crates.listed().items()}
+        wanted = crates.below(crates.stands_on(), top)
+        self.top, self.below = top, [it for it in wanted if it != top]
         self.libraries = sorted({it for name in wanted for it in uses[name] if it not in uses})
         self.names = "|".join(sorted(self.below, key=len, reverse=True))
 
@@ -73,7 +67,7 @@ class Whole:
         """The texts of the whole crate, by their paths in its folder."""
         found = {}
         for name in [*self.below, self.top]:
-            for path, text in texts(os.path.join(self.crates, name)):
+            for path, text in texts(crates.FOLDER / name):
                 part, _, rest = path.partition("/")
                 text = self.definitions(text)
                 if part == "src":
@@ -93,9 +87,7 @@ class Whole:
     def write(self, folder, words):
         """Writes the whole crate into a folder, with a list of crates that has it alone: its name and `words`."""
         for path, text in self.files().items():
-            path = os.path.join(folder, "crates", self.top, path)
-            os.makedirs(os.path.dirname(path), exist_ok=True)
-            with open(path, "w", encoding="utf-8") as file:
-                file.write(text)
-        with open(os.path.join(folder, "crates.txt"), "w", encoding="utf-8") as file:
-            file.write(f"{' '.join([self.top, *words])}: {' '.join(self.libraries)}\n")
+            path = Path(folder, "crates", self.top, path)
+            path.parent.mkdir(parents=True, exist_ok=True)
+            path.write_text(text, encoding="utf-8")
+        Path(folder, "crates.txt").write_text(f"{' '.join([self.top, *words])}: {' '.join(self.libraries)}\n", encoding="utf-8")

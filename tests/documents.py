@@ -25,11 +25,6 @@ def sections(text):
     return re.findall(r"(?ms)^## (.*?)\n(.*?)(?=^## |\Z)", "## \n" + text)
 
 
-def newest():
-    """The newest version of CHANGELOG.md and its date."""
-    return re.search(r"(?m)^## (\S+) \((\d{4}-\d\d-\d\d)\)$", text_of("CHANGELOG.md")).groups()
-
-
 def names_there(pattern):
     return sorted(str(path.relative_to(TOP)) for path in TOP.glob(pattern))
 

@@ -4,9 +4,11 @@ The program is the one that RVIOMMU_PROGRAM names in the environment, else the b
 module, a class or a test by its name.
 """
 import functools
+import importlib.util
 import os
 import re
 import select
+import shlex
 import shutil
 import subprocess
 import sys
@@ -84,6 +86,14 @@ def scripts():
         yield path, path.read_bytes(), text.read_bytes() if text.exists() else None
 
 
+def page_build():
+    """web/build.py, which builds the page."""
+    spec = importlib.util.spec_from_file_location("page_build", TOP / "web/build.py")
+    module = importlib.util.module_from_spec(spec)
+    spec.loader.exec_module(module)
+    return module
+
+
 def words_of(script):
     """The words that an example's script is played with: those that its first line names, else run."""
     found = re.match(rb"# rviommu ((?:check|debug)(?: --\w+)*) image < examples/\w+\.script\n", script)
@@ -158,7 +168,7 @@ class Case(unittest.TestCase):
 
     def shell(self, command):
         """What a shell writes in the test's folder, where `rviommu` is the program; and how it ends."""
-        os.chmod(self.put("rviommu", f'#!/bin/sh\nexec {program()} "$@"\n'), 0o755)
+        os.chmod(self.put("rviommu", f'#!/bin/sh\nexec {shlex.quote(program())} "$@"\n'), 0o755)
         how = {"cwd": self.folder, "env": {**os.environ, "PATH": f"{self.folder}:{os.environ['PATH']}"}, "stdout": subprocess.PIPE}
         ended = subprocess.run(["sh", "-c", command], timeout=RUN_SECONDS, **how)
         return ended.returncode, ended.stdout.decode()

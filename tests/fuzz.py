@@ -1,4 +1,4 @@
-#!/usr/bin/env python3
+#!/usr/bin/env -S python3 -B
 """fuzz.py PROGRAM OTHER [MINUTES] [SEED]    Runs two programs beside each other on cases made to harm.
 
 A case is a text for an image and a script, made by small changes from those of examples/ and crates/iom_rows/data: numbers moved to

@@ -1,4 +1,4 @@
-#!/usr/bin/env python3
+#!/usr/bin/env -S python3 -B
 """gate_cost.py [CRATE..]    Processor seconds of the gate's parts, run one at a time, with one job each, on a copy of the
 repository.
 

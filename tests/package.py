@@ -65,9 +65,11 @@ class Packages(frame.Case):
         (flags_file,) = library.rglob("rviommu.pc")
         made, lib = self.path("test"), flags_file.parent.parent
         flags = run(["pkg-config", "--cflags", "--libs", "rviommu"], env={**os.environ, "PKG_CONFIG_PATH": str(flags_file.parent)}).decode().split()
+        run(["gcc", "-std=c11", "-fsyntax-only", TOP / "tests/c/record.c", *flags[:1]])
         for ends, env in ((flags, {**os.environ, "LD_LIBRARY_PATH": str(lib)}), ([*flags[:1], lib / "librviommu.a"], None)):
             run(["gcc", "-std=c11", "-o", made, EXAMPLES / "c/iommu.c", EXAMPLES / "c/test_driver.c", *ends])
             self.assertEqual(run([made], env=env), b"passed\n")
+        run(["gcc", "-std=c11", "-fsyntax-only", TOP / "tests/c/record.c", *flags[:1]])
 
     def want_same(self, files):
         """Wants each of these to have the same bytes as the other."""

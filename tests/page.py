@@ -1,34 +1,33 @@
 #!/usr/bin/env -S python3 -B
-"""page.py [PROGRAM [FOLDER]]    Drives the page of web/out in Chromium without a window, and in Firefox where it is installed and new enough, and puts
-pictures into FOLDER, where one is named.
+"""page.py PROGRAM    Drives the page of web/out in Chromium without a window, and in Firefox where it is installed and new enough, and puts
+pictures into the folder that RVIOMMU_PICTURES names, where it names one.
 
-Each example's answers in the page are those of its file NAME.answers, or give the verdicts that stand there. Where a PROGRAM is named, what the
-page shows at each line is what its word `debug` answers to the same questions, and what it marks is what `check` tells. A script of 10,000 lines is
+Each example's answers in the page are those of its file NAME.answers, or give the verdicts that stand there. What the page shows at each line is
+what the program's word `debug` answers to the same questions, and what it marks is what `check` tells. A script of 10,000 lines is
 answered within two seconds, one of 100,000 and one of 1,000,000 are shown within few more than the model needs, a script kept in the address comes
 back, the page can be served, the keys move through the steps, a picture of a walk has a box for each part, no box lies on another, nothing is wider
 than a narrow screen, and nothing is told on the browser's console; the rest stands in page_using.py.
-Prints 'page: N passed, M failed'; the status is 1 where something failed. The picture web/page.png, which README shows, is that of stale_translation.
+
+Prints each test, and 'page: N passed, M failed' at the end; a judgement that isn't met counts as one that failed. The status is 1 where there is
+one. The picture web/page.png, which README shows, is that of stale_translation.
 """
 import filecmp
 import functools
 import http.server
-import importlib.util
 import json
 import os
 import re
 import subprocess
-import sys
 import tempfile
 import threading
 import time
 
+import frame
 import page_using as using
 from browsers import SECONDS, Chromium, Firefox
+from frame import EXAMPLES
+from page_using import PAGE, WEB
 
-TOP = os.path.normpath(os.path.join(os.path.dirname(os.path.abspath(__file__)), os.pardir))
-PAGE = "file://" + os.path.join(TOP, "web", "out", "index.html")
-WEB = os.path.join(TOP, "web")
-EXAMPLES = os.path.join(TOP, "examples")
 # Of which example a picture is taken, at which of its accesses, and how.
 PICTURES = [("stale_translation", 1, "light"), ("both_stages", -1, "dark"), ("who_refused", 0, "light")]
 WIDE, NARROW = (1440, 1100), (390, 1600)
@@ -36,25 +35,12 @@ WIDE, NARROW = (1440, 1100), (390, 1600)
 LARGE = [(100_000, 4), (1_000_000, 30)]
 
 
-class Tally:
-    def __init__(self):
-        self.passed, self.failed, self.browser = 0, 0, "page"
-
-    def judge(self, name, got, wanted):
-        if got == wanted:
-            self.passed += 1
-        else:
-            self.failed += 1
-            print(f"{self.browser}: {name}: {str(got)[:400]}\n  wanted {str(wanted)[:400]}", flush=True)
-
-
 def read(name, ending):
-    with open(os.path.join(EXAMPLES, f"{name}.{ending}"), encoding="utf-8") as file:
-        return file.read()
+    return (EXAMPLES / f"{name}.{ending}").read_text(encoding="utf-8")
 
 
 def names():
-    return sorted(it[: -len(".script")] for it in os.listdir(EXAMPLES) if it.endswith(".script"))
+    return sorted(it.stem for it in EXAMPLES.glob("*.script"))
 
 
 def answers_of(program, image, lines):
@@ -66,11 +52,8 @@ def answers_of(program, image, lines):
 
 def image_of(program, name, folder):
     """The image of an example, None where it has none."""
-    if not os.path.exists(os.path.join(EXAMPLES, f"{name}.asm")):
-        return None
-    image = os.path.join(folder, f"{name}.image")
-    subprocess.run([program, "asm", os.path.join(EXAMPLES, f"{name}.asm"), image], check=True)
-    return image
+    text, image = EXAMPLES / f"{name}.asm", os.path.join(folder, f"{name}.image")
+    return image if text.exists() and subprocess.run([program, "asm", text, image], check=True) else None
 
 
 def verdicts(browser, lines):
@@ -92,9 +75,7 @@ def judge_built(tally):
     names_there = [it for it in os.listdir(WEB) if it.endswith((".html", ".css", ".js"))]
     others = [it for it in names_there if not filecmp.cmp(os.path.join(WEB, it), os.path.join(WEB, "out", it), shallow=False)]
     tally.judge("the files of web/out that 'make page' has yet to copy", others, [])
-    spec = importlib.util.spec_from_file_location("page_build", os.path.join(WEB, "build.py"))
-    build = importlib.util.module_from_spec(spec)
-    spec.loader.exec_module(build)
+    build = frame.page_build()
     tally.judge("the page's files that 'make page' copies", sorted(build.PAGES), sorted(names_there))
     tally.judge("what 'make page' builds with", hasattr(build.build, "Build"), True)
 
@@ -162,8 +143,7 @@ def judge_speed(browser, tally, program):
     print(f"page: {browser.name}: 10,000 lines are answered in {milliseconds:.0f} ms, one of them is shown in {step:.0f} ms")
     tally.judge("10,000 lines within two seconds", milliseconds < 2000, True)
     tally.judge("10,000 answers", browser.run('script.answers.filter((it) => it !== "").length'), 10000)
-    if program:
-        tally.judge("the answers to 10,000 lines", browser.run("script.answers"), answers_of(program, None, lines))
+    tally.judge("the answers to 10,000 lines", browser.run("script.answers"), answers_of(program, None, lines))
 
 
 def judge_address(browser, tally):
@@ -289,8 +269,7 @@ def judge_browser(browser, tally, program, folder):
     browser.open(PAGE)
     tally.judge("the start", browser.run('at("fault").hidden || at("fault").textContent'), True)
     judge_answers(browser, tally)
-    if program:
-        judge_with(browser, tally, program)
+    judge_with(browser, tally, program)
     judge_walks(browser, tally)
     judge_fillers(browser, tally)
     judge_speed(browser, tally, program)
@@ -316,25 +295,33 @@ def judge_browser(browser, tally, program, folder):
     using.judge_unbuilt(browser, tally)
 
 
-def main():
-    program = os.path.abspath(sys.argv[1]) if len(sys.argv) > 1 else None
-    folder = sys.argv[2] if len(sys.argv) > 2 else None
-    tally = Tally()
-    judge_built(tally)
-    if Chromium.program() is None:
-        sys.exit("page.py: chromium is not on the path")
-    for kind in (Chromium, Firefox):
+class Page(frame.Case):
+    """What is judged below, each judgement a subtest."""
+
+    def judge(self, name, got, wanted):
+        with self.subTest(name):
+            self.assertEqual(got, wanted)
+
+    def in_browser(self, kind, folder=None):
         if kind.program() is None:
-            continue
-        tally.browser = kind.name
+            self.skipTest(f"there is no {kind.name} that is new enough")
         browser = kind()
-        try:
-            judge_browser(browser, tally, program, folder if kind is Chromium else None)
-        finally:
-            browser.close()
-    print(f"page: {tally.passed} passed, {tally.failed} failed")
-    sys.exit(1 if tally.failed else 0)
+        self.addCleanup(browser.close)
+        judge_browser(browser, self, frame.program(), folder)
+
+    def test_built(self):
+        """the page in web/out is that of web/, and all that it needs is there"""
+        judge_built(self)
+
+    def test_chromium(self):
+        """the page in Chromium"""
+        self.assertTrue(Chromium.program(), "chromium is not on the path")
+        self.in_browser(Chromium, os.environ.get("RVIOMMU_PICTURES"))
+
+    def test_firefox(self):
+        """the page in Firefox"""
+        self.in_browser(Firefox)
 
 
 if __name__ == "__main__":
-    main()
+    frame.main(__doc__, "page", "page.py")

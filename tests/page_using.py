@@ -1,14 +1,14 @@
 """Checks of the page as one uses it: what is typed, clicked, chosen and named in its address. The first operand is the browser, the second the tally."""
 import base64
 import json
-import os
 import re
 import time
 import zlib
 
-TOP = os.path.normpath(os.path.join(os.path.dirname(os.path.abspath(__file__)), os.pardir))
-PAGE = "file://" + os.path.join(TOP, "web", "out", "index.html")
-UNBUILT = "file://" + os.path.join(TOP, "web", "index.html")
+from frame import TOP
+
+WEB = TOP / "web"
+PAGE, UNBUILT = (WEB / "out/index.html").as_uri(), (WEB / "index.html").as_uri()
 
 # What is seen: whether an element is in the window, with nothing above it; and the rows of the script.
 IN_WINDOW = """((id) => {

@@ -1,7 +1,7 @@
-"""The whole crate, as which a program is built from nothing: it has what the crates have, and nothing else, by other paths."""
+"""The whole crate, as which a program is built from nothing: it has what the crates have, and nothing else, by other paths. And the page's crate."""
 import re
 
-from frame import TOP, Case
+from frame import TOP, Case, page_build
 import build
 import whole
 
@@ -24,11 +24,11 @@ def as_in_crate(text, name, others, top):
 class Building(Case):
     def test_whole(self):
         """build: the whole crate has what the crates have, by other paths"""
-        top, crates = build.FIRST, TOP / "crates"
-        made = whole.Whole(top, {name: uses for name, (_, uses) in build.listed().items()}, crates)
+        top = build.FIRST
+        made = whole.Whole(top)
         files, others = made.files(), "|".join(made.below)
         for name in [*made.below, top]:
-            for path, text in whole.texts(crates / name):
+            for path, text in whole.texts(TOP / "crates" / name):
                 place = in_whole(name, path, top)
                 self.assertIn(place, files)
                 found = as_in_crate(files.pop(place), name, others, top)
@@ -40,3 +40,11 @@ class Building(Case):
                     found = re.sub(rf"^pub mod ({others})\n", "", found, flags=re.MULTILINE)
                 self.assertEqual(found, text, f"{place}, read as {name}/{path}")
         self.assertEqual(sorted(it for it in files if it != "specs/Lib.antt"), [])
+
+    def test_page(self):
+        """page: the files of its crate are laid out as `rt fmt` lays them out"""
+        self.needs("rt")
+        page = page_build()
+        page.COPY = self.path("copy")
+        own = page.own_sources()
+        self.assertEqual([path for path, text in page.formatted().items() if own[path] != text], [])

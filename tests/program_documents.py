@@ -4,8 +4,9 @@ import re
 import shutil
 import subprocess
 
-from documents import newest, plain, section, sections, spans, table_of
+from documents import plain, section, sections, spans, table_of
 from frame import EXAMPLES, PLAYER, RUN_SECONDS, TOP, Case, commands, run, text_of
+from crates import version
 from samples import IMAGE, INVALIDATE, MAP, MAPPED, ON, READ, READY, UNMAP
 
 # A directory of one level whose devices 0 to 19 have Sv39 as their first stage, and a root table of 70 pages of 1 GiB.
@@ -43,6 +44,7 @@ UNMAPPED = [*CACHED, UNMAP.decode().strip()]
 TO_DDTP = [*CACHED, "reg write ddtp 1"]
 # Of each row of the table of debug's lines, for each answer that it names the lines that lead there, on an image with tables and a disk.
 DEBUG_SAMPLES = {
+    "vectors": {"0x0": ["reg write cqb 0x20000000", "reg write cqcsr 3", "reg write cqt 1", "cmd", "vectors"], "none": ["vectors"]},
     "dump ADDR LEN": {"outside": ["dump 0 1"]},
     "disk N BYTE LEN": {"outside": ["disk 0 1024 1"], "none": ["disk 1 0 1"]},
     "dev show N": {"none": ["dev show 1"]},
@@ -91,11 +93,11 @@ def operands(word):
 class Versions(Case):
     def test_versions(self):
         """--version, the man page, the header and the Python module name the version of CHANGELOG.md, and the page its date"""
-        version, date = newest()
-        self.want(["--version"], f"rviommu {version}\n".encode())
-        self.assertEqual(text_of("man/rviommu.1").splitlines()[0], f'.TH RVIOMMU 1 "{date}" "rviommu {version}" "User Commands"')
+        number, date = version()
+        self.want(["--version"], f"rviommu {number}\n".encode())
+        self.assertEqual(text_of("man/rviommu.1").splitlines()[0], f'.TH RVIOMMU 1 "{date}" "rviommu {number}" "User Commands"')
         for name, before in (("include/rviommu.h", "#define RVIOMMU_VERSION "), ("python/rviommu/__init__.py", "__version__ = ")):
-            self.assertEqual(re.findall(rf'(?m)^{before}"(.*)"$', text_of(name)), [version], name)
+            self.assertEqual(re.findall(rf'(?m)^{before}"(.*)"$', text_of(name)), [number], name)
 
     def test_newest_first(self):
         """CHANGELOG.md: the newest version stands first"""

@@ -5,27 +5,11 @@ import random
 import re
 import time
 
-from frame import ANSWER, ASK, BAD_FOR_RUN, EXAMPLES, MOST_IN_LINE, MOST_LINES, TOO_LONG, WELL, Case, run, scripts
-from samples import DEVICE, INVALIDATE, MAP, MAPPED, READ, UNMAP
+from frame import ANSWER, ASK, BAD_FOR_RUN, EXAMPLES, MOST_IN_LINE, MOST_LINES, TESTS, TOO_LONG, WELL, Case, run, scripts
+from samples import DEVICE, MAPPED
 
-# The walk of the read in MAPPED down to its last entry, and the ends of it while that entry is there and once it isn't.
+# The context of MAPPED.
 CONTEXT = "context dtf=0x0 custom=0x0 gmode=0x0 gppn=0x0 gscid=0x0 tav=0x0 pscid=0x3 mode=0x8 ppn=0x80002"
-WALK = f"""\
-    walk: ddtp mode=0x2 root=0x80001
-    walk: context at=0x800010a0 {CONTEXT}
-    walk: first level=0x2 at=0x80002008 in=0x80002008 pte ppn=0x80003 flags=0x1 pointer
-    walk: first level=0x1 at=0x80003008 in=0x80003008 pte ppn=0x80004 flags=0x1 pointer
-"""
-GRANTED = WALK + """\
-    walk: first level=0x0 at=0x80004008 in=0x80004008 pte ppn=0x80010 flags=0xd7 leaf
-    walk: frame=0x80010 addr=0x80010abc
-"""
-DENIED = WALK + """\
-    walk: first level=0x0 at=0x80004008 in=0x80004008 pte ppn=0x0 flags=0x0 V=0
-    walk: denied 13 iotval2=0x0
-    warrant: none, it is denied
-"""
-READS = "dma read 0x5 0x40201abc 0x4"
 
 
 def summary(granted, cached, stale="0", **denied):
@@ -121,50 +105,10 @@ class Explaining(Case):
         self.assertEqual(self.explained(given, text, ending), wanted.splitlines())
 
     def test_examples(self):
-        """examples/NAME.explained is what explain writes of examples/NAME.script"""
-        for path in sorted(EXAMPLES.glob("*.explained")):
+        """NAME.explained of the examples and of tests/explained is what explain writes of NAME.script"""
+        for path in sorted([*EXAMPLES.glob("*.explained"), *(TESTS / "explained").glob("*.explained")]):
             with self.subTest(path.name):
                 self.want_explained(path.with_suffix(".script").read_bytes(), path.read_text(), path.with_suffix(".asm").read_bytes())
-
-    def test_page_walked_cached_unmapped(self):
-        """explain: a page is walked, cached, unmapped, stale, invalidated and denied"""
-        given = b"reg write ddtp 0x20000402 # a directory\n\n" + READ + b"\n" + READ + b"\n" + UNMAP + READ + b"\n" + INVALIDATE + READ + b"\n"
-        wanted = "1: reg write ddtp 0x20000402 -> done\n"
-        wanted += f"3: {READS} -> 11223344\n    caches: no context, no page\n{GRANTED}    warrant: walked context=3 walk=3 current=3\n"
-        cached = "    caches: context of line 3, page of line 3, addr=0x80010abc\n    warrant: walked context=3 walk=3 current=3\n"
-        wanted += f"4: {READS} -> 11223344\n{cached}5: store 0x80004008 0x8 0x0 -> done\n"
-        wanted += f"6: {READS} -> 11223344\n{cached}    stale: the tables now say denied 13\n"
-        wanted += "7: reg write cqb 0x20024000 -> done\n8: reg write cqcsr 1 -> done\n9: reg write cqt 1 -> done\n"
-        wanted += "10: cmd -> done\n10: cmd -> idle\n10: cmd run 9 -> 0x2 idle\n"
-        wanted += f"11: {READS} -> denied 13\n    caches: context of line 3, no page\n{DENIED}"
-        self.want_explained(given, wanted + summary(3, 2, "1 (line 6)", _13=1), MAPPED)
-
-    def test_context_dropped_leaves_translations(self):
-        """explain: a context that is dropped leaves its translations, and a new one finds them"""
-        given = MAP + b"reg write cqb 0x20024000\nput 0x80090000 cmd iodir\nreg write cqcsr 1\nreg write cqt 1\ncmd\n" + READ + b"\n"
-        wanted = f"1: reg write ddtp 0x20000402 -> done\n2: {READS} -> 11223344\n    caches: no context, no page\n{GRANTED}"
-        wanted += "    warrant: walked context=2 walk=2 current=2\n3: reg write cqb 0x20024000 -> done\n4: put 0x80090000 cmd iodir -> done\n"
-        wanted += "5: reg write cqcsr 1 -> done\n6: reg write cqt 1 -> done\n7: cmd -> done\n"
-        wanted += f"8: {READS} -> 11223344\n    caches: no context, page of line 2, addr=0x80010abc\n{GRANTED}    warrant: walked context=2 walk=2 current=8\n"
-        self.want_explained(given, wanted + summary(2, 0), MAPPED)
-
-    def test_accesses_ddtp_or_context(self):
-        """explain: accesses that ddtp or a context alone leads, and those that are denied before the caches"""
-        text = b"ram 0x80000000 0x10000\nat 0x80001000\ncontext\n"
-        given = b"dma read 0 0x80000000 1\nreg write 16 8 1\ndma read 0 0x80000000 1\ndma write 0 0x80010000 ff\nreg write 16 8 0x20000402\n"
-        given += b"dma read 0 0x80000000 1\ndma read 0 0x80000000 1\ndma read 0x80 0 1\ndma read 1 0 1\ndma read 0x1000000 0 1\n"
-        wanted = "1: dma read 0x0 0x80000000 0x1 -> denied 256\n    walk: ddtp mode=0x0 root=0x0\n    walk: denied 256 iotval2=0x0\n"
-        wanted += "    warrant: none, it is denied\n2: reg write 0x10 0x8 0x1 -> done\n3: dma read 0x0 0x80000000 0x1 -> 00\n"
-        wanted += "    walk: ddtp mode=0x1 root=0x0\n    walk: register addr=0x80000000\n    warrant: register\n"
-        wanted += "4: dma write 0x0 0x80010000 ff -> bus error\n    walk: ddtp mode=0x1 root=0x0\n    walk: register addr=0x80010000\n"
-        wanted += "    warrant: register\n5: reg write 0x10 0x8 0x20000402 -> done\n6: dma read 0x0 0x80000000 0x1 -> 00\n    caches: no context\n"
-        wanted += f"    walk: ddtp mode=0x2 root=0x80001\n    walk: context at=0x80001000 {CONTEXT.replace('0x3 mode=0x8', '0x0 mode=0x0').replace('0x80002', '0x0')}\n"
-        wanted += "    walk: context addr=0x80000000\n    warrant: context 6\n7: dma read 0x0 0x80000000 0x1 -> 00\n    caches: context of line 6, addr=0x80000000\n"
-        wanted += "    warrant: context 6\n8: dma read 0x80 0x0 0x1 -> denied 260\n    walk: ddtp mode=0x2 root=0x80001\n"
-        wanted += "    walk: dir did=0x80 width\n    walk: denied 260 iotval2=0x0\n    warrant: none, it is denied\n9: dma read 0x1 0x0 0x1 -> denied 258\n"
-        wanted += "    walk: ddtp mode=0x2 root=0x80001\n    walk: context at=0x80001020 u64 0x0 0x0 0x0 0x0\n    walk: denied 258 iotval2=0x0\n"
-        wanted += "    warrant: none, it is denied\n10: dma read 0x1000000 0x0 0x1 -> misuse\n"
-        self.want_explained(given, wanted + summary(4, 1, _256=1, _258=1, _260=1), text)
 
     def test_block_device_asks_step(self):
         """explain: what a block device asks, and each step of a line of many before that line"""
@@ -264,7 +208,7 @@ class Progress(Case):
             self.assertTrue(bool(re.fullmatch(rb"(\r%b: \d+ %%)+\r +\r" % word.encode(), told)), f"whether {word} tells it: {told[-60:]!r}")
             shares = [int(it) for it in re.findall(rb": (\d+) %", told)]
             self.assertEqual(shares, sorted({it for it in shares if it <= 100}), f"what {word} tells")
-        line = GRANTED.splitlines()[3].strip().removeprefix("walk: ").encode() + b"\n"
+        line = b"first level=0x1 at=0x80003008 in=0x80003008 pte ppn=0x80004 flags=0x1 pointer\n"
         self.assertEqual(written["debug"], b"done\n" + line * (MOST_LINES - 1), "what debug writes")
         self.assertEqual(written["check"], b"0 passed, 0 failed\n", "what check writes")
 

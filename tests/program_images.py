@@ -7,6 +7,7 @@ from samples import STATEMENTS
 
 TEXT = b"ram 0x80000000 0x1000 # a page\nat 0x80000ff0\ncmd iodir dv=1 did=5\n"
 COMMAND = b"cmd iodir dv=0x1 did=0x5\n"
+WITHOUT_SVNAPOT = b"RVIOMMU3" + (1 << 56).to_bytes(8, "little")
 WRITABLE = b"RVIOMMU1" + READ_ONLY[8:40] + READ_ONLY[44:]
 BAD_TEXTS = {
     "an empty text": (b"", b"line 0: bad line"),
@@ -18,7 +19,8 @@ BAD_IMAGES = {
     "an empty file": (b"", b"truncated"),
     "an image that ends early": (BUILT_IN[:31], b"truncated"),
     "another magic": (b"S" + BUILT_IN[1:], b"bad magic"),
-    "a version that there is not": (BUILT_IN[:7] + b"3" + BUILT_IN[8:], b"bad magic"),
+    "a version that there is not": (BUILT_IN[:7] + b"4" + BUILT_IN[8:], b"bad magic"),
+    "a capability that there is not": (b"RVIOMMU3" + (1 << 9).to_bytes(8, "little") + BUILT_IN[8:], b"bad capabilities"),
     "a flag that there is not": (READ_ONLY[:40] + b"\2" + READ_ONLY[41:], b"bad device"),
     "a disk that ends in its flags": (READ_ONLY[:43], b"truncated"),
     "bytes after the image": (BUILT_IN + b"\0", b"trailing bytes"),
@@ -52,8 +54,9 @@ class Images(Case):
         self.want(["run", self.path("image")], ANSWER, given=ASK)
 
     def test_versions(self):
-        """asm: a text with rodisk gives version 2, any other version 1"""
-        for word, wanted in ((b"rodisk", READ_ONLY), (b"disk", WRITABLE)):
+        """asm: a text with capabilities gives version 3, another with rodisk version 2, any other version 1"""
+        third = b"RVIOMMU3" + (1 << 42 | 2 << 57).to_bytes(8, "little") + READ_ONLY[8:]
+        for word, wanted in ((b"rodisk", READ_ONLY), (b"disk", WRITABLE), (b"capabilities vectors=4 nl=1\nrodisk", third)):
             self.assertEqual(read(self.image(b"ram 0x80000000 0x1000\n" + word + b" 5 1 aa\n")), wanted)
 
     def test_bad_texts(self):
@@ -77,9 +80,10 @@ class Images(Case):
                 self.assertEqual(read(new), b"before")
 
     def test_upgrade(self):
-        """upgrade: version 1 gets another magic and flags, version 2 comes back, and a file may be upgraded in place"""
-        two = READ_ONLY[:40] + bytes(4) + READ_ONLY[44:]
-        for image, wanted in ((BUILT_IN, BUILT_IN[:7] + b"2" + BUILT_IN[8:]), (READ_ONLY, READ_ONLY), (WRITABLE, two)):
+        """upgrade: versions 1 and 2 get another magic, the word of a machine without Svnapot, and flags; version 3 comes back, and a file may be upgraded in place"""
+        read_only = WITHOUT_SVNAPOT + READ_ONLY[8:]
+        writable = read_only[:48] + bytes(4) + read_only[52:]
+        for image, wanted in ((BUILT_IN, WITHOUT_SVNAPOT + BUILT_IN[8:]), (READ_ONLY, read_only), (WRITABLE, writable)):
             old, new, twice = self.put("old", image), self.path("once"), self.path("twice")
             for words in (["upgrade", old, new], ["upgrade", new, twice], ["upgrade", old, old]):
                 self.want(words)
@@ -92,7 +96,7 @@ class Images(Case):
             if text is not None:
                 image, new = self.image(text), self.path("new")
                 self.want(["upgrade", image, new])
-                self.assertEqual(read(new)[:8], b"RVIOMMU2")
+                self.assertEqual(read(new)[:8], b"RVIOMMU3")
                 self.assertEqual(run(["run", new], given), run(["run", image], given), path.stem)
                 played += 1
         self.assertGreater(played, 20)

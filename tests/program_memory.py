@@ -5,29 +5,9 @@ import subprocess
 from pathlib import Path
 
 from documents import names_there, spans, table_of
-from frame import ASK, OUT_OF_MEMORY, RUN_SECONDS, Case, program, text_of
+from frame import ASK, OUT_OF_MEMORY, RUN_SECONDS, TESTS, Case, program, text_of
 
 MOST_ALLOCATIONS = 2000
-# A library whose malloc and realloc refuse the call of the number REFUSED, and write to the file COUNTED that they did.
-REFUSING = b"""
-#include <errno.h>
-#include <fcntl.h>
-#include <stddef.h>
-#include <stdlib.h>
-#include <unistd.h>
-extern void *__libc_malloc(size_t);
-extern void *__libc_realloc(void *, size_t);
-static long count;
-static int is_refused(void) {
-    const char *number = getenv("REFUSED"), *counted = getenv("COUNTED");
-    if (!number || !counted || ++count != atol(number)) return 0;
-    close(open(counted, O_CREAT | O_WRONLY, 0600));
-    errno = ENOMEM;
-    return 1;
-}
-void *malloc(size_t size) { return is_refused() ? NULL : __libc_malloc(size); }
-void *realloc(void *old, size_t size) { return is_refused() ? NULL : __libc_realloc(old, size); }
-"""
 RUNS = [
     [], ["asm", "source", "new"], ["run", "image"], ["check"], ["check", "--stale", "image"], ["debug", "image"], ["explain", "image"],
     ["list", "image", "u64", "0x80000000", "100"], ["upgrade", "image", "new"],
@@ -50,7 +30,7 @@ class Refused(Case):
     def test_refused(self):
         """out of memory: each allocation of a run refused in turn, for each word"""
         self.needs("cc")
-        subprocess.run(["cc", "-shared", "-fPIC", "-o", self.path("refusing.so"), self.put("refusing.c", REFUSING)], check=True)
+        subprocess.run(["cc", "-shared", "-fPIC", "-o", self.path("refusing.so"), TESTS / "c/refusing.c"], check=True)
         self.image(b"ram 0x80000000 0x1000\nu64 1 2 3\ndisk 5 2 c0ffee\n")
         refusal = (OUT_OF_MEMORY[0], b"", OUT_OF_MEMORY[1])
         for words in RUNS:

@@ -11,7 +11,7 @@ WIDTH = 80
 ANSWERS = ["done", "idle", "denied", "bus error", "bad access", "no device", "misuse", "outside", "none", "empty", "bad"]
 TEXTS = [
     *("line N: bad line", "line N: overlap", "line N: outside memory", "bad magic", "truncated", "trailing bytes"),
-    *("bad memory", "bad chunk", "bad device", "outside memory", "read failed", "write failed", "script too long"),
+    *("bad memory", "bad chunk", "bad device", "bad capabilities", "outside memory", "read failed", "write failed", "script too long"),
     *("out of memory", "cannot read FILE", "cannot write FILE"),
 ]
 ONE_LEVEL = "reg write 16 8 0x20000402"
@@ -268,7 +268,8 @@ class Facts(Case):
         for statement, wanted in [
             *((line, True) for line in lines), ("context jump=0", False), ("fault jump=0", False), ("dir ppn=1", True), ("dir flags=1", False),
             ("pte ppn=1 flags=1", True), ("u64 1 2 3 4 5 6 7 8", True), ("u64 1 2 3 4 5 6 7 8 9", False), ("u64", False), ("bytes aabb", True),
-            ("bytes abc", False), ("disk 5 1 aabb", True), ("disk 5 1 abc", False), ("rodisk 5 1 aabb", True), ("ram 0x90000000 0x1000", False),
+            ("bytes abc", False), ("disk 5 1 aabb", True), ("disk 5 1 abc", False), ("rodisk 5 1 aabb", True), ("capabilities", True), ("capabilities nl=1 vectors=3", False),
+            *((f"capabilities {key}=1", True) for key in ("sv57", "sv57x4", "svpbmt", "nl", "s", "vectors")), ("ram 0x90000000 0x1000", False),
             *((f"context mode={mode}", mode in (0, 8, 9)) for mode in range(16)), *((f"context gmode={mode}", mode in (0, 8, 9)) for mode in range(16)),
         ]:
             self.assertEqual(self.is_assembled(f"{IMAGE}{statement}\n"), wanted, f"whether {statement!r} is assembled")

@@ -7,13 +7,14 @@ FORMS = [
 ]
 # The lines that scripts of debug and check have besides.
 DEBUG_FORMS = [
-    "reg read NAME", "reg write NAME VALUE", "dev read N NAME", "dev write N NAME VALUE", "queue cmd", "dump ADDR LEN", "disk N BYTE LEN", "dev show N",
+    "reg read NAME", "reg write NAME VALUE", "dev read N NAME", "dev write N NAME VALUE", "queue cmd", "vectors", "dump ADDR LEN", "disk N BYTE LEN", "dev show N",
     "dev run N MAX", "cmd run MAX", "put ADDR ITEM", "stale read DID IOVA", "stale write DID IOVA", "stale context I", "stale page I", "origin context I",
     "origin page I", "walk read DID IOVA I", "walk write DID IOVA I", "why I",
 ]
 STATEMENTS = [
     "ram BASE SIZE", "at ADDR", "u64 VALUE", "bytes HEX", "cmd NAME", "context KEY", "dir ppn", "pte ppn", "fault KEY", "disk DID SECTORS",
     "rodisk DID SECTORS",
+    "capabilities [KEY=NUMBER",
 ]
 KINDS = ["cmd", "fault", "context", "dir", "pte", "u64"]
 

@@ -1,5 +1,5 @@
 #!/usr/bin/env -S python3 -B
-"""build.py [--copy | --page]    Builds the page that shows the model into web/out, where index.html can be opened from a file or served as it lies.
+"""build.py [--copy | --page | --format]    Builds the page that shows the model into web/out, where index.html can be opened from a file or served as it lies.
 
 The model runs in the page as a WebAssembly module with a memory of 64 bits. The toolchain has no heap for that target, so the
 crates are copied, and in the copy their allocator, std::alloc::Global, is page_heap::Global: std's own code and proofs over three
@@ -9,7 +9,7 @@ What is assumed of the page's three functions is what std assumes of malloc, rea
 The merge gate knows nothing of this, and refuses sources that are of none of its crates. So the files of web/iom_page have the ending .page, and
 the copy stands outside the repository: in the folder that PAGE_COPY names in the environment, else in one of the user's cache.
 With --copy it is written and its folder printed, and nothing is proved. With --page the page is put together anew around the model that was
-built last, in a second: for changes of the page's own files. Needs rt on the path. Progress is told on standard error.
+built last, in a second: for changes of the page's own files. With --format the files of web/iom_page are laid out as `rt fmt` does. Needs rt on the path. Progress is told on standard error.
 """
 import base64
 import hashlib
@@ -17,6 +17,7 @@ import json
 import os
 import re
 import shutil
+import subprocess
 import sys
 from pathlib import Path
 
@@ -26,6 +27,7 @@ import build
 import crates
 import kit
 from crates import TOP
+from kit import PARTS
 
 CRATES = TOP / "crates"
 EXAMPLES = TOP / "examples"
@@ -83,6 +85,11 @@ def sources(folder, parts, ending=""):
     return found
 
 
+def own_sources():
+    """The texts of the page's crate as they stand, by their paths without the ending .page."""
+    return sources(WEB / "iom_page", PARTS, ".page")
+
+
 def listed():
     """The crates of crates.txt that the page stands on, each with what it uses, lowest first."""
     stands_on = crates.stands_on()
@@ -118,7 +125,7 @@ def by_heap(text):
 
 def copied(name):
     """A crate of the repository over the page's heap."""
-    files = sources(os.path.join(CRATES, name), ["src", "specs", "proofs"])
+    files = sources(os.path.join(CRATES, name), PARTS)
     return {path: with_heap(text) if path.endswith(".rt") else by_heap(text) for path, text in files.items()}
 
 
@@ -152,7 +159,7 @@ def make_copy():
     rattle, own = os.path.join(kit.folder(), "rattle"), listed()
     files = {FOREIGN: page_libc(rattle), "page_heap": page_heap(rattle)}
     files |= {name: copied(name) for name in own}
-    files["iom_page"] = sources(os.path.join(WEB, "iom_page"), ["src", "specs", "proofs"], ".page")
+    files["iom_page"] = own_sources()
     lines = [f"{FOREIGN}: core libc", f"page_heap: core libc std_alloc std_collections circular_buffer {FOREIGN}"]
     for name, rest in own.items():
         over_heap = any("page_heap" in text for text in files[name].values())
@@ -162,6 +169,14 @@ def make_copy():
     write_tree({**every, "crates.txt": "\n".join(lines) + "\n"})
     # rt takes declarations of functions that are no Rattle only of a crate with such a folder.
     os.makedirs(os.path.join(COPY, "crates", FOREIGN, "c"), exist_ok=True)
+
+
+def formatted():
+    """The texts of the page's crate as `rt fmt` lays them out, by their paths."""
+    make_copy()
+    folder = os.path.join(COPY, "crates", "iom_page")
+    subprocess.run(["rt", "fmt"], cwd=folder, stdout=subprocess.DEVNULL, check=True)
+    return sources(folder, PARTS)
 
 
 def write_tree(files):
@@ -220,8 +235,12 @@ def write_page():
 
 def main():
     words = sys.argv[1:]
-    if words not in ([], ["--copy"], ["--page"]):
+    if words not in ([], ["--copy"], ["--page"], ["--format"]):
         sys.exit(__doc__)
+    if words == ["--format"]:
+        for path, text in formatted().items():
+            (WEB / "iom_page" / f"{path}.page").write_text(text, encoding="utf-8")
+        return
     if words != ["--page"]:
         make_copy()
     if words == ["--copy"]:

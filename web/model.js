@@ -98,6 +98,8 @@ const REFUSALS = [
   "bad line",
   "overlap",
   "outside memory",
+  "",
+  "bad capabilities",
 ];
 const LITTLE_ROOM = 11;
 const BUILT_IN = "ram 0x80000000 0x100000\n";

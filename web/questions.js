@@ -13,8 +13,8 @@ const MOST_KNOWN = 4;
 const MOST_LATE = 128;
 
 // The modes of a context's stages by their numbers.
-const FIRST_MODES = { 0: "Bare", 8: "Sv39", 9: "Sv48" };
-const SECOND_MODES = { 0: "Bare", 8: "Sv39x4", 9: "Sv48x4" };
+const FIRST_MODES = { 0: "Bare", 8: "Sv39", 9: "Sv48", 10: "Sv57" };
+const SECOND_MODES = { 0: "Bare", 8: "Sv39x4", 9: "Sv48x4", 10: "Sv57x4" };
 
 /** The words of a line, without its comment. */
 function wordsOf(line) {

@@ -73,17 +73,20 @@ class Pte(Form):
 
 @dataclass(frozen=True)
 class Vma(Form):
-    """IOTINVAL.VMA; an operand that is None isn't valid. `page` is the IOVA divided by 4096."""
+    """IOTINVAL.VMA; an operand that is None isn't valid. `page` is the IOVA divided by 4096. An IOMMU takes `nl` and `s` only with the
+    capability of this name; with `s`, where its lowest 0 is bit X, `page` stands for the 2^(X+1) pages, aligned, around it."""
 
     page: int | None = None
     pscid: int | None = None
     gscid: int | None = None
+    nl: bool = False
+    s: bool = False
     func3: ClassVar[int] = 0
 
     def words(self) -> tuple[int, ...]:
-        flags = (self.page is not None) << 10 | (self.pscid is not None) << 32 | (self.gscid is not None) << 33
+        flags = (self.page is not None) << 10 | (self.pscid is not None) << 32 | (self.gscid is not None) << 33 | self.nl << 34
         first = 1 | _field(self.func3, 7, 3) | flags | _field(self.pscid or 0, 12, 20) | _field(self.gscid or 0, 44, 16)
-        return first, _field(self.page or 0, 10, 52)
+        return first, self.s << 9 | _field(self.page or 0, 10, 52)
 
 
 class Gvma(Vma):

@@ -120,8 +120,8 @@ class Steps(unittest.TestCase):
 
     def test_more_commands_than_the_queue_has_entries(self):
         platform = with_queues(mapped())
-        platform.send(*[Fence(addr=RAM, data=number) for number in range(1, 101)])
-        self.assertEqual(platform.load(RAM), 100)
+        platform.send(*[Fence(addr=RAM + 4 * number, data=number) for number in range(100)])
+        self.assertEqual([platform.load(RAM + 4 * number, 4) for number in range(100)], list(range(100)))
 
 
 class Pieces(unittest.TestCase):
@@ -484,7 +484,7 @@ class Forms(unittest.TestCase):
         return platform.line(f"show {kind} {RAM:#x}")
 
     def test_commands(self):
-        for form in (Vma(), Vma(page=0x40201, pscid=9, gscid=3), Gvma(gscid=3), Gvma(page=1, gscid=2), Fence(), Fence(addr=0x80000004, data=0x1234), Iodir(), Iodir(did=7)):
+        for form in (Vma(), Vma(page=0x40201, pscid=9, gscid=3), Gvma(gscid=3), Gvma(page=1, gscid=2), Vma(page=3, nl=True, s=True), Fence(), Fence(addr=0x80000004, data=0x1234), Iodir(), Iodir(did=7)):
             with self.subTest(form=form):
                 told = self.told("cmd", form)
                 self.assertFalse(told.startswith("u64"), told)

@@ -515,13 +515,13 @@ static void test_reasons(void) {
 static void test_words(void) {
     char words[32] = "old";
     size_t length = 9;
-    for (int status = RVIOMMU_OK; status <= RVIOMMU_NOT_THERE; status++) {
+    for (int status = RVIOMMU_OK; status <= RVIOMMU_BAD_CAPABILITIES; status++) {
         want("words", rviommu_text((enum rviommu_status)status, words, sizeof words, &length), RVIOMMU_OK);
         want("their length", strlen(words), length);
     }
-    want_text("the last words", words, "not there");
+    want_text("the last words", words, "bad capabilities");
     want("too little room", rviommu_text(RVIOMMU_OK, words, 31, &length), RVIOMMU_LITTLE_ROOM);
-    want_text("what is left", words, "not there");
+    want_text("what is left", words, "bad capabilities");
 }
 
 int main(void) {

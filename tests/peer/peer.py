@@ -13,13 +13,13 @@ import subprocess
 import sys
 import tempfile
 import time
+from pathlib import Path
 
 from model import BASE, COMPARED, CQT, SIZE, Model, OtherDevice
 import directed
 from cases import random_case
 from qemu import DEVICE, IOMMU, PLACE, QEMU, Qemu, ids_of, pattern
 
-HERE = os.path.dirname(os.path.abspath(__file__))
 BUSES = [0, 0x5C, 0x9AB3]
 WHOLE_EVERY = 50
 IDS = [ids_of(bus) for bus in BUSES]
@@ -30,8 +30,7 @@ MOST_TOLD = 3
 
 def table():
     """The classes: the names in the first column of the table, and those of their directed cases."""
-    with open(os.path.join(HERE, "README.md")) as file:
-        rows = [line.split("|")[1] for line in file if line.startswith("| `")]
+    rows = [line.split("|")[1] for line in Path(__file__).with_name("README.md").read_text().splitlines() if line.startswith("| `")]
     return [name for row in rows for name in re.findall(r"`([^`]+)`", row)]
 
 

@@ -3,7 +3,6 @@ use Rattle.std.proofs.Common.{◌≡◌, ◌∙◌, ℕ, Bool, Option, Some, Non
 use Rattle.std.specs.Prelude.{is_some}
 use Rattle.std.specs.Option.{option_map}
 use Rattle.iom_bits.specs.declared.causes.Cause.{Cause}
-use Rattle.iom_bits.specs.Features.{no_features}
 use Rattle.iom_ddt.specs.Directory.{located}
 use Rattle.iom_ddt.specs.declared.context.Context.{Context}
 use Rattle.iom_nested.specs.Nested.{translation}
@@ -74,12 +73,12 @@ found_context m request context used filled =
     (found_after same_did same_did_exact same_did_itself context_room request.did m.contexts (located m.memory m.registers request.did) context
     (sym (ap (λ (l : Look ℕ Context Cause). l.used) cached) ∙ used))
 
-found_by_look : (m : Machine) (request : Request) (context : Context) (hit : Hit) → (page_look m.memory no_features m.pages request context).used ≡ Ok hit →
-    find (same_key (request_key request context)) (filled_by page_room (page_look m.memory no_features m.pages request context).filled m.pages) ≡ Some hit
+found_by_look : (m : Machine) (request : Request) (context : Context) (hit : Hit) → (page_look m.memory m.registers.features m.pages request context).used ≡ Ok hit →
+    find (same_key (request_key request context)) (filled_by page_room (page_look m.memory m.registers.features m.pages request context).filled m.pages) ≡ Some hit
 unfolding page_look
 found_by_look m request context hit used =
     found_after same_key same_key_exact same_key_itself page_room (request_key request context) m.pages
-    (translation m.memory no_features context request.iova request.kind) hit used
+    (translation m.memory m.registers.features context request.iova request.kind) hit used
 
 pub found_page : (m : Machine) (request : Request) (context : Context) (hit : Hit) → (led m request).way ≡ Walked context hit →
     find (same_key (request_key request context)) (filled_by page_room (led m request).page m.pages) ≡ Some hit
@@ -96,7 +95,7 @@ found_page m request context hit is =
           let there : found ≡ hit = cc in
           subst (λ (f : Option (Key × Hit)). find (same_key (request_key request context)) (filled_by page_room f m.pages) ≡ Some hit)
           (sym (ap (λ (l : Led). l.page) e))
-          (subst (λ (c : Context). find (same_key (request_key request c)) (filled_by page_room (page_look m.memory no_features m.pages request own).filled m.pages) ≡ Some hit) one
+          (subst (λ (c : Context). find (same_key (request_key request c)) (filled_by page_room (page_look m.memory m.registers.features m.pages request own).filled m.pages) ≡ Some hit) one
           (found_by_look m request own found page ∙ ap (λ (h : Hit). Some h) there))
       | WasFault own fault used staged page e ↦ let other = sym (ap way e) ∙ is in absurd (cc)
     ]
@@ -155,7 +154,7 @@ seen_page m request =
       | WasByRegister bare e ↦ subst P (sym e) refl
       | WasNowhere why used e ↦ subst P (sym e) refl
       | WasByContext own used bare e ↦ subst P (sym e) refl
-      | WasWalked own hit used staged page e ↦ subst P (sym e) (page_read (page_look m.memory no_features m.pages request own).filled)
+      | WasWalked own hit used staged page e ↦ subst P (sym e) (page_read (page_look m.memory m.registers.features m.pages request own).filled)
       | WasFault own fault used staged page e ↦ subst P (sym e) (sym (ap is_some (page_refused m request own fault page)))
     ]
 

@@ -7,6 +7,5 @@ pub mod Accessed
 pub mod Told
 pub mod Stepped
 pub mod Placed
-pub mod Fitting
 pub mod Telling
 pub mod Ring

@@ -1,6 +1,6 @@
 -- What is told of the steps of a platform while they are carried out: which steps filled what its caches hold, and why each of the last
 -- went as it did.
-use Rattle.std.specs.Prelude.{ℕ, suc, ◌≡◌, ◌++◌, List, length, replicate, take, slice_get, Option, Some, None, IfSome}
+use Rattle.std.specs.Prelude.{ℕ, suc, ◌≡◌, ◌++◌, List, length, replicate, take, slice_get, Option, Some, None}
 use Rattle.circular_buffer.specs.Buffer.{keep_last}
 use Rattle.iom_core.specs.State.{State}
 use Rattle.iom_core.specs.Run.{end_of}
@@ -8,7 +8,6 @@ use Rattle.iom_core.specs.Table.{request_of_step}
 use Rattle.iom_core.specs.Warrants.{IsUncached, moment, request_at}
 use Rattle.iom_core.specs.declared.access.Request.{Request}
 use Rattle.iom_core.specs.declared.step.Step.{Step}
-use Rattle.iom_core.specs.Access.{Fits}
 use Rattle.iom_tables.specs.Stale.{stale_way}
 use Rattle.iom_core.specs.declared.way.Way.{Way}
 use Rattle.iom_account.specs.Following.{ComesFrom, Follows, Notes, number_of}
@@ -18,10 +17,6 @@ use Rattle.iom_account.specs.declared.reason.Reason.{Reason}
 abbrev pub stale_in : State → Option Request → Option Way
 stale_in state None = None
 stale_in state (Some request) = stale_way state.machine request
-
--- the way that is told is one that the tables may say
-abbrev pub ReasonFits : Reason → Type 0
-ReasonFits reason = IfSome reason.stale Fits
 
 -- what is told of a step of its own number that this platform carries out, but for where its translation comes from: that is told by the
 -- steps before it too

@@ -2,7 +2,6 @@
 
 ghost use Rattle.std.specs.Prelude.{◌≡◌, IfSome};
 ghost use Rattle.std.specs.Option.{option_and_then, option_map};
-ghost use Rattle.iom_core.specs.Access.{Fits};
 ghost use Rattle.iom_core.specs.Looking.{by_tables};
 ghost use Rattle.iom_core.specs.Table.{request_of_step};
 ghost use Rattle.iom_tables.specs.Stale.{differing};
@@ -23,14 +22,11 @@ pub struct Account {
 }
 
 impl Model for Account {
-    ghost use Rattle.std.specs.List.{All};
-    ghost use Rattle.iom_account.specs.Account.{Account, ReasonFits};
+    ghost use Rattle.iom_account.specs.Account.{Account};
 
     ghost Value = { Account };
 
     ghost view = { λ a. record { history = a.history; told = a.told } };
-
-    ghost invariant = { λ a. All ReasonFits a.told };
 }
 
 impl Account {
@@ -38,10 +34,9 @@ impl Account {
     ghost use Rattle.std.specs.Option.{option_copied};
     ghost use Rattle.circular_buffer.specs.Buffer.{keep_last, last_item};
     ghost use Rattle.iom_core.specs.Table.{next};
-    ghost use Rattle.iom_account.specs.Account.{Accounts, GoesAlong, IsReasonOf, ReasonFits};
+    ghost use Rattle.iom_account.specs.Account.{Accounts, GoesAlong, IsReasonOf};
 
     /// An account that begins at this platform, of no step yet. Where translations come from is told if both caches hold nothing now.
-    #[tactic(auto, using(crate::proofs::Fitting::none_told))]
     pub fn new(platform: &Platform) -> Account
         ensures begins { Accounts result platform.now platform.now [] [] }
         ensures empty { result.told ≡ [] }
@@ -53,7 +48,6 @@ impl Account {
     }
 
     /// An equal account, which goes its own way from here.
-    #[tactic(auto, using(crate::proofs::Fitting::as_told))]
     pub fn copied(&self) -> Account
         ensures { result ≡ self.now }
     {
@@ -70,21 +64,16 @@ impl Account {
         &self.history
     }
 
-    /// Why step `i` of the last 32, any number, went as it did; the oldest is 0. None where there are so many steps or fewer. The way that
-    /// it tells is one that the tables may say.
-    #[tactic(auto, using(crate::proofs::Fitting::fits_at))]
+    /// Why step `i` of the last 32, any number, went as it did; the oldest is 0. None where there are so many steps or fewer.
     pub fn reason(&self, i: u64) -> Option<&Reason>
         ensures reason { option_copied result ≡ slice_get self.now.told i }
-        ensures fits { IfSome (option_copied result) ReasonFits }
     {
         self.told.get(i as usize)
     }
 
-    /// Why the last step went as it did; None where there was none. The way that it tells is one that the tables may say.
-    #[tactic(auto, using(crate::proofs::Fitting::fits_last))]
+    /// Why the last step went as it did; None where there was none.
     pub fn newest(&self) -> Option<&Reason>
         ensures reason { option_copied result ≡ last_item self.now.told }
-        ensures fits { IfSome (option_copied result) ReasonFits }
     {
         self.told.newest()
     }
@@ -102,31 +91,18 @@ impl Account {
         let tables = tables_for(platform, step);
         let taken = self.history.step(platform, step, number, answer);
         let stale = stale_by(&taken.seen.way, tables);
-        self.keep(Reason {
+        self.told.keep(Reason {
             number,
             request: taken.request,
             origin: taken.origin,
             stale,
         });
     }
-
-    // Keeps what is told of a step.
-    #[tactic(auto, using(crate::proofs::Fitting::fits_kept))]
-    fn keep(&mut self, reason: Reason)
-        requires { ReasonFits reason }
-        ensures { self.new ≡ record {
-          history = self.old.history;
-          told = keep_last 32 (self.old.told ++ reason ∷ []);
-        } }
-    {
-        self.told.keep(reason);
-    }
 }
 
 // The way that the tables say of the access that a step makes.
 fn tables_for(platform: &Platform, step: &Step) -> Option<Way>
     ensures told { result ≡ option_map (by_tables platform.now.machine) (request_of_step platform.now step.now) }
-    ensures fits { IfSome result Fits }
 {
     let request = platform.request_of(step)?;
     Some(platform.seen_uncached(&request).way)
@@ -134,9 +110,7 @@ fn tables_for(platform: &Platform, step: &Step) -> Option<Way>
 
 // What the tables say of an access that was led this way, where they say otherwise.
 fn stale_by(now: &Way, tables: Option<Way>) -> Option<Way>
-    requires { IfSome tables Fits }
     ensures told { result ≡ option_and_then (differing now.now) tables }
-    ensures fits { IfSome result Fits }
 {
     differing(now, tables?)
 }

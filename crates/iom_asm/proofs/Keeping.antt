@@ -1,5 +1,5 @@
 -- What the statements make stays an image.
-use Rattle.std.proofs.Common.{◌≡◌, ℕ, ◌+◌, ◌*◌, ◌≤◌, ◌<◌, Bool, true, false, ◌&&◌, ◌||◌, nat_lt, nat_le, List, [], ◌∷◌, ◌++◌, length, map, codes, bytes_eq, Option, Some, None, Result, Ok, Err, refl, sym, subst, append_assoc, append-nil, length-append, arith}
+use Rattle.std.proofs.Common.{◌≡◌, ℕ, ◌+◌, ◌*◌, ◌≤◌, ◌<◌, Bool, true, false, ◌&&◌, ◌||◌, nat_lt, nat_le, List, [], ◌∷◌, ◌++◌, length, map, codes, bytes_eq, not, Option, Some, None, Result, Ok, Err, refl, sym, subst, append_assoc, append-nil, length-append, arith}
 use Rattle.std.specs.Prelude.{IfSome, IfOk}
 use Rattle.std.specs.List.{list_any}
 use Rattle.std.specs.Option.{option_map}
@@ -8,10 +8,15 @@ use Rattle.iom_text.specs.Words.{number, words_of}
 use Rattle.iom_mem.specs.Sizes.{is_paged, is_good_size}
 use Rattle.iom_asm.specs.declared.asm_fault.AsmFault.{AsmFault}
 use Rattle.iom_asm.specs.declared.asm_fault.AsmFault.TheVariants.{Outside, Overlap}
+use Rattle.iom_bits.specs.declared.features.Features.{Features}
+use Rattle.iom_image.specs.declared.version.Version.{Version}
+use Rattle.iom_image.specs.declared.version.Version.TheVariants.{First, Second, Third}
+use Rattle.iom_image.specs.Versions.{is_flagged, is_third, flagged}
 use Rattle.iom_image.specs.Image.{Chunk, Disk, IsChunk, AreChunks, IsDisk, AreDisks, IsImage, end_of, is_new_id, is_disk_size, is_next_disk}
+use Rattle.iom_items.specs.Capabilities.{features_for}
 use Rattle.iom_items.specs.Forms.{where_so}
 use Rattle.iom_items.specs.Operands.{◌>>=◌}
-use Rattle.iom_asm.specs.Assembly.{Draft, meets, insert, is_inside, with_bytes, placed, with_disk, disk_for, joined, moved_to, moved, empty_draft, ram_draft, opened, bytes_for, or_bad, then_so, stated, started, after_words, after_lines}
+use Rattle.iom_asm.specs.Assembly.{Draft, meets, insert, is_inside, with_bytes, placed, with_disk, disk_for, joined, offering, offered, moved_to, moved, empty_draft, ram_draft, opened, bytes_for, or_bad, then_so, stated, started, after_words, after_lines}
 use Rattle.iom_image.proofs.Flags.{with_flags}
 use Rattle.iom_asm.proofs.Full.{some_byte}
 
@@ -101,6 +106,12 @@ placed_good line draft bytes good some =
     }))
     (λ _. tt)
 
+no_flags : (version : Version) (read_only : Bool) → is_flagged (flagged version read_only) ≡ false → (is_flagged version ≡ false) × (read_only ≡ false)
+no_flags First true none = absurd cc
+no_flags First false none = (refl, refl)
+no_flags Second read_only none = absurd cc
+no_flags (Third features) read_only none = absurd cc
+
 with_disk_good : (draft : Draft) (disk : Disk) → Good draft → is_next_disk draft.image.disks disk ≡ true → Good (with_disk draft disk)
 with_disk_good draft disk good next =
     let image = draft.image in
@@ -112,13 +123,13 @@ with_disk_good draft disk good next =
       size = good.size;
       chunks = good.chunks;
       few = omega (arith, ltb-true (length image.disks) 8 a.0, length-append image.disks (disk ∷ []));
-      disks = one_more (image.has_flags || disk.read_only) [] image.disks disk
-          (with_flags image.has_flags (image.has_flags || disk.read_only) [] image.disks (λ none. (or_parts image.has_flags disk.read_only none).0) good.disks)
+      disks = one_more (is_flagged (flagged image.version disk.read_only)) [] image.disks disk
+          (with_flags (is_flagged image.version) (is_flagged (flagged image.version disk.read_only)) [] image.disks (λ none. (no_flags image.version disk.read_only none).0) good.disks)
           (record {
             id = b.0;
             sectors = c.0;
             room = leb-true _ _ c.1;
-            writable = λ none. (or_parts image.has_flags disk.read_only none).1;
+            writable = λ none. (no_flags image.version disk.read_only none).1;
           });
     }
 
@@ -127,6 +138,21 @@ joined_good : (draft : Draft) (found : Option Disk) → Good draft →
 joined_good draft None good = tt
 joined_good draft (Some disk) good =
     cond_both (is_next_disk draft.image.disks disk) (Some (with_disk draft disk)) None Fine (λ next. with_disk_good draft disk good next) (λ _. tt)
+
+offering_good : (draft : Draft) (features : Features) → Good draft → Good (offering draft features)
+offering_good draft features good = record {
+  base = good.base;
+  size = good.size;
+  chunks = good.chunks;
+  few = good.few;
+  disks = with_flags (is_flagged draft.image.version) true [] draft.image.disks (λ none. absurd cc) good.disks;
+}
+
+offered_good : (draft : Draft) (found : Option Features) → Good draft →
+    Fine (found >>= λ features. where_so (not (is_third draft.image.version)) (Some (offering draft features)))
+offered_good draft None good = tt
+offered_good draft (Some features) good =
+    cond_both (not (is_third draft.image.version)) (Some (offering draft features)) None Fine (λ _. offering_good draft features good) (λ _. tt)
 
 found_good : (draft : Draft) (place : Option ℕ) → Good draft → Fine (option_map (moved_to draft) place)
 found_good draft None good = tt
@@ -144,7 +170,7 @@ bytes_good line draft name operands good None is = tt
 bytes_good line draft name operands good (Some bytes) is = placed_good line draft bytes good (some_byte name operands bytes is)
 
 stated_good : (line : ℕ) (draft : Draft) (name : List ℕ) (operands : List (List ℕ)) → Good draft → OkGood (stated line draft name operands)
-unfolding stated joined
+unfolding stated joined offered
 stated_good line draft name operands good =
     cond_both (bytes_eq name (codes "at")) _ _ OkGood
     (λ _. or_bad_good line (moved draft operands) (moved_good draft operands good))
@@ -152,7 +178,9 @@ stated_good line draft name operands good =
     (λ _. or_bad_good line (joined draft false operands) (joined_good draft (disk_for false operands) good))
     (λ _. cond_both (bytes_eq name (codes "rodisk")) _ _ OkGood
     (λ _. or_bad_good line (joined draft true operands) (joined_good draft (disk_for true operands) good))
-    (λ _. bytes_good line draft name operands good (bytes_for name operands) refl)))
+    (λ _. cond_both (bytes_eq name (codes "capabilities")) _ _ OkGood
+    (λ _. or_bad_good line (offered draft operands) (offered_good draft (features_for operands) good))
+    (λ _. bytes_good line draft name operands good (bytes_for name operands) refl))))
 
 head_good : (base size : ℕ) → (is_paged base && is_good_size base size) ≡ true → Good (empty_draft base size)
 head_good base size accepted =

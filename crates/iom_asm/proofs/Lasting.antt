@@ -1,5 +1,5 @@
 -- A chunk that was placed stays.
-use Rattle.std.proofs.Common.{ℕ, ◌+◌, true, false, nat_lt, List, [], ◌∷◌, length, codes, bytes_eq, Option, Some, None, Result, Ok, Err, refl, inl, inr}
+use Rattle.std.proofs.Common.{ℕ, ◌+◌, true, false, nat_lt, List, [], ◌∷◌, length, codes, bytes_eq, not, Option, Some, None, Result, Ok, Err, refl, inl, inr}
 use Rattle.std.specs.Prelude.{IfSome, IfOk}
 use Rattle.std.specs.List.{list_any}
 use Rattle.std.specs.Option.{option_map}
@@ -7,10 +7,13 @@ use Rattle.std.proofs.lemmas.Bool.{cond_both}
 use Rattle.iom_text.specs.Words.{words_of, number}
 use Rattle.iom_asm.specs.declared.asm_fault.AsmFault.{AsmFault}
 use Rattle.iom_asm.specs.declared.asm_fault.AsmFault.TheVariants.{Outside, Overlap}
+use Rattle.iom_bits.specs.declared.features.Features.{Features}
+use Rattle.iom_image.specs.Versions.{is_third}
 use Rattle.iom_image.specs.Image.{Chunk, Disk, is_next_disk}
+use Rattle.iom_items.specs.Capabilities.{features_for}
 use Rattle.iom_items.specs.Forms.{where_so}
 use Rattle.iom_items.specs.Operands as maybe
-use Rattle.iom_asm.specs.Assembly.{Draft, meets, insert, is_inside, with_bytes, placed, with_disk, disk_for, joined, moved_to, moved, bytes_for, or_bad, then_so, stated, after_words, after_lines}
+use Rattle.iom_asm.specs.Assembly.{Draft, meets, insert, is_inside, with_bytes, placed, with_disk, disk_for, joined, offering, offered, moved_to, moved, bytes_for, or_bad, then_so, stated, after_words, after_lines}
 use Rattle.iom_asm.proofs.Standing.{IsIn}
 
 -- a chunk that was placed stays
@@ -54,6 +57,12 @@ joined_has chunk draft None has = tt
 joined_has chunk draft (Some disk) has =
     cond_both (is_next_disk draft.image.disks disk) (Some (with_disk draft disk)) None (λ found. IfSome found (Has chunk)) (λ _. has) (λ _. tt)
 
+offered_has : (chunk : Chunk) (draft : Draft) (found : Option Features) → Has chunk draft →
+    IfSome (maybe.◌>>=◌ found (λ features. where_so (not (is_third draft.image.version)) (Some (offering draft features)))) (Has chunk)
+offered_has chunk draft None has = tt
+offered_has chunk draft (Some features) has =
+    cond_both (not (is_third draft.image.version)) (Some (offering draft features)) None (λ found. IfSome found (Has chunk)) (λ _. has) (λ _. tt)
+
 place_has : (chunk : Chunk) (draft : Draft) (place : Option ℕ) → Has chunk draft → IfSome (option_map (moved_to draft) place) (Has chunk)
 place_has chunk draft None has = tt
 place_has chunk draft (Some place) has = has
@@ -69,7 +78,7 @@ bytes_has chunk line draft None has = tt
 bytes_has chunk line draft (Some bytes) has = placed_has chunk line draft bytes has
 
 stated_has : (chunk : Chunk) (line : ℕ) (draft : Draft) (name : List ℕ) (operands : List (List ℕ)) → Has chunk draft → OkHas chunk (stated line draft name operands)
-unfolding stated joined
+unfolding stated joined offered
 stated_has chunk line draft name operands has =
     cond_both (bytes_eq name (codes "at")) _ _ (OkHas chunk)
     (λ _. or_bad_has chunk line (moved draft operands) (moved_has chunk draft operands has))
@@ -77,7 +86,9 @@ stated_has chunk line draft name operands has =
     (λ _. or_bad_has chunk line (joined draft false operands) (joined_has chunk draft (disk_for false operands) has))
     (λ _. cond_both (bytes_eq name (codes "rodisk")) _ _ (OkHas chunk)
     (λ _. or_bad_has chunk line (joined draft true operands) (joined_has chunk draft (disk_for true operands) has))
-    (λ _. bytes_has chunk line draft (bytes_for name operands) has)))
+    (λ _. cond_both (bytes_eq name (codes "capabilities")) _ _ (OkHas chunk)
+    (λ _. or_bad_has chunk line (offered draft operands) (offered_has chunk draft (features_for operands) has))
+    (λ _. bytes_has chunk line draft (bytes_for name operands) has))))
 
 -- a draft is there, and has the chunk
 abbrev pub There : Chunk → Option Draft → Type 0

@@ -13,8 +13,9 @@ use Rattle.iom_asm.specs.declared.asm_fault.AsmFault.{AsmFault}
 use Rattle.iom_asm.specs.declared.asm_fault.AsmFault.TheVariants.{BadLine}
 use Rattle.iom_items.specs.Items.{Entry, dir_word, pte_word}
 use Rattle.iom_items.specs.Operands.{operand_of, has_key, is_given, is_one_of, are_operands, ◌>>=◌}
+use Rattle.iom_items.specs.Capabilities.{capability_keys, features_for}
 use Rattle.iom_items.specs.Forms.{where_so, vma_keys, gvma_keys, fence_keys, fault_keys, context_keys, vma, gvma, fence, iodir, command, fault, context, dir, pte, each_number, numbers, words_for}
-use Rattle.iom_asm.specs.Assembly.{Draft, one_hex, bytes_for, opened, moved, first_bytes, disk_of, disk_for, joined, or_bad, then_so, placed, stated, started, after_words}
+use Rattle.iom_asm.specs.Assembly.{Draft, one_hex, bytes_for, opened, moved, first_bytes, disk_of, disk_for, joined, offered, or_bad, then_so, placed, stated, started, after_words}
 
 -- how many of some keys are given
 abbrev given_among : List (List ℕ) → List (List ℕ) → ℕ
@@ -152,6 +153,10 @@ joined_none : (draft : Draft) (read_only : Bool) (words : List (List ℕ)) → 9
 unfolding joined
 joined_none draft read_only words lt = none_then (disk_for read_only words) _ (disk_none read_only words lt)
 
+offered_none : (draft : Draft) (words : List (List ℕ)) → 9 < length words → offered draft words ≡ None
+unfolding offered features_for
+offered_none draft words lt = none_then (features_for words) _ (too_many_for capability_keys words _ (omega (arith, lt)))
+
 bad : {A B : Type 0} (line : ℕ) (found : Option A) (f : A → Result B AsmFault) → found ≡ None → then_so (or_bad line found) f ≡ Err (BadLine line)
 bad line found f is = ap (λ found. then_so (or_bad line found) f) is
 
@@ -160,8 +165,9 @@ unfolding stated
 stated_bad line draft name words lt =
     cond_both (bytes_eq name (codes "at")) _ _ (λ made. made ≡ Err (BadLine line)) (λ _. ap (or_bad line) (moved_none draft words lt)) (λ _.
     cond_both (bytes_eq name (codes "disk")) _ _ (λ made. made ≡ Err (BadLine line)) (λ _. ap (or_bad line) (joined_none draft false words lt)) (λ _.
-    cond_both (bytes_eq name (codes "rodisk")) _ _ (λ made. made ≡ Err (BadLine line)) (λ _. ap (or_bad line) (joined_none draft true words lt))
-    (λ _. bad line (bytes_for name words) (placed line draft) (bytes_none name words lt))))
+    cond_both (bytes_eq name (codes "rodisk")) _ _ (λ made. made ≡ Err (BadLine line)) (λ _. ap (or_bad line) (joined_none draft true words lt)) (λ _.
+    cond_both (bytes_eq name (codes "capabilities")) _ _ (λ made. made ≡ Err (BadLine line)) (λ _. ap (or_bad line) (offered_none draft words lt))
+    (λ _. bad line (bytes_for name words) (placed line draft) (bytes_none name words lt)))))
 
 no_more : {A : Type 0} (b : Bool) (found : Option A) → found ≡ None → where_so b found ≡ None
 no_more true found is = is

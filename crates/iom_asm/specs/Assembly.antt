@@ -1,5 +1,5 @@
 -- Texts: what the statements on the lines of a text make, one after the other, and the image of it.
-use Rattle.std.specs.Prelude.{ℕ, ◌≡◌, ◌≢◌, ◌+◌, ◌==◌, ◌&&◌, ◌||◌, ◌++◌, Bool, true, false, List, [], ◌∷◌, length, codes, bytes_eq, nat_lt, nat_le, Option, Some, None, Result, Ok, Err, if◌then◌else◌}
+use Rattle.std.specs.Prelude.{ℕ, ◌≡◌, ◌≢◌, ◌+◌, ◌==◌, ◌&&◌, ◌++◌, Bool, true, false, not, List, [], ◌∷◌, length, codes, bytes_eq, nat_lt, nat_le, Option, Some, None, Result, Ok, Err, if◌then◌else◌}
 use Rattle.std.specs.List.{list_any}
 use Rattle.std.specs.Option.{option_map}
 use Rattle.std.specs.Result.{result_ok}
@@ -8,8 +8,12 @@ use Rattle.iom_text.specs.Words.{words_of, number}
 use Rattle.iom_mem.specs.Sizes.{is_paged, is_good_size, covers}
 use Rattle.iom_asm.specs.declared.asm_fault.AsmFault.{AsmFault}
 use Rattle.iom_asm.specs.declared.asm_fault.AsmFault.TheVariants.{BadLine, Outside, Overlap, OutOfMemory}
+use Rattle.iom_bits.specs.declared.features.Features.{Features}
+use Rattle.iom_image.specs.declared.version.Version.TheVariants.{First, Third}
+use Rattle.iom_image.specs.Versions.{is_third, flagged}
 use Rattle.iom_image.specs.Image.{Chunk, Disk, Image, end_of, is_next_disk, image_bytes}
 use Rattle.iom_mem.specs.Words.{bytes_of_words}
+use Rattle.iom_items.specs.Capabilities.{features_for}
 use Rattle.iom_items.specs.Forms.{where_so, words_for}
 use Rattle.iom_items.specs.Operands.{◌>>=◌}
 
@@ -53,7 +57,7 @@ bytes_for name operands =
 
 -- `ram BASE SIZE`: the place is the base
 abbrev pub empty_draft : ℕ → ℕ → Draft
-empty_draft base size = record { image = record { has_flags = false; base = base; size = size; chunks = []; disks = [] }; place = base }
+empty_draft base size = record { image = record { version = First; base = base; size = size; chunks = []; disks = [] }; place = base }
 
 unfoldable pub ram_draft : List ℕ → List ℕ → Option Draft
 ram_draft base size = do
@@ -93,11 +97,11 @@ disk_for read_only [] = None
 disk_for read_only (id ∷ []) = None
 disk_for read_only (id ∷ sectors ∷ words) = disk_of read_only id sectors words
 
--- an image with a read-only disk is of version 2, any other of version 1
+-- an image with a read-only disk is of version 2, where no capabilities are stated
 abbrev pub with_disk : Draft → Disk → Draft
 with_disk draft disk = record draft {
   image = record draft.image {
-    has_flags = draft.image.has_flags || disk.read_only;
+    version = flagged draft.image.version disk.read_only;
     disks = draft.image.disks ++ disk ∷ [];
   };
 }
@@ -106,6 +110,15 @@ unfoldable pub joined : Draft → Bool → List (List ℕ) → Option Draft
 joined draft read_only words = do
   disk ← disk_for read_only words
   where_so (is_next_disk draft.image.disks disk) (Some (with_disk draft disk))
+
+-- `capabilities KEY=NUMBER..`, which is stated once at most: an image with it is of version 3
+abbrev pub offering : Draft → Features → Draft
+offering draft features = record draft { image = record draft.image { version = Third features } }
+
+unfoldable pub offered : Draft → List (List ℕ) → Option Draft
+offered draft words = do
+  features ← features_for words
+  where_so (not (is_third draft.image.version)) (Some (offering draft features))
 
 -- Bytes at the place. They are a chunk of their own, and the place moves past them.
 abbrev pub is_inside : Image → ℕ → ℕ → Bool
@@ -139,6 +152,7 @@ stated line draft name operands =
     if bytes_eq name (codes "at") then or_bad line (moved draft operands)
     else if bytes_eq name (codes "disk") then or_bad line (joined draft false operands)
     else if bytes_eq name (codes "rodisk") then or_bad line (joined draft true operands)
+    else if bytes_eq name (codes "capabilities") then or_bad line (offered draft operands)
     else then_so (or_bad line (bytes_for name operands)) (placed line draft)
 
 -- the first statement

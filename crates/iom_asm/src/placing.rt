@@ -1,16 +1,18 @@
 //! What a statement does to what the statements before make.
 
-ghost use Rattle.std.specs.Prelude.{◌≡◌, ◌+◌, ◌<◌, ◌≤◌, ◌^◌, length, false, Some, None, IfOk, if◌then◌else◌};
+ghost use Rattle.std.specs.Prelude.{◌≡◌, ◌+◌, ◌<◌, ◌≤◌, ◌^◌, length, false, not, Some, None, IfOk, if◌then◌else◌};
 ghost use Rattle.std.specs.List.{list_any};
 ghost use Rattle.iom_image.specs.Image.{IsImage, is_next_disk};
+ghost use Rattle.iom_image.specs.Versions.{is_third};
 ghost use Rattle.iom_image.specs.Own.{disk_seen};
-ghost use Rattle.iom_asm.specs.Assembly.{empty_draft, with_disk, is_inside, meets, placed, Makes};
+ghost use Rattle.iom_asm.specs.Assembly.{empty_draft, offering, with_disk, is_inside, meets, placed, Makes};
 ghost use Rattle.iom_items.specs.Forms.{where_so};
 ghost use Rattle.iom_asm.specs.Drafts.{draft_seen};
 
 use crate::asm_fault::AsmFault;
 use crate::draft::Draft;
-use iom_image::{OwnDisk, OwnImage};
+use iom_bits::Features;
+use iom_image::{OwnDisk, OwnImage, Version};
 use iom_mem::covers;
 use std::alloc::{AllocError, Global};
 use std::collections::BTreeMap;
@@ -22,7 +24,7 @@ impl Draft {
     {
         Draft {
             image: OwnImage {
-                has_flags: false,
+                version: Version::First,
                 base,
                 size,
                 chunks: BTreeMap::new(alloc),
@@ -73,6 +75,17 @@ impl Draft {
         Ok(())
     }
 
+    /// States what the machine offers, and answers true; false where it is stated already.
+    pub fn offer(&mut self, features: Features) -> bool
+        ensures { (if result then Some (draft_seen self.new) else None) ≡ where_so (not (is_third (draft_seen self.old).image.version)) (Some (offering (draft_seen self.old) features)) }
+    {
+        if self.image.version.is_third() {
+            return false;
+        }
+        self.image.version = Version::Third(features);
+        true
+    }
+
     /// Puts a disk behind the others, and answers true; false where it may not stand there: there are eight, its id is another's or
     /// 2^24 or above, its sectors aren't 1 to 65,536, or its bytes don't fit in them. The fault is a refused allocation.
     pub fn join(&mut self, disk: OwnDisk) -> Result<bool, AllocError>
@@ -85,7 +98,7 @@ impl Draft {
         let read_only = disk.read_only;
         match self.image.disks.push(disk) {
             Ok(()) => {
-                self.image.has_flags = self.image.has_flags || read_only;
+                self.image.version = self.image.version.flagged(read_only);
                 Ok(true)
             }
             Err(_) => Err(AllocError),

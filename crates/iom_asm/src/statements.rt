@@ -2,7 +2,7 @@
 
 ghost use Rattle.std.specs.Prelude.{◌≡◌, ◌++◌, ◌<◌, ◌+◌, map, IfOk, IfSome, OnOk};
 ghost use Rattle.std.specs.Option.{option_map};
-ghost use Rattle.iom_asm.specs.Assembly.{Draft as AsmDraft, moved_to, hex, one_hex, bytes_for, ram_draft, opened, moved, disk_of, disk_for, first_bytes, joined, stated, started, after_words, or_bad, Makes};
+ghost use Rattle.iom_asm.specs.Assembly.{Draft as AsmDraft, moved_to, hex, one_hex, bytes_for, ram_draft, opened, moved, disk_of, disk_for, first_bytes, joined, offered, stated, started, after_words, or_bad, Makes};
 ghost use Rattle.iom_text.specs.Words.{words_of};
 ghost use Rattle.iom_image.specs.Image.{IsImage};
 ghost use Rattle.iom_image.specs.Own.{disk_seen};
@@ -13,7 +13,7 @@ use crate::asm_fault::AsmFault;
 use crate::draft::Draft;
 use hex::FromHexError;
 use iom_image::OwnDisk;
-use iom_items::words_for;
+use iom_items::{features_for, words_for};
 use iom_mem::is_ram;
 use iom_text::{number, words};
 use std::alloc::{AllocError, Global};
@@ -192,6 +192,22 @@ impl Draft {
         }
     }
 
+    // A statement `capabilities`.
+    #[tactic(auto, unfolding(crate::specs::Assembly::offered))]
+    fn state_capabilities(&mut self, line: u64, operands: &[&[u8]]) -> Result<(), AsmFault>
+        ensures { Makes (λ _. draft_seen self.new) result
+            (or_bad line (offered (draft_seen self.old) (map (λ word. word.now) operands.now))) }
+    {
+        let Some(features) = features_for(operands) else {
+            return Err(AsmFault::BadLine(line));
+        };
+        if self.offer(features) {
+            Ok(())
+        } else {
+            Err(AsmFault::BadLine(line))
+        }
+    }
+
     // The statement of this name and these operands, which is not the first one.
     #[tactic(auto, unfolding(crate::specs::Assembly::stated))]
     fn state(
@@ -215,6 +231,8 @@ impl Draft {
             self.state_disk(alloc, line, false, operands)
         } else if name == b"rodisk".as_slice() {
             self.state_disk(alloc, line, true, operands)
+        } else if name == b"capabilities".as_slice() {
+            self.state_capabilities(line, operands)
         } else {
             match bytes_for(alloc, name, operands)? {
                 Some(bytes) => self.put(line, bytes),

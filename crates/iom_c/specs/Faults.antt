@@ -40,6 +40,7 @@ load_number load.Trailing = 3
 load_number load.BadRam = 4
 load_number load.BadChunk = 5
 load_number load.BadDevice = 6
+load_number load.BadCapabilities = 14
 load_number load.OutOfMemory = 7
 
 -- why a text is refused
@@ -61,7 +62,7 @@ abbrev pub all_words : List (List ℕ)
 all_words =
     codes "ok" ∷ codes "bad magic" ∷ codes "truncated" ∷ codes "trailing bytes" ∷ codes "bad memory" ∷ codes "bad chunk"
     ∷ codes "bad device" ∷ codes "out of memory" ∷ codes "bad line" ∷ codes "overlap" ∷ codes "outside memory"
-    ∷ codes "too little room" ∷ codes "no such disk" ∷ codes "not there" ∷ []
+    ∷ codes "too little room" ∷ codes "no such disk" ∷ codes "not there" ∷ codes "bad capabilities" ∷ []
 
 abbrev pub words_for : ℕ → List ℕ
 words_for number = unwrap_or (slice_get all_words number) (codes "no such number")

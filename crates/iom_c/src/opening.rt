@@ -16,7 +16,7 @@ use iom_core::Platform;
 use iom_image::{LoadFault, built_in, load};
 use std::alloc::{AllocError, Global};
 
-// The number of a refusal, 1 to 7, in the order of `LoadFault`.
+// The number of a refusal: 1 to 7, or 14.
 fn load_number(fault: LoadFault) -> u32
     ensures { result ≡ load_number fault }
 {
@@ -27,6 +27,7 @@ fn load_number(fault: LoadFault) -> u32
         LoadFault::BadRam => 4,
         LoadFault::BadChunk => 5,
         LoadFault::BadDevice => 6,
+        LoadFault::BadCapabilities => 14,
         LoadFault::OutOfMemory => 7,
     }
 }

@@ -20,7 +20,7 @@ pub struct PagePlace {
     pub pscid: u32,
     /// The guest soft-context id, 16 bits; 0 where there is none.
     pub gscid: u32,
-    /// The level of the first stage's leaf, 0 to 3; 0 where that stage is Bare.
+    /// The level of the first stage's leaf, 0 to 4; 0 where that stage is Bare.
     pub level: u32,
     /// Whether there is a process soft-context id: the first stage isn't Bare.
     pub has_pscid: bool,
@@ -49,9 +49,9 @@ pub struct ContextPlace {
     pub pscid: u32,
     /// iohgatp.GSCID, 16 bits.
     pub gscid: u32,
-    /// iohgatp.MODE: 0 Bare, 8 Sv39x4, 9 Sv48x4.
+    /// iohgatp.MODE: 0 Bare, 8 Sv39x4, 9 Sv48x4, 10 Sv57x4.
     pub gmode: u32,
-    /// fsc.MODE: 0 Bare, 8 Sv39, 9 Sv48.
+    /// fsc.MODE: 0 Bare, 8 Sv39, 9 Sv48, 10 Sv57.
     pub mode: u32,
     /// tc bits 31:24.
     pub custom: u32,
@@ -87,16 +87,16 @@ pub fn context_of(did: u32, context: Context) -> ContextPlace
     ensures { result ≡ context_of did context }
 {
     ContextPlace {
-        gppn: context.gppn,
-        ppn: context.ppn,
+        gppn: context.fields.gppn,
+        ppn: context.fields.ppn,
         did,
-        pscid: context.pscid,
-        gscid: u32::from(context.gscid),
-        gmode: u32::from(context.gmode),
-        mode: u32::from(context.mode),
-        custom: u32::from(context.custom),
-        dtf: context.dtf,
-        tav: context.tav,
+        pscid: context.fields.pscid,
+        gscid: u32::from(context.fields.gscid),
+        gmode: u32::from(context.fields.gmode),
+        mode: u32::from(context.fields.mode),
+        custom: u32::from(context.fields.custom),
+        dtf: context.fields.dtf,
+        tav: context.fields.tav,
         reserved: [0; 2],
     }
 }

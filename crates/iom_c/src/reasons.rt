@@ -30,7 +30,6 @@ fn asking(did: u64, iova: u64, is_write: bool) -> Request
 
 // Puts a part of the walk of a request.
 fn put_part(platform: &Platform, request: &Request, i: u64, out: &mut WalkPart) -> u32
-    requires { request.now.did < 2 ^ 24 }
     ensures { PartTold request.now.did (slice_get (parts_of platform.now.machine request.now) i) result out.old out.new }
 {
     let parts = parts(platform, request);
@@ -74,7 +73,6 @@ pub extern "C" fn rviommu_part(
 
 // Puts what the tables say of a request that is stale.
 fn put_stale(platform: &Platform, request: &Request, out: &mut RequestWay) -> u32
-    requires { request.now.did < 2 ^ 24 }
     ensures { StaleTold platform.now.machine request.now result out.old out.new }
 {
     match stale(platform, request) {

@@ -101,6 +101,7 @@ fn words_for(number: u32) -> &'static [u8]
         11 => b"too little room",
         12 => b"no such disk",
         13 => b"not there",
+        14 => b"bad capabilities",
         _ => b"no such number",
     }
 }

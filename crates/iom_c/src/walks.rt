@@ -31,7 +31,7 @@ pub struct WalkPart {
     pub kind: u32,
     /// ddtp's iommu_mode, 0 to 4, of kind 0.
     pub mode: u32,
-    /// The level of the entry's table, 0 to 3, of kinds 3 and 4.
+    /// The level of the entry's table, 0 to 4, of kinds 3 and 4.
     pub level: u32,
     /// The row that decides of the entry, 0 to 14 in the order of `Ruling`, of kinds 3 and 4.
     pub ruling: u32,

@@ -16,7 +16,7 @@ pub struct RequestWay {
     pub iotval2: u64,
     /// 0 by ddtp, whose mode is Bare; 1 by a context whose stages are both Bare; 2 by the stages of a context; 3 nowhere.
     pub kind: u32,
-    /// The level of the first stage's leaf, 0 to 3, of kind 2; 0 where that stage is Bare.
+    /// The level of the first stage's leaf, 0 to 4, of kind 2; 0 where that stage is Bare.
     pub level: u32,
     /// The cause of the fault, of kind 3 ("Fault/Event-Queue (FQ)", CAUSE).
     pub cause: u32,

@@ -29,15 +29,15 @@ pub fence_keeps_pages : (av wsi pr pw : Bool) (value addr : ℕ) (pages : List (
 unfolding drops_page
 fence_keeps_pages av wsi pr pw value addr pages = emptied_none drops_page (Fence av wsi pr pw value addr) (λ key hit. refl) pages
 
-pub vma_keeps_contexts : (av : Bool) (page : ℕ) (pscv : Bool) (pscid : ℕ) (gv : Bool) (gscid : ℕ) (contexts : List (Option (ℕ × Context))) →
-    emptied_by drops_context (Some (Vma av page pscv pscid gv gscid)) contexts ≡ contexts
+pub vma_keeps_contexts : (av : Bool) (page : ℕ) (pscv : Bool) (pscid : ℕ) (gv : Bool) (gscid : ℕ) (nl s : Bool) (contexts : List (Option (ℕ × Context))) →
+    emptied_by drops_context (Some (Vma av page pscv pscid gv gscid nl s)) contexts ≡ contexts
 unfolding drops_device
-vma_keeps_contexts av page pscv pscid gv gscid contexts = emptied_none drops_context (Vma av page pscv pscid gv gscid) (λ did context. refl) contexts
+vma_keeps_contexts av page pscv pscid gv gscid nl s contexts = emptied_none drops_context (Vma av page pscv pscid gv gscid nl s) (λ did context. refl) contexts
 
-pub gvma_keeps_contexts : (av : Bool) (page pscid : ℕ) (gv : Bool) (gscid : ℕ) (contexts : List (Option (ℕ × Context))) →
-    emptied_by drops_context (Some (Gvma av page pscid gv gscid)) contexts ≡ contexts
+pub gvma_keeps_contexts : (av : Bool) (page pscid : ℕ) (gv : Bool) (gscid : ℕ) (nl s : Bool) (contexts : List (Option (ℕ × Context))) →
+    emptied_by drops_context (Some (Gvma av page pscid gv gscid nl s)) contexts ≡ contexts
 unfolding drops_device
-gvma_keeps_contexts av page pscid gv gscid contexts = emptied_none drops_context (Gvma av page pscid gv gscid) (λ did context. refl) contexts
+gvma_keeps_contexts av page pscid gv gscid nl s contexts = emptied_none drops_context (Gvma av page pscid gv gscid nl s) (λ did context. refl) contexts
 
 pub fence_keeps_contexts : (av wsi pr pw : Bool) (value addr : ℕ) (contexts : List (Option (ℕ × Context))) →
     emptied_by drops_context (Some (Fence av wsi pr pw value addr)) contexts ≡ contexts

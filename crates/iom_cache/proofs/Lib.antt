@@ -1,4 +1,3 @@
-pub mod Live
 pub mod Kept
 pub mod Same
 pub mod Held

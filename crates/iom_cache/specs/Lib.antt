@@ -1,7 +1,6 @@
 pub mod Places
 pub mod Keys
 pub mod Drops
-pub mod Entries
 pub mod Origins
 pub mod Buckets
 pub mod Index

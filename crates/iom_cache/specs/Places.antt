@@ -51,12 +51,6 @@ look key (Some held) told = record { used = Ok held; filled = None }
 look key None (Ok value) = record { used = Ok value; filled = Some (key, value) }
 look key None (Err why) = record { used = Err why; filled = None }
 
--- each live place holds such an entry
-abbrev pub EachLive : {K V : Type 0} → (K × V → Type 0) → List (Option (K × V)) → Type 0
-EachLive P [] = Unit {0}
-EachLive P (None ∷ places) = EachLive P places
-EachLive P (Some entry ∷ places) = P entry × EachLive P places
-
 -- no place holds anything
 abbrev pub NoneLive : {K V : Type 0} → List (Option (K × V)) → Type 0
 NoneLive [] = Unit {0}
@@ -68,9 +62,3 @@ abbrev pub place_in : {K V : Type 0} → Option (Option (K × V)) → Place K V
 place_in None = Beyond
 place_in (Some None) = Empty
 place_in (Some (Some entry)) = Live entry.0 entry.1
-
--- where an entry stands at the place, it is such
-abbrev pub IfLive : {K V : Type 0} → Place K V → (K × V → Type 0) → Type 0
-IfLive Beyond P = Unit {0}
-IfLive Empty P = Unit {0}
-IfLive (Live key value) P = P (key, value)

@@ -32,10 +32,8 @@ impl Model for ContextCache {
 }
 
 impl ContextCache {
-    ghost use Rattle.std.specs.Prelude.{◌≡◌, ◌≤◌, [], Some, None, length, slice_get, IfOk, IfSome};
-    ghost use Rattle.iom_ddt.specs.Contexts.{IsWellFormed};
-    ghost use Rattle.iom_cache.specs.Places.{find, IsHeld, filled_by, emptied_by, place_in, EachLive, IfLive};
-    ghost use Rattle.iom_cache.specs.Entries.{HoldsContext};
+    ghost use Rattle.std.specs.Prelude.{◌≡◌, ◌≤◌, [], Some, None, length, slice_get, IfOk};
+    ghost use Rattle.iom_cache.specs.Places.{find, IsHeld, filled_by, emptied_by, place_in};
     ghost use Rattle.iom_cache.specs.Keys.{same_did};
     ghost use Rattle.iom_cache.specs.Drops.{drops_context};
 
@@ -64,7 +62,6 @@ impl ContextCache {
     pub fn find(&self, did: u32) -> Option<Context>
         ensures found { result ≡ find (same_did did) self.now }
         ensures held { IsHeld did result self.now }
-        ensures sound { EachLive HoldsContext self.now → IfSome result IsWellFormed }
         ensures within { length self.now ≤ 16 }
     {
         for place in self.places.iter() {
@@ -94,10 +91,8 @@ impl ContextCache {
     }
 
     /// What stands at place `i`, any number; the oldest is place 0.
-    #[tactic(auto, using(crate::proofs::Live::live_at))]
     pub fn place(&self, i: u64) -> Place<u32, Context>
         ensures place { result ≡ place_in (slice_get self.now i) }
-        ensures sound { EachLive HoldsContext self.now → IfLive result HoldsContext }
         ensures within { length self.now ≤ 16 }
     {
         Place::of(self.places.get(i as usize))

@@ -1,5 +1,5 @@
-ghost use Rattle.std.specs.Prelude.{◌≡◌, ◌/◌, ◌^◌, ◌*◌};
-ghost use Rattle.iom_cache.specs.Drops.{vma_guest, vma_process, vma_page, gvma_guest, drops_page, drops_device};
+ghost use Rattle.std.specs.Prelude.{◌≡◌, ◌+◌, ◌/◌, ◌^◌, ◌*◌, ◌≤◌};
+ghost use Rattle.iom_cache.specs.Drops.{vma_guest, vma_process, vma_page, leaf_width, meets, range_width, gvma_guest, drops_page, drops_device};
 
 use crate::Key;
 use iom_nested::Hit;
@@ -19,10 +19,12 @@ pub fn drops_page(command: &Command, key: &Key, hit: &Hit) -> bool
             pscid,
             gv,
             gscid,
+            s,
+            ..
         } => {
             vma_guest(gv, gscid, key.gscid)
                 && vma_process(pscv, pscid, key.pscid, hit.global)
-                && vma_page(av, page, key.page, hit.level)
+                && vma_page(av, s, page, key.page, leaf_width(hit))
         }
         Command::Gvma { gv, gscid, .. } => gvma_guest(gv, gscid, key.gscid),
         Command::Fence { .. } | Command::Iodir { .. } => false,
@@ -59,19 +61,41 @@ fn vma_process(pscv: bool, pscid: u32, own: Option<u32>, global: bool) -> bool
     !pscv || own == Some(pscid) && !global
 }
 
-// With AV the entries whose page lies in the same superpage as the command's, else all.
-fn vma_page(av: bool, page: u64, own: u64, level: u8) -> bool
-    ensures { result ≡ vma_page av page own level }
+// With AV the entries whose leaf maps a page of the command's range, else all.
+fn vma_page(av: bool, s: bool, page: u64, own: u64, width: u32) -> bool
+    ensures { result ≡ vma_page av s page own width }
 {
-    !av || superpage(own, level) == superpage(page, level)
+    !av || meets(page, range_width(s, page), own, width)
 }
 
-// The number of the superpage that a page lies in, by its level. Above level 7 no bit of a page's number is left.
-#[tactic(auto, using(crate::proofs::Shifts::shifted_out))]
-fn superpage(page: u64, level: u8) -> u64
-    ensures { result ≡ page / 2 ^ (9 * level) }
+// How many of the lowest bits of a page's number the range of a command leaves out.
+fn range_width(s: bool, page: u64) -> u32
+    ensures { result ≡ range_width s page }
 {
-    page.checked_shr(9 * level as u32).unwrap_or(0)
+    if s { page.trailing_ones() + 1 } else { 0 }
+}
+
+// How many of the lowest bits of a page's number the leaf of an entry's first stage leaves out.
+fn leaf_width(hit: &Hit) -> u32
+    ensures { result ≡ leaf_width hit.now }
+{
+    if hit.napot { 4 } else { 9 * hit.level as u32 }
+}
+
+// Whether two aligned ranges have a page in common: their pages' numbers are equal above the wider one.
+fn meets(page: u64, width: u32, own: u64, own_width: u32) -> bool
+    ensures { result ≡ meets page width own own_width }
+{
+    let wider = if width <= own_width { own_width } else { width };
+    above(own, wider) == above(page, wider)
+}
+
+// A page's number above its lowest `width` bits. Above 63 none is left.
+#[tactic(auto, using(crate::proofs::Shifts::shifted_out))]
+fn above(page: u64, width: u32) -> u64
+    ensures { result ≡ page / 2 ^ width }
+{
+    page.checked_shr(width).unwrap_or(0)
 }
 
 // By the guest alone: an entry doesn't keep the guest-physical address of its page, so AV can't be asked.

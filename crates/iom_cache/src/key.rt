@@ -37,10 +37,10 @@ pub fn key_of(context: &Context, did: u32, iova: u64, kind: Kind) -> Key
 fn pscid_of(context: &Context) -> Option<u32>
     ensures { result ≡ pscid_of context.now }
 {
-    if context.mode == 0 {
+    if context.fields.mode == 0 {
         None
     } else {
-        Some(context.pscid)
+        Some(context.fields.pscid)
     }
 }
 
@@ -48,10 +48,10 @@ fn pscid_of(context: &Context) -> Option<u32>
 fn gscid_of(context: &Context) -> Option<u16>
     ensures { result ≡ gscid_of context.now }
 {
-    if context.gmode == 0 {
+    if context.fields.gmode == 0 {
         None
     } else {
-        Some(context.gscid)
+        Some(context.fields.gscid)
     }
 }
 

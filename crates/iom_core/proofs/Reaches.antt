@@ -55,8 +55,8 @@ executed_changes : (m : Machine) (found : Fetch) →
 executed_changes m fetch.Idle = same_memory m.memory nothing
 executed_changes m fetch.Fault = same_memory m.memory nothing
 executed_changes m fetch.Illegal = same_memory m.memory nothing
-executed_changes m (fetch.Ready (Vma av page pscv pscid gv gscid)) = same_memory m.memory nothing
-executed_changes m (fetch.Ready (Gvma av page pscid gv gscid)) = same_memory m.memory nothing
+executed_changes m (fetch.Ready (Vma av page pscv pscid gv gscid nl s)) = same_memory m.memory nothing
+executed_changes m (fetch.Ready (Gvma av page pscid gv gscid nl s)) = same_memory m.memory nothing
 executed_changes m (fetch.Ready (Fence true wsi pr pw value addr)) =
     let command = Fence true wsi pr pw value addr in
     let Goal : Bool → Type 0 = λ b. is_some (bytes_at m.memory addr 4) ≡ b →

@@ -4,7 +4,6 @@ use Rattle.std.specs.Prelude.{slice_get}
 use Rattle.std.specs.Option.{option_and_then, option_map, unwrap_or}
 use Rattle.std.proofs.lemmas.Bool.{cases_lt}
 use Rattle.iom_bits.specs.declared.causes.Cause.{Cause}
-use Rattle.iom_bits.specs.Features.{no_features}
 use Rattle.iom_ddt.specs.Directory.{located}
 use Rattle.iom_ddt.specs.declared.context.Context.{Context}
 use Rattle.iom_nested.specs.Nested.{translation}
@@ -117,20 +116,20 @@ pub context_refused : (m : Machine) (did : ℕ) (why : Cause) → (context_look 
 unfolding context_look
 context_refused m did why used = look_refuses did (live_context m did) (located m.memory m.registers did) why used
 
-page_ends : (m : Machine) (request : Request) (context : Context) (hit : Hit) → (page_look m.memory no_features m.pages request context).used ≡ Ok hit →
-    ((page_look m.memory no_features m.pages request context).filled ≡ None)
-    ⊎ ((page_look m.memory no_features m.pages request context).filled ≡ Some (request_key request context, hit))
+page_ends : (m : Machine) (request : Request) (context : Context) (hit : Hit) → (page_look m.memory m.registers.features m.pages request context).used ≡ Ok hit →
+    ((page_look m.memory m.registers.features m.pages request context).filled ≡ None)
+    ⊎ ((page_look m.memory m.registers.features m.pages request context).filled ≡ Some (request_key request context, hit))
 unfolding page_look
 page_ends m request context hit used =
     look_ends (request_key request context) (find (same_key (request_key request context)) m.pages)
-    (translation m.memory no_features context request.iova request.kind) hit used
+    (translation m.memory m.registers.features context request.iova request.kind) hit used
 
-pub page_refused : (m : Machine) (request : Request) (context : Context) (fault : Fault) → (page_look m.memory no_features m.pages request context).used ≡ Err fault →
-    (page_look m.memory no_features m.pages request context).filled ≡ None
+pub page_refused : (m : Machine) (request : Request) (context : Context) (fault : Fault) → (page_look m.memory m.registers.features m.pages request context).used ≡ Err fault →
+    (page_look m.memory m.registers.features m.pages request context).filled ≡ None
 unfolding page_look
 page_refused m request context fault used =
     look_refuses (request_key request context) (find (same_key (request_key request context)) m.pages)
-    (translation m.memory no_features context request.iova request.kind) fault used
+    (translation m.memory m.registers.features context request.iova request.kind) fault used
 
 -- An access tells of what it fills.
 context_so : (did own : ℕ) (context : Context) (fill : Option (ℕ × Context)) → (fill ≡ None) ⊎ (fill ≡ Some (own, context)) →
@@ -179,7 +178,7 @@ page_fills m request key =
       | WasNowhere why used is ↦ subst P (sym is) refl
       | WasByContext c used bare is ↦ subst P (sym is) refl
       | WasWalked c hit used bare page is ↦ subst P (sym is)
-          (page_so key (request_key request c) hit (page_look m.memory no_features m.pages request c).filled (page_ends m request c hit page))
+          (page_so key (request_key request c) hit (page_look m.memory m.registers.features m.pages request c).filled (page_ends m request c hit page))
       | WasFault c fault used bare page is ↦ subst P (sym is) (sym (ap (fills same_key key) (page_refused m request c fault page)))
     ]
 

@@ -3,7 +3,6 @@ use Rattle.std.proofs.Common.{◌≡◌, ◌∙◌, ℕ, Bool, true, false, Opti
 use Rattle.std.specs.Prelude.{IfSome}
 use Rattle.iom_bits.specs.declared.causes.Cause.{Cause}
 use Rattle.iom_bits.specs.declared.causes.Cause.TheVariants as cause
-use Rattle.iom_bits.specs.Features.{no_features}
 use Rattle.iom_regs.specs.Views.{mode_of}
 use Rattle.iom_regs.specs.declared.views.Mode.{Mode}
 use Rattle.iom_regs.specs.declared.views.Mode.TheVariants.{Off, Bare, Levels}
@@ -65,12 +64,12 @@ pub data HowLed (m : Machine) (request : Request) : Type 0 where
   WasByContext : (context : Context) → (context_look m request.did).used ≡ Ok context → is_bare context ≡ true →
       led m request ≡ record { way = ByContext context; by = Some context; context = (context_look m request.did).filled; page = None } → HowLed m request
   WasWalked : (context : Context) (hit : Hit) → (context_look m request.did).used ≡ Ok context → is_bare context ≡ false →
-      (page_look m.memory no_features m.pages request context).used ≡ Ok hit →
-      led m request ≡ record { way = Walked context hit; by = Some context; context = (context_look m request.did).filled; page = (page_look m.memory no_features m.pages request context).filled } →
+      (page_look m.memory m.registers.features m.pages request context).used ≡ Ok hit →
+      led m request ≡ record { way = Walked context hit; by = Some context; context = (context_look m request.did).filled; page = (page_look m.memory m.registers.features m.pages request context).filled } →
       HowLed m request
   WasFault : (context : Context) (fault : Fault) → (context_look m request.did).used ≡ Ok context → is_bare context ≡ false →
-      (page_look m.memory no_features m.pages request context).used ≡ Err fault →
-      led m request ≡ record { way = Denied (translating context fault); by = Some context; context = (context_look m request.did).filled; page = (page_look m.memory no_features m.pages request context).filled } →
+      (page_look m.memory m.registers.features m.pages request context).used ≡ Err fault →
+      led m request ≡ record { way = Denied (translating context fault); by = Some context; context = (context_look m request.did).filled; page = (page_look m.memory m.registers.features m.pages request context).filled } →
       HowLed m request
 
 -- by a context, below which the request is led so
@@ -79,25 +78,25 @@ led_above context fill under = record { way = under.way; by = Some context; cont
 
 by_page : (m : Machine) (request : Request) (context : Context) → (context_look m request.did).used ≡ Ok context → is_bare context ≡ false →
     led m request ≡ led_above context (context_look m request.did).filled (record {
-      way = way_to context (page_look m.memory no_features m.pages request context).used;
-      page = (page_look m.memory no_features m.pages request context).filled;
+      way = way_to context (page_look m.memory m.registers.features m.pages request context).used;
+      page = (page_look m.memory m.registers.features m.pages request context).filled;
     }) →
     HowLed m request
 by_page m request context used bare is =
     let fill = (context_look m request.did).filled in
-    let page = (page_look m.memory no_features m.pages request context).filled in
+    let page = (page_look m.memory m.registers.features m.pages request context).filled in
     let by : Result Hit Fault → Led = λ r. led_above context fill (record { way = way_to context r; page = page }) in
-    let Goal : Result Hit Fault → Type 0 = λ r. (page_look m.memory no_features m.pages request context).used ≡ r → HowLed m request in
+    let Goal : Result Hit Fault → Type 0 = λ r. (page_look m.memory m.registers.features m.pages request context).used ≡ r → HowLed m request in
     let by_used : (r : Result Hit Fault) → Goal r = λ r. elim r as Goal [
       | Ok hit ↦ λ e. WasWalked context hit used bare e (is ∙ ap by e)
       | Err fault ↦ λ e. WasFault context fault used bare e (is ∙ ap by e)
-    ] in by_used (page_look m.memory no_features m.pages request context).used refl
+    ] in by_used (page_look m.memory m.registers.features m.pages request context).used refl
 
 by_bareness : (m : Machine) (request : Request) (context : Context) → (context_look m request.did).used ≡ Ok context →
     led m request ≡ led_by_context m request (context_look m request.did).filled (Ok context) → HowLed m request
 by_bareness m request context used is =
     let fill = (context_look m request.did).filled in
-    let look = page_look m.memory no_features m.pages request context in
+    let look = page_look m.memory m.registers.features m.pages request context in
     let split : Bool → Led = λ b. led_above context fill
     (if b then record { way = ByContext context; page = None } else record { way = way_to context look.used; page = look.filled }) in
     let Goal : Bool → Type 0 = λ b. is_bare context ≡ b → HowLed m request in
@@ -128,10 +127,10 @@ how_led m request =
 
 -- what is filled was not found
 page_look-unused : (m : Machine) (request : Request) (context : Context) →
-    IfSome ((page_look m.memory no_features m.pages request context).filled) (λ entry. find (same_key entry.0) m.pages ≡ None)
+    IfSome ((page_look m.memory m.registers.features m.pages request context).filled) (λ entry. find (same_key entry.0) m.pages ≡ None)
 unfolding page_look
 page_look-unused m request context =
-    look-unused same_key (request_key request context) m.pages (translation m.memory no_features context request.iova request.kind)
+    look-unused same_key (request_key request context) m.pages (translation m.memory m.registers.features context request.iova request.kind)
 
 pub led_context-unused : (m : Machine) (request : Request) → IfSome ((led m request).context) (λ entry. find (same_did entry.0) m.contexts ≡ None)
 led_context-unused m request =
@@ -202,21 +201,21 @@ pub record FilledPage (m : Machine) (request : Request) (key : Key) (hit : Hit) 
   pub used : (context_look m request.did).used ≡ Ok context
   pub filled : (context_look m request.did).filled ≡ (led m request).context
   pub own : key ≡ request_key request context
-  pub translated : translation m.memory no_features context request.iova request.kind ≡ Ok hit
+  pub translated : translation m.memory m.registers.features context request.iova request.kind ≡ Ok hit
 
-page_look-filled : (m : Machine) (request : Request) (context : Context) (key : Key) (hit : Hit) → (page_look m.memory no_features m.pages request context).filled ≡ Some (key, hit) →
-    (key ≡ request_key request context) × (translation m.memory no_features context request.iova request.kind ≡ Ok hit)
+page_look-filled : (m : Machine) (request : Request) (context : Context) (key : Key) (hit : Hit) → (page_look m.memory m.registers.features m.pages request context).filled ≡ Some (key, hit) →
+    (key ≡ request_key request context) × (translation m.memory m.registers.features context request.iova request.kind ≡ Ok hit)
 unfolding page_look
 page_look-filled m request context key hit filled =
     look_filled (request_key request context) (find (same_key (request_key request context)) m.pages)
-    (translation m.memory no_features context request.iova request.kind) key hit filled
+    (translation m.memory m.registers.features context request.iova request.kind) key hit filled
 
 pub filled_page : (m : Machine) (request : Request) (key : Key) (hit : Hit) → (led m request).page ≡ Some (key, hit) → FilledPage m request key hit
 filled_page m request key hit filled =
     let none : (led m request).page ≡ None → FilledPage m request key hit = λ e. absurd (cc) in
     let P : Led → Option (Key × Hit) = λ l. l.page in
     let by_look : (context : Context) → (context_look m request.did).used ≡ Ok context → (led m request).context ≡ (context_look m request.did).filled →
-    (led m request).page ≡ (page_look m.memory no_features m.pages request context).filled → FilledPage m request key hit =
+    (led m request).page ≡ (page_look m.memory m.registers.features m.pages request context).filled → FilledPage m request key hit =
     λ context used c e. let f = page_look-filled m request context key hit (sym e ∙ filled) in
     record { context = context; used = used; filled = sym c; own = f.0; translated = f.1 } in
     elim (how_led m request) [

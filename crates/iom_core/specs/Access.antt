@@ -5,7 +5,6 @@ use Rattle.iom_bits.specs.declared.causes.Cause.{Cause}
 use Rattle.iom_bits.specs.declared.causes.Cause.TheVariants as cause
 use Rattle.iom_bits.specs.declared.causes.Kind.{Kind}
 use Rattle.iom_bits.specs.declared.causes.Kind.TheVariants as kind
-use Rattle.iom_bits.specs.Features.{no_features}
 use Rattle.iom_bits.specs.declared.features.Features.{Features}
 use Rattle.iom_mem.specs.Memory.{Memory, bytes_at, put}
 use Rattle.iom_regs.specs.Table.{Registers}
@@ -15,7 +14,7 @@ use Rattle.iom_regs.specs.declared.views.Mode.TheVariants as mode
 use Rattle.iom_ddt.specs.Contexts.{is_bare}
 use Rattle.iom_ddt.specs.Directory.{is_too_wide, levels_of, located}
 use Rattle.iom_ddt.specs.declared.context.Context.{Context}
-use Rattle.iom_nested.specs.Nested.{HitFits, translation}
+use Rattle.iom_nested.specs.Nested.{translation}
 use Rattle.iom_nested.specs.declared.translation.Fault.{Fault}
 use Rattle.iom_nested.specs.declared.translation.Hit.{Hit}
 use Rattle.iom_queue.specs.Delivery.{Delivery, delivered}
@@ -81,13 +80,6 @@ abbrev pub way_to : Context → Result Hit Fault → Way
 way_to context (Ok hit) = Walked context hit
 way_to context (Err fault) = Denied (translating context fault)
 
--- a hit that it leads by has the bounds of one
-abbrev pub Fits : Way → Type 0
-Fits ByRegister = Unit {0}
-Fits (ByContext context) = Unit {0}
-Fits (Walked context hit) = HitFits hit
-Fits (Denied denial) = Unit {0}
-
 -- below a context: the way, and the page that is filled
 pub record Under : Type 0 where
   pub way : Way
@@ -101,7 +93,7 @@ led_under memory features pages request context =
 -- by the context, which is filled before the page is walked, so also where the walk fails
 abbrev pub led_by_context : Machine → Request → Option (ℕ × Context) → Result Context Cause → Led
 led_by_context m request fill (Ok context) =
-    record { way = (led_under m.memory no_features m.pages request context).way; by = Some context; context = fill; page = (led_under m.memory no_features m.pages request context).page }
+    record { way = (led_under m.memory m.registers.features m.pages request context).way; by = Some context; context = fill; page = (led_under m.memory m.registers.features m.pages request context).page }
 led_by_context m request fill (Err why) = refused why fill
 
 -- by the mode: with Off all is disallowed, with Bare the address is the IOVA itself, otherwise the directory has the device's

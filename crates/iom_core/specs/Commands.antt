@@ -59,8 +59,8 @@ memory_left memory (Some command) = memory_after command memory
 
 -- the commands that drop translations, and those that drop contexts
 abbrev pub is_for_pages : Command → Bool
-is_for_pages (Vma av page pscv pscid gv gscid) = true
-is_for_pages (Gvma av page pscid gv gscid) = true
+is_for_pages (Vma av page pscv pscid gv gscid nl s) = true
+is_for_pages (Gvma av page pscid gv gscid nl s) = true
 is_for_pages _ = false
 
 abbrev pub is_for_contexts : Command → Bool

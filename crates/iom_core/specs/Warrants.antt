@@ -2,7 +2,6 @@
 -- in-memory data structures" and "IOMMU command-queue commands". Steps are counted from 0; moment k is the state before step k.
 use Rattle.std.specs.Prelude.{ℕ, ◌≡◌, ◌<◌, ◌≤◌, ◌&&◌, Bool, true, false, not, List, take, slice_get, Option, Some, None, Ok}
 use Rattle.std.specs.Option.{option_and_then}
-use Rattle.iom_bits.specs.Features.{no_features}
 use Rattle.iom_regs.specs.Views.{mode_of}
 use Rattle.iom_regs.specs.declared.views.Mode.TheVariants as mode
 use Rattle.iom_ddt.specs.Contexts.{is_bare}
@@ -68,7 +67,7 @@ pub record IsFreshContext (start : State) (steps : List Step) (did n k : ℕ) (c
 -- this hit; and no step from k to n - 1 executed an IOTINVAL that drops it.
 pub record IsFreshPage (start : State) (steps : List Step) (request : Request) (context : Context) (hit : Hit) (n k : ℕ) : Type 0 where
   pub origin : IsLast (λ j. fills same_key (request_key request context) (page_filled_at start steps j)) n k
-  pub translated : translation (moment start steps k).machine.memory no_features context request.iova request.kind ≡ Ok hit
+  pub translated : translation (moment start steps k).machine.memory (moment start steps k).machine.registers.features context request.iova request.kind ≡ Ok hit
   pub kept : (j : ℕ) → k ≤ j → j < n → drops_at drops_page (executed_at start steps j) (request_key request context) hit ≡ false
 
 -- Step n was led by ddtp, whose mode is Bare.
@@ -130,11 +129,11 @@ is_iodir_of_all (Some (Iodir dv did)) = not dv
 is_iodir_of_all _ = false
 
 abbrev pub is_vma_of_all : Option Command → Bool
-is_vma_of_all (Some (Vma av page pscv pscid gv gscid)) = not av && not pscv && not gv
+is_vma_of_all (Some (Vma av page pscv pscid gv gscid nl s)) = not av && not pscv && not gv
 is_vma_of_all _ = false
 
 abbrev pub is_gvma_of_all : Option Command → Bool
-is_gvma_of_all (Some (Gvma av page pscid gv gscid)) = not av && not gv
+is_gvma_of_all (Some (Gvma av page pscid gv gscid nl s)) = not av && not gv
 is_gvma_of_all _ = false
 
 -- A full invalidation: contexts first, at step i; then translations of both kinds, at steps v and g in either order. Other

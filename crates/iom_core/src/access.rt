@@ -1,17 +1,15 @@
 //! A device's access: where it leads, and what it leaves in the caches (RISC-V IOMMU Architecture 1.0, "Process to translate
 //! an IOVA", "Caching in-memory data structures").
 
-ghost use Rattle.std.specs.Prelude.{◌≡◌, ◌<◌, ◌≤◌, ◌^◌, ◌+◌, ◌*◌, ◌%◌, [], false, length, IfSome, None, Ok, Err};
+ghost use Rattle.std.specs.Prelude.{◌≡◌, ◌<◌, ◌≤◌, ◌^◌, ◌+◌, ◌*◌, ◌%◌, [], false, length, None, Ok, Err};
 ghost use Rattle.std.specs.Bool.{OnFalse};
 ghost use Rattle.iom_regs.specs.Views.{mode_of};
-ghost use Rattle.iom_ddt.specs.Contexts.{IsWellFormed, is_bare};
+ghost use Rattle.iom_ddt.specs.Contexts.{is_bare};
 ghost use Rattle.iom_ddt.specs.Directory.{levels_of, located};
-ghost use Rattle.iom_nested.specs.Nested.{HitFits};
-ghost use Rattle.iom_cache.specs.Entries.{HoldsContext, HoldsHit};
 ghost use Rattle.iom_cache.specs.Keys.{same_did, same_key};
-ghost use Rattle.iom_cache.specs.Places.{EachLive, find, look};
+ghost use Rattle.iom_cache.specs.Places.{find, look};
 ghost use Rattle.iom_virtq.specs.Bus.{Read, Write, is_granted, reply_of};
-ghost use Rattle.iom_core.specs.Access.{Fits, address_on, context_look, filled_where, led, led_by_context, led_under, machine_of, page_told, plain, record_left, request_key, request_of, served, told, told_of, translating, under_told, with_delivery, with_fills};
+ghost use Rattle.iom_core.specs.Access.{address_on, context_look, filled_where, led, led_by_context, led_under, machine_of, page_told, plain, record_left, request_key, request_of, served, told, told_of, translating, under_told, with_delivery, with_fills};
 ghost use Rattle.iom_core.specs.State.{context_room, page_room};
 ghost use Rattle.iom_core.specs.declared.way.Way.TheVariants as way;
 ghost use Rattle.iom_core.specs.declared.witness.Event.TheVariants as event;
@@ -72,7 +70,7 @@ impl Denial {
         Denial {
             cause: fault.cause,
             iotval2: fault.iotval2,
-            reported: is_reported(fault.cause, context.dtf),
+            reported: is_reported(fault.cause, context.fields.dtf),
         }
     }
 }
@@ -137,7 +135,6 @@ impl Machine {
     // The physical address that a request leads to. What is read on the way is cached.
     #[inline(always)]
     fn address<W: Witness>(&mut self, request: &Request, witness: &mut W) -> Result<u64, Denial>
-        requires { request.now.did < 2 ^ 24 }
         ensures address { result ≡ address_on (led self.old request.now).way request.now.iova }
         ensures filled { self.new ≡ with_fills self.old (led self.old request.now) }
         ensures told { witness.new ≡ told_of W.next witness.old self.old request.now }
@@ -178,21 +175,14 @@ pub(crate) fn lead<C: Caches, W: Witness>(
     request: &Request,
     witness: &mut W,
 ) -> Result<u64, Denial>
-    requires width { request.now.did < 2 ^ 24 }
-    requires contexts_fit { EachLive HoldsContext (C.contexts caches.old) }
-    requires pages_fit { EachLive HoldsHit (C.pages caches.old) }
     ensures address { result ≡ address_on
         (led (machine_of ram.now registers.now (C.contexts caches.old) (C.pages caches.old)) request.now).way request.now.iova }
     ensures contexts { C.contexts caches.new ≡ filled_where C.fills context_room
         (led (machine_of ram.now registers.now (C.contexts caches.old) (C.pages caches.old)) request.now).context (C.contexts caches.old) }
     ensures pages { C.pages caches.new ≡ filled_where C.fills page_room
         (led (machine_of ram.now registers.now (C.contexts caches.old) (C.pages caches.old)) request.now).page (C.pages caches.old) }
-    ensures contexts_fit { EachLive HoldsContext (C.contexts caches.new) }
-    ensures pages_fit { EachLive HoldsHit (C.pages caches.new) }
     ensures told { witness.new ≡ told W.next witness.old request.now
         (led (machine_of ram.now registers.now (C.contexts caches.old) (C.pages caches.old)) request.now) }
-    ensures fits { Fits (led (machine_of ram.now registers.now (C.contexts caches.old) (C.pages caches.old)) request.now).way }
-    ensures well_formed { IfSome (led (machine_of ram.now registers.now (C.contexts caches.old) (C.pages caches.old)) request.now).by IsWellFormed }
 {
     match registers.mode() {
         Mode::Off => refuse(Denial::plain(Cause::Off), witness),
@@ -215,9 +205,6 @@ fn by_directory<C: Caches, W: Witness>(
     witness: &mut W,
 ) -> Result<u64, Denial>
     requires directory { 1 ≤ levels_of (mode_of registers.now) }
-    requires width { request.now.did < 2 ^ 24 }
-    requires contexts_fit { EachLive HoldsContext (C.contexts caches.old) }
-    requires pages_fit { EachLive HoldsHit (C.pages caches.old) }
     ensures address { let m = machine_of ram.now registers.now (C.contexts caches.old) (C.pages caches.old) in
         result ≡ address_on (led_by_context m request.now
         (context_look m request.now.did).filled (context_look m request.now.did).used).way request.now.iova }
@@ -226,15 +213,9 @@ fn by_directory<C: Caches, W: Witness>(
     ensures pages { let m = machine_of ram.now registers.now (C.contexts caches.old) (C.pages caches.old) in
         C.pages caches.new ≡ filled_where C.fills page_room (led_by_context m request.now
         (context_look m request.now.did).filled (context_look m request.now.did).used).page (C.pages caches.old) }
-    ensures contexts_fit { EachLive HoldsContext (C.contexts caches.new) }
-    ensures pages_fit { EachLive HoldsHit (C.pages caches.new) }
     ensures told { let m = machine_of ram.now registers.now (C.contexts caches.old) (C.pages caches.old) in
         witness.new ≡ told W.next witness.old request.now (led_by_context m request.now
         (context_look m request.now.did).filled (context_look m request.now.did).used) }
-    ensures fits { let m = machine_of ram.now registers.now (C.contexts caches.old) (C.pages caches.old) in
-        Fits (led_by_context m request.now (context_look m request.now.did).filled (context_look m request.now.did).used).way }
-    ensures well_formed { let m = machine_of ram.now registers.now (C.contexts caches.old) (C.pages caches.old) in
-        IfSome (led_by_context m request.now (context_look m request.now.did).filled (context_look m request.now.did).used).by IsWellFormed }
 {
     if is_too_wide(registers, request.did) {
         return refuse(Denial::plain(Cause::TooWide), witness);
@@ -242,7 +223,7 @@ fn by_directory<C: Caches, W: Witness>(
     match caches.context(request.did) {
         Some(context) => {
             witness.tell(Event::Context(Source::Found, request.did, context));
-            by_context(ram, Features::none(), caches, request, &context, witness)
+            by_context(ram, registers.features(), caches, request, &context, witness)
         }
         None => by_new_context(ram, registers, caches, request, witness),
     }
@@ -258,10 +239,7 @@ fn by_new_context<C: Caches, W: Witness>(
     witness: &mut W,
 ) -> Result<u64, Denial>
     requires directory { 1 ≤ levels_of (mode_of registers.now) }
-    requires width { request.now.did < 2 ^ 24 }
     requires new { find (same_did request.now.did) (C.contexts caches.old) ≡ None }
-    requires contexts_fit { EachLive HoldsContext (C.contexts caches.old) }
-    requires pages_fit { EachLive HoldsHit (C.pages caches.old) }
     ensures address { result ≡ address_on (led_by_context
         (machine_of ram.now registers.now (C.contexts caches.old) (C.pages caches.old)) request.now
         (look request.now.did None (located ram.now registers.now request.now.did)).filled
@@ -272,23 +250,15 @@ fn by_new_context<C: Caches, W: Witness>(
         (machine_of ram.now registers.now (C.contexts caches.old) (C.pages caches.old)) request.now
         (look request.now.did None (located ram.now registers.now request.now.did)).filled
         (located ram.now registers.now request.now.did)).page (C.pages caches.old) }
-    ensures contexts_fit { EachLive HoldsContext (C.contexts caches.new) }
-    ensures pages_fit { EachLive HoldsHit (C.pages caches.new) }
     ensures told { witness.new ≡ told W.next witness.old request.now (led_by_context
         (machine_of ram.now registers.now (C.contexts caches.old) (C.pages caches.old)) request.now
         (look request.now.did None (located ram.now registers.now request.now.did)).filled
         (located ram.now registers.now request.now.did)) }
-    ensures fits { Fits (led_by_context (machine_of ram.now registers.now (C.contexts caches.old) (C.pages caches.old)) request.now
-        (look request.now.did None (located ram.now registers.now request.now.did)).filled
-        (located ram.now registers.now request.now.did)).way }
-    ensures well_formed { IfSome (led_by_context (machine_of ram.now registers.now (C.contexts caches.old) (C.pages caches.old)) request.now
-        (look request.now.did None (located ram.now registers.now request.now.did)).filled
-        (located ram.now registers.now request.now.did)).by IsWellFormed }
 {
     match locate(ram, registers, request.did) {
         Ok(context) => {
             witness.tell(Event::Context(Source::Read, request.did, context));
-            let reached = by_context(ram, Features::none(), caches, request, &context, witness);
+            let reached = by_context(ram, registers.features(), caches, request, &context, witness);
             caches.fill_context(request.did, context);
             reached
         }
@@ -307,15 +277,11 @@ pub(crate) fn by_context<C: Caches, W: Witness>(
     context: &Context,
     witness: &mut W,
 ) -> Result<u64, Denial>
-    requires well_formed { IsWellFormed context.now }
-    requires pages_fit { EachLive HoldsHit (C.pages caches.old) }
     ensures address { result ≡ address_on (led_under ram.now features (C.pages caches.old) request.now context.now).way request.now.iova }
     ensures contexts { C.contexts caches.new ≡ C.contexts caches.old }
     ensures pages { C.pages caches.new ≡ filled_where C.fills page_room
         (led_under ram.now features (C.pages caches.old) request.now context.now).page (C.pages caches.old) }
-    ensures pages_fit { EachLive HoldsHit (C.pages caches.new) }
     ensures told { witness.new ≡ under_told W.next witness.old request.now (led_under ram.now features (C.pages caches.old) request.now context.now) }
-    ensures fits { Fits (led_under ram.now features (C.pages caches.old) request.now context.now).way }
 {
     if context.is_bare() {
         witness.tell(Event::Way(Way::Context(*context)));
@@ -344,18 +310,14 @@ fn by_walk<C: Caches, W: Witness>(
     key: Key,
     witness: &mut W,
 ) -> Result<u64, Denial>
-    requires well_formed { IsWellFormed context.now }
     requires staged { is_bare context.now ≡ false }
     requires key { key ≡ request_key request.now context.now }
     requires new { find (same_key key) (C.pages caches.old) ≡ None }
-    requires pages_fit { EachLive HoldsHit (C.pages caches.old) }
     ensures address { result ≡ address_on (led_under ram.now features (C.pages caches.old) request.now context.now).way request.now.iova }
     ensures contexts { C.contexts caches.new ≡ C.contexts caches.old }
     ensures pages { C.pages caches.new ≡ filled_where C.fills page_room
         (led_under ram.now features (C.pages caches.old) request.now context.now).page (C.pages caches.old) }
-    ensures pages_fit { EachLive HoldsHit (C.pages caches.new) }
     ensures told { witness.new ≡ under_told W.next witness.old request.now (led_under ram.now features (C.pages caches.old) request.now context.now) }
-    ensures fits { Fits (led_under ram.now features (C.pages caches.old) request.now context.now).way }
 {
     match translate(ram, features, context, request.iova, request.kind) {
         Ok(hit) => {
@@ -381,7 +343,6 @@ fn refuse<W: Witness>(denial: Denial, witness: &mut W) -> Result<u64, Denial>
 // The physical address of an IOVA in the frame that its page leads to.
 #[inline(always)]
 fn in_frame(hit: &Hit, iova: u64) -> u64
-    requires { HitFits hit.now }
     ensures { result ≡ hit.now.frame * 4096 + iova % 4096 }
 {
     hit.frame * 4096 + iova % 4096

@@ -1,13 +1,10 @@
 //! The caches that an access looks in ("Caching in-memory data structures").
 
-ghost use Rattle.std.specs.Prelude.{ℕ, ◌≡◌, Bool, true, false, List, [], Option, Some, None, IfSome};
-ghost use Rattle.iom_ddt.specs.Contexts.{IsWellFormed};
+ghost use Rattle.std.specs.Prelude.{ℕ, ◌≡◌, Bool, true, false, List, [], Option, Some, None};
 ghost use Rattle.iom_ddt.specs.declared.context.Context.{Context};
-ghost use Rattle.iom_nested.specs.Nested.{HitFits};
 ghost use Rattle.iom_nested.specs.declared.translation.Hit.{Hit};
-ghost use Rattle.iom_cache.specs.Entries.{HoldsContext, HoldsHit};
 ghost use Rattle.iom_cache.specs.Keys.{same_did, same_key};
-ghost use Rattle.iom_cache.specs.Places.{EachLive, find};
+ghost use Rattle.iom_cache.specs.Places.{find};
 ghost use Rattle.iom_cache.specs.declared.key.Key.{Key};
 ghost use Rattle.iom_core.specs.Access.{filled_where};
 ghost use Rattle.iom_core.specs.State.{context_room, page_room};
@@ -29,26 +26,22 @@ pub(crate) trait Caches {
 
     /// The context in the live place of a device id.
     fn context(&self, did: u32) -> Option<Context>
-        ensures found { result ≡ find (same_did did) (contexts self.now) }
-        ensures sound { EachLive HoldsContext (contexts self.now) → IfSome result IsWellFormed };
+        ensures found { result ≡ find (same_did did) (contexts self.now) };
 
     /// What the live place with a key says.
     fn page(&self, key: &Key) -> Option<Hit>
-        ensures found { result ≡ find (same_key key.now) (pages self.now) }
-        ensures sound { EachLive HoldsHit (pages self.now) → IfSome result HitFits };
+        ensures found { result ≡ find (same_key key.now) (pages self.now) };
 
     /// Fills the context of a device id that no live place has.
     fn fill_context(&mut self, did: u32, context: Context)
         requires { find (same_did did) (contexts self.old) ≡ None }
         ensures filled { contexts self.new ≡ filled_where fills context_room (Some (did, context)) (contexts self.old) }
-        ensures sound { EachLive HoldsContext (contexts self.old) → IsWellFormed context → EachLive HoldsContext (contexts self.new) }
         ensures pages { pages self.new ≡ pages self.old };
 
     /// Fills the page of a key that no live place has.
     fn fill_page(&mut self, key: Key, hit: Hit)
         requires { find (same_key key) (pages self.old) ≡ None }
         ensures filled { pages self.new ≡ filled_where fills page_room (Some (key, hit)) (pages self.old) }
-        ensures sound { EachLive HoldsHit (pages self.old) → HitFits hit → EachLive HoldsHit (pages self.new) }
         ensures contexts { contexts self.new ≡ contexts self.old };
 }
 

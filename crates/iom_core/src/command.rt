@@ -66,7 +66,6 @@ impl Machine {
     }
 
     // Empties the places that a command drops.
-    #[tactic(auto, using(iom_cache::proofs::Live::live_emptied))]
     fn invalidate(&mut self, command: &Command)
         ensures { self.new ≡ without_dropped self.old (Some command.now) }
     {

@@ -1,9 +1,7 @@
 //! What a request would do as the next access, with nothing changed.
 
-ghost use Rattle.std.specs.Prelude.{◌≡◌, ◌<◌, ◌^◌, [], IfSome};
-ghost use Rattle.iom_bits.specs.Features.{no_features};
-ghost use Rattle.iom_ddt.specs.Contexts.{IsWellFormed};
-ghost use Rattle.iom_core.specs.Access.{Fits, led_under};
+ghost use Rattle.std.specs.Prelude.{◌≡◌, []};
+ghost use Rattle.iom_core.specs.Access.{led_under};
 ghost use Rattle.iom_core.specs.Looking.{nothing_seen, seen_in, uncached};
 
 use crate::access::{Request, by_context, lead};
@@ -11,7 +9,6 @@ use crate::caches::{Looking, Nothing};
 use crate::platform::Platform;
 use crate::way::Way;
 use crate::witness::{Event, Source, Witness};
-use iom_bits::Features;
 use iom_ddt::Context;
 
 /// What leads an access, as it was told of it.
@@ -84,12 +81,9 @@ impl Witness for Seen {
 
 impl Platform {
     /// What leads a request now, from the caches first and else from the tables, as a step leads it ("Process to translate an
-    /// IOVA"). Nothing is cached, reported or changed. The device id is below 2^24, the IOVA any.
+    /// IOVA"). Nothing is cached, reported or changed. The IOVA may be any.
     pub fn seen(&self, request: &Request) -> Seen
-        requires { request.now.did < 2 ^ 24 }
         ensures seen { result ≡ seen_in self.now.machine request.now }
-        ensures fits { Fits result.way }
-        ensures well_formed { IfSome result.context (λ found. IsWellFormed found.1) }
     {
         let mut seen = Seen::nothing();
         let machine = &self.machine;
@@ -105,10 +99,7 @@ impl Platform {
 
     /// The same by the tables alone: what leads the request where nothing is cached.
     pub fn seen_uncached(&self, request: &Request) -> Seen
-        requires { request.now.did < 2 ^ 24 }
         ensures seen { result ≡ seen_in (uncached self.now.machine) request.now }
-        ensures fits { Fits result.way }
-        ensures well_formed { IfSome result.context (λ found. IsWellFormed found.1) }
     {
         let mut seen = Seen::nothing();
         let machine = &self.machine;
@@ -124,12 +115,18 @@ impl Platform {
 
     /// The way of a request below this context of its device, as the tables lead it now.
     pub fn way_under(&self, request: &Request, context: &Context) -> Way
-        requires { IsWellFormed context.now }
-        ensures way { result ≡ (led_under self.now.machine.memory no_features [] request.now context.now).way }
-        ensures fits { Fits result }
+        ensures way { result ≡ (led_under self.now.machine.memory self.now.machine.registers.features [] request.now context.now).way }
     {
         let mut seen = Seen::nothing();
-        let _ = by_context(&self.machine.ram, Features::none(), &mut Nothing, request, context, &mut seen);
+        let machine = &self.machine;
+        let _ = by_context(
+            &machine.ram,
+            machine.registers.features(),
+            &mut Nothing,
+            request,
+            context,
+            &mut seen,
+        );
         seen.way
     }
 }

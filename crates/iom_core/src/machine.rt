@@ -17,8 +17,6 @@ pub struct Machine {
 
 impl Model for Machine {
     ghost use Rattle.iom_core.specs.State.{Machine};
-    ghost use Rattle.iom_cache.specs.Places.{EachLive};
-    ghost use Rattle.iom_cache.specs.Entries.{HoldsContext, HoldsHit};
 
     ghost Value = { Machine };
 
@@ -28,8 +26,6 @@ impl Model for Machine {
       contexts = m.lines.contexts;
       pages = m.lines.pages;
     } };
-
-    ghost invariant = { λ m. EachLive HoldsContext m.lines.contexts × EachLive HoldsHit m.lines.pages };
 }
 
 impl Machine {

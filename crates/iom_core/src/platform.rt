@@ -48,8 +48,6 @@ impl Platform {
     ghost use Rattle.iom_core.specs.Warrants.{AreWarranted, IsExplained, IsUncached, IsUpToDate, IsWarrant, moment};
     ghost use Rattle.iom_core.specs.declared.step.Step.{Step};
     ghost use Rattle.iom_core.specs.declared.warrant.Warrant.{Warrant};
-    ghost use Rattle.iom_cache.specs.Entries.{HoldsContext, HoldsHit};
-    ghost use Rattle.iom_cache.specs.Places.{EachLive};
     ghost use Rattle.iom_virtq.specs.Bus.{Read, Write};
 
     /// A platform with this memory and these block devices, at most 8, each with an id below 2^24 that no other has. Its IOMMU
@@ -107,16 +105,14 @@ impl Platform {
 
     /// The translation cache: in the standard the IOTLB.
     pub fn trans(&self) -> &TransCache
-        ensures cache { result.now ≡ self.now.machine.pages }
-        ensures sound { EachLive HoldsHit result.now }
+        ensures { result.now ≡ self.now.machine.pages }
     {
         &self.machine.lines.pages
     }
 
     /// The context cache: in the standard the DDTC.
     pub fn contexts(&self) -> &ContextCache
-        ensures cache { result.now ≡ self.now.machine.contexts }
-        ensures sound { EachLive HoldsContext result.now }
+        ensures { result.now ≡ self.now.machine.contexts }
     {
         &self.machine.lines.contexts
     }

@@ -1,17 +1,23 @@
 -- Device contexts: RISC-V IOMMU Architecture 1.0, "Device-context fields" and "Device-context configuration checks".
-use Rattle.std.specs.Prelude.{ℕ, ◌≡◌, ◌≢◌, ◌<◌, ◌^◌, ◌%◌, ◌==◌, ◌&&◌, ◌||◌, Bool, IsTrue}
-use Rattle.iom_ddt.specs.declared.context.Context.{Context}
+use Rattle.std.specs.Prelude.{ℕ, ◌≡◌, ◌≢◌, ◌<◌, ◌^◌, ◌%◌, ◌==◌, ◌&&◌, ◌||◌, Bool, not, IsTrue}
+use Rattle.iom_bits.specs.declared.features.Features.{Features}
+use Rattle.iom_ddt.specs.declared.context.ContextFields.{ContextFields}
 
--- the modes of a stage: 0 is Bare; for the first stage 8 is Sv39 and 9 Sv48, for the second 8 is Sv39x4 and 9 Sv48x4
+-- the modes of a stage: 0 is Bare; for the first stage 8 is Sv39, 9 Sv48 and 10 Sv57, for the second 8 is Sv39x4, 9 Sv48x4 and 10
+-- Sv57x4
 abbrev pub is_mode : ℕ → Bool
-is_mode mode = mode == 0 || mode == 8 || mode == 9
+is_mode mode = mode == 0 || mode == 8 || mode == 9 || mode == 10
+
+-- the IOMMU has both modes: those of five levels only where it offers them
+abbrev pub has_modes : Features → ContextFields → Bool
+has_modes features c = (features.sv57 || not (c.mode == 10)) && (features.sv57x4 || not (c.gmode == 10))
 
 -- neither stage translates
-abbrev pub is_bare : Context → Bool
+abbrev pub is_bare : ContextFields → Bool
 is_bare c = c.mode == 0 && c.gmode == 0
 
--- its fields fit, its modes are 0, 8 or 9, and the second stage's root table is aligned to its 16 KiB
-pub record IsWellFormed (c : Context) : Type 0 where
+-- its fields fit, its modes are 0, 8, 9 or 10, and the second stage's root table is aligned to its 16 KiB
+pub record IsWellFormed (c : ContextFields) : Type 0 where
   pub custom : c.custom < 2 ^ 8
   pub second_mode : IsTrue (is_mode c.gmode)
   pub second_root : c.gppn < 2 ^ 44
@@ -22,5 +28,5 @@ pub record IsWellFormed (c : Context) : Type 0 where
   pub first_root : c.ppn < 2 ^ 44
 
 -- the same as a test of a context whose fields fit
-abbrev pub is_well_formed : Context → Bool
+abbrev pub is_well_formed : ContextFields → Bool
 is_well_formed c = is_mode c.mode && is_mode c.gmode && (c.gmode == 0 || c.gppn % 4 == 0)

@@ -1,9 +1,10 @@
 -- The device directory: RISC-V IOMMU Architecture 1.0, "Device-directory-table" and "Process to locate the
 -- Device-context".
-use Rattle.std.specs.Prelude.{ℕ, zero, suc, ◌≡◌, ◌+◌, ◌-◌, ◌*◌, ◌==◌, ◌&&◌, ◌||◌, Bool, true, false, not, List, [], ◌∷◌, filter_map, get_or, Option, Some, None, Result, Ok, Err, nat_lt, if◌then◌else◌}
+use Rattle.std.specs.Prelude.{ℕ, zero, suc, ◌≡◌, ◌+◌, ◌-◌, ◌*◌, ◌==◌, ◌&&◌, ◌||◌, Bool, true, false, not, IsTrue, List, [], ◌∷◌, filter_map, get_or, Option, Some, None, Result, Ok, Err, nat_lt, if◌then◌else◌}
 use Rattle.iom_bits.specs.Bits.{has_bit, field_of}
 use Rattle.iom_bits.specs.declared.causes.Cause.{Cause}
 use Rattle.iom_bits.specs.declared.causes.Cause.TheVariants.{DirAccess, DirInvalid, DirBad, TooWide}
+use Rattle.iom_bits.specs.declared.features.Features.{Features}
 use Rattle.iom_mem.specs.Memory.{Memory, word, words_at}
 use Rattle.iom_regs.specs.Table.{Registers}
 use Rattle.iom_regs.specs.Views.{mode_of, root_of}
@@ -12,6 +13,7 @@ use Rattle.iom_regs.specs.declared.views.Mode.TheVariants as mode
 use Rattle.iom_ddt.specs.declared.context.Context.{Context}
 use Rattle.iom_ddt.specs.declared.listing.Met.{Met}
 use Rattle.iom_ddt.specs.declared.listing.Met.TheVariants.{Entry, Leaf}
+use Rattle.iom_ddt.specs.Contexts.{has_modes}
 use Rattle.iom_ddt.specs.Words.{context_in, IsEncoding}
 
 -- the parts of a device id, bits 6:0, 15:7 and 23:16: the index into the last table, and into those above it
@@ -58,19 +60,24 @@ abbrev pub fault_in : Result ℕ Cause → Option (Result Context Cause)
 fault_in (Ok table) = None
 fault_in (Err cause) = Some (Err cause)
 
+-- a context is misconfigured where the IOMMU lacks one of its modes
+abbrev pub with_modes : Features → Result Context Cause → Result Context Cause
+with_modes features (Ok context) = if has_modes features context then Ok context else Err DirBad
+with_modes features (Err cause) = Err cause
+
 -- what one of them decides; an entry that points on decides nothing
-abbrev pub decided_by : Met → Option (Result Context Cause)
-decided_by (Entry place entry) = fault_in (pointed_by entry)
-decided_by (Leaf place None) = Some (Err DirAccess)
-decided_by (Leaf place (Some words)) = Some (context_in words)
+abbrev pub decided_by : Features → Met → Option (Result Context Cause)
+decided_by features (Entry place entry) = fault_in (pointed_by entry)
+decided_by features (Leaf place None) = Some (Err DirAccess)
+decided_by features (Leaf place (Some words)) = Some (with_modes features (context_in words))
 
 -- The verdict: the first that decides. The last of a path always does.
 abbrev pub first_of : List (Result Context Cause) → Result Context Cause
 first_of [] = Err DirAccess
 first_of (first ∷ more) = first
 
-unfoldable pub verdict_on : List Met → Result Context Cause
-verdict_on path = first_of (filter_map decided_by path)
+unfoldable pub verdict_on : Features → List Met → Result Context Cause
+verdict_on features path = first_of (filter_map (decided_by features) path)
 
 -- whether the mode has a directory, and how many levels
 abbrev pub levels_of : Mode → ℕ
@@ -88,25 +95,28 @@ path_of memory registers did =
 unfoldable pub located : Memory → Registers → ℕ → Result Context Cause
 located memory registers did =
     if is_too_wide (levels_of (mode_of registers)) did then Err TooWide
-    else verdict_on (path_from memory did (levels_of (mode_of registers) - 1) (root_of registers))
+    else verdict_on registers.features (path_from memory did (levels_of (mode_of registers) - 1) (root_of registers))
 
--- The same without a decoder. What is found where a context stands: the one that its words encode; or the fault, where they
--- encode none, or a byte of them is outside memory.
-abbrev pub IsContextOf : Option (List ℕ) → Result Context Cause → Type 0
-IsContextOf None found = found ≡ Err DirAccess
-IsContextOf (Some words) (Ok context) = IsEncoding context words
-IsContextOf (Some words) (Err cause) =
-    ((context : Context) → ¬ IsEncoding context words)
+-- The same without a decoder. What is found where a context stands: the one that its words encode, if the IOMMU has its modes; or
+-- the fault, where there is no such context, or a byte of them is outside memory.
+abbrev pub IsOf : Features → Context → List ℕ → Type 0
+IsOf features context words = IsEncoding context words × IsTrue (has_modes features context)
+
+abbrev pub IsContextOf : Features → Option (List ℕ) → Result Context Cause → Type 0
+IsContextOf features None found = found ≡ Err DirAccess
+IsContextOf features (Some words) (Ok context) = IsOf features context words
+IsContextOf features (Some words) (Err cause) =
+    ((context : Context) → ¬ IsOf features context words)
     × (cause ≡ (if has_bit (get_or words 0 0) 0 then DirBad else DirInvalid))
 
 -- The last of a path tells what is found: the words of the context, or an entry that is a fault. Those before it point on.
-abbrev pub IsEnd : List Met → Result Context Cause → Type 0
-IsEnd [] found = ⊥
-IsEnd (Leaf place words ∷ more) found = IsContextOf words found
-IsEnd (Entry place entry ∷ []) found = (cause : Cause) × (pointed_by entry ≡ Err cause) × (found ≡ Err cause)
-IsEnd (Entry place entry ∷ next ∷ more) found = IsEnd (next ∷ more) found
+abbrev pub IsEnd : Features → List Met → Result Context Cause → Type 0
+IsEnd features [] found = ⊥
+IsEnd features (Leaf place words ∷ more) found = IsContextOf features words found
+IsEnd features (Entry place entry ∷ []) found = (cause : Cause) × (pointed_by entry ≡ Err cause) × (found ≡ Err cause)
+IsEnd features (Entry place entry ∷ next ∷ more) found = IsEnd features (next ∷ more) found
 
 pub record IsLocated (memory : Memory) (registers : Registers) (did : ℕ) (found : Result Context Cause) : Type 0 where
   pub too_wide : is_too_wide (levels_of (mode_of registers)) did ≡ true → found ≡ Err TooWide
   pub on_path : is_too_wide (levels_of (mode_of registers)) did ≡ false →
-      IsEnd (path_from memory did (levels_of (mode_of registers) - 1) (root_of registers)) found
+      IsEnd registers.features (path_from memory did (levels_of (mode_of registers) - 1) (root_of registers)) found

@@ -1,11 +1,11 @@
-ghost use Rattle.std.specs.Prelude.{◌≡◌, ◌↔◌, IsTrue};
+ghost use Rattle.std.specs.Prelude.{◌≡◌, ◌↔◌, IsSome, IfSome};
 
-/// What the directory says of one device (base format, "Device-context fields").
-///
-/// It is well formed where `gmode` and `mode` are 0, 8 or 9, `gppn` is a multiple of 4 unless `gmode` is 0, and
-/// each field fits the bits that are named at it.
+use iom_bits::Features;
+use std::marker::Model;
+
+/// The fields of a device context (base format, "Device-context fields"). Each fits the bits that are named at it.
 #[derive(Clone, Copy, PartialEq)]
-pub struct Context {
+pub struct ContextFields {
     /// iohgatp.PPN, 44 bits: the second stage's root table, its physical address divided by 4096.
     pub gppn: u64,
     /// fsc.PPN, 44 bits: the first stage's root table, its address divided by 4096; guest-physical under a second
@@ -15,9 +15,9 @@ pub struct Context {
     pub pscid: u32,
     /// iohgatp.GSCID, 16 bits: the guest's soft-context id.
     pub gscid: u16,
-    /// iohgatp.MODE, the second stage: 0 Bare, 8 Sv39x4, 9 Sv48x4.
+    /// iohgatp.MODE, the second stage: 0 Bare, 8 Sv39x4, 9 Sv48x4, 10 Sv57x4.
     pub gmode: u8,
-    /// fsc.MODE, the first stage: 0 Bare, 8 Sv39, 9 Sv48.
+    /// fsc.MODE, the first stage: 0 Bare, 8 Sv39, 9 Sv48, 10 Sv57.
     pub mode: u8,
     /// tc bits 31:24, for custom use. They change nothing.
     pub custom: u8,
@@ -27,23 +27,56 @@ pub struct Context {
     pub tav: bool,
 }
 
-impl Context {
-    ghost use Rattle.iom_ddt.specs.Contexts.{is_bare, IsWellFormed};
+/// What the directory says of one device: fields that are well formed, as `Context::new` tests it.
+#[derive(Clone, Copy, PartialEq)]
+pub struct Context {
+    /// Its fields.
+    pub fields: ContextFields,
+}
 
-    /// Whether it is well formed: both modes are 0, 8 or 9, the second stage's root is aligned, and each field fits its bits
-    /// ("Device-context configuration checks").
-    pub fn is_well_formed(self) -> bool
-        ensures { IsTrue result ↔ IsWellFormed self }
+impl Model for Context {
+    ghost use Rattle.iom_ddt.specs.declared.context.ContextFields.{ContextFields};
+    ghost use Rattle.iom_ddt.specs.Contexts.{IsWellFormed};
+
+    ghost Value = { ContextFields };
+
+    ghost view = { λ context. context.fields };
+
+    ghost inverse = { λ fields. record { fields = fields } };
+
+    ghost invariant = { λ context. IsWellFormed context.fields };
+}
+
+impl Context {
+    ghost use Rattle.iom_ddt.specs.Contexts.{has_modes, is_bare, IsWellFormed};
+
+    /// The context of these fields, if they are well formed: both modes are 0, 8, 9 or 10, the second stage's root is aligned to 16 KiB
+    /// unless that stage is Bare, and each field fits its bits ("Device-context configuration checks").
+    pub fn new(fields: ContextFields) -> Option<Context>
+        ensures formed { IsSome result ↔ IsWellFormed fields }
+        ensures same { IfSome result (λ context. context ≡ fields) }
     {
-        let fits = self.gppn >> 44 == 0 && self.pscid >> 20 == 0 && self.ppn >> 44 == 0;
-        let aligned = self.gmode == 0 || self.gppn % 4 == 0;
-        fits && aligned && matches!(self.gmode, 0 | 8 | 9) && matches!(self.mode, 0 | 8 | 9)
+        let fits = fields.gppn >> 44 == 0 && fields.pscid >> 20 == 0 && fields.ppn >> 44 == 0;
+        let aligned = fields.gmode == 0 || fields.gppn % 4 == 0;
+        if fits && aligned && matches!(fields.gmode, 0 | 8 | 9 | 10) && matches!(fields.mode, 0 | 8 | 9 | 10) {
+            Some(Context { fields })
+        } else {
+            None
+        }
+    }
+
+    /// Whether an IOMMU with these features has both modes: 10 only as Sv57 in the first stage, as Sv57x4 in the second ("IOMMU
+    /// capabilities").
+    pub fn has_modes(self, features: Features) -> bool
+        ensures { result ≡ has_modes features self }
+    {
+        (features.sv57 || self.fields.mode != 10) && (features.sv57x4 || self.fields.gmode != 10)
     }
 
     /// Whether neither stage translates: iohgatp.MODE and fsc.MODE are Bare, and the IOVA is the physical address.
     pub fn is_bare(self) -> bool
         ensures { result ≡ is_bare self }
     {
-        self.mode == 0 && self.gmode == 0
+        self.fields.mode == 0 && self.fields.gmode == 0
     }
 }

@@ -1,7 +1,6 @@
 ghost use Rattle.std.specs.Prelude.{◌≡◌, ◌<◌, ◌≤◌, ◌^◌, ◌*◌, ◌+◌, IfOk, Some};
 ghost use Rattle.iom_mem.specs.Memory.{word, words_at};
 ghost use Rattle.iom_regs.specs.Views.{mode_of};
-ghost use Rattle.iom_ddt.specs.Contexts.{IsWellFormed};
 ghost use Rattle.iom_ddt.specs.Directory.{ddi, is_too_wide, pointed_by, decided_by, levels_of, located, IsContextOf, IsLocated};
 ghost use Rattle.iom_ddt.specs.declared.listing.Met.TheVariants.{Leaf};
 
@@ -19,10 +18,8 @@ use iom_regs::{Mode, Regs};
 #[tactic(auto, unfolding(crate::specs::Directory::located))]
 pub fn locate(ram: &Ram, registers: &Regs, did: u32) -> Result<Context, Cause>
     requires directory { 1 ≤ levels_of (mode_of registers.now) }
-    requires width { did < 2 ^ 24 }
     ensures verdict { result ≡ located ram.now registers.now did }
     ensures meaning { IsLocated ram.now registers.now did result }
-    ensures sound { IfOk result (λ context. IsWellFormed context) }
 {
     if is_too_wide(registers, did) {
         return Err(Cause::TooWide);
@@ -33,7 +30,7 @@ pub fn locate(ram: &Ram, registers: &Regs, did: u32) -> Result<Context, Cause>
     for level in (1..levels).rev() {
         table = pointed_by(ram, table * 4096 + ddi(did, level) * 8)?;
     }
-    context_at(ram, table * 4096 + ddi(did, 0) * 32)
+    context_at(ram, registers, table * 4096 + ddi(did, 0) * 32)
 }
 
 /// How many levels of tables the directory has, 1 to 3; 0 where there is none.
@@ -87,13 +84,15 @@ pub(crate) fn pointed_by(ram: &Ram, place: u64) -> Result<u64, Cause>
 }
 
 // The context at this physical address.
-fn context_at(ram: &Ram, place: u64) -> Result<Context, Cause>
-    ensures verdict { decided_by (Leaf place (words_at ram.now place 4)) ≡ Some result }
-    ensures meaning { IsContextOf (words_at ram.now place 4) result }
-    ensures sound { IfOk result (λ context. IsWellFormed context) }
+fn context_at(ram: &Ram, registers: &Regs, place: u64) -> Result<Context, Cause>
+    ensures verdict { decided_by registers.now.features (Leaf place (words_at ram.now place 4)) ≡ Some result }
+    ensures meaning { IsContextOf registers.now.features (words_at ram.now place 4) result }
 {
-    match ram.words_at(place) {
-        Some(words) => context_of(words),
-        None => Err(Cause::DirAccess),
+    let Some(words) = ram.words_at(place) else {
+        return Err(Cause::DirAccess);
+    };
+    match context_of(words) {
+        Ok(context) if !context.has_modes(registers.features()) => Err(Cause::DirBad),
+        found => found,
     }
 }

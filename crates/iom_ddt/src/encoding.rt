@@ -1,55 +1,53 @@
 ghost use Rattle.std.specs.Prelude.{◌≡◌, IfOk, IfErr, Ok, Err, get_or, if◌then◌else◌};
 ghost use Rattle.iom_bits.specs.Bits.{has_bit};
-ghost use Rattle.iom_ddt.specs.Contexts.{IsWellFormed};
 ghost use Rattle.iom_ddt.specs.Words.{words_of, fields_in, context_in, IsEncoding};
 
-use crate::Context;
+use crate::{Context, ContextFields};
 use iom_bits::{Cause, field, flag, has_bit};
 
 /// The context that the four words tc, iohgatp, ta and fsc encode ("Device-context fields").
 ///
 /// `DirInvalid` where V is 0, whatever else the words hold; `DirBad` where V is 1 and they encode no well-formed
-/// context ("Device-context configuration checks"): a reserved bit is set, a mode is none of 0, 8 and 9, or the root of
+/// context ("Device-context configuration checks"): a reserved bit is set, a mode is none of 0, 8, 9 and 10, or the root of
 /// the second stage isn't aligned.
 #[tactic(auto, unfolding(crate::specs::Words::context_in, iom_bits::specs::Bits::has_bit))]
 pub fn context_of(words: [u64; 4]) -> Result<Context, Cause>
     ensures value { result ≡ context_in words }
     ensures found { IfOk result (λ context. IsEncoding context words) }
-    ensures only { (context : Context) → IsEncoding context words → result ≡ Ok context }
+    ensures only { (context : ContextFields) → IsEncoding context words → result ≡ Ok context }
     ensures refused { IfErr result (λ cause. cause
         ≡ (if has_bit (get_or words 0 0) 0 then Cause.DirBad else Cause.DirInvalid)) }
 {
-    let context = fields_in(words);
     if !has_bit(words[0], 0) {
-        Err(Cause::DirInvalid)
-    } else if context.is_well_formed() && encode_context(&context) == words {
-        Ok(context)
-    } else {
-        Err(Cause::DirBad)
+        return Err(Cause::DirInvalid);
+    }
+    match Context::new(fields_in(words)) {
+        Some(context) if encode_context(&context) == words => Ok(context),
+        _ => Err(Cause::DirBad),
     }
 }
 
-/// The four words of a well-formed context: tc with V = 1, iohgatp, ta and fsc.
+/// The four words of a context: tc with V = 1, iohgatp, ta and fsc.
 pub fn encode_context(context: &Context) -> [u64; 4]
-    requires well_formed { IsWellFormed context.now }
     ensures { result ≡ words_of context.now }
 {
+    let fields = &context.fields;
     [
-        1 + (flag(context.dtf) << 4) + ((context.custom as u64) << 24),
-        context.gppn + ((context.gscid as u64) << 44) + ((context.gmode as u64) << 60),
-        flag(context.tav) + ((context.pscid as u64) << 12),
-        context.ppn + ((context.mode as u64) << 60),
+        1 + (flag(fields.dtf) << 4) + ((fields.custom as u64) << 24),
+        fields.gppn + ((fields.gscid as u64) << 44) + ((fields.gmode as u64) << 60),
+        flag(fields.tav) + ((fields.pscid as u64) << 12),
+        fields.ppn + ((fields.mode as u64) << 60),
     ]
 }
 
-// The context whose fields are in the words, whatever their other bits are.
+// The fields in the words, whatever their other bits are.
 #[tactic(auto, unfolding(iom_bits::specs::Bits::has_bit))]
-fn fields_in(words: [u64; 4]) -> Context
+fn fields_in(words: [u64; 4]) -> ContextFields
     ensures value { result ≡ fields_in words }
-    ensures only { (context : Context) → IsEncoding context words → result ≡ context }
+    ensures only { (context : ContextFields) → IsEncoding context words → result ≡ context }
 {
     let [tc, iohgatp, ta, fsc] = words;
-    Context {
+    ContextFields {
         dtf: has_bit(tc, 4),
         custom: field(tc, 24, 8) as u8,
         gmode: field(iohgatp, 60, 4) as u8,

@@ -1,7 +1,7 @@
 //! The device directory and device contexts (RISC-V IOMMU Architecture 1.0, "Device-directory-table").
 #![tactic(auto)]
 
-pub use context::Context;
+pub use context::{Context, ContextFields};
 pub use directory::{is_too_wide, locate};
 pub use encoding::{context_of, encode_context};
 pub use listing::{DirectoryPath, Met, path};

@@ -37,7 +37,6 @@ pub type DirectoryPath = ArrayVec<Met, 3>;
 #[tactic(auto, unfolding(crate::specs::Directory::path_of))]
 pub fn path(ram: &Ram, registers: &Regs, did: u32) -> DirectoryPath
     requires directory { 1 ≤ levels_of (mode_of registers.now) }
-    requires width { did < 2 ^ 24 }
     ensures path { result.items ≡ path_of ram.now registers.now did }
     ensures levels { array_vec_len result ≤ levels_of (mode_of registers.now) }
 {

@@ -117,6 +117,10 @@ at_queue : (words : List (List ℕ)) → Apart (codes "queue") words
 unfolding form_by step_of question_of
 at_queue words line is = refl
 
+at_vectors : (words : List (List ℕ)) → Apart (codes "vectors") words
+unfolding form_by step_of question_of
+at_vectors words line is = refl
+
 at_dump : (words : List (List ℕ)) → Apart (codes "dump") words
 unfolding form_by step_of question_of
 at_dump words line is = refl
@@ -146,10 +150,11 @@ form_apart verb words =
     tried verb words (codes "why") (at_why words) (λ no_why.
     tried verb words (codes "walk") (at_walk words) (λ no_walk.
     tried verb words (codes "queue") (at_queue words) (λ no_queue.
+    tried verb words (codes "vectors") (at_vectors words) (λ no_vectors.
     tried verb words (codes "dump") (at_dump words) (λ no_dump.
     tried verb words (codes "disk") (at_disk words) (λ no_disk.
     tried verb words (codes "origin") (at_origin words) (λ no_origin.
-    λ line is. absurd (cc (rw (no_reg, no_dev, no_cmd, no_stale, no_why, no_walk, no_queue, no_dump, no_disk, no_origin) at is))))))))))))
+    λ line is. absurd (cc (rw (no_reg, no_dev, no_cmd, no_stale, no_why, no_walk, no_queue, no_vectors, no_dump, no_disk, no_origin) at is)))))))))))))
 
 at_put : (words : List (List ℕ)) → run_line (codes "put") words ≡ Bad
 unfolding step_of question_of

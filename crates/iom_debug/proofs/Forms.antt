@@ -1,10 +1,10 @@
 -- Eleven words tell a form.
 use Rattle.std.proofs.Common.{◌≡◌, ℕ, List, [], ◌∷◌, Bool, true, false, nat_le, take, length, refl, arith}
 use Rattle.std.proofs.lemmas.Grind.{common_steps}
-use Rattle.iom_debug.specs.Script.{reg_read, reg_write, reg, dev_read, dev_write, dev_show, dev_run, dev, cmd_run, cmd, item_words, stale_request, stale_context, stale_page, stale, why, origin, walk, queue, dump, disk, form_by}
+use Rattle.iom_debug.specs.Script.{reg_read, reg_write, reg, dev_read, dev_write, dev_show, dev_run, dev, cmd_run, cmd, item_words, stale_request, stale_context, stale_page, stale, why, origin, walk, queue, vectors, dump, disk, form_by}
 
 pub enough : (verb : List ℕ) (words : List (List ℕ)) → form_by verb (take 11 words) ≡ form_by verb words
-unfolding form_by reg reg_read reg_write dev dev_read dev_write dev_show dev_run cmd cmd_run stale stale_request stale_context stale_page why origin walk queue dump disk
+unfolding form_by reg reg_read reg_write dev dev_read dev_write dev_show dev_run cmd cmd_run stale stale_request stale_context stale_page why origin walk queue vectors dump disk
 enough verb [] = refl
 enough verb (a ∷ []) = refl
 enough verb (a ∷ b ∷ []) = refl

@@ -5,4 +5,5 @@ pub mod Bounds
 pub mod Newest
 pub mod Remaining
 pub mod Summing
+pub mod Telling
 pub mod Alike

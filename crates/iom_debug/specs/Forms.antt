@@ -31,6 +31,7 @@ InRange (inquiry.ContextOrigin i) = Unit {0}
 InRange (inquiry.PageOrigin i) = Unit {0}
 InRange (inquiry.Walk request i) = request.did < 2 ^ 24
 InRange (inquiry.Queue which) = Unit {0}
+InRange inquiry.Vectors = Unit {0}
 InRange (inquiry.Dump addr count) = count ≤ 64
 InRange (inquiry.Disk dev at count) = count ≤ 64
 InRange (inquiry.Device dev) = Unit {0}

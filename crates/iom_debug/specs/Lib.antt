@@ -10,3 +10,4 @@ pub mod Answers
 pub mod Output
 pub mod Wanted
 pub mod Summary
+pub mod Telling

@@ -20,6 +20,7 @@ register_named name =
     else if bytes_eq name (codes "cqcsr") then place 72 4
     else if bytes_eq name (codes "fqcsr") then place 76 4
     else if bytes_eq name (codes "ipsr") then place 84 4
+    else if bytes_eq name (codes "icvec") then place 760 8
     else None
 
 -- VIRTIO 1.2, "MMIO Device Register Layout": the offset of a register, each of 4 bytes. First those of the device

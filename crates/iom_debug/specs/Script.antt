@@ -192,6 +192,11 @@ queue (name ∷ []) = do
   Some (Inquires (inquiry.Queue which))
 queue _ = None
 
+-- vectors
+unfoldable pub vectors : List (List ℕ) → Option DebugLine
+vectors [] = Some (Inquires inquiry.Vectors)
+vectors _ = None
+
 -- dump ADDR LEN
 unfoldable pub dump : List (List ℕ) → Option DebugLine
 dump (addr ∷ count ∷ []) = do
@@ -219,6 +224,7 @@ form_by verb operands =
     else if bytes_eq verb (codes "why") then why operands
     else if bytes_eq verb (codes "walk") then walk operands
     else if bytes_eq verb (codes "queue") then queue operands
+    else if bytes_eq verb (codes "vectors") then vectors operands
     else if bytes_eq verb (codes "dump") then dump operands
     else if bytes_eq verb (codes "disk") then disk operands
     else if bytes_eq verb (codes "origin") then origin operands

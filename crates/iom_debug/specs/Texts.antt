@@ -1,9 +1,10 @@
 -- The texts of answers.
-use Rattle.std.specs.Prelude.{ℕ, ◌+◌, ◌*◌, ◌++◌, nat_le, List, [], length, take, drop, codes, Option, Some, None, if◌then◌else◌}
+use Rattle.std.specs.Prelude.{ℕ, ◌+◌, ◌*◌, ◌++◌, ◌==◌, nat_le, List, [], length, take, drop, codes, Option, Some, None, if◌then◌else◌}
 use Rattle.hex.specs.Hex.{encode_lower}
 use Rattle.iom_bits.specs.Bits.{flag}
 use Rattle.iom_text.specs.Texts.{hexed}
 use Rattle.iom_regs.specs.Table.{Registers}
+use Rattle.iom_regs.specs.Interrupts.{is_high}
 use Rattle.iom_regs.specs.Views.{command_errors_of, fault_errors_of, queue_of}
 use Rattle.iom_regs.specs.declared.views.Queue.{Queue}
 use Rattle.iom_regs.specs.declared.views.Which.{Which}
@@ -37,6 +38,20 @@ view_text queue =
 
 abbrev pub queue_text : Registers → Which → List ℕ
 queue_text r which = view_text (queue_of r which) ++ codes " stop=" ++ stop_text r which
+
+-- the lines in a text, with a blank between two; line `vector` behind them where it is high
+abbrev pub with_blank : List ℕ → List ℕ
+with_blank text = if length text == 0 then text else text ++ codes " "
+
+abbrev pub with_line : Registers → ℕ → List ℕ → List ℕ
+with_line r vector text = if is_high r vector then with_blank text ++ hexed vector else text
+
+abbrev pub or_none : List ℕ → List ℕ
+or_none text = if length text == 0 then codes "none" else text
+
+-- the interrupt lines that are high: there are four at most
+abbrev pub vectors_text : Registers → List ℕ
+vectors_text r = or_none (with_line r 3 (with_line r 2 (with_line r 1 (with_line r 0 []))))
 
 -- bytes, where all of them are there
 abbrev pub bytes_text : Option (List ℕ) → List ℕ

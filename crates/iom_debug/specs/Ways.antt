@@ -1,5 +1,5 @@
 -- Where the tables lead a request, and what they say now of what is cached, as texts.
-use Rattle.std.specs.Prelude.{ℕ, ◌+◌, ◌*◌, ◌%◌, ◌++◌, List, codes, slice_get, Option, Some, None, Result, Ok, Err}
+use Rattle.std.specs.Prelude.{ℕ, ◌+◌, ◌*◌, ◌%◌, ◌++◌, Bool, List, [], codes, slice_get, Option, Some, None, Result, Ok, Err, if◌then◌else◌}
 use Rattle.std.specs.Option.{option_map}
 use Rattle.iom_bits.specs.Bits.{flag}
 use Rattle.iom_bits.specs.Causes.{cause_number}
@@ -65,8 +65,13 @@ abbrev pub id_operand : List ℕ → Option ℕ → List ℕ
 id_operand key None = codes " " ++ key ++ codes "=-"
 id_operand key (Some id) = operand key id
 
+abbrev pub napot_text : Bool → List ℕ
+napot_text napot = if napot then operand (codes "napot") 1 else []
+
 abbrev pub hit_text : Hit → List ℕ
-hit_text hit = operand (codes "frame") hit.frame ++ operand (codes "level") hit.level ++ operand (codes "global") (flag hit.global)
+hit_text hit =
+    operand (codes "frame") hit.frame ++ operand (codes "level") hit.level ++ operand (codes "global") (flag hit.global)
+    ++ napot_text hit.napot
 
 -- what the tables say of a page: the ids that its key would have, and its hit
 abbrev pub page_text : Way → List ℕ

@@ -8,7 +8,7 @@ ghost use Rattle.iom_blk.specs.Wants.{wanted};
 ghost use Rattle.iom_tool.specs.Console.{console};
 ghost use Rattle.iom_debug.specs.Answers.{inquired};
 ghost use Rattle.iom_debug.specs.Forms.{InRange};
-ghost use Rattle.iom_debug.specs.Texts.{ask_text, blk_text, broken_text, bytes_text, device_text, disk_text, part_of, phase_text, queue_text, reason_text, stop_text, view_text};
+ghost use Rattle.iom_debug.specs.Texts.{ask_text, blk_text, broken_text, bytes_text, device_text, disk_text, part_of, phase_text, queue_text, reason_text, stop_text, vectors_text, view_text, with_line};
 
 use crate::form::Inquiry;
 use crate::reason::{context_origin_line, page_origin_line, why_line};
@@ -39,6 +39,7 @@ pub fn answer_to(platform: &Platform, trace: &Trace, reasons: &Reasons, inquiry:
         Inquiry::PageOrigin(i) => page_origin_line(reasons.history(), i),
         Inquiry::Walk(request, i) => walk_line(platform, &request, i),
         Inquiry::Queue(which) => queue_line(platform.registers(), which),
+        Inquiry::Vectors => vectors_line(platform.registers()),
         Inquiry::Dump(addr, count) => memory_line(platform.ram(), addr, count),
         Inquiry::Disk(dev, at, count) => disk_line(platform, dev, at, count),
         Inquiry::Device(dev) => device_line(platform, dev),
@@ -111,6 +112,32 @@ fn queue_line(registers: &Regs, which: Which) -> Reply
     push_text(&mut out, b" stop=");
     push_text(&mut out, stop_text(registers, which));
     out
+}
+
+// Appends an interrupt line, where it is high.
+fn push_line(out: &mut Reply, registers: &Regs, vector: u64)
+    requires { length out.old.items + 19 ≤ 320 }
+    ensures text { out.new.items ≡ with_line registers.now vector out.old.items }
+    ensures room { length out.new.items ≤ length out.old.items + 19 }
+{
+    if registers.is_high(vector) {
+        if !out.is_empty() {
+            push_text(out, b" ");
+        }
+        push_hexed(out, vector);
+    }
+}
+
+// The interrupt lines that are high.
+fn vectors_line(registers: &Regs) -> Reply
+    ensures { result.items ≡ vectors_text registers.now }
+{
+    let mut out = Reply::new();
+    push_line(&mut out, registers, 0);
+    push_line(&mut out, registers, 1);
+    push_line(&mut out, registers, 2);
+    push_line(&mut out, registers, 3);
+    if out.is_empty() { said(b"none") } else { out }
 }
 
 // Bytes of memory.

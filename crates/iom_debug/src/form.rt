@@ -4,7 +4,7 @@ ghost use Rattle.std.specs.Prelude.{◌≡◌, ◌+◌, ◌*◌, ◌^◌, ◌<�
 ghost use Rattle.std.specs.Option.{option_map};
 ghost use Rattle.iom_debug.specs.Forms.{Fits, InRange, line_in};
 ghost use Rattle.iom_text.specs.Words.{words_of};
-ghost use Rattle.iom_debug.specs.Script.{is_count, is_limit, reg_read, reg_write, reg, dev_read, dev_write, dev_show, dev_run, dev, cmd_run, cmd, item_words, put, kind_named, request, stale_request, stale_context, stale_page, stale, why, origin_of, origin, walk, queue_named, queue, dump, disk, form_by, form_in, form_of};
+ghost use Rattle.iom_debug.specs.Script.{is_count, is_limit, reg_read, reg_write, reg, dev_read, dev_write, dev_show, dev_run, dev, cmd_run, cmd, item_words, put, kind_named, request, stale_request, stale_context, stale_page, stale, why, origin_of, origin, walk, queue_named, queue, vectors, dump, disk, form_by, form_in, form_of};
 
 use crate::names::{mmio_named, register_named};
 use arrayvec::ArrayVec;
@@ -33,6 +33,8 @@ pub enum Inquiry {
     Walk(Request, u64),
     /// What a queue's registers tell, and what stopped it.
     Queue(Which),
+    /// Which interrupt lines are high.
+    Vectors,
     /// So many bytes, 1 to 64, of memory from this physical address on: `Dump(addr, count)`.
     Dump(u64, u64),
     /// So many bytes, 1 to 64, of the disk of a block device from this byte on: `Disk(dev, at, count)`.
@@ -397,6 +399,18 @@ fn queue(operands: &[&[u8]]) -> Option<Form>
     Some(Form::Inquires(Inquiry::Queue(queue_named(name)?)))
 }
 
+// What follows `vectors`: nothing.
+#[tactic(auto, unfolding(crate::specs::Script::vectors))]
+fn vectors(operands: &[&[u8]]) -> Option<Form>
+    ensures line { option_map line_in result ≡ vectors (map (λ word. word.now) operands.now) }
+    ensures fits { IfSome result Fits }
+{
+    match operands {
+        [] => Some(Form::Inquires(Inquiry::Vectors)),
+        _ => None,
+    }
+}
+
 // What follows `dump`: a physical address and how many bytes.
 #[tactic(auto, unfolding(crate::specs::Script::dump))]
 fn dump(operands: &[&[u8]]) -> Option<Form>
@@ -452,6 +466,8 @@ fn form_by(verb: &[u8], operands: &[&[u8]]) -> Option<Form>
         walk(operands)
     } else if verb == b"queue".as_slice() {
         queue(operands)
+    } else if verb == b"vectors".as_slice() {
+        vectors(operands)
     } else if verb == b"dump".as_slice() {
         dump(operands)
     } else if verb == b"disk".as_slice() {

@@ -1,20 +1,26 @@
 //! The language of `debug`: the script of `run`, and more questions about the platform.
 #![tactic(auto)]
 
+pub use checking::{Checking, check};
 pub use debugger::{Debugger, repeated};
+pub use debugging::{Debugging, debug};
 pub use iom_account::Reason;
 pub use iom_tool::Reply;
+pub use page::{Page, first_bytes, put, put_escaped, put_number, write_told};
 pub use parts::{is_told_alike, put_cached, put_part};
 pub use reasons::Reasons;
 pub use summary::{Outcome, Summary};
 pub use taking::counted;
-pub use wanting::wanted;
+pub use wanting::{before_comment, wanted};
 pub use ways::address_of;
 
 mod answers;
+mod checking;
 mod debugger;
+mod debugging;
 mod form;
 mod names;
+mod page;
 mod parts;
 mod reason;
 mod reasons;

@@ -4,7 +4,7 @@ ghost use Rattle.std.specs.Prelude.{◌≡◌};
 ghost use Rattle.iom_debug.specs.Names.{register_named, device_register, queue_register, mmio_named};
 
 use iom_blk::offsets;
-use iom_regs::{CAPABILITIES, CQB, CQCSR, CQH, CQT, DDTP, FCTL, FQB, FQCSR, FQH, FQT, IPSR};
+use iom_regs::{CAPABILITIES, CQB, CQCSR, CQH, CQT, DDTP, FCTL, FQB, FQCSR, FQH, FQT, ICVEC, IPSR};
 
 /// The offset and the size, in bytes, of the register of the IOMMU with this name (RISC-V IOMMU Architecture 1.0, "Memory-mapped
 /// register interface"); None where this model has none.
@@ -36,6 +36,8 @@ pub fn register_named(name: &[u8]) -> Option<(u64, u64)>
         Some((FQCSR, 4))
     } else if name == b"ipsr".as_slice() {
         Some((IPSR, 4))
+    } else if name == b"icvec".as_slice() {
+        Some((ICVEC, 8))
     } else {
         None
     }

@@ -1,6 +1,5 @@
-ghost use Rattle.std.specs.Prelude.{◌≡◌, ◌+◌, ◌++◌, ◌≤◌, length, IfSome};
+ghost use Rattle.std.specs.Prelude.{◌≡◌, ◌+◌, ◌++◌, ◌≤◌, length};
 ghost use Rattle.std.specs.Option.{option_copied};
-ghost use Rattle.iom_account.specs.Account.{ReasonFits};
 ghost use Rattle.iom_debug.specs.Reasons.{context_origin_text, origin_text, page_origin_text, reason_text, stale_of, tables_text, used_text, why_text};
 
 use crate::text::{push_number, push_text, said};
@@ -11,7 +10,6 @@ use iom_tool::Reply;
 
 /// Where the tables led the access of a step before it, a physical address or a denial; None where it was not stale.
 pub fn stale_of(reason: &Reason) -> Option<Result<u64, Denial>>
-    requires { ReasonFits reason.now }
     ensures { result ≡ stale_of reason.now }
 {
     let request = reason.request?;
@@ -23,7 +21,6 @@ pub fn stale_of(reason: &Reason) -> Option<Result<u64, Denial>>
 // `no access`, and behind that ` stale addr=0x80020abc` or ` stale denied 13` where it was stale.
 #[tactic(auto, unfolding(crate::specs::Reasons::reason_text))]
 fn reason_line(reason: &Reason) -> Reply
-    requires { ReasonFits reason.now }
     ensures { result.items ≡ reason_text reason.now }
 {
     let mut out = Reply::new();
@@ -79,7 +76,6 @@ fn push_tables(out: &mut Reply, stale: Option<Result<u64, Denial>>)
 
 /// The text of what is told of a step that there may be, at most 128 bytes; `none` where there is none.
 pub fn why_line(reason: Option<&Reason>) -> Reply
-    requires { IfSome (option_copied reason) ReasonFits }
     ensures { result.items ≡ why_text (option_copied reason.entry) }
 {
     match reason {

@@ -24,10 +24,10 @@ impl Model for Reasons {
 }
 
 impl Reasons {
-    ghost use Rattle.std.specs.Prelude.{◌≡◌, [], ◌∷◌, None, IfSome, slice_get};
+    ghost use Rattle.std.specs.Prelude.{◌≡◌, [], ◌∷◌, None, slice_get};
     ghost use Rattle.std.specs.Option.{option_and_then, option_copied};
     ghost use Rattle.circular_buffer.specs.Buffer.{last_item};
-    ghost use Rattle.iom_account.specs.Account.{Accounts, ReasonFits};
+    ghost use Rattle.iom_account.specs.Account.{Accounts};
     ghost use Rattle.iom_core.specs.Table.{next, request_of_step};
     ghost use Rattle.iom_debug.specs.Reasons.{GoesAlong, later, stale_in, stale_of};
 
@@ -55,7 +55,6 @@ impl Reasons {
     /// fewer. The way that it tells is one that the tables may say.
     pub fn reason(&self, i: u64) -> Option<&Reason>
         ensures reason { option_copied result ≡ slice_get self.now.account.told i }
-        ensures fits { IfSome (option_copied result) ReasonFits }
     {
         self.account.reason(i)
     }
@@ -63,7 +62,6 @@ impl Reasons {
     /// What is told of the last step; None where there was none.
     pub fn newest(&self) -> Option<&Reason>
         ensures reason { option_copied result ≡ last_item self.now.account.told }
-        ensures fits { IfSome (option_copied result) ReasonFits }
     {
         self.account.newest()
     }

@@ -84,6 +84,9 @@ fn walked_line(context: &Context, hit: &Hit) -> Reply
     push_operand(&mut out, b"frame", hit.frame);
     push_operand(&mut out, b"level", u64::from(hit.level));
     push_operand(&mut out, b"global", flag(hit.global));
+    if hit.napot {
+        push_operand(&mut out, b"napot", 1);
+    }
     out
 }
 

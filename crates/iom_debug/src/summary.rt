@@ -153,8 +153,8 @@ impl Summary {
     }
 }
 
-// One more, where it counts.
-fn and_one(is: bool, count: u64) -> u64
+/// One more, where it counts.
+pub fn and_one(is: bool, count: u64) -> u64
     ensures { result ≡ and_one is count }
 {
     if is { count.saturating_add(1) } else { count }

@@ -1,6 +1,6 @@
 //! The parts of a walk, told.
 
-ghost use Rattle.std.specs.Prelude.{◌≡◌, ◌<◌, ◌^◌, All, IfSome, slice_get};
+ghost use Rattle.std.specs.Prelude.{◌≡◌, All, IfSome, slice_get};
 ghost use Rattle.std.specs.Option.{option_copied};
 ghost use Rattle.iom_tables.specs.Bounds.{PartFits};
 ghost use Rattle.iom_debug.specs.Walks.{part_text, walk_text};
@@ -14,7 +14,6 @@ use iom_tool::{Draft, Reply};
 /// Part `i` of the walk of a request as the tables stand now, the first 0; `none` past the last one.
 #[tactic(auto, unfolding(crate::specs::Walks::walk_text))]
 pub fn walk_line(platform: &Platform, request: &Request, i: u64) -> Reply
-    requires { request.now.did < 2 ^ 24 }
     ensures { result.items ≡ walk_text platform.now.machine request.now i }
 {
     let parts = parts(platform, request);

@@ -2,6 +2,7 @@ ghost use Rattle.std.specs.Prelude.{◌≡◌, ◌==◌, ◌<◌, ◌≤◌, tru
 ghost use Rattle.std.specs.List.{position};
 ghost use Rattle.std.specs.Option.{option_map};
 ghost use Rattle.iom_text.specs.Words.{is_blank};
+ghost use Rattle.iom_debug.specs.Telling.{before_comment};
 ghost use Rattle.iom_debug.specs.Wanted.{answer_in, before_blanks, comment_of, wanted};
 
 use iom_text::past_blanks;
@@ -16,7 +17,8 @@ fn is_blank(c: u8) -> bool
 // What stands before the blanks that a text ends with.
 #[tactic(auto, using(crate::proofs::Blanks::one_less, crate::proofs::Blanks::cut_at))]
 fn before_blanks(text: &[u8]) -> &[u8]
-    ensures { result.now ≡ before_blanks text.now }
+    ensures text { result.now ≡ before_blanks text.now }
+    ensures short { length result.now ≤ length text.now }
 {
     let mut end = text.len();
     while end > 0 && is_blank(text[end - 1]) {
@@ -27,7 +29,8 @@ fn before_blanks(text: &[u8]) -> &[u8]
 
 // What stands behind the first `#`; None where there is none.
 fn comment_of(text: &[u8]) -> Option<&[u8]>
-    ensures { option_map (λ comment. comment.now) result ≡ comment_of text.now }
+    ensures comment { option_map (λ comment. comment.now) result ≡ comment_of text.now }
+    ensures short { IfSome result (λ comment. length comment.now ≤ length text.now) }
 {
     match comment_at(text) {
         Some(at) => Some(&text[at + 1..]),
@@ -53,7 +56,8 @@ fn is_wish(comment: &[u8]) -> bool
 
 // What follows `=>` in a comment that begins with it.
 fn answer_in(comment: &[u8]) -> Option<&[u8]>
-    ensures { option_map (λ answer. answer.now) result ≡ answer_in comment.now }
+    ensures answer { option_map (λ answer. answer.now) result ≡ answer_in comment.now }
+    ensures short { IfSome result (λ answer. length answer.now ≤ length comment.now) }
 {
     if is_wish(comment) {
         Some(before_blanks(past_blanks(&comment[2..])))
@@ -66,10 +70,22 @@ fn answer_in(comment: &[u8]) -> Option<&[u8]>
 /// which may be empty. None where the line has no comment of this form. The comment begins behind the first `#`.
 #[tactic(auto, unfolding(crate::specs::Wanted::wanted))]
 pub fn wanted(line: &[u8]) -> Option<&[u8]>
-    ensures { option_map (λ answer. answer.now) result ≡ wanted line.now }
+    ensures answer { option_map (λ answer. answer.now) result ≡ wanted line.now }
+    ensures short { IfSome result (λ answer. length answer.now ≤ length line.now) }
 {
     match comment_of(line) {
         Some(comment) => answer_in(past_blanks(comment)),
         None => None,
+    }
+}
+
+/// What stands before a line's comment, without the blanks (spaces, tabs, CRs) around it.
+pub fn before_comment(line: &[u8]) -> &[u8]
+    ensures text { result.now ≡ before_comment line.now }
+    ensures short { length result.now ≤ length line.now }
+{
+    match comment_at(line) {
+        Some(at) => before_blanks(past_blanks(&line[..at])),
+        None => before_blanks(past_blanks(line)),
     }
 }

@@ -1,7 +1,6 @@
 //! Where the tables lead a request now.
 
-ghost use Rattle.std.specs.Prelude.{◌≡◌, ◌+◌, ◌<◌, ◌≤◌, ◌^◌, ◌++◌, length};
-ghost use Rattle.iom_core.specs.Access.{Fits};
+ghost use Rattle.std.specs.Prelude.{◌≡◌, ◌+◌, ◌≤◌, ◌++◌, length};
 ghost use Rattle.iom_debug.specs.Ways.{address_of, address_text, stale_address, stale_text};
 
 use crate::text::{push_cause, push_hexed, push_text, said};
@@ -11,7 +10,6 @@ use iom_tool::Reply;
 
 /// The physical address that a way leads an IOVA to, or its denial.
 pub fn address_of(way: &Way, iova: u64) -> Result<u64, Denial>
-    requires { Fits way.now }
     ensures { result ≡ address_of way.now iova }
 {
     match *way {
@@ -23,7 +21,6 @@ pub fn address_of(way: &Way, iova: u64) -> Result<u64, Denial>
 
 /// Where the tables lead a request that is stale, a physical address or a denial; None where it isn't stale.
 pub fn stale_address(platform: &Platform, request: &Request) -> Option<Result<u64, Denial>>
-    requires { request.now.did < 2 ^ 24 }
     ensures { result ≡ stale_address platform.now.machine request.now }
 {
     let way = stale(platform, request)?;
@@ -56,7 +53,6 @@ pub fn address_line(address: Result<u64, Denial>) -> Reply
 
 /// What the tables say now of a request that is stale, and `same` of one that isn't.
 pub fn stale_line(platform: &Platform, request: &Request) -> Reply
-    requires { request.now.did < 2 ^ 24 }
     ensures { result.items ≡ stale_text (stale_address platform.now.machine request.now) }
 {
     match stale_address(platform, request) {

@@ -8,9 +8,10 @@ use Rattle.iom_mem.specs.Sizes.{zeroed}
 use Rattle.iom_mem.proofs.Bytes.{bytes_at_inside}
 use Rattle.iom_image.specs.declared.fault.LoadFault.{LoadFault}
 use Rattle.iom_image.specs.declared.fault.LoadFault.TheVariants.{Trailing}
+use Rattle.iom_image.specs.Versions.{is_flagged, features_of}
 use Rattle.iom_image.specs.Image.{Chunk, Disk, Image, end_of}
 use Rattle.iom_blk.specs.Device.{Device}
-use Rattle.iom_core.specs.State.{opening}
+use Rattle.iom_core.specs.State.{opening_with}
 use Rattle.iom_image.specs.Loading.{with_chunks, started, opening_of, device_of, devices_of, filled, joined, state_from}
 use Rattle.iom_image.specs.Reading.{◌>>=◌, Read, Head, checked, mapped, head_at, chunk_at, chunks_at, disk_at, disks_at, image_of}
 use Rattle.iom_image.proofs.Oks.{ok_is}
@@ -100,7 +101,7 @@ join_done before has_flags ids count i bytes total le so_far =
 abbrev pub ends : Head → List Chunk → Read (List Disk) → Result Image LoadFault
 ends head chunks read =
     read >>= λ disks. checked (length disks.1 == 0) Trailing
-    (Ok (record { has_flags = head.has_flags; base = head.base; size = head.size; chunks = chunks; disks = disks.0 }))
+    (Ok (record { version = head.version; base = head.base; size = head.size; chunks = chunks; disks = disks.0 }))
 
 pub ended : {A B : Type 0} (b : Bool) (x : A) (f : A → B) (s : B) → IsOk (checked b Trailing (Ok x)) → f x ≡ s →
     mapped f (checked b Trailing (Ok x)) ≡ Ok s
@@ -109,29 +110,29 @@ ended false x f s ok e = absurd cc
 
 devices_built : (head : Head) (chunks : List Chunk) (read : Read (List Disk)) (devices : List (ℕ × Device)) →
     joined [] read ≡ Ok devices → IsOk (ends head chunks read) →
-    mapped state_from (ends head chunks read) ≡ Ok (opening (with_chunks (zeroed head.base head.size) chunks) devices)
+    mapped state_from (ends head chunks read) ≡ Ok (opening_with (features_of head.version) (with_chunks (zeroed head.base head.size) chunks) devices)
 unfolding opening_of
 devices_built head chunks (Ok x) devices made ok =
     let is : devices_of (map started x.0) ≡ devices = ok_is (devices_of (map started x.0)) devices made in
-    ended (length x.1 == 0) (record { has_flags = head.has_flags; base = head.base; size = head.size; chunks = chunks; disks = x.0 }) state_from _ ok (rw is refl)
+    ended (length x.1 == 0) (record { version = head.version; base = head.base; size = head.size; chunks = chunks; disks = x.0 }) state_from _ ok (rw is refl)
 devices_built head chunks (Err fault) devices made ok = absurd cc
 
 chunks_built : (head : Head) (read : Read (List Chunk)) (memory : Memory) (rest : List ℕ) (devices : List (ℕ × Device)) →
-    filled (zeroed head.base head.size) read ≡ Ok (memory, rest) → joined [] (disks_at head.has_flags [] head.disks rest) ≡ Ok devices →
-    IsOk (read >>= λ chunks. ends head chunks.0 (disks_at head.has_flags [] head.disks chunks.1)) →
-    mapped state_from (read >>= λ chunks. ends head chunks.0 (disks_at head.has_flags [] head.disks chunks.1)) ≡ Ok (opening memory devices)
+    filled (zeroed head.base head.size) read ≡ Ok (memory, rest) → joined [] (disks_at (is_flagged head.version) [] head.disks rest) ≡ Ok devices →
+    IsOk (read >>= λ chunks. ends head chunks.0 (disks_at (is_flagged head.version) [] head.disks chunks.1)) →
+    mapped state_from (read >>= λ chunks. ends head chunks.0 (disks_at (is_flagged head.version) [] head.disks chunks.1)) ≡ Ok (opening_with (features_of head.version) memory devices)
 chunks_built head (Ok x) memory rest devices full made ok =
     let both = ok_is (with_chunks (zeroed head.base head.size) x.0, x.1) (memory, rest) full in
     let put_there : with_chunks (zeroed head.base head.size) x.0 ≡ memory = ap (λ (p : Memory × List ℕ). p.0) both in
     let left : x.1 ≡ rest = ap (λ (p : Memory × List ℕ). p.1) both in
-    rw (← put_there) (devices_built head x.0 (disks_at head.has_flags [] head.disks x.1) devices (rw left made) ok)
+    rw (← put_there) (devices_built head x.0 (disks_at (is_flagged head.version) [] head.disks x.1) devices (rw left made) ok)
 chunks_built head (Err fault) memory rest devices full made ok = absurd cc
 
 pub image_built : (bytes : List ℕ) (head : Head) (after : List ℕ) (memory : Memory) (rest : List ℕ) (devices : List (ℕ × Device)) →
     head_at bytes ≡ Ok (head, after) →
     filled (zeroed head.base head.size) (chunks_at head.base head.size 0 head.chunks after) ≡ Ok (memory, rest) →
-    joined [] (disks_at head.has_flags [] head.disks rest) ≡ Ok devices → IsOk (image_of bytes) →
-    mapped state_from (image_of bytes) ≡ Ok (opening memory devices)
+    joined [] (disks_at (is_flagged head.version) [] head.disks rest) ≡ Ok devices → IsOk (image_of bytes) →
+    mapped state_from (image_of bytes) ≡ Ok (opening_with (features_of head.version) memory devices)
 unfolding image_of
 image_built bytes head after memory rest devices first full made ok =
     rw first (chunks_built head (chunks_at head.base head.size 0 head.chunks after) memory rest devices full made (rw first at ok))
@@ -143,19 +144,19 @@ disks_refused head chunks (Ok x) fault made ok = absurd cc
 disks_refused head chunks (Err other) fault made ok = absurd cc
 
 chunks_before_refused : (head : Head) (read : Read (List Chunk)) (memory : Memory) (rest : List ℕ) (fault : LoadFault) →
-    filled (zeroed head.base head.size) read ≡ Ok (memory, rest) → joined [] (disks_at head.has_flags [] head.disks rest) ≡ Err fault →
-    IsOk (read >>= λ chunks. ends head chunks.0 (disks_at head.has_flags [] head.disks chunks.1)) →
-    mapped state_from (read >>= λ chunks. ends head chunks.0 (disks_at head.has_flags [] head.disks chunks.1)) ≡ Err fault
+    filled (zeroed head.base head.size) read ≡ Ok (memory, rest) → joined [] (disks_at (is_flagged head.version) [] head.disks rest) ≡ Err fault →
+    IsOk (read >>= λ chunks. ends head chunks.0 (disks_at (is_flagged head.version) [] head.disks chunks.1)) →
+    mapped state_from (read >>= λ chunks. ends head chunks.0 (disks_at (is_flagged head.version) [] head.disks chunks.1)) ≡ Err fault
 chunks_before_refused head (Ok x) memory rest fault full made ok =
     let both = ok_is (with_chunks (zeroed head.base head.size) x.0, x.1) (memory, rest) full in
     let left : x.1 ≡ rest = ap (λ (p : Memory × List ℕ). p.1) both in
-    disks_refused head x.0 (disks_at head.has_flags [] head.disks x.1) fault (rw left made) ok
+    disks_refused head x.0 (disks_at (is_flagged head.version) [] head.disks x.1) fault (rw left made) ok
 chunks_before_refused head (Err other) memory rest fault full made ok = absurd cc
 
 pub image_refused : (bytes : List ℕ) (head : Head) (after : List ℕ) (memory : Memory) (rest : List ℕ) (fault : LoadFault) →
     head_at bytes ≡ Ok (head, after) →
     filled (zeroed head.base head.size) (chunks_at head.base head.size 0 head.chunks after) ≡ Ok (memory, rest) →
-    joined [] (disks_at head.has_flags [] head.disks rest) ≡ Err fault → IsOk (image_of bytes) →
+    joined [] (disks_at (is_flagged head.version) [] head.disks rest) ≡ Err fault → IsOk (image_of bytes) →
     mapped state_from (image_of bytes) ≡ Err fault
 unfolding image_of
 image_refused bytes head after memory rest fault first full made ok =

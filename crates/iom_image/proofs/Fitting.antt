@@ -1,6 +1,7 @@
 -- The numbers of an image fit into their bytes.
 use Rattle.std.proofs.Common.{ℕ, ◌+◌, ◌≤◌, ◌<◌, ◌^◌, Bool, nat_lt, nat_le, List, [], ◌∷◌, ◌++◌, length, arith}
 use Rattle.std.proofs.lemmas.Bool.{and_parts, ltb-true, leb-true}
+use Rattle.iom_image.specs.Versions.{is_flagged}
 use Rattle.iom_image.specs.Image.{Chunk, Disk, Image, AreChunks, AreDisks, IsImage, end_of}
 use Rattle.iom_image.specs.Own.{AllFit, FewBytes}
 
@@ -39,4 +40,4 @@ pub few_chunks : (image : Image) → IsImage image → length image.chunks < 2 ^
 few_chunks image good = omega (arith, count image.base image.size image.chunks good.chunks, small image good)
 
 pub all_fit : (image : Image) → IsImage image → AllFit image.disks
-all_fit image good = fit image.has_flags [] image.disks good.disks
+all_fit image good = fit (is_flagged image.version) [] image.disks good.disks

@@ -1,15 +1,18 @@
 -- Bytes that are read as an image are its bytes.
-use Rattle.std.proofs.Common.{◌≡◌, ℕ, zero, suc, ◌+◌, ◌*◌, ◌/◌, ◌%◌, ◌≤◌, ◌==◌, Bool, true, false, ◌&&◌, ◌||◌, nat_lt, nat_le, List, [], ◌∷◌, ◌++◌, length, take, drop, bytes_eq, Result, Ok, Err, refl, sym, subst, ap, ◌∙◌, append_assoc, append-nil, arith}
-use Rattle.std.specs.Prelude.{◌↔◌}
+use Rattle.std.proofs.Common.{◌≡◌, ℕ, zero, suc, ◌+◌, ◌*◌, ◌/◌, ◌%◌, ◌≤◌, ◌==◌, Bool, true, false, ◌&&◌, nat_lt, nat_le, List, [], ◌∷◌, ◌++◌, length, take, drop, bytes_eq, codes, Result, Ok, Err, refl, sym, subst, ap, ◌∙◌, append_assoc, append-nil, arith}
+use Rattle.std.specs.Prelude.{◌↔◌, if◌then◌else◌}
 use Rattle.std.proofs.lemmas.Bool.{leb-true, ltb-true, eqb-true, and_parts}
 use Rattle.std.proofs.lemmas.List.{take-append-drop, length-take, nil_from_length}
 use Rattle.iom_bits.specs.Bits.{flag}
 use Rattle.iom_bits.specs.Bytes.{number_of_bytes, bytes_of_number}
 use Rattle.iom_mem.specs.Sizes.{is_paged, is_good_size}
 use Rattle.iom_image.specs.declared.fault.LoadFault.{LoadFault}
-use Rattle.iom_image.specs.declared.fault.LoadFault.TheVariants.{BadMagic, Truncated, Trailing, BadRam, BadChunk, BadDevice}
-use Rattle.iom_image.specs.Image.{Chunk, Disk, Image, IsChunk, AreChunks, IsDisk, AreDisks, IsImageOf, AreBytes, end_of, is_new_id, is_disk_size, chunk_bytes, chunks_bytes, flags_bytes, disk_bytes, disks_bytes, magic_of, head_bytes, image_bytes}
-use Rattle.iom_image.specs.Reading.{◌>>=◌, checked, Head, part_at, number_at, head_at, chunk_at, chunks_at, flags_at, disk_at, disks_at, image_of, mapped}
+use Rattle.iom_image.specs.declared.fault.LoadFault.TheVariants.{BadMagic, BadCapabilities, Truncated, Trailing, BadRam, BadChunk, BadDevice}
+use Rattle.iom_image.specs.declared.version.Version.{Version}
+use Rattle.iom_image.specs.declared.version.Version.TheVariants.{First, Second, Third}
+use Rattle.iom_image.specs.Versions.{is_flagged, features_word, features_in, version_bytes}
+use Rattle.iom_image.specs.Image.{Chunk, Disk, Image, IsChunk, AreChunks, IsDisk, AreDisks, IsImageOf, AreBytes, end_of, is_new_id, is_disk_size, chunk_bytes, chunks_bytes, flags_bytes, disk_bytes, disks_bytes, head_bytes, image_bytes}
+use Rattle.iom_image.specs.Reading.{◌>>=◌, checked, Head, part_at, number_at, third_at, version_of, version_at, head_at, chunk_at, chunks_at, flags_at, disk_at, disks_at, image_of, mapped}
 use Rattle.iom_image.proofs.Images.{read_again}
 use Rattle.iom_image.proofs.Oks.{ok_is}
 
@@ -225,7 +228,7 @@ disks_take has_flags ids (suc count) bytes x are is =
 
 -- what is told by the head
 record HeadTakes (bytes : List ℕ) (x : Head × List ℕ) : Type 0 where
-  takes : Takes bytes (head_bytes x.0.has_flags x.0.base x.0.size x.0.chunks x.0.disks) x.1
+  takes : Takes bytes (head_bytes x.0.version x.0.base x.0.size x.0.chunks x.0.disks) x.1
   base : is_paged x.0.base ≡ true
   size : is_good_size x.0.base x.0.size ≡ true
   few : x.0.disks ≤ 8
@@ -239,19 +242,55 @@ same_bytes (a ∷ first) (b ∷ second) is =
     let same : a ≡ b = eqb-true a b p.0 in
     rw same (ap (λ rest. b ∷ rest) (same_bytes first second p.1))
 
--- a magic is that of its version
-magic_is : (magic : List ℕ) (second : Bool) → bytes_eq magic (magic_of true) ≡ second →
-    (bytes_eq magic (magic_of false) || second) ≡ true → magic ≡ magic_of second
-magic_is magic true is either = same_bytes magic (magic_of true) is
-magic_is magic false is either = same_bytes magic (magic_of false) (grind (arith, either))
+third_takes : (bytes : List ℕ) (x : Version × List ℕ) → AreBytes bytes → third_at bytes ≡ Ok x →
+    Takes (codes "RVIOMMU3" ++ bytes) (version_bytes x.0) x.1
+unfolding third_at
+third_takes bytes x are is =
+    let a = bind_ok (number_at 8 bytes) (λ word. checked (features_word (features_in word.0) == word.0) BadCapabilities (Ok (Third (features_in word.0), word.1))) x is in
+    let right = check_ok (features_word (features_in a.0.0) == a.0.0) BadCapabilities (Ok (Third (features_in a.0.0), a.0.1)) x a.2 in
+    let same : features_word (features_in a.0.0) ≡ a.0.0 = eqb-true (features_word (features_in a.0.0)) a.0.0 right.0 in
+    let word = number_takes 8 bytes a.0 are a.1 in
+    let made : Version × List ℕ = (Third (features_in a.0.0), a.0.1) in
+    subst (λ (x : Version × List ℕ). Takes (codes "RVIOMMU3" ++ bytes) (version_bytes x.0) x.1) {x = made} (ok_is made x right.1)
+    (record {
+      parts = ap (λ rest. codes "RVIOMMU3" ++ rest) word.parts
+          ∙ ap (λ n. codes "RVIOMMU3" ++ (bytes_of_number 8 n ++ a.0.1)) (sym same)
+          ∙ sym (append_assoc (codes "RVIOMMU3") (bytes_of_number 8 (features_word (features_in a.0.0))) a.0.1);
+      left = word.left;
+    })
 
-head_ends : (bytes : List ℕ) (magic : List ℕ × List ℕ) (base size chunks disks : ℕ × List ℕ) (x : Head × List ℕ) →
-    Takes bytes (magic_of (bytes_eq magic.0 (magic_of true))) magic.1 → Takes magic.1 (bytes_of_number 8 base.0) base.1 → Takes base.1 (bytes_of_number 8 size.0) size.1 →
+-- the version that eight bytes name, and what stands behind it
+named_takes : (magic bytes : List ℕ) (first second third : Bool) (x : Version × List ℕ) → AreBytes bytes →
+    bytes_eq magic (codes "RVIOMMU1") ≡ first → bytes_eq magic (codes "RVIOMMU2") ≡ second → bytes_eq magic (codes "RVIOMMU3") ≡ third →
+    (if first then good (First, bytes) else if second then good (Second, bytes) else if third then third_at bytes else Err BadMagic) ≡ Ok x →
+    Takes (magic ++ bytes) (version_bytes x.0) x.1
+named_takes magic bytes true second third x are one two three is =
+    let made : Version × List ℕ = (First, bytes) in
+    subst (λ (x : Version × List ℕ). Takes (magic ++ bytes) (version_bytes x.0) x.1) {x = made} (ok_is made x is)
+    (record { parts = ap (λ text. text ++ bytes) (same_bytes magic (codes "RVIOMMU1") one); left = are })
+named_takes magic bytes false true third x are one two three is =
+    let made : Version × List ℕ = (Second, bytes) in
+    subst (λ (x : Version × List ℕ). Takes (magic ++ bytes) (version_bytes x.0) x.1) {x = made} (ok_is made x is)
+    (record { parts = ap (λ text. text ++ bytes) (same_bytes magic (codes "RVIOMMU2") two); left = are })
+named_takes magic bytes false false true x are one two three is =
+    rw (same_bytes magic (codes "RVIOMMU3") three) (third_takes bytes x are is)
+named_takes magic bytes false false false x are one two three is = absurd cc
+
+version_takes : (bytes : List ℕ) (x : Version × List ℕ) → AreBytes bytes → version_at bytes ≡ Ok x → Takes bytes (version_bytes x.0) x.1
+unfolding version_at version_of
+version_takes bytes x are is =
+    let a = bind_ok (part_at 8 bytes) (λ magic. version_of magic.0 magic.1) x is in
+    let part = part_takes 8 bytes a.0 are a.1 in
+    rw part.0.parts
+    (named_takes a.0.0 a.0.1 (bytes_eq a.0.0 (codes "RVIOMMU1")) (bytes_eq a.0.0 (codes "RVIOMMU2")) (bytes_eq a.0.0 (codes "RVIOMMU3")) x part.0.left refl refl refl a.2)
+
+head_ends : (bytes : List ℕ) (version : Version × List ℕ) (base size chunks disks : ℕ × List ℕ) (x : Head × List ℕ) →
+    Takes bytes (version_bytes version.0) version.1 → Takes version.1 (bytes_of_number 8 base.0) base.1 → Takes base.1 (bytes_of_number 8 size.0) size.1 →
     Takes size.1 (bytes_of_number 4 chunks.0) chunks.1 → Takes chunks.1 (bytes_of_number 4 disks.0) disks.1 →
     checked (is_paged base.0 && is_good_size base.0 size.0) BadRam (checked (nat_le disks.0 8) BadDevice
-    (Ok (record { has_flags = bytes_eq magic.0 (magic_of true); base = base.0; size = size.0; chunks = chunks.0; disks = disks.0 }, disks.1))) ≡ Ok x → HeadTakes bytes x
-head_ends bytes magic base size chunks disks x t0 t1 t2 t3 t4 is =
-    let made : Head × List ℕ = (record { has_flags = bytes_eq magic.0 (magic_of true); base = base.0; size = size.0; chunks = chunks.0; disks = disks.0 }, disks.1) in
+    (Ok (record { version = version.0; base = base.0; size = size.0; chunks = chunks.0; disks = disks.0 }, disks.1))) ≡ Ok x → HeadTakes bytes x
+head_ends bytes version base size chunks disks x t0 t1 t2 t3 t4 is =
+    let made : Head × List ℕ = (record { version = version.0; base = base.0; size = size.0; chunks = chunks.0; disks = disks.0 }, disks.1) in
     let ram = check_ok (is_paged base.0 && is_good_size base.0 size.0) BadRam (checked (nat_le disks.0 8) BadDevice (Ok made)) x is in
     let number = check_ok (nat_le disks.0 8) BadDevice (Ok made) x ram.1 in
     let p = and_parts (is_paged base.0) (is_good_size base.0 size.0) ram.0 in
@@ -261,78 +300,75 @@ head_ends bytes magic base size chunks disks x t0 t1 t2 t3 t4 is =
     let b = bytes_of_number 8 base.0 in
     let cd = then_takes size.1 c chunks.1 d disks.1 t3 t4 in
     let scd = then_takes base.1 s size.1 (c ++ d) disks.1 t2 cd in
-    let bscd = then_takes magic.1 b base.1 (s ++ (c ++ d)) disks.1 t1 scd in
-    let all = then_takes bytes (magic_of (bytes_eq magic.0 (magic_of true))) magic.1 (b ++ (s ++ (c ++ d))) disks.1 t0 bscd in
+    let bscd = then_takes version.1 b base.1 (s ++ (c ++ d)) disks.1 t1 scd in
+    let all = then_takes bytes (version_bytes version.0) version.1 (b ++ (s ++ (c ++ d))) disks.1 t0 bscd in
     subst (HeadTakes bytes) {x = made} (ok_is made x number.1) (record { takes = all; base = p.0; size = p.1; few = leb-true disks.0 8 number.0 })
 
-abbrev behind_disks : List ℕ → ℕ × List ℕ → ℕ × List ℕ → ℕ × List ℕ → ℕ × List ℕ → Result (Head × List ℕ) LoadFault
-behind_disks magic base size chunks disks =
+abbrev behind_disks : Version → ℕ × List ℕ → ℕ × List ℕ → ℕ × List ℕ → ℕ × List ℕ → Result (Head × List ℕ) LoadFault
+behind_disks version base size chunks disks =
     checked (is_paged base.0 && is_good_size base.0 size.0) BadRam (checked (nat_le disks.0 8) BadDevice
-    (Ok (record { has_flags = bytes_eq magic (magic_of true); base = base.0; size = size.0; chunks = chunks.0; disks = disks.0 }, disks.1)))
+    (Ok (record { version = version; base = base.0; size = size.0; chunks = chunks.0; disks = disks.0 }, disks.1)))
 
-abbrev behind_magic : List ℕ × List ℕ → Result (Head × List ℕ) LoadFault
-behind_magic magic =
-    number_at 8 magic.1 >>= λ base. number_at 8 base.1 >>= λ size. number_at 4 size.1 >>= λ chunks. number_at 4 chunks.1 >>= λ disks.
-    behind_disks magic.0 base size chunks disks
+abbrev behind_version : Version × List ℕ → Result (Head × List ℕ) LoadFault
+behind_version version =
+    number_at 8 version.1 >>= λ base. number_at 8 base.1 >>= λ size. number_at 4 size.1 >>= λ chunks. number_at 4 chunks.1 >>= λ disks.
+    behind_disks version.0 base size chunks disks
 
 head_takes : (bytes : List ℕ) (x : Head × List ℕ) → AreBytes bytes → head_at bytes ≡ Ok x → HeadTakes bytes x
 unfolding head_at
 head_takes bytes x are is =
-    let m = bind_ok (part_at 8 bytes) (λ magic. checked (bytes_eq magic.0 (magic_of false) || bytes_eq magic.0 (magic_of true)) BadMagic (behind_magic magic)) x is in
-    let magic = m.0 in
-    let right = check_ok (bytes_eq magic.0 (magic_of false) || bytes_eq magic.0 (magic_of true)) BadMagic (behind_magic magic) x m.2 in
-    let a = bind_ok (number_at 8 magic.1) (λ base. number_at 8 base.1 >>= λ size. number_at 4 size.1 >>= λ chunks. number_at 4 chunks.1 >>= λ disks.
-    behind_disks magic.0 base size chunks disks) x right.1 in
+    let v = bind_ok (version_at bytes) (λ version. behind_version version) x is in
+    let version = v.0 in
+    let a = bind_ok (number_at 8 version.1) (λ base. number_at 8 base.1 >>= λ size. number_at 4 size.1 >>= λ chunks. number_at 4 chunks.1 >>= λ disks.
+    behind_disks version.0 base size chunks disks) x v.2 in
     let base = a.0 in
     let b = bind_ok (number_at 8 base.1) (λ size. number_at 4 size.1 >>= λ chunks. number_at 4 chunks.1 >>= λ disks.
-    behind_disks magic.0 base size chunks disks) x a.2 in
+    behind_disks version.0 base size chunks disks) x a.2 in
     let size = b.0 in
-    let c = bind_ok (number_at 4 size.1) (λ chunks. number_at 4 chunks.1 >>= λ disks. behind_disks magic.0 base size chunks disks) x b.2 in
+    let c = bind_ok (number_at 4 size.1) (λ chunks. number_at 4 chunks.1 >>= λ disks. behind_disks version.0 base size chunks disks) x b.2 in
     let chunks = c.0 in
-    let d = bind_ok (number_at 4 chunks.1) (λ disks. behind_disks magic.0 base size chunks disks) x c.2 in
-    let t0 = part_takes 8 bytes magic are m.1 in
-    let first : Takes bytes (magic_of (bytes_eq magic.0 (magic_of true))) magic.1 =
-    subst (λ (text : List ℕ). Takes bytes text magic.1) (magic_is magic.0 (bytes_eq magic.0 (magic_of true)) refl right.0) t0.0 in
-    let t1 = number_takes 8 magic.1 base t0.0.left a.1 in
+    let d = bind_ok (number_at 4 chunks.1) (λ disks. behind_disks version.0 base size chunks disks) x c.2 in
+    let t0 = version_takes bytes version are v.1 in
+    let t1 = number_takes 8 version.1 base t0.left a.1 in
     let t2 = number_takes 8 base.1 size t1.left b.1 in
     let t3 = number_takes 4 size.1 chunks t2.left c.1 in
     let t4 = number_takes 4 chunks.1 d.0 t3.left d.1 in
-    head_ends bytes magic base size chunks d.0 x first t1 t2 t3 t4 d.2
+    head_ends bytes version base size chunks d.0 x t0 t1 t2 t3 t4 d.2
 
 -- all of the bytes
 whole : (bytes : List ℕ) (head : Head × List ℕ) (chunks : List Chunk × List ℕ) (disks : List Disk × List ℕ) → HeadTakes bytes head →
     Takes head.1 (chunks_bytes chunks.0) chunks.1 → length chunks.0 ≡ head.0.chunks → AreChunks head.0.base head.0.size 0 chunks.0 →
-    Takes chunks.1 (disks_bytes head.0.has_flags disks.0) disks.1 → length disks.0 ≡ head.0.disks → AreDisks head.0.has_flags [] disks.0 → disks.1 ≡ [] →
-    IsImageOf (record { has_flags = head.0.has_flags; base = head.0.base; size = head.0.size; chunks = chunks.0; disks = disks.0 }) bytes
+    Takes chunks.1 (disks_bytes (is_flagged head.0.version) disks.0) disks.1 → length disks.0 ≡ head.0.disks → AreDisks (is_flagged head.0.version) [] disks.0 → disks.1 ≡ [] →
+    IsImageOf (record { version = head.0.version; base = head.0.base; size = head.0.size; chunks = chunks.0; disks = disks.0 }) bytes
 unfolding image_bytes
 whole bytes head chunks disks first second some good third few distinct none =
-    let rest = then_takes head.1 (chunks_bytes chunks.0) chunks.1 (disks_bytes head.0.has_flags disks.0) disks.1 second third in
-    let all = then_takes bytes (head_bytes head.0.has_flags head.0.base head.0.size head.0.chunks head.0.disks) head.1 (chunks_bytes chunks.0 ++ disks_bytes head.0.has_flags disks.0) disks.1 first.takes rest in
+    let rest = then_takes head.1 (chunks_bytes chunks.0) chunks.1 (disks_bytes (is_flagged head.0.version) disks.0) disks.1 second third in
+    let all = then_takes bytes (head_bytes head.0.version head.0.base head.0.size head.0.chunks head.0.disks) head.1 (chunks_bytes chunks.0 ++ disks_bytes (is_flagged head.0.version) disks.0) disks.1 first.takes rest in
     record {
       good = record { base = first.base; size = first.size; chunks = good; few = omega (arith, few, first.few); disks = distinct };
-      are = all.parts ∙ ap (λ rest. (head_bytes head.0.has_flags head.0.base head.0.size head.0.chunks head.0.disks ++ (chunks_bytes chunks.0 ++ disks_bytes head.0.has_flags disks.0)) ++ rest) none
-          ∙ append-nil (head_bytes head.0.has_flags head.0.base head.0.size head.0.chunks head.0.disks ++ (chunks_bytes chunks.0 ++ disks_bytes head.0.has_flags disks.0))
-          ∙ ap (λ n. head_bytes head.0.has_flags head.0.base head.0.size n head.0.disks ++ (chunks_bytes chunks.0 ++ disks_bytes head.0.has_flags disks.0)) (sym some)
-          ∙ ap (λ n. head_bytes head.0.has_flags head.0.base head.0.size (length chunks.0) n ++ (chunks_bytes chunks.0 ++ disks_bytes head.0.has_flags disks.0)) (sym few);
+      are = all.parts ∙ ap (λ rest. (head_bytes head.0.version head.0.base head.0.size head.0.chunks head.0.disks ++ (chunks_bytes chunks.0 ++ disks_bytes (is_flagged head.0.version) disks.0)) ++ rest) none
+          ∙ append-nil (head_bytes head.0.version head.0.base head.0.size head.0.chunks head.0.disks ++ (chunks_bytes chunks.0 ++ disks_bytes (is_flagged head.0.version) disks.0))
+          ∙ ap (λ n. head_bytes head.0.version head.0.base head.0.size n head.0.disks ++ (chunks_bytes chunks.0 ++ disks_bytes (is_flagged head.0.version) disks.0)) (sym some)
+          ∙ ap (λ n. head_bytes head.0.version head.0.base head.0.size (length chunks.0) n ++ (chunks_bytes chunks.0 ++ disks_bytes (is_flagged head.0.version) disks.0)) (sym few);
     }
 
 pub read_is : (bytes : List ℕ) (image : Image) → AreBytes bytes → image_of bytes ≡ Ok image → IsImageOf image bytes
 unfolding image_of
 read_is bytes image are is =
-    let a = bind_ok (head_at bytes) (λ head. chunks_at head.0.base head.0.size 0 head.0.chunks head.1 >>= λ chunks. disks_at head.0.has_flags [] head.0.disks chunks.1 >>= λ disks.
-    checked (length disks.1 == 0) Trailing (Ok (record { has_flags = head.0.has_flags; base = head.0.base; size = head.0.size; chunks = chunks.0; disks = disks.0 }))) image is in
+    let a = bind_ok (head_at bytes) (λ head. chunks_at head.0.base head.0.size 0 head.0.chunks head.1 >>= λ chunks. disks_at (is_flagged head.0.version) [] head.0.disks chunks.1 >>= λ disks.
+    checked (length disks.1 == 0) Trailing (Ok (record { version = head.0.version; base = head.0.base; size = head.0.size; chunks = chunks.0; disks = disks.0 }))) image is in
     let head = a.0 in
-    let b = bind_ok (chunks_at head.0.base head.0.size 0 head.0.chunks head.1) (λ chunks. disks_at head.0.has_flags [] head.0.disks chunks.1 >>= λ disks.
-    checked (length disks.1 == 0) Trailing (Ok (record { has_flags = head.0.has_flags; base = head.0.base; size = head.0.size; chunks = chunks.0; disks = disks.0 }))) image a.2 in
+    let b = bind_ok (chunks_at head.0.base head.0.size 0 head.0.chunks head.1) (λ chunks. disks_at (is_flagged head.0.version) [] head.0.disks chunks.1 >>= λ disks.
+    checked (length disks.1 == 0) Trailing (Ok (record { version = head.0.version; base = head.0.base; size = head.0.size; chunks = chunks.0; disks = disks.0 }))) image a.2 in
     let chunks = b.0 in
-    let c = bind_ok (disks_at head.0.has_flags [] head.0.disks chunks.1) (λ disks.
-    checked (length disks.1 == 0) Trailing (Ok (record { has_flags = head.0.has_flags; base = head.0.base; size = head.0.size; chunks = chunks.0; disks = disks.0 }))) image b.2 in
+    let c = bind_ok (disks_at (is_flagged head.0.version) [] head.0.disks chunks.1) (λ disks.
+    checked (length disks.1 == 0) Trailing (Ok (record { version = head.0.version; base = head.0.base; size = head.0.size; chunks = chunks.0; disks = disks.0 }))) image b.2 in
     let disks = c.0 in
-    let made : Image = record { has_flags = head.0.has_flags; base = head.0.base; size = head.0.size; chunks = chunks.0; disks = disks.0 } in
+    let made : Image = record { version = head.0.version; base = head.0.base; size = head.0.size; chunks = chunks.0; disks = disks.0 } in
     let last = check_ok (length disks.1 == 0) Trailing (Ok made) image c.2 in
     let first = head_takes bytes head are a.1 in
     let second = chunks_take head.0.base head.0.size 0 head.0.chunks head.1 chunks first.takes.left b.1 in
-    let third = disks_take head.0.has_flags [] head.0.disks chunks.1 disks second.0.left c.1 in
+    let third = disks_take (is_flagged head.0.version) [] head.0.disks chunks.1 disks second.0.left c.1 in
     subst (λ (image : Image). IsImageOf image bytes) {x = made} (ok_is made image last.1)
     (whole bytes head chunks disks first second.0 second.1 second.2 third.0 third.1 third.2 (nil_from_length disks.1 (eqb-true (length disks.1) 0 last.0)))
 

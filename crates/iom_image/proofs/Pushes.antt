@@ -1,5 +1,6 @@
 -- Bytes behind bytes.
 use Rattle.std.proofs.Common.{◌≡◌, ◌<◌, ℕ, Bool, length, map, drop, get_or, arith, List, [], ◌∷◌, ◌++◌, ap, sym, ◌∙◌, append_assoc}
+use Rattle.iom_image.specs.Versions.{is_flagged}
 use Rattle.iom_image.specs.Image.{Chunk, Image, chunk_bytes, chunks_bytes, disk_bytes, disks_bytes, head_bytes, image_bytes}
 use Rattle.iom_image.specs.declared.own.OwnDisk.{OwnDisk}
 use Rattle.iom_image.specs.Own.{disk_seen}
@@ -32,9 +33,9 @@ next_disk has_flags old one both (disk ∷ disks) first some is pushed others =
     two old (disk_bytes has_flags (disk_seen disk)) (disks_bytes has_flags (map disk_seen disks)) one both (pushed ∙ ap (λ disk. old ++ disk_bytes has_flags (disk_seen disk)) is) others
 
 pub written : (image : Image) (chunks disks : ℕ) (old one both all : List ℕ) → old ≡ [] → chunks ≡ length image.chunks → disks ≡ length image.disks →
-    one ≡ old ++ head_bytes image.has_flags image.base image.size chunks disks → both ≡ one ++ chunks_bytes image.chunks →
-    all ≡ both ++ disks_bytes image.has_flags image.disks → all ≡ image_bytes image
+    one ≡ old ++ head_bytes image.version image.base image.size chunks disks → both ≡ one ++ chunks_bytes image.chunks →
+    all ≡ both ++ disks_bytes (is_flagged image.version) image.disks → all ≡ image_bytes image
 unfolding image_bytes
 written image chunks disks old one both all none few some first second third =
-    let begun : one ≡ head_bytes image.has_flags image.base image.size (length image.chunks) (length image.disks) = rw (← few, ← some) (first ∙ ap (λ old. old ++ head_bytes image.has_flags image.base image.size chunks disks) none) in
-    three [] (head_bytes image.has_flags image.base image.size (length image.chunks) (length image.disks)) (chunks_bytes image.chunks) (disks_bytes image.has_flags image.disks) one both all begun second third
+    let begun : one ≡ head_bytes image.version image.base image.size (length image.chunks) (length image.disks) = rw (← few, ← some) (first ∙ ap (λ old. old ++ head_bytes image.version image.base image.size chunks disks) none) in
+    three [] (head_bytes image.version image.base image.size (length image.chunks) (length image.disks)) (chunks_bytes image.chunks) (disks_bytes (is_flagged image.version) image.disks) one both all begun second third

@@ -4,6 +4,7 @@ use Rattle.std.proofs.lemmas.Bool.{and_parts, ltb-true, not-true, eq-eqb, ne_eqb
 use Rattle.iom_blk.specs.Device.{Device}
 use Rattle.iom_core.specs.State.{State, AreDevices, AreDistinct, EachFits, is_id_among, ids_of}
 use Rattle.iom_image.specs.declared.fault.LoadFault.{LoadFault}
+use Rattle.iom_image.specs.Versions.{is_flagged}
 use Rattle.iom_image.specs.Image.{Disk, Image, AreDisks, AreBytes}
 use Rattle.iom_image.specs.Loading.{started, opening_of, devices_of, state_from}
 use Rattle.iom_image.specs.Reading.{mapped, image_of}
@@ -80,7 +81,7 @@ image_started bytes (Err fault) state are is made = absurd cc
 image_started bytes (Ok image) state are is made =
     let good = (read_is bytes image are is).good in
     let devices : devices_from image.disks ≡ state.devices = ap (λ (state : State). state.devices) (ok_is (state_from image) state made) in
-    subst AreDevices devices (are_devices image.has_flags image.disks good.few good.disks)
+    subst AreDevices devices (are_devices (is_flagged image.version) image.disks good.few good.disks)
 
 pub devices_started : (bytes : List ℕ) (state : State) → ((i : ℕ) → get_or bytes i 0 < 256) →
     mapped state_from (image_of bytes) ≡ Ok state → AreDevices state.devices

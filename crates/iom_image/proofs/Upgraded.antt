@@ -1,7 +1,11 @@
--- An image that is written again, with flags.
+-- An image that is written again, in version 3.
 use Rattle.std.proofs.Common.{◌≡◌, ℕ, zero, suc, ◌-◌, ◌+◌, ◌≤◌, ◌<◌, ◌==◌, Bool, true, List, [], ◌∷◌, ◌++◌, length, Result, Ok, Err, refl, sym, ap, ◌∙◌, append_assoc, append-nil, arith}
 use Rattle.std.specs.Prelude.{IsOk}
 use Rattle.iom_image.specs.declared.fault.LoadFault.{LoadFault}
+use Rattle.iom_bits.specs.declared.features.Features.{Features}
+use Rattle.iom_image.specs.declared.version.Version.{Version}
+use Rattle.iom_image.specs.declared.version.Version.TheVariants.{Third}
+use Rattle.iom_image.specs.Versions.{is_flagged, features_of}
 use Rattle.iom_image.specs.Image.{Chunk, Disk, Image, IsImage, AreBytes, end_of, chunk_bytes, chunks_bytes, disk_bytes, disks_bytes, head_bytes, image_bytes}
 use Rattle.iom_image.specs.Loading.{opening_of, state_from}
 use Rattle.iom_image.specs.Reading.{◌>>=◌, Read, Head, mapped, head_at, chunk_at, chunks_at, disk_at, disks_at, image_of}
@@ -104,36 +108,36 @@ disks_counted has_flags ids (suc count) bytes x is =
 
 -- what was written are the bytes of the same image with flags
 abbrev first_bytes : Head → List ℕ
-first_bytes head = head_bytes true head.base head.size head.chunks head.disks
+first_bytes head = head_bytes (Third (features_of head.version)) head.base head.size head.chunks head.disks
 
 disks_rewritten : (head : Head) (chunks : List Chunk) (read : Read (List Disk)) (one all : List ℕ) → length chunks ≡ head.chunks →
     ((x : List Disk × List ℕ) → read ≡ Ok x → length x.0 ≡ head.disks) → one ≡ first_bytes head ++ chunks_bytes chunks →
     disks_behind one read ≡ Ok all → IsOk (ends head chunks read) → mapped upgraded_bytes (ends head chunks read) ≡ Ok all
 unfolding image_bytes
 disks_rewritten head chunks (Ok x) one all some few before made ok =
-    let parts : head_bytes true head.base head.size (length chunks) (length x.0) ++ (chunks_bytes chunks ++ disks_bytes true x.0) ≡ all =
+    let parts : head_bytes (Third (features_of head.version)) head.base head.size (length chunks) (length x.0) ++ (chunks_bytes chunks ++ disks_bytes true x.0) ≡ all =
     rw (some, few x refl) (sym (append_assoc (first_bytes head) (chunks_bytes chunks) (disks_bytes true x.0))
     ∙ ap (λ bytes. bytes ++ disks_bytes true x.0) (sym before) ∙ ok_is (one ++ disks_bytes true x.0) all made) in
-    ended (length x.1 == 0) (record { has_flags = head.has_flags; base = head.base; size = head.size; chunks = chunks; disks = x.0 }) upgraded_bytes all ok parts
+    ended (length x.1 == 0) (record { version = head.version; base = head.base; size = head.size; chunks = chunks; disks = x.0 }) upgraded_bytes all ok parts
 disks_rewritten head chunks (Err fault) one all some few before made ok = absurd cc
 
 chunks_rewritten : (head : Head) (read : Read (List Chunk)) (first one rest all : List ℕ) → first ≡ first_bytes head →
     ((x : List Chunk × List ℕ) → read ≡ Ok x → length x.0 ≡ head.chunks) → chunks_behind first read ≡ Ok (one, rest) →
-    disks_behind one (disks_at head.has_flags [] head.disks rest) ≡ Ok all →
-    IsOk (read >>= λ chunks. ends head chunks.0 (disks_at head.has_flags [] head.disks chunks.1)) →
-    mapped upgraded_bytes (read >>= λ chunks. ends head chunks.0 (disks_at head.has_flags [] head.disks chunks.1)) ≡ Ok all
+    disks_behind one (disks_at (is_flagged head.version) [] head.disks rest) ≡ Ok all →
+    IsOk (read >>= λ chunks. ends head chunks.0 (disks_at (is_flagged head.version) [] head.disks chunks.1)) →
+    mapped upgraded_bytes (read >>= λ chunks. ends head chunks.0 (disks_at (is_flagged head.version) [] head.disks chunks.1)) ≡ Ok all
 chunks_rewritten head (Ok x) first one rest all begun some full made ok =
     let both = ok_is (first ++ chunks_bytes x.0, x.1) (one, rest) full in
     let before : first ++ chunks_bytes x.0 ≡ one = ap (λ (p : List ℕ × List ℕ). p.0) both in
     let left : x.1 ≡ rest = ap (λ (p : List ℕ × List ℕ). p.1) both in
-    disks_rewritten head x.0 (disks_at head.has_flags [] head.disks x.1) one all (some x refl)
-    (λ y is. disks_counted head.has_flags [] head.disks x.1 y is)
+    disks_rewritten head x.0 (disks_at (is_flagged head.version) [] head.disks x.1) one all (some x refl)
+    (λ y is. disks_counted (is_flagged head.version) [] head.disks x.1 y is)
     (sym before ∙ ap (λ first. first ++ chunks_bytes x.0) begun) (rw left made) ok
 chunks_rewritten head (Err fault) first one rest all begun some full made ok = absurd cc
 
 pub image_rewritten : (bytes : List ℕ) (head : Head) (after first one rest all : List ℕ) → head_at bytes ≡ Ok (head, after) → first ≡ first_bytes head →
     chunks_behind first (chunks_at head.base head.size 0 head.chunks after) ≡ Ok (one, rest) →
-    disks_behind one (disks_at head.has_flags [] head.disks rest) ≡ Ok all → IsOk (image_of bytes) →
+    disks_behind one (disks_at (is_flagged head.version) [] head.disks rest) ≡ Ok all → IsOk (image_of bytes) →
     mapped upgraded_bytes (image_of bytes) ≡ Ok all
 unfolding image_of
 image_rewritten bytes head after first one rest all told begun full made ok =
@@ -147,7 +151,7 @@ upgraded_good image it = record {
   size = it.size;
   chunks = it.chunks;
   few = it.few;
-  disks = with_flags image.has_flags true [] image.disks (λ none. absurd cc) it.disks;
+  disks = with_flags (is_flagged image.version) true [] image.disks (λ none. absurd cc) it.disks;
 }
 
 read_from : (bytes new : List ℕ) (image : Image) → AreBytes bytes → image_of bytes ≡ Ok image → new ≡ upgraded_bytes image →
@@ -175,12 +179,14 @@ starts_the_same bytes new are made =
     let from = read_as upgraded_bytes (image_of bytes) new made in
     start_from bytes new from.0 from.1 (reads_upgraded bytes new are made)
 
-same_image : (image : Image) → image.has_flags ≡ true → upgraded image ≡ image
-same_image image has = ap (λ (has : Bool). record image { has_flags = has }) (sym has)
+same_image : (image : Image) (features : Features) → image.version ≡ Third features → upgraded image ≡ image
+same_image image features third =
+    let version : Third (features_of image.version) ≡ image.version = rw third refl in
+    ap (λ (version : Version). record image { version = version }) version
 
 pub comes_back : (bytes new : List ℕ) → AreBytes bytes → mapped upgraded_bytes (image_of bytes) ≡ Ok new → IsUpgraded bytes → new ≡ bytes
 comes_back bytes new are made already =
     let from = read_as upgraded_bytes (image_of bytes) new made in
     let image : from.0 ≡ already.image = ok_is from.0 already.image (sym from.1 ∙ already.read) in
-    from.2 ∙ ap upgraded_bytes image ∙ ap image_bytes (same_image already.image already.has_flags)
+    from.2 ∙ ap upgraded_bytes image ∙ ap image_bytes (same_image already.image already.features already.third)
     ∙ sym (read_is bytes already.image are already.read).are

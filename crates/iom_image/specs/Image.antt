@@ -1,9 +1,11 @@
 -- Images: which bytes are an image, and of what.
-use Rattle.std.specs.Prelude.{ℕ, ◌≡◌, ◌+◌, ◌*◌, ◌^◌, ◌<◌, ◌≤◌, ◌&&◌, ◌++◌, Bool, true, false, not, List, [], ◌∷◌, length, map, codes, nat_lt, nat_le}
+use Rattle.std.specs.Prelude.{ℕ, ◌≡◌, ◌+◌, ◌*◌, ◌^◌, ◌<◌, ◌≤◌, ◌&&◌, ◌++◌, Bool, true, false, not, List, [], ◌∷◌, length, map, nat_lt, nat_le}
 use Rattle.iom_bits.specs.Bits.{flag}
 use Rattle.iom_bits.specs.Bytes.{bytes_of_number}
 use Rattle.iom_mem.specs.Sizes.{is_paged, is_good_size}
 use Rattle.iom_core.specs.State.{is_id_among}
+use Rattle.iom_image.specs.declared.version.Version.{Version}
+use Rattle.iom_image.specs.Versions.{is_flagged, version_bytes}
 
 -- bytes that stand in memory at the start, from a physical address on
 pub record Chunk : Type 0 where
@@ -18,8 +20,7 @@ pub record Disk : Type 0 where
   pub bytes : List ℕ
 
 pub record Image : Type 0 where
-  -- whether its disks have flags: version 2, else version 1
-  pub has_flags : Bool
+  pub version : Version
   pub base : ℕ
   pub size : ℕ
   pub chunks : List Chunk
@@ -71,7 +72,7 @@ pub record IsImage (image : Image) : Type 0 where
   pub size : is_good_size image.base image.size ≡ true
   pub chunks : AreChunks image.base image.size 0 image.chunks
   pub few : length image.disks ≤ 8
-  pub disks : AreDisks image.has_flags [] image.disks
+  pub disks : AreDisks (is_flagged image.version) [] image.disks
 
 -- its bytes
 abbrev pub chunk_bytes : Chunk → List ℕ
@@ -95,18 +96,14 @@ abbrev pub disks_bytes : Bool → List Disk → List ℕ
 disks_bytes has_flags [] = []
 disks_bytes has_flags (disk ∷ disks) = disk_bytes has_flags disk ++ disks_bytes has_flags disks
 
-abbrev pub magic_of : Bool → List ℕ
-magic_of false = codes "RVIOMMU1"
-magic_of true = codes "RVIOMMU2"
-
-abbrev pub head_bytes : Bool → ℕ → ℕ → ℕ → ℕ → List ℕ
-head_bytes has_flags base size chunks disks =
-    magic_of has_flags ++ (bytes_of_number 8 base ++ (bytes_of_number 8 size ++ (bytes_of_number 4 chunks ++ bytes_of_number 4 disks)))
+abbrev pub head_bytes : Version → ℕ → ℕ → ℕ → ℕ → List ℕ
+head_bytes version base size chunks disks =
+    version_bytes version ++ (bytes_of_number 8 base ++ (bytes_of_number 8 size ++ (bytes_of_number 4 chunks ++ bytes_of_number 4 disks)))
 
 unfoldable pub image_bytes : Image → List ℕ
 image_bytes image =
-    head_bytes image.has_flags image.base image.size (length image.chunks) (length image.disks)
-    ++ (chunks_bytes image.chunks ++ disks_bytes image.has_flags image.disks)
+    head_bytes image.version image.base image.size (length image.chunks) (length image.disks)
+    ++ (chunks_bytes image.chunks ++ disks_bytes (is_flagged image.version) image.disks)
 
 -- these bytes are an image, of this memory with these chunks and these disks
 pub record IsImageOf (image : Image) (bytes : List ℕ) : Type 0 where

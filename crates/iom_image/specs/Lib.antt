@@ -1,3 +1,4 @@
+pub mod Versions
 pub mod Image
 pub mod Reading
 pub mod Loading

@@ -13,7 +13,7 @@ disk_seen disk = record { id = disk.id; sectors = disk.sectors; read_only = disk
 
 abbrev pub image_seen : OwnImage → Image
 image_seen image = record {
-  has_flags = image.has_flags;
+  version = image.version;
   base = image.base;
   size = image.size;
   chunks = map chunk_seen image.chunks.entries;

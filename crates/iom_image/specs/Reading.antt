@@ -1,11 +1,14 @@
 -- Reading an image from its first byte on: each field is judged once it is whole, and the first check that fails names the
 -- refusal.
-use Rattle.std.specs.Prelude.{ℕ, zero, suc, ◌≡◌, ◌≢◌, ◌↔◌, ◌+◌, ◌*◌, ◌==◌, ◌&&◌, ◌||◌, ◌++◌, Bool, true, false, List, [], ◌∷◌, length, take, drop, bytes_eq, nat_lt, nat_le, Result, Ok, Err, IsOk, if◌then◌else◌}
+use Rattle.std.specs.Prelude.{ℕ, zero, suc, ◌≡◌, ◌≢◌, ◌↔◌, ◌+◌, ◌*◌, ◌==◌, ◌&&◌, ◌++◌, Bool, true, false, List, [], ◌∷◌, length, take, drop, bytes_eq, codes, nat_lt, nat_le, Result, Ok, Err, IsOk, if◌then◌else◌}
 use Rattle.iom_bits.specs.Bytes.{number_of_bytes}
 use Rattle.iom_mem.specs.Sizes.{is_paged, is_good_size, covers}
 use Rattle.iom_image.specs.declared.fault.LoadFault.{LoadFault}
-use Rattle.iom_image.specs.declared.fault.LoadFault.TheVariants.{BadMagic, Truncated, Trailing, BadRam, BadChunk, BadDevice, OutOfMemory}
-use Rattle.iom_image.specs.Image.{Chunk, Disk, Image, end_of, is_new_id, is_disk_size, magic_of, IsImageOf, AreBytes}
+use Rattle.iom_image.specs.declared.fault.LoadFault.TheVariants.{BadMagic, BadCapabilities, Truncated, Trailing, BadRam, BadChunk, BadDevice, OutOfMemory}
+use Rattle.iom_image.specs.declared.version.Version.{Version}
+use Rattle.iom_image.specs.declared.version.Version.TheVariants.{First, Second, Third}
+use Rattle.iom_image.specs.Versions.{is_flagged, features_word, features_in}
+use Rattle.iom_image.specs.Image.{Chunk, Disk, Image, end_of, is_new_id, is_disk_size, IsImageOf, AreBytes}
 
 -- a value, and the bytes after it
 abbrev pub Read : Type 0 → Type 0
@@ -29,28 +32,46 @@ number_at count bytes = do
   part ← part_at count bytes
   Ok (number_of_bytes part.0, part.1)
 
+-- what the word of an image of version 3 states; no other bit may be set
+unfoldable pub third_at : List ℕ → Read Version
+third_at bytes = do
+  word ← number_at 8 bytes
+  checked (features_word (features_in word.0) == word.0) BadCapabilities (Ok (Third (features_in word.0), word.1))
+
+-- the version that eight bytes name, and the bytes after it
+unfoldable pub version_of : List ℕ → List ℕ → Read Version
+version_of magic bytes =
+    if bytes_eq magic (codes "RVIOMMU1") then Ok (First, bytes)
+    else if bytes_eq magic (codes "RVIOMMU2") then Ok (Second, bytes)
+    else if bytes_eq magic (codes "RVIOMMU3") then third_at bytes
+    else Err BadMagic
+
+unfoldable pub version_at : List ℕ → Read Version
+version_at bytes = do
+  magic ← part_at 8 bytes
+  version_of magic.0 magic.1
+
 pub record Head : Type 0 where
-  pub has_flags : Bool
+  pub version : Version
   pub base : ℕ
   pub size : ℕ
   pub chunks : ℕ
   pub disks : ℕ
 
--- the head of an image of this version, from behind its first eight bytes on
-abbrev pub head_of : Bool → List ℕ → Read Head
-head_of has_flags bytes = do
+-- the head of an image of this version, from behind the version on
+abbrev pub head_of : Version → List ℕ → Read Head
+head_of version bytes = do
   base ← number_at 8 bytes
   size ← number_at 8 base.1
   chunks ← number_at 4 size.1
   disks ← number_at 4 chunks.1
   checked (is_paged base.0 && is_good_size base.0 size.0) BadRam (checked (nat_le disks.0 8) BadDevice
-      (Ok (record { has_flags = has_flags; base = base.0; size = size.0; chunks = chunks.0; disks = disks.0 }, disks.1)))
+      (Ok (record { version = version; base = base.0; size = size.0; chunks = chunks.0; disks = disks.0 }, disks.1)))
 
 unfoldable pub head_at : List ℕ → Read Head
 head_at bytes = do
-  magic ← part_at 8 bytes
-  checked (bytes_eq magic.0 (magic_of false) || bytes_eq magic.0 (magic_of true)) BadMagic
-      (head_of (bytes_eq magic.0 (magic_of true)) magic.1)
+  version ← version_at bytes
+  head_of version.0 version.1
 
 -- a chunk of this address with so many bytes, from the first of them on
 abbrev pub chunk_of : ℕ → ℕ → List ℕ → Read Chunk
@@ -109,9 +130,9 @@ unfoldable pub image_of : List ℕ → Result Image LoadFault
 image_of bytes = do
   head ← head_at bytes
   chunks ← chunks_at head.0.base head.0.size 0 head.0.chunks head.1
-  disks ← disks_at head.0.has_flags [] head.0.disks chunks.1
+  disks ← disks_at (is_flagged head.0.version) [] head.0.disks chunks.1
   checked (length disks.1 == 0) Trailing (Ok (record {
-    has_flags = head.0.has_flags;
+    version = head.0.version;
     base = head.0.base;
     size = head.0.size;
     chunks = chunks.0;

@@ -1,21 +1,25 @@
--- An image of version 1 as one of version 2.
+-- An image of version 1 or 2 as one of version 3.
 use Rattle.std.specs.Prelude.{ℕ, ◌≡◌, ◌++◌, true, List, Result, Ok}
+use Rattle.iom_bits.specs.declared.features.Features.{Features}
 use Rattle.iom_image.specs.declared.fault.LoadFault.{LoadFault}
+use Rattle.iom_image.specs.declared.version.Version.TheVariants.{Third}
+use Rattle.iom_image.specs.Versions.{features_of}
 use Rattle.iom_image.specs.Image.{Chunk, Disk, Image, chunks_bytes, disks_bytes, image_bytes}
 use Rattle.iom_image.specs.Reading.{◌>>=◌, Read, image_of}
 
--- The same memory, chunks and disks in version 2. One of version 2 is its own.
+-- The same memory, chunks, disks and features in version 3. One of version 3 is its own.
 abbrev pub upgraded : Image → Image
-upgraded image = record image { has_flags = true }
+upgraded image = record image { version = Third (features_of image.version) }
 
 abbrev pub upgraded_bytes : Image → List ℕ
 upgraded_bytes image = image_bytes (upgraded image)
 
--- these bytes are an image of version 2 already
+-- these bytes are an image of version 3 already
 pub record IsUpgraded (bytes : List ℕ) : Type 0 where
   pub image : Image
   pub read : image_of bytes ≡ Ok image
-  pub has_flags : image.has_flags ≡ true
+  pub features : Features
+  pub third : image.version ≡ Third features
 
 -- bytes, and behind them those of the chunks that were read
 abbrev pub chunks_behind : List ℕ → Read (List Chunk) → Result (List ℕ × List ℕ) LoadFault

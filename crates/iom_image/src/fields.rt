@@ -1,19 +1,20 @@
 //! The fields of an image, read from the front.
 
-ghost use Rattle.std.specs.Prelude.{◌≡◌, ◌+◌, ◌*◌, ◌≤◌, ◌<◌, ◌^◌, ◌||◌, Bool, IfOk, IfSome, bytes_eq, false, length, nat_le, true};
-ghost use Rattle.std.specs.Option.{is_some};
-ghost use Rattle.iom_image.specs.Image.{is_new_id, is_disk_size, magic_of};
+ghost use Rattle.std.specs.Prelude.{◌≡◌, ◌+◌, ◌*◌, ◌≤◌, ◌<◌, ◌^◌, Bool, IfOk, length, nat_le};
+ghost use Rattle.iom_image.specs.Image.{is_new_id, is_disk_size};
 ghost use Rattle.iom_image.specs.Reading.{Begins, Reads, part_at, number_at, head_at, head_of, chunk_at, chunk_of, flags_at, disk_at, disk_of};
 
+use crate::capabilities::version_of;
 use crate::fault::LoadFault;
+use crate::version::Version;
 use iom_bits::{le_u32, le_u64};
 use iom_mem::{covers, is_ram};
 
-/// The first 32 bytes of an image: what stands before the chunks.
+/// The head of an image: what stands before the chunks.
 #[derive(Clone, Copy)]
 pub struct Header {
-    /// Whether disks have flags: version 2, else version 1.
-    pub has_flags: bool,
+    /// The version, and of version 3 what the machine offers.
+    pub version: Version,
     /// The physical address of the first byte of memory: a multiple of 4096.
     pub base: u64,
     /// How many bytes memory has: a multiple of 4096 from 4096 to 2^26, with `base + size` at most 2^56.
@@ -46,9 +47,9 @@ pub struct DiskPart<'a> {
     pub bytes: &'a [u8],
 }
 
-// The first `len` bytes, and those after them.
+/// The first `len` bytes, and those after them. The refusal is `Truncated`.
 #[tactic(auto, unfolding(crate::specs::Reading::part_at))]
-fn front(len: usize, bytes: &[u8]) -> Result<(&[u8], &[u8]), LoadFault>
+pub fn front(len: usize, bytes: &[u8]) -> Result<(&[u8], &[u8]), LoadFault>
     ensures read { Reads (λ x. (x.0.now, x.1.now)) result (part_at len bytes.now) }
     ensures len { IfOk result (λ x. length x.0.now ≡ len) }
 {
@@ -67,9 +68,9 @@ fn u32_of(bytes: &[u8]) -> Result<(u32, &[u8]), LoadFault>
     Ok((le_u32([number[0], number[1], number[2], number[3]]), rest))
 }
 
-// The number of the first eight bytes, the lowest first, and the bytes after them.
+/// The number of the first eight bytes, the lowest first, and the bytes after them. The refusal is `Truncated`.
 #[tactic(auto, unfolding(crate::specs::Reading::number_at), using(crate::proofs::Bytes::eight))]
-fn u64_of(bytes: &[u8]) -> Result<(u64, &[u8]), LoadFault>
+pub fn u64_of(bytes: &[u8]) -> Result<(u64, &[u8]), LoadFault>
     ensures { Reads (λ x. (x.0, x.1.now)) result (number_at 8 bytes.now) }
 {
     let (number, rest) = front(8, bytes)?;
@@ -79,19 +80,6 @@ fn u64_of(bytes: &[u8]) -> Result<(u64, &[u8]), LoadFault>
     Ok((number, rest))
 }
 
-// Whether disks have flags, as the first eight bytes of an image tell it; None where they are those of no image.
-fn flags_told(magic: &[u8]) -> Option<bool>
-    ensures known { is_some result ≡ (bytes_eq magic.now (magic_of false) || bytes_eq magic.now (magic_of true)) }
-    ensures flags { IfSome result (λ flags. flags ≡ bytes_eq magic.now (magic_of true)) }
-{
-    let flagged = magic == b"RVIOMMU2".as_slice();
-    if flagged || magic == b"RVIOMMU1".as_slice() {
-        Some(flagged)
-    } else {
-        None
-    }
-}
-
 // Whether an image may have so many disks.
 fn are_few(disks: u32) -> bool
     ensures { result ≡ nat_le disks 8 }
@@ -99,11 +87,11 @@ fn are_few(disks: u32) -> bool
     disks <= 8
 }
 
-// What stands in the first 32 bytes behind those that tell whether disks have flags, and the bytes after it.
-fn numbers_of(has_flags: bool, bytes: &[u8]) -> Result<(Header, &[u8]), LoadFault>
+// What stands in the head of an image of this version behind it, and the bytes after the head.
+fn numbers_of(version: Version, bytes: &[u8]) -> Result<(Header, &[u8]), LoadFault>
     ensures read { Reads
-        (λ x. (record { has_flags = x.0.has_flags; base = x.0.base; size = x.0.size; chunks = x.0.chunks; disks = x.0.disks }, x.1.now))
-        result (head_of has_flags bytes.now) }
+        (λ x. (record { version = x.0.version; base = x.0.base; size = x.0.size; chunks = x.0.chunks; disks = x.0.disks }, x.1.now))
+        result (head_of version bytes.now) }
     ensures end { IfOk result (λ x. x.0.base + x.0.size ≤ 2 ^ 56) }
     ensures few { IfOk result (λ x. x.0.disks ≤ 8) }
 {
@@ -118,7 +106,7 @@ fn numbers_of(has_flags: bool, bytes: &[u8]) -> Result<(Header, &[u8]), LoadFaul
         return Err(LoadFault::BadDevice);
     }
     let header = Header {
-        has_flags,
+        version,
         base,
         size,
         chunks,
@@ -127,21 +115,18 @@ fn numbers_of(has_flags: bool, bytes: &[u8]) -> Result<(Header, &[u8]), LoadFaul
     Ok((header, rest))
 }
 
-/// The first 32 bytes of an image, and the bytes after them. The refusals are `Truncated`, `BadMagic`, `BadRam` and `BadDevice` for
-/// more than 8 disks.
+/// The head of an image, and the bytes after it: 32 bytes, in version 3 40. The refusals are `Truncated`, `BadMagic`,
+/// `BadCapabilities`, `BadRam` and `BadDevice` for more than 8 disks.
 #[tactic(auto, unfolding(crate::specs::Reading::head_at))]
 pub fn header_of(bytes: &[u8]) -> Result<(Header, &[u8]), LoadFault>
     ensures read { Reads
-        (λ x. (record { has_flags = x.0.has_flags; base = x.0.base; size = x.0.size; chunks = x.0.chunks; disks = x.0.disks }, x.1.now))
+        (λ x. (record { version = x.0.version; base = x.0.base; size = x.0.size; chunks = x.0.chunks; disks = x.0.disks }, x.1.now))
         result (head_at bytes.now) }
     ensures end { IfOk result (λ x. x.0.base + x.0.size ≤ 2 ^ 56) }
     ensures few { IfOk result (λ x. x.0.disks ≤ 8) }
 {
-    let (magic, rest) = front(8, bytes)?;
-    let Some(has_flags) = flags_told(magic) else {
-        return Err(LoadFault::BadMagic);
-    };
-    numbers_of(has_flags, rest)
+    let (version, rest) = version_of(bytes)?;
+    numbers_of(version, rest)
 }
 
 // The address and the length of a chunk, and the bytes after both.

@@ -45,7 +45,7 @@ pub fn judge(bytes: &[u8]) -> Result<(), LoadFault>
 {
     let (header, rest) = header_of(bytes)?;
     let rest = chunks(&header, rest)?;
-    let rest = disks(header.has_flags, header.disks, rest)?;
+    let rest = disks(header.version.is_flagged(), header.disks, rest)?;
     if rest.is_empty() {
         Ok(())
     } else {

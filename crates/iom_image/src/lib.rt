@@ -7,8 +7,10 @@ pub use judging::{images_are_what_is_read, judge};
 pub use loading::load;
 pub use own::{OwnDisk, OwnImage};
 pub use upgrading::upgrade;
+pub use version::Version;
 pub use writing::image_bytes;
 
+mod capabilities;
 mod fault;
 mod fields;
 mod image;
@@ -17,4 +19,5 @@ mod loading;
 mod opening;
 mod own;
 mod upgrading;
+mod version;
 mod writing;

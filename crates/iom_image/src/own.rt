@@ -5,6 +5,7 @@ ghost use Rattle.iom_image.specs.Image.{is_next_disk};
 ghost use Rattle.iom_image.specs.Own.{disk_seen, image_seen};
 
 use crate::fields::{is_disk_size, is_new_id};
+use crate::version::Version;
 use arrayvec::ArrayVec;
 use std::collections::BTreeMap;
 
@@ -24,8 +25,8 @@ pub struct OwnDisk {
 /// An image whose parts are its own.
 #[derive(Drop)]
 pub struct OwnImage {
-    /// Whether its disks have flags: version 2, else version 1.
-    pub has_flags: bool,
+    /// Its version, and of version 3 what its machine offers.
+    pub version: Version,
     /// The physical address of the first byte of memory: a multiple of 4096.
     pub base: u64,
     /// How many bytes memory has: a multiple of 4096 from 4096 to 2^26.

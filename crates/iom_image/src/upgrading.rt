@@ -1,4 +1,4 @@
-//! An image of version 1 as one of version 2.
+//! An image of version 1 or 2 as one of version 3.
 
 ghost use Rattle.std.specs.Prelude.{◌≡◌, ◌+◌, ◌≤◌, ◌^◌, [], IfOk, IfErr, IsOk};
 ghost use Rattle.iom_image.specs.Loading.{state_from};
@@ -9,6 +9,7 @@ ghost use Rattle.iom_image.specs.declared.fault.LoadFault.TheVariants as fault;
 use crate::fault::LoadFault;
 use crate::fields::{Header, chunk, disk, header_of};
 use crate::judging::judge;
+use crate::version::Version;
 use crate::writing::{push_chunk, push_disk, push_head};
 use arrayvec::ArrayVec;
 use std::alloc::Global;
@@ -57,29 +58,29 @@ fn copy_disks(out: &mut Vec<u8>, has_flags: bool, count: u32, bytes: &[u8]) -> R
     Ok(())
 }
 
-// The bytes in version 2 of an image that was judged.
+// The bytes in version 3 of an image that was judged.
 #[tactic(auto, unfolding(crate::specs::Reading::image_of))]
 fn rewrite(alloc: Global, bytes: &[u8]) -> Result<Vec<u8>, LoadFault>
     requires { IsOk (image_of bytes.now) }
     ensures { Gives (λ new. new.items) result (mapped upgraded_bytes (image_of bytes.now)) }
 {
     let (header, rest) = header_of(bytes)?;
-    let mut out = Vec::with_capacity(alloc, bytes.len() + 4 * header.disks as usize)?;
+    let mut out = Vec::with_capacity(alloc, bytes.len() + 8 + 4 * header.disks as usize)?;
     push_head(
         &mut out,
-        true,
+        Version::Third(header.version.features()),
         header.base,
         header.size,
         header.chunks as u64,
         header.disks as u64,
     )?;
     let rest = copy_chunks(&mut out, &header, rest)?;
-    copy_disks(&mut out, header.has_flags, header.disks, rest)?;
+    copy_disks(&mut out, header.version.is_flagged(), header.disks, rest)?;
     Ok(out)
 }
 
-/// The image in version 2: the same memory, chunks and disks, and the same platform that it starts. One of version 2 comes back
-/// as it is. The whole image is judged first, with the refusals of `load`, so `OutOfMemory` is answered only for an image that
+/// The image in version 3: the same memory, chunks, disks and features, and the same platform that it starts. Of version 1 and 2
+/// its word says that Svnapot is left out. One of version 3 comes back as it is. The whole image is judged first, with the refusals of `load`, so `OutOfMemory` is answered only for an image that
 /// would be accepted.
 pub fn upgrade(alloc: Global, bytes: &[u8]) -> Result<Vec<u8>, LoadFault>
     ensures exact { Gives (λ new. new.items) result (mapped upgraded_bytes (image_of bytes.now)) }

@@ -2,10 +2,13 @@
 
 ghost use Rattle.std.specs.Prelude.{◌≡◌, ◌++◌, ◌^◌, ◌<◌, map, length, OnOk, IfOk};
 ghost use Rattle.iom_bits.specs.Bytes.{bytes_of_number};
-ghost use Rattle.iom_image.specs.Image.{IsImage, magic_of, chunk_bytes, chunks_bytes, flags_bytes, disk_bytes, disks_bytes, head_bytes, image_bytes};
+ghost use Rattle.iom_image.specs.Image.{IsImage, chunk_bytes, chunks_bytes, flags_bytes, disk_bytes, disks_bytes, head_bytes, image_bytes};
+ghost use Rattle.iom_image.specs.Versions.{version_bytes};
 ghost use Rattle.iom_image.specs.Own.{chunk_seen, disk_seen, image_seen, Fits, AllFit, FewBytes};
 
+use crate::capabilities::features_word;
 use crate::own::{OwnDisk, OwnImage};
+use crate::version::Version;
 use iom_bits::flag;
 use std::alloc::{AllocError, Global};
 use std::collections::BTreeMap;
@@ -26,22 +29,25 @@ fn push_eight(out: &mut Vec<u8>, number: u64) -> Result<(), AllocError>
     out.extend_from_slice(&number.to_le_bytes())
 }
 
-// Appends the eight bytes that name the version.
-fn push_magic(out: &mut Vec<u8>, has_flags: bool) -> Result<(), AllocError>
-    ensures { OnOk result (out.new.items ≡ out.old.items ++ magic_of has_flags) }
+// Appends the bytes of a version.
+fn push_version(out: &mut Vec<u8>, version: Version) -> Result<(), AllocError>
+    ensures { OnOk result (out.new.items ≡ out.old.items ++ version_bytes version) }
 {
-    if has_flags {
-        out.extend_from_slice(b"RVIOMMU2")
-    } else {
-        out.extend_from_slice(b"RVIOMMU1")
+    match version {
+        Version::First => out.extend_from_slice(b"RVIOMMU1"),
+        Version::Second => out.extend_from_slice(b"RVIOMMU2"),
+        Version::Third(features) => {
+            out.extend_from_slice(b"RVIOMMU3")?;
+            push_eight(out, features_word(&features))
+        }
     }
 }
 
-/// Appends the first 32 bytes of an image: magic, base, size, and the numbers of chunks and disks, both below 2^32. The fault is a
+/// Appends the head of an image: version, base, size, and the numbers of chunks and disks, both below 2^32. The fault is a
 /// refused allocation.
 pub fn push_head(
     out: &mut Vec<u8>,
-    has_flags: bool,
+    version: Version,
     base: u64,
     size: u64,
     chunks: u64,
@@ -49,9 +55,9 @@ pub fn push_head(
 ) -> Result<(), AllocError>
     requires chunks { chunks < 2 ^ 32 }
     requires disks { disks < 2 ^ 32 }
-    ensures { OnOk result (out.new.items ≡ out.old.items ++ head_bytes has_flags base size chunks disks) }
+    ensures { OnOk result (out.new.items ≡ out.old.items ++ head_bytes version base size chunks disks) }
 {
-    push_magic(out, has_flags)?;
+    push_version(out, version)?;
     push_eight(out, base)?;
     push_eight(out, size)?;
     push_four(out, chunks)?;
@@ -154,13 +160,13 @@ pub fn image_bytes(alloc: Global, image: &OwnImage) -> Result<Vec<u8>, AllocErro
     let mut out = Vec::new(alloc);
     push_head(
         &mut out,
-        image.has_flags,
+        image.version,
         image.base,
         image.size,
         image.chunks.len() as u64,
         image.disks.len() as u64,
     )?;
     push_chunks(&mut out, &image.chunks)?;
-    push_disks(&mut out, image.has_flags, &image.disks)?;
+    push_disks(&mut out, image.version.is_flagged(), &image.disks)?;
     Ok(out)
 }

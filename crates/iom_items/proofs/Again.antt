@@ -124,12 +124,16 @@ told_same key (pair ∷ pairs) keys small =
     ∙ ap (λ found. if bytes_eq pair.0 key then found else value_of key (words_for_all pairs)) (hexed_read pair.1 small.0)
     ∙ ap (λ found. if bytes_eq pair.0 key then Some pair.1 else found) (told_same key pairs parts.1 small.1)
 
--- operands that a line can have: known keys, each once, with its number
-pub record AreTold (pairs : List Pair) : Type 0 where
-  pub keys : are_keys pairs ≡ true
-  pub fine : are_fine (keys_of pairs) (keys_of pairs) ≡ true
-  pub own : AllByRecursion (λ pair. told_for pair.0 pairs ≡ Some pair.1) pairs
-  pub small : AreSmall pairs
+-- a line can have `shown` for all these operands: known keys, each once, with its number, and 0 for a key that isn't shown
+pub record AreShownBy (pairs shown : List Pair) : Type 0 where
+  pub keys : are_keys shown ≡ true
+  pub fine : are_fine (keys_of pairs) (keys_of shown) ≡ true
+  pub own : AllByRecursion (λ pair. told_for pair.0 shown ≡ Some pair.1) pairs
+  pub small : AreSmall shown
+
+-- operands that are all shown
+abbrev pub AreTold : List Pair → Type 0
+AreTold pairs = AreShownBy pairs pairs
 
 own_values : (all pairs : List Pair) → ((key : List ℕ) → value_of key (words_for_all all) ≡ told_for key all) →
     AllByRecursion (λ pair. told_for pair.0 all ≡ Some pair.1) pairs → AllByRecursion (λ pair. value_of pair.0 (words_for_all all) ≡ Some pair.1) pairs
@@ -137,11 +141,14 @@ own_values all [] same own = tt
 own_values all (pair ∷ pairs) same own = (same pair.0 ∙ own.0, own_values all pairs same own.1)
 
 -- the words of a line say the operands that it was made from
-pub words_say : (pairs : List Pair) → AreTold pairs → Says pairs (words_for_all pairs)
-words_say pairs told = record {
-  are = fine_same (keys_of pairs) pairs told.keys ∙ told.fine;
-  values = own_values pairs pairs (λ key. told_same key pairs told.keys told.small) told.own;
+pub shown_say : (pairs shown : List Pair) → AreShownBy pairs shown → Says pairs (words_for_all shown)
+shown_say pairs shown told = record {
+  are = fine_same (keys_of pairs) shown told.keys ∙ told.fine;
+  values = own_values shown pairs (λ key. told_same key shown told.keys told.small) told.own;
 }
+
+pub words_say : (pairs : List Pair) → AreTold pairs → Says pairs (words_for_all pairs)
+words_say pairs told = shown_say pairs pairs told
 
 -- Operands that say the same have the same number for each key.
 key_is : (one other : List ℕ) → bytes_eq one other ≡ true → one ≡ other

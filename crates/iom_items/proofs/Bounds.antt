@@ -66,14 +66,14 @@ unfolding vma
 vma_fine words =
     where_ CommandFine _ _ (fl CommandFine (codes "av") words _ (λ av a. op CommandFine (codes "page") (2 ^ 52) words _ (λ page b. fl CommandFine (codes "pscv") words _ (λ pscv c.
     op CommandFine (codes "pscid") (2 ^ 20) words _ (λ pscid d. fl CommandFine (codes "gv") words _ (λ gv e. op CommandFine (codes "gscid") (2 ^ 16) words _ (λ gscid f.
-    (omega (arith, a, c, d, e, f), (omega (arith, b), tt)))))))))
+    fl CommandFine (codes "nl") words _ (λ nl g. fl CommandFine (codes "s") words _ (λ s h. (omega (arith, a, c, d, e, f, g), (omega (arith, b, h), tt)))))))))))
 
 gvma_fine : (words : List (List ℕ)) → IfSome (gvma words) CommandFine
 unfolding gvma
 gvma_fine words =
     where_ CommandFine _ _ (fl CommandFine (codes "av") words _ (λ av a. op CommandFine (codes "page") (2 ^ 52) words _ (λ page b.
     op CommandFine (codes "pscid") (2 ^ 20) words _ (λ pscid d. fl CommandFine (codes "gv") words _ (λ gv e. op CommandFine (codes "gscid") (2 ^ 16) words _ (λ gscid f.
-    (omega (arith, a, d, e, f), (omega (arith, b), tt))))))))
+    fl CommandFine (codes "nl") words _ (λ nl g. fl CommandFine (codes "s") words _ (λ s h. (omega (arith, a, d, e, f, g), (omega (arith, b, h), tt))))))))))
 
 fence_fine : (words : List (List ℕ)) → IfSome (fence words) CommandFine
 unfolding fence

@@ -9,3 +9,4 @@ pub mod Saying
 pub mod Again
 pub mod Restated
 pub mod Decoded
+pub mod Shown

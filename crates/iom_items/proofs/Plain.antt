@@ -22,7 +22,7 @@ use Rattle.iom_queue.specs.Records.{record_of}
 use Rattle.iom_items.specs.declared.item.Item.{Item}
 use Rattle.iom_items.specs.declared.item.Item.TheVariants as item
 use Rattle.iom_items.specs.Items.{words_in, dir_of, pte_of, Entry}
-use Rattle.iom_items.specs.Lines.{Pair, operand, with_operands, command_form, command_pairs, command_text, record_pairs, record_text, context_pairs, context_text, dir_pairs, dir_text, pte_pairs, pte_text, numbers_text, words_text, or_words, line_of, item_line}
+use Rattle.iom_items.specs.Lines.{Pair, operand, with_operands, command_form, command_pairs, further_pairs, not_zero, command_text, record_pairs, record_text, context_pairs, context_text, dir_pairs, dir_text, pte_pairs, pte_text, numbers_text, words_text, or_words, line_of, item_line}
 
 abbrev is_plain : List ℕ → Bool
 is_plain text = list_all (λ c. nat_lt c 128) text
@@ -67,20 +67,26 @@ with_plain text (pair ∷ pairs) plain keys =
     with_plain (text ++ operand pair.0 pair.1) pairs (join text (operand pair.0 pair.1) plain (op pair.0 pair.1 parts.0)) parts.1
 
 name_plain : (c : Command) → Plain (codes "cmd " ++ command_form c)
-name_plain (Vma av page pscv pscid gv gscid) = refl
-name_plain (Gvma av page pscid gv gscid) = refl
+name_plain (Vma av page pscv pscid gv gscid nl s) = refl
+name_plain (Gvma av page pscid gv gscid nl s) = refl
 name_plain (Fence av wsi pr pw value addr) = refl
 name_plain (Iodir dv did) = refl
 
-pairs_plain : (c : Command) → keys_plain (command_pairs c) ≡ true
+pairs_plain : (c : Command) → keys_plain (command_pairs c ++ not_zero (further_pairs c)) ≡ true
 unfolding keys_plain
-pairs_plain (Vma av page pscv pscid gv gscid) = refl
-pairs_plain (Gvma av page pscid gv gscid) = refl
+pairs_plain (Vma av page pscv pscid gv gscid true true) = refl
+pairs_plain (Vma av page pscv pscid gv gscid true false) = refl
+pairs_plain (Vma av page pscv pscid gv gscid false true) = refl
+pairs_plain (Vma av page pscv pscid gv gscid false false) = refl
+pairs_plain (Gvma av page pscid gv gscid true true) = refl
+pairs_plain (Gvma av page pscid gv gscid true false) = refl
+pairs_plain (Gvma av page pscid gv gscid false true) = refl
+pairs_plain (Gvma av page pscid gv gscid false false) = refl
 pairs_plain (Fence av wsi pr pw value addr) = refl
 pairs_plain (Iodir dv did) = refl
 
 command_plain : (c : Command) → Plain (command_text c)
-command_plain c = with_plain (codes "cmd " ++ command_form c) (command_pairs c) (name_plain c) (pairs_plain c)
+command_plain c = with_plain (codes "cmd " ++ command_form c) (command_pairs c ++ not_zero (further_pairs c)) (name_plain c) (pairs_plain c)
 
 record_plain : (fault : Record) → Plain (record_text fault)
 unfolding keys_plain

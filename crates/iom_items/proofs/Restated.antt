@@ -25,31 +25,71 @@ use Rattle.iom_items.specs.declared.item.Item.TheVariants as item
 use Rattle.iom_items.specs.Items.{name_of, Entry, dir_word, pte_word}
 use Rattle.iom_items.specs.Operands.{◌>>=◌, operand_of, has_key, number_for, value_of}
 use Rattle.iom_items.specs.Forms.{command, fault, context, dir, pte, each_number, numbers, words_for}
-use Rattle.iom_items.specs.Lines.{Pair, with_operands, command_form, command_pairs, command_text, record_pairs, record_text, context_pairs, dir_pairs, dir_text, pte_pairs, pte_text, numbers_text, words_text, line_of}
+use Rattle.iom_items.specs.Lines.{Pair, with_operands, command_form, command_pairs, further_pairs, not_zero, command_text, record_pairs, record_text, context_pairs, dir_pairs, dir_text, pte_pairs, pte_text, numbers_text, words_text, line_of}
 use Rattle.iom_items.specs.Telling.{IsStatement, IsToldAgain}
 use Rattle.iom_items.proofs.Stating.{command_fits, fault_fits, context_fits, dir_fits, pte_fits, EntryFits, record_of_words, context_same, dir_read, pte_read, mode_fits, small, given, is_so, some_is}
 use Rattle.iom_items.proofs.Bounds.{AreWords, words_fine}
 use Rattle.iom_items.proofs.Operating.{cut_later, longer}
 use Rattle.iom_items.proofs.Joined.{is_bare, turned, words_joined, one_word, word_bare, bare_joined}
 use Rattle.iom_items.proofs.Numerals.{is_word, hexed_inside, hexed_read}
-use Rattle.iom_items.proofs.Saying.{Says, IsForm, both, command_says, command_said, fault_says, fault_said, context_says, context_said, dir_says, dir_said, pte_says, pte_said}
-use Rattle.iom_items.proofs.Again.{AreTold, are_keys, words_for_all, with_words, words_say, same_values}
+use Rattle.iom_items.proofs.Saying.{Says, IsForm, all_pairs, both, command_says, command_said, fault_says, fault_said, context_says, context_said, dir_says, dir_said, pte_says, pte_said}
+use Rattle.iom_items.proofs.Again.{AreTold, AreShownBy, are_keys, words_for_all, with_words, words_say, shown_say, same_values}
 
 -- the operands of each item's line
 flag_small : (set : Bool) → flag set < 2 ^ 64
 flag_small set = omega (arith, small set)
 
-command_told : (c : Command) → CommandFits c → AreTold (command_pairs c)
-command_told (Vma av page pscv pscid gv gscid) fits = record {
+-- those that a command's line has
+abbrev shown_pairs : Command → List Pair
+shown_pairs c = command_pairs c ++ not_zero (further_pairs c)
+
+command_told : (c : Command) → CommandFits c → AreShownBy (all_pairs c) (shown_pairs c)
+command_told (Vma av page pscv pscid gv gscid true true) fits = record {
   keys = refl;
   fine = refl;
-  own = (refl, (refl, (refl, (refl, (refl, (refl, tt))))));
+  own = (refl, (refl, (refl, (refl, (refl, (refl, (refl, (refl, tt))))))));
+  small = (flag_small av, (omega (arith, fits.0), (flag_small pscv, (omega (arith, fits.1), (flag_small gv, (omega (arith, fits.2), (omega arith, (omega arith, tt))))))));
+}
+command_told (Vma av page pscv pscid gv gscid true false) fits = record {
+  keys = refl;
+  fine = refl;
+  own = (refl, (refl, (refl, (refl, (refl, (refl, (refl, (refl, tt))))))));
+  small = (flag_small av, (omega (arith, fits.0), (flag_small pscv, (omega (arith, fits.1), (flag_small gv, (omega (arith, fits.2), (omega arith, tt)))))));
+}
+command_told (Vma av page pscv pscid gv gscid false true) fits = record {
+  keys = refl;
+  fine = refl;
+  own = (refl, (refl, (refl, (refl, (refl, (refl, (refl, (refl, tt))))))));
+  small = (flag_small av, (omega (arith, fits.0), (flag_small pscv, (omega (arith, fits.1), (flag_small gv, (omega (arith, fits.2), (omega arith, tt)))))));
+}
+command_told (Vma av page pscv pscid gv gscid false false) fits = record {
+  keys = refl;
+  fine = refl;
+  own = (refl, (refl, (refl, (refl, (refl, (refl, (refl, (refl, tt))))))));
   small = (flag_small av, (omega (arith, fits.0), (flag_small pscv, (omega (arith, fits.1), (flag_small gv, (omega (arith, fits.2), tt))))));
 }
-command_told (Gvma av page pscid gv gscid) fits = record {
+command_told (Gvma av page pscid gv gscid true true) fits = record {
   keys = refl;
   fine = refl;
-  own = (refl, (refl, (refl, (refl, (refl, tt)))));
+  own = (refl, (refl, (refl, (refl, (refl, (refl, (refl, tt)))))));
+  small = (flag_small av, (omega (arith, fits.0), (omega (arith, fits.1), (flag_small gv, (omega (arith, fits.2), (omega arith, (omega arith, tt)))))));
+}
+command_told (Gvma av page pscid gv gscid true false) fits = record {
+  keys = refl;
+  fine = refl;
+  own = (refl, (refl, (refl, (refl, (refl, (refl, (refl, tt)))))));
+  small = (flag_small av, (omega (arith, fits.0), (omega (arith, fits.1), (flag_small gv, (omega (arith, fits.2), (omega arith, tt))))));
+}
+command_told (Gvma av page pscid gv gscid false true) fits = record {
+  keys = refl;
+  fine = refl;
+  own = (refl, (refl, (refl, (refl, (refl, (refl, (refl, tt)))))));
+  small = (flag_small av, (omega (arith, fits.0), (omega (arith, fits.1), (flag_small gv, (omega (arith, fits.2), (omega arith, tt))))));
+}
+command_told (Gvma av page pscid gv gscid false false) fits = record {
+  keys = refl;
+  fine = refl;
+  own = (refl, (refl, (refl, (refl, (refl, (refl, (refl, tt)))))));
   small = (flag_small av, (omega (arith, fits.0), (omega (arith, fits.1), (flag_small gv, (omega (arith, fits.2), tt)))));
 }
 command_told (Fence av wsi pr pw value addr) fits = record {
@@ -100,13 +140,13 @@ line_parts name pairs inside bare some keys =
 
 form_parts : (c : Command) → (is_bare (codes "cmd " ++ command_form c) ≡ true) × (words_of (codes "cmd " ++ command_form c) ≡ codes "cmd" ∷ command_form c ∷ [])
 unfolding words_of
-form_parts (Vma av page pscv pscid gv gscid) = (refl, refl)
-form_parts (Gvma av page pscid gv gscid) = (refl, refl)
+form_parts (Vma av page pscv pscid gv gscid nl s) = (refl, refl)
+form_parts (Gvma av page pscid gv gscid nl s) = (refl, refl)
 form_parts (Fence av wsi pr pw value addr) = (refl, refl)
 form_parts (Iodir dv did) = (refl, refl)
 
 pub command_states : (c : Command) → CommandFits c →
-    IsStatement (line_of item.Cmd (command_words c)) (command_words c) (codes "cmd") (command_form c ∷ words_for_all (command_pairs c))
+    IsStatement (line_of item.Cmd (command_words c)) (command_words c) (codes "cmd") (command_form c ∷ words_for_all (shown_pairs c))
 unfolding words_for
 command_states c fits =
     let told = command_told c fits in
@@ -114,9 +154,9 @@ command_states c fits =
     let line : line_of item.Cmd (command_words c) ≡ command_text c = rw (command_of_words c fits) refl in
     record {
       parts =
-          ap words_of line ∙ with_words (codes "cmd " ++ command_form c) (command_pairs c) form.0 told.keys
-          ∙ ap (λ words. words ++ words_for_all (command_pairs c)) form.1;
-      stands = ap (option_map command_words) (command_said (words_for_all (command_pairs c)) c fits (words_say (command_pairs c) told));
+          ap words_of line ∙ with_words (codes "cmd " ++ command_form c) (shown_pairs c) form.0 told.keys
+          ∙ ap (λ words. words ++ words_for_all (shown_pairs c)) form.1;
+      stands = ap (option_map command_words) (command_said (words_for_all (shown_pairs c)) c fits (shown_say (all_pairs c) (shown_pairs c) told));
     }
 
 pub record_states : (r : Record) → RecordFits r →
@@ -272,8 +312,8 @@ keyed kind operands words pairs told states says = record {
 
 form_no_key : (key : List ℕ) (c : Command) → has_key key (operand_of (command_form c)) ≡ false
 unfolding operand_of
-form_no_key key (Vma av page pscv pscid gv gscid) = refl
-form_no_key key (Gvma av page pscid gv gscid) = refl
+form_no_key key (Vma av page pscv pscid gv gscid nl s) = refl
+form_no_key key (Gvma av page pscid gv gscid nl s) = refl
 form_no_key key (Fence av wsi pr pw value addr) = refl
 form_no_key key (Iodir dv did) = refl
 
@@ -284,11 +324,11 @@ behind_form key c operands =
 command_again : (form : List ℕ) (operands : List (List ℕ)) (c : Command) → CommandFits c → IsForm form operands c →
     IsToldAgain item.Cmd (form ∷ operands) (command_words c)
 command_again form operands c fits is = record {
-  again = command_form c ∷ words_for_all (command_pairs c);
+  again = command_form c ∷ words_for_all (shown_pairs c);
   statement = command_states c fits;
   numbers = λ key.
-      behind_form key c (words_for_all (command_pairs c))
-      ∙ same_values (command_pairs c) (words_for_all (command_pairs c)) operands (words_say (command_pairs c) (command_told c fits)) is.says key
+      behind_form key c (words_for_all (shown_pairs c))
+      ∙ same_values (all_pairs c) (words_for_all (shown_pairs c)) operands (shown_say (all_pairs c) (shown_pairs c) (command_told c fits)) is.says key
       ∙ sym (ap (λ form. value_of key (form ∷ operands)) is.named ∙ behind_form key c operands);
 }
 

@@ -1,5 +1,5 @@
 -- What a statement's operands say: for each key its number.
-use Rattle.std.proofs.Common.{◌≡◌, ℕ, ◌%◌, ◌<◌, ◌^◌, ◌==◌, if◌then◌else◌, Bool, true, false, nat_lt, List, [], ◌∷◌, map, codes, bytes_eq, Option, Some, None, zero, suc, refl, ap, subst, ◌∙◌, arith}
+use Rattle.std.proofs.Common.{◌≡◌, ℕ, ◌%◌, ◌<◌, ◌^◌, ◌==◌, if◌then◌else◌, Bool, true, false, nat_lt, List, [], ◌∷◌, ◌++◌, map, codes, bytes_eq, Option, Some, None, zero, suc, refl, ap, subst, ◌∙◌, arith}
 use Rattle.std.specs.Prelude.{IfSome}
 use Rattle.std.specs.List.{AllByRecursion}
 use Rattle.std.proofs.lemmas.Bool.{cond_both, lt-ltb, le-ltb, ltb-true}
@@ -19,7 +19,7 @@ use Rattle.iom_items.proofs.Operating.{reads_values}
 use Rattle.iom_items.specs.Forms.{where_so, vma_keys, gvma_keys, fence_keys, fault_keys, context_keys, vma, gvma, fence, iodir, command, fault, context, dir, pte}
 use Rattle.iom_items.proofs.Bounds.{where_}
 use Rattle.iom_items.proofs.Stating.{mode_fits, modes_hold, some_is}
-use Rattle.iom_items.specs.Lines.{Pair, command_form, command_pairs, record_pairs, context_pairs, dir_pairs, pte_pairs}
+use Rattle.iom_items.specs.Lines.{Pair, command_form, command_pairs, further_pairs, record_pairs, context_pairs, dir_pairs, pte_pairs}
 
 none_is : {A B : Type 0} (x : A) → None ≡ Some x → B
 none_is x is = absurd cc
@@ -130,21 +130,25 @@ one Q key limit words more = by (limited key limit words) refl
 no_rest : (n : ℕ) → n % 4 ≡ 0 → (n % 4 == 0) ≡ true
 no_rest n is = grind (arith, is)
 
-vma_says : (words : List (List ℕ)) → IfSome (vma words) (λ x. Says (command_pairs x) words)
+-- all operands of a command
+abbrev pub all_pairs : Command → List Pair
+all_pairs c = command_pairs c ++ further_pairs c
+
+vma_says : (words : List (List ℕ)) → IfSome (vma words) (λ x. Says (all_pairs x) words)
 unfolding vma
 vma_says words =
-    let Q : Command → Type 0 = λ x. Has vma_keys words (command_pairs x) in
-    under command_pairs vma_keys words _ (where_ Q _ _ (fl Q (codes "av") words _ (λ av a. op Q (codes "page") (2 ^ 52) words _ (λ page b.
+    let Q : Command → Type 0 = λ x. Has vma_keys words (all_pairs x) in
+    under all_pairs vma_keys words _ (where_ Q _ _ (fl Q (codes "av") words _ (λ av a. op Q (codes "page") (2 ^ 52) words _ (λ page b.
     fl Q (codes "pscv") words _ (λ pscv c. op Q (codes "pscid") (2 ^ 20) words _ (λ pscid d.
     fl Q (codes "gv") words _ (λ gv e. op Q (codes "gscid") (2 ^ 16) words _ (λ gscid f.
-    ((a, (b, (c, (d, (e, (f, tt)))))), refl)))))))))
+    fl Q (codes "nl") words _ (λ nl g. fl Q (codes "s") words _ (λ s h. ((a, (b, (c, (d, (e, (f, (g, (h, tt)))))))), refl)))))))))))
 
-vma_said : (words : List (List ℕ)) (av : Bool) (page : ℕ) (pscv : Bool) (pscid : ℕ) (gv : Bool) (gscid : ℕ) →
-    CommandFits (Vma av page pscv pscid gv gscid) → Says (command_pairs (Vma av page pscv pscid gv gscid)) words →
-    vma words ≡ Some (Vma av page pscv pscid gv gscid)
+vma_said : (words : List (List ℕ)) (av : Bool) (page : ℕ) (pscv : Bool) (pscid : ℕ) (gv : Bool) (gscid : ℕ) (nl s : Bool) →
+    CommandFits (Vma av page pscv pscid gv gscid nl s) → Says (all_pairs (Vma av page pscv pscid gv gscid nl s)) words →
+    vma words ≡ Some (Vma av page pscv pscid gv gscid nl s)
 unfolding vma
-vma_said words av page pscv pscid gv gscid fits says =
-    let (a, (b, (c, (d, (e, (f, rest)))))) = says.values in
+vma_said words av page pscv pscid gv gscid nl s fits says =
+    let (a, (b, (c, (d, (e, (f, (g, (h, rest)))))))) = says.values in
     rw (
       says.are,
       value_flag (codes "av") words av a,
@@ -153,22 +157,25 @@ vma_said words av page pscv pscid gv gscid fits says =
       value_limited (codes "pscid") (2 ^ 20) words pscid d fits.1,
       value_flag (codes "gv") words gv e,
       value_limited (codes "gscid") (2 ^ 16) words gscid f fits.2,
+      value_flag (codes "nl") words nl g,
+      value_flag (codes "s") words s h,
     ) refl
 
-gvma_says : (words : List (List ℕ)) → IfSome (gvma words) (λ x. Says (command_pairs x) words)
+gvma_says : (words : List (List ℕ)) → IfSome (gvma words) (λ x. Says (all_pairs x) words)
 unfolding gvma
 gvma_says words =
-    let Q : Command → Type 0 = λ x. Has gvma_keys words (command_pairs x) in
-    under command_pairs gvma_keys words _ (where_ Q _ _ (fl Q (codes "av") words _ (λ av a. op Q (codes "page") (2 ^ 52) words _ (λ page b.
+    let Q : Command → Type 0 = λ x. Has gvma_keys words (all_pairs x) in
+    under all_pairs gvma_keys words _ (where_ Q _ _ (fl Q (codes "av") words _ (λ av a. op Q (codes "page") (2 ^ 52) words _ (λ page b.
     op Q (codes "pscid") (2 ^ 20) words _ (λ pscid c. fl Q (codes "gv") words _ (λ gv d.
-    op Q (codes "gscid") (2 ^ 16) words _ (λ gscid e. ((a, (b, (c, (d, (e, tt))))), refl))))))))
+    op Q (codes "gscid") (2 ^ 16) words _ (λ gscid e. fl Q (codes "nl") words _ (λ nl f. fl Q (codes "s") words _ (λ s g.
+    ((a, (b, (c, (d, (e, (f, (g, tt))))))), refl))))))))))
 
-gvma_said : (words : List (List ℕ)) (av : Bool) (page : ℕ) (pscid : ℕ) (gv : Bool) (gscid : ℕ) →
-    CommandFits (Gvma av page pscid gv gscid) → Says (command_pairs (Gvma av page pscid gv gscid)) words →
-    gvma words ≡ Some (Gvma av page pscid gv gscid)
+gvma_said : (words : List (List ℕ)) (av : Bool) (page : ℕ) (pscid : ℕ) (gv : Bool) (gscid : ℕ) (nl s : Bool) →
+    CommandFits (Gvma av page pscid gv gscid nl s) → Says (all_pairs (Gvma av page pscid gv gscid nl s)) words →
+    gvma words ≡ Some (Gvma av page pscid gv gscid nl s)
 unfolding gvma
-gvma_said words av page pscid gv gscid fits says =
-    let (a, (b, (c, (d, (e, rest))))) = says.values in
+gvma_said words av page pscid gv gscid nl s fits says =
+    let (a, (b, (c, (d, (e, (f, (g, rest))))))) = says.values in
     rw (
       says.are,
       value_flag (codes "av") words av a,
@@ -176,19 +183,21 @@ gvma_said words av page pscid gv gscid fits says =
       value_limited (codes "pscid") (2 ^ 20) words pscid c fits.1,
       value_flag (codes "gv") words gv d,
       value_limited (codes "gscid") (2 ^ 16) words gscid e fits.2,
+      value_flag (codes "nl") words nl f,
+      value_flag (codes "s") words s g,
     ) refl
 
-fence_says : (words : List (List ℕ)) → IfSome (fence words) (λ x. Says (command_pairs x) words)
+fence_says : (words : List (List ℕ)) → IfSome (fence words) (λ x. Says (all_pairs x) words)
 unfolding fence
 fence_says words =
-    let Q : Command → Type 0 = λ x. Has fence_keys words (command_pairs x) in
-    under command_pairs fence_keys words _ (where_ Q _ _ (fl Q (codes "av") words _ (λ av a. fl Q (codes "wsi") words _ (λ wsi b.
+    let Q : Command → Type 0 = λ x. Has fence_keys words (all_pairs x) in
+    under all_pairs fence_keys words _ (where_ Q _ _ (fl Q (codes "av") words _ (λ av a. fl Q (codes "wsi") words _ (λ wsi b.
     fl Q (codes "pr") words _ (λ pr c. fl Q (codes "pw") words _ (λ pw d.
     op Q (codes "data") (2 ^ 32) words _ (λ value e. op Q (codes "addr") (2 ^ 64) words _ (λ addr f.
     where_ Q (addr % 4 == 0) _ ((a, (b, (c, (d, (e, (f, tt)))))), refl)))))))))
 
 fence_said : (words : List (List ℕ)) (av : Bool) (wsi : Bool) (pr : Bool) (pw : Bool) (value : ℕ) (addr : ℕ) →
-    CommandFits (Fence av wsi pr pw value addr) → Says (command_pairs (Fence av wsi pr pw value addr)) words →
+    CommandFits (Fence av wsi pr pw value addr) → Says (all_pairs (Fence av wsi pr pw value addr)) words →
     fence words ≡ Some (Fence av wsi pr pw value addr)
 unfolding fence
 fence_said words av wsi pr pw value addr fits says =
@@ -204,14 +213,14 @@ fence_said words av wsi pr pw value addr fits says =
       no_rest addr fits.2,
     ) refl
 
-iodir_says : (words : List (List ℕ)) → IfSome (iodir words) (λ x. Says (command_pairs x) words)
+iodir_says : (words : List (List ℕ)) → IfSome (iodir words) (λ x. Says (all_pairs x) words)
 unfolding iodir
 iodir_says words =
-    let Q : Command → Type 0 = λ x. Has (codes "dv" ∷ codes "did" ∷ []) words (command_pairs x) in
-    under command_pairs (codes "dv" ∷ codes "did" ∷ []) words _ (where_ Q _ _ (fl Q (codes "dv") words _ (λ dv a. op Q (codes "did") (2 ^ 24) words _ (λ did b.
+    let Q : Command → Type 0 = λ x. Has (codes "dv" ∷ codes "did" ∷ []) words (all_pairs x) in
+    under all_pairs (codes "dv" ∷ codes "did" ∷ []) words _ (where_ Q _ _ (fl Q (codes "dv") words _ (λ dv a. op Q (codes "did") (2 ^ 24) words _ (λ did b.
     ((a, (b, tt)), refl)))))
 
-iodir_said : (words : List (List ℕ)) (dv : Bool) (did : ℕ) → CommandFits (Iodir dv did) → Says (command_pairs (Iodir dv did)) words →
+iodir_said : (words : List (List ℕ)) (dv : Bool) (did : ℕ) → CommandFits (Iodir dv did) → Says (all_pairs (Iodir dv did)) words →
     iodir words ≡ Some (Iodir dv did)
 unfolding iodir
 iodir_said words dv did fits says =
@@ -319,7 +328,7 @@ vma_form words =
     where_ Q _ _ (fl Q (codes "av") words _ (λ _ _. op Q (codes "page") (2 ^ 52) words _ (λ _ _.
     fl Q (codes "pscv") words _ (λ _ _. op Q (codes "pscid") (2 ^ 20) words _ (λ _ _.
     fl Q (codes "gv") words _ (λ _ _. op Q (codes "gscid") (2 ^ 16) words _ (λ _ _.
-    refl)))))))
+    fl Q (codes "nl") words _ (λ _ _. fl Q (codes "s") words _ (λ _ _. refl)))))))))
 
 gvma_form : (words : List (List ℕ)) → IfSome (gvma words) (λ c. codes "gvma" ≡ command_form c)
 unfolding gvma
@@ -327,7 +336,7 @@ gvma_form words =
     let Q : Command → Type 0 = λ c. codes "gvma" ≡ command_form c in
     where_ Q _ _ (fl Q (codes "av") words _ (λ _ _. op Q (codes "page") (2 ^ 52) words _ (λ _ _.
     op Q (codes "pscid") (2 ^ 20) words _ (λ _ _. fl Q (codes "gv") words _ (λ _ _.
-    op Q (codes "gscid") (2 ^ 16) words _ (λ _ _. refl))))))
+    op Q (codes "gscid") (2 ^ 16) words _ (λ _ _. fl Q (codes "nl") words _ (λ _ _. fl Q (codes "s") words _ (λ _ _. refl))))))))
 
 fence_form : (words : List (List ℕ)) → IfSome (fence words) (λ c. codes "fence" ≡ command_form c)
 unfolding fence
@@ -348,12 +357,12 @@ iodir_form words =
 -- a command's statement: its form before its operands
 pub record IsForm (form : List ℕ) (words : List (List ℕ)) (c : Command) : Type 0 where
   pub named : form ≡ command_form c
-  pub says : Says (command_pairs c) words
+  pub says : Says (all_pairs c) words
 
 of_form : (form name : List ℕ) (words : List (List ℕ)) (found : Option Command) → bytes_eq form name ≡ true →
-    IfSome found (λ c. name ≡ command_form c) → IfSome found (λ c. Says (command_pairs c) words) → IfSome found (IsForm form words)
+    IfSome found (λ c. name ≡ command_form c) → IfSome found (λ c. Says (all_pairs c) words) → IfSome found (IsForm form words)
 of_form form name words found is =
-    both (λ c. name ≡ command_form c) (λ c. Says (command_pairs c) words) (IsForm form words) found
+    both (λ c. name ≡ command_form c) (λ c. Says (all_pairs c) words) (IsForm form words) found
     (λ c named says. record { named = (bytes_eq-Decides form name).0 is ∙ named; says = says })
 
 pub command_says : (form : List ℕ) (words : List (List ℕ)) → IfSome (command (form ∷ words)) (IsForm form words)
@@ -365,10 +374,10 @@ command_says form words =
     cond_both (bytes_eq form (codes "fence")) _ _ Q (λ is. of_form form (codes "fence") words (fence words) is (fence_form words) (fence_says words)) (λ _.
     cond_both (bytes_eq form (codes "iodir")) (iodir words) None Q (λ is. of_form form (codes "iodir") words (iodir words) is (iodir_form words) (iodir_says words)) (λ _. tt))))
 
-pub command_said : (words : List (List ℕ)) (c : Command) → CommandFits c → Says (command_pairs c) words →
+pub command_said : (words : List (List ℕ)) (c : Command) → CommandFits c → Says (all_pairs c) words →
     command (command_form c ∷ words) ≡ Some c
 unfolding command
-command_said words (Vma av page pscv pscid gv gscid) fits says = vma_said words av page pscv pscid gv gscid fits says
-command_said words (Gvma av page pscid gv gscid) fits says = gvma_said words av page pscid gv gscid fits says
+command_said words (Vma av page pscv pscid gv gscid nl s) fits says = vma_said words av page pscv pscid gv gscid nl s fits says
+command_said words (Gvma av page pscid gv gscid nl s) fits says = gvma_said words av page pscid gv gscid nl s fits says
 command_said words (Fence av wsi pr pw value addr) fits says = fence_said words av wsi pr pw value addr fits says
 command_said words (Iodir dv did) fits says = iodir_said words dv did fits says

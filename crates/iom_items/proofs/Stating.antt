@@ -28,14 +28,14 @@ unfolding vma
 vma_fits words =
     where_ CommandFits _ _ (fl CommandFits (codes "av") words _ (λ av a. op CommandFits (codes "page") (2 ^ 52) words _ (λ page b. fl CommandFits (codes "pscv") words _ (λ pscv c.
     op CommandFits (codes "pscid") (2 ^ 20) words _ (λ pscid d. fl CommandFits (codes "gv") words _ (λ gv e. op CommandFits (codes "gscid") (2 ^ 16) words _ (λ gscid f.
-    (b, d, f))))))))
+    fl CommandFits (codes "nl") words _ (λ nl g. fl CommandFits (codes "s") words _ (λ s h. (b, d, f))))))))))
 
 gvma_fits : (words : List (List ℕ)) → IfSome (gvma words) CommandFits
 unfolding gvma
 gvma_fits words =
     where_ CommandFits _ _ (fl CommandFits (codes "av") words _ (λ av a. op CommandFits (codes "page") (2 ^ 52) words _ (λ page b.
     op CommandFits (codes "pscid") (2 ^ 20) words _ (λ pscid d. fl CommandFits (codes "gv") words _ (λ gv e. op CommandFits (codes "gscid") (2 ^ 16) words _ (λ gscid f.
-    (b, d, f)))))))
+    fl CommandFits (codes "nl") words _ (λ nl g. fl CommandFits (codes "s") words _ (λ s h. (b, d, f)))))))))
 
 pub is_so : (m n : ℕ) → (m == n) ≡ true → m ≡ n
 is_so m n is = grind (arith, is)

@@ -18,7 +18,9 @@ abbrev pub where_so : {A : Type 0} → Bool → Option A → Option A
 where_so holds next = if holds then next else None
 
 abbrev pub vma_keys : List (List ℕ)
-vma_keys = codes "av" ∷ codes "page" ∷ codes "pscv" ∷ codes "pscid" ∷ codes "gv" ∷ codes "gscid" ∷ []
+vma_keys =
+    codes "av" ∷ codes "page" ∷ codes "pscv" ∷ codes "pscid" ∷ codes "gv" ∷ codes "gscid"
+    ∷ codes "nl" ∷ codes "s" ∷ []
 
 unfoldable pub vma : List (List ℕ) → Option Command
 vma words = where_so (are_operands vma_keys words) (do
@@ -28,10 +30,13 @@ vma words = where_so (are_operands vma_keys words) (do
   pscid ← limited (codes "pscid") (2 ^ 20) words
   gv ← flag_for (codes "gv") words
   gscid ← limited (codes "gscid") (2 ^ 16) words
-  Some (Vma av page pscv pscid gv gscid))
+  nl ← flag_for (codes "nl") words
+  s ← flag_for (codes "s") words
+  Some (Vma av page pscv pscid gv gscid nl s))
 
 abbrev pub gvma_keys : List (List ℕ)
-gvma_keys = codes "av" ∷ codes "page" ∷ codes "pscid" ∷ codes "gv" ∷ codes "gscid" ∷ []
+gvma_keys =
+    codes "av" ∷ codes "page" ∷ codes "pscid" ∷ codes "gv" ∷ codes "gscid" ∷ codes "nl" ∷ codes "s" ∷ []
 
 unfoldable pub gvma : List (List ℕ) → Option Command
 gvma words = where_so (are_operands gvma_keys words) (do
@@ -40,7 +45,9 @@ gvma words = where_so (are_operands gvma_keys words) (do
   pscid ← limited (codes "pscid") (2 ^ 20) words
   gv ← flag_for (codes "gv") words
   gscid ← limited (codes "gscid") (2 ^ 16) words
-  Some (Gvma av page pscid gv gscid))
+  nl ← flag_for (codes "nl") words
+  s ← flag_for (codes "s") words
+  Some (Gvma av page pscid gv gscid nl s))
 
 abbrev pub fence_keys : List (List ℕ)
 fence_keys = codes "av" ∷ codes "wsi" ∷ codes "pr" ∷ codes "pw" ∷ codes "data" ∷ codes "addr" ∷ []

@@ -4,3 +4,4 @@ pub mod Operands
 pub mod Given
 pub mod Forms
 pub mod Telling
+pub mod Capabilities

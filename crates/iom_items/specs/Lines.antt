@@ -1,6 +1,6 @@
--- The canonical line of an item: its statement with all operands in order, numbers as `0x` and plain lower-case hex; words that
--- are no such item are told as words.
-use Rattle.std.specs.Prelude.{ℕ, ◌++◌, List, [], ◌∷◌, get_or, codes, Option, Some, None}
+-- The canonical line of an item: its statement with all operands in order, but for the NL and S of an IOTINVAL that are 0, numbers
+-- as `0x` and plain lower-case hex; words that are no such item are told as words.
+use Rattle.std.specs.Prelude.{ℕ, ◌++◌, ◌==◌, List, [], ◌∷◌, get_or, codes, Option, Some, None, if◌then◌else◌}
 use Rattle.std.specs.Option.{option_map}
 use Rattle.std.specs.Result.{result_ok}
 use Rattle.iom_bits.specs.Bits.{flag}
@@ -30,24 +30,36 @@ with_operands text [] = text
 with_operands text (pair ∷ pairs) = with_operands (text ++ operand pair.0 pair.1) pairs
 
 abbrev pub command_form : Command → List ℕ
-command_form (Vma av page pscv pscid gv gscid) = codes "vma"
-command_form (Gvma av page pscid gv gscid) = codes "gvma"
+command_form (Vma av page pscv pscid gv gscid nl s) = codes "vma"
+command_form (Gvma av page pscid gv gscid nl s) = codes "gvma"
 command_form (Fence av wsi pr pw value addr) = codes "fence"
 command_form (Iodir dv did) = codes "iodir"
 
+-- the operands that each line of a command has
 abbrev pub command_pairs : Command → List Pair
-command_pairs (Vma av page pscv pscid gv gscid) =
+command_pairs (Vma av page pscv pscid gv gscid nl s) =
     (codes "av", flag av) ∷ (codes "page", page) ∷ (codes "pscv", flag pscv) ∷ (codes "pscid", pscid) ∷ (codes "gv", flag gv)
     ∷ (codes "gscid", gscid) ∷ []
-command_pairs (Gvma av page pscid gv gscid) =
+command_pairs (Gvma av page pscid gv gscid nl s) =
     (codes "av", flag av) ∷ (codes "page", page) ∷ (codes "pscid", pscid) ∷ (codes "gv", flag gv) ∷ (codes "gscid", gscid) ∷ []
 command_pairs (Fence av wsi pr pw value addr) =
     (codes "av", flag av) ∷ (codes "wsi", flag wsi) ∷ (codes "pr", flag pr) ∷ (codes "pw", flag pw) ∷ (codes "data", value)
     ∷ (codes "addr", addr) ∷ []
 command_pairs (Iodir dv did) = (codes "dv", flag dv) ∷ (codes "did", did) ∷ []
 
+-- those that it has where they aren't 0
+abbrev pub further_pairs : Command → List Pair
+further_pairs (Vma av page pscv pscid gv gscid nl s) = (codes "nl", flag nl) ∷ (codes "s", flag s) ∷ []
+further_pairs (Gvma av page pscid gv gscid nl s) = (codes "nl", flag nl) ∷ (codes "s", flag s) ∷ []
+further_pairs (Fence av wsi pr pw value addr) = []
+further_pairs (Iodir dv did) = []
+
+abbrev pub not_zero : List Pair → List Pair
+not_zero [] = []
+not_zero (pair ∷ pairs) = if pair.1 == 0 then not_zero pairs else pair ∷ not_zero pairs
+
 abbrev pub command_text : Command → List ℕ
-command_text c = with_operands (codes "cmd " ++ command_form c) (command_pairs c)
+command_text c = with_operands (codes "cmd " ++ command_form c) (command_pairs c ++ not_zero (further_pairs c))
 
 abbrev pub record_pairs : Record → List Pair
 record_pairs fault =

@@ -2,14 +2,13 @@
 
 ghost use Rattle.std.specs.Prelude.{◌≡◌, ◌+◌, ◌++◌, ◌≤◌, ◌<◌, ◌^◌, map, length, IfSome};
 ghost use Rattle.std.specs.Option.{option_map};
-ghost use Rattle.iom_ddt.specs.Contexts.{IsWellFormed};
 ghost use Rattle.iom_queue.specs.Commands.{CommandFits};
 ghost use Rattle.iom_queue.specs.Records.{RecordFits};
 ghost use Rattle.iom_items.specs.Forms.{vma, gvma, fence, iodir, command, fault, formed, context, dir, pte, each_number, numbers, words_for};
 
 use crate::operands::{any_number, are_operands, flag_for, limited};
 use arrayvec::ArrayVec;
-use iom_ddt::{Context, encode_context};
+use iom_ddt::{Context, ContextFields, encode_context};
 use iom_queue::{Command, Record, encode_command, encode_record};
 use iom_text::number;
 
@@ -22,7 +21,12 @@ fn vma(words: &[&[u8]]) -> Option<Command>
     ensures value { result ≡ vma (map (λ word. word.now) words.now) }
     ensures fits { IfSome result CommandFits }
 {
-    if !are_operands(&[b"av", b"page", b"pscv", b"pscid", b"gv", b"gscid"], words) {
+    if !are_operands(
+        &[
+            b"av", b"page", b"pscv", b"pscid", b"gv", b"gscid", b"nl", b"s",
+        ],
+        words,
+    ) {
         return None;
     }
     Some(Command::Vma {
@@ -32,6 +36,8 @@ fn vma(words: &[&[u8]]) -> Option<Command>
         pscid: limited(b"pscid", 1 << 20, words)? as u32,
         gv: flag_for(b"gv", words)?,
         gscid: limited(b"gscid", 1 << 16, words)? as u16,
+        nl: flag_for(b"nl", words)?,
+        s: flag_for(b"s", words)?,
     })
 }
 
@@ -41,7 +47,10 @@ fn gvma(words: &[&[u8]]) -> Option<Command>
     ensures value { result ≡ gvma (map (λ word. word.now) words.now) }
     ensures fits { IfSome result CommandFits }
 {
-    if !are_operands(&[b"av", b"page", b"pscid", b"gv", b"gscid"], words) {
+    if !are_operands(
+        &[b"av", b"page", b"pscid", b"gv", b"gscid", b"nl", b"s"],
+        words,
+    ) {
         return None;
     }
     Some(Command::Gvma {
@@ -50,6 +59,8 @@ fn gvma(words: &[&[u8]]) -> Option<Command>
         pscid: limited(b"pscid", 1 << 20, words)? as u32,
         gv: flag_for(b"gv", words)?,
         gscid: limited(b"gscid", 1 << 16, words)? as u16,
+        nl: flag_for(b"nl", words)?,
+        s: flag_for(b"s", words)?,
     })
 }
 
@@ -140,26 +151,10 @@ fn fault(words: &[&[u8]]) -> Option<Record>
     })
 }
 
-// A context, where it is well formed.
-fn formed(context: Context) -> Option<Context>
-    requires second_root { context.gppn < 2 ^ 44 }
-    requires process { context.pscid < 2 ^ 20 }
-    requires first_root { context.ppn < 2 ^ 44 }
-    ensures value { result ≡ formed context }
-    ensures well_formed { IfSome result IsWellFormed }
-{
-    if context.is_well_formed() {
-        Some(context)
-    } else {
-        None
-    }
-}
-
 // The device context of these operands, where it is well formed.
 #[tactic(auto, unfolding(crate::specs::Forms::context))]
 fn context(words: &[&[u8]]) -> Option<Context>
     ensures value { result ≡ context (map (λ word. word.now) words.now) }
-    ensures well_formed { IfSome result IsWellFormed }
 {
     if !are_operands(
         &[
@@ -169,7 +164,7 @@ fn context(words: &[&[u8]]) -> Option<Context>
     ) {
         return None;
     }
-    formed(Context {
+    Context::new(ContextFields {
         dtf: flag_for(b"dtf", words)?,
         custom: limited(b"custom", 1 << 8, words)? as u8,
         gmode: limited(b"gmode", 1 << 4, words)? as u8,

@@ -2,12 +2,14 @@
 //! statements that state them.
 #![tactic(auto)]
 
+pub use capabilities::features_for;
 pub use forms::{Words, words_for};
 pub use given::operands_are_what_is_given;
 pub use item::Item;
 pub use lines::{Line, context_line, item_line};
 pub use telling::items_are_told_again;
 
+mod capabilities;
 mod forms;
 mod given;
 mod item;

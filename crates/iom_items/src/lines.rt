@@ -1,11 +1,11 @@
 ghost use Rattle.std.specs.Prelude.{◌≡◌, ◌+◌, ◌*◌, ◌++◌, ◌<◌, ◌≤◌, [], ◌∷◌, length};
 ghost use Rattle.std.specs.Option.{option_map};
+ghost use Rattle.iom_bits.specs.Bits.{flag};
 ghost use Rattle.iom_text.specs.Texts.{hexed};
 ghost use Rattle.iom_mem.specs.Memory.{words_at};
-ghost use Rattle.iom_ddt.specs.Contexts.{IsWellFormed};
 ghost use Rattle.iom_ddt.specs.Words.{words_of};
 ghost use Rattle.iom_items.specs.declared.item.Item.TheVariants as item;
-ghost use Rattle.iom_items.specs.Lines.{operand, command_text, record_text, context_text, numbers_text, words_text, line_of, item_line};
+ghost use Rattle.iom_items.specs.Lines.{operand, with_operands, not_zero, command_text, record_text, context_text, numbers_text, words_text, line_of, item_line};
 
 use crate::item::Item;
 use arrayvec::ArrayVec;
@@ -39,6 +39,17 @@ fn push_operand(out: &mut Line, key: &[u8], value: u64)
     push_text(out, hexed(value).as_slice());
 }
 
+// Appends an operand of one bit, where it is set.
+fn push_set(out: &mut Line, key: &[u8], set: bool)
+    requires { length out.old.items + length key.now + 20 ≤ 256 }
+    ensures text { out.new.items ≡ with_operands out.old.items (not_zero ((key.now, flag set) ∷ [])) }
+    ensures room { length out.new.items ≤ length out.old.items + length key.now + 20 }
+{
+    if set {
+        push_operand(out, key, 1);
+    }
+}
+
 // A line that begins with a text.
 fn begun(text: &[u8]) -> Line
     requires { length text.now ≤ 256 }
@@ -50,6 +61,7 @@ fn begun(text: &[u8]) -> Line
 }
 
 // The line of a command: `cmd`, its name and its operands.
+#[tactic(auto, using(crate::proofs::Shown::one_more))]
 fn command_line(command: &Command) -> Line
     ensures { result.items ≡ command_text command.now }
 {
@@ -61,6 +73,8 @@ fn command_line(command: &Command) -> Line
             pscid,
             gv,
             gscid,
+            nl,
+            s,
         } => {
             let mut line = begun(b"cmd vma");
             push_operand(&mut line, b"av", flag(av));
@@ -69,6 +83,8 @@ fn command_line(command: &Command) -> Line
             push_operand(&mut line, b"pscid", pscid as u64);
             push_operand(&mut line, b"gv", flag(gv));
             push_operand(&mut line, b"gscid", gscid as u64);
+            push_set(&mut line, b"nl", nl);
+            push_set(&mut line, b"s", s);
             line
         }
         Command::Gvma {
@@ -77,6 +93,8 @@ fn command_line(command: &Command) -> Line
             pscid,
             gv,
             gscid,
+            nl,
+            s,
         } => {
             let mut line = begun(b"cmd gvma");
             push_operand(&mut line, b"av", flag(av));
@@ -84,6 +102,8 @@ fn command_line(command: &Command) -> Line
             push_operand(&mut line, b"pscid", pscid as u64);
             push_operand(&mut line, b"gv", flag(gv));
             push_operand(&mut line, b"gscid", gscid as u64);
+            push_set(&mut line, b"nl", nl);
+            push_set(&mut line, b"s", s);
             line
         }
         Command::Fence {
@@ -128,21 +148,22 @@ fn record_line(fault: &Record) -> Line
     line
 }
 
-/// The line of a context: `context` and its operands, without a line end. For a well-formed context it is the line of its words.
+/// The line of a context: `context` and its operands, without a line end. It is the line of its words.
 pub fn context_line(context: &Context) -> Line
     ensures text { result.items ≡ context_text context.now }
-    ensures words { IsWellFormed context.now → result.items ≡ line_of item.Context (words_of context.now) }
+    ensures words { result.items ≡ line_of item.Context (words_of context.now) }
 {
+    let fields = &context.fields;
     let mut line = begun(b"context");
-    push_operand(&mut line, b"dtf", flag(context.dtf));
-    push_operand(&mut line, b"custom", context.custom as u64);
-    push_operand(&mut line, b"gmode", context.gmode as u64);
-    push_operand(&mut line, b"gppn", context.gppn);
-    push_operand(&mut line, b"gscid", context.gscid as u64);
-    push_operand(&mut line, b"tav", flag(context.tav));
-    push_operand(&mut line, b"pscid", context.pscid as u64);
-    push_operand(&mut line, b"mode", context.mode as u64);
-    push_operand(&mut line, b"ppn", context.ppn);
+    push_operand(&mut line, b"dtf", flag(fields.dtf));
+    push_operand(&mut line, b"custom", fields.custom as u64);
+    push_operand(&mut line, b"gmode", fields.gmode as u64);
+    push_operand(&mut line, b"gppn", fields.gppn);
+    push_operand(&mut line, b"gscid", fields.gscid as u64);
+    push_operand(&mut line, b"tav", flag(fields.tav));
+    push_operand(&mut line, b"pscid", fields.pscid as u64);
+    push_operand(&mut line, b"mode", fields.mode as u64);
+    push_operand(&mut line, b"ppn", fields.ppn);
     line
 }
 

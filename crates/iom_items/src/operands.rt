@@ -42,8 +42,8 @@ fn has_key(key: &[u8], word: &[u8]) -> bool
     }
 }
 
-// Whether one of the words is an operand with this key.
-fn is_given(key: &[u8], words: &[&[u8]]) -> bool
+/// Whether one of the words is an operand with this key.
+pub fn is_given(key: &[u8], words: &[&[u8]]) -> bool
     ensures { result ≡ is_given key.now (map (λ word. word.now) words.now) }
 {
     match words {
@@ -102,7 +102,8 @@ pub fn limited(key: &[u8], limit: u64, words: &[&[u8]]) -> Option<u64>
 /// The number below 2^64 that is given for a key; 0 where the key is absent, and None where what is given is no number.
 #[tactic(auto, unfolding(crate::specs::Operands::limited))]
 pub fn any_number(key: &[u8], words: &[&[u8]]) -> Option<u64>
-    ensures { result ≡ limited key.now (2 ^ 64) (map (λ word. word.now) words.now) }
+    ensures below { result ≡ limited key.now (2 ^ 64) (map (λ word. word.now) words.now) }
+    ensures value { result ≡ value_of key.now (map (λ word. word.now) words.now) }
 {
     value_of(key, words)
 }

@@ -1,3 +1,4 @@
+pub mod Hits
 pub mod Stages
 pub mod Faults
 pub mod Nested

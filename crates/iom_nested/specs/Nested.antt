@@ -43,10 +43,6 @@ first_stage memory features context iova kind None = Ok (record { addr = iova; l
 first_stage memory features context iova kind (Some shape) =
     reached_by iova (outcome_of (table_got memory features context) (format_of features shape) context.ppn iova kind)
 
--- the bounds of a hit
-abbrev pub HitFits : Hit → Type 0
-HitFits hit = (hit.frame < 2 ^ 44) × (hit.level < 5)
-
 -- the second stage's frame, for the access's own kind; the first stage's level, global and napot
 abbrev pub hit_by : Reached → Outcome → Result Hit Failure
 hit_by reached (outcome.Leaf leaf) = Ok (record { frame = leaf.frame; level = reached.level; global = reached.global; napot = reached.napot })

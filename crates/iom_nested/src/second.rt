@@ -1,5 +1,4 @@
 ghost use Rattle.std.specs.Prelude.{◌≡◌, ◌<◌, ◌^◌, IsSome};
-ghost use Rattle.iom_ddt.specs.Contexts.{IsWellFormed};
 ghost use Rattle.iom_nested.specs.Stages.{guest_got, second_shape_of, table_got};
 
 use crate::physical::Physical;
@@ -21,7 +20,6 @@ pub struct Second<'a> {
 impl<'a> Second<'a> {
     /// Lends memory through the second stage of a context that has one: whose iohgatp.MODE isn't Bare.
     pub fn new(ram: &'a Ram, features: Features, context: &Context) -> Second<'a>
-        requires well_formed { IsWellFormed context.now }
         requires staged { IsSome (second_shape_of context.now) }
         ensures { ⟦<Second<'a> as Words>⟧.at result ≡ table_got ram.now features context.now }
     {
@@ -31,7 +29,7 @@ impl<'a> Second<'a> {
                 shape: second_shape(context).unwrap(),
                 features,
             },
-            root: context.gppn,
+            root: context.fields.gppn,
         }
     }
 }
@@ -58,7 +56,7 @@ impl Words for Second<'_> {
 pub fn second_shape(context: &Context) -> Option<Shape>
     ensures { result ≡ second_shape_of context.now }
 {
-    match context.gmode {
+    match context.fields.gmode {
         0 => None,
         8 => Some(Shape::Sv39x4),
         9 => Some(Shape::Sv48x4),

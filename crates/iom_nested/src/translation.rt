@@ -1,9 +1,9 @@
 ghost use Rattle.std.specs.Prelude.{◌≡◌, ◌≢◌, ◌<◌, ◌≤◌, ◌^◌, [], false, None, IfOk};
 ghost use Rattle.arrayvec.specs.ArrayVec.{array_vec_len};
-ghost use Rattle.iom_ddt.specs.Contexts.{is_bare, IsWellFormed};
+ghost use Rattle.iom_ddt.specs.Contexts.{is_bare};
 ghost use Rattle.iom_nested.specs.Stages.{first_shape_of, second_shape_of};
 ghost use Rattle.iom_nested.specs.Faults.{fault_of, EntryOutside};
-ghost use Rattle.iom_nested.specs.Nested.{HitFits, LeafReaches, first_path, first_stage, reached_by, second_stage, told_of, translation};
+ghost use Rattle.iom_nested.specs.Nested.{LeafReaches, first_path, first_stage, reached_by, second_stage, told_of, translation};
 ghost use Rattle.iom_nested.specs.Pages.{OneHitAPage};
 
 use crate::physical::Physical;
@@ -12,6 +12,7 @@ use iom_bits::{Cause, Features, Kind};
 use iom_ddt::Context;
 use iom_mem::Ram;
 use iom_walk::{Format, Outcome, PathEntries, Shape, walk, walk_listed};
+use std::marker::Model;
 
 /// Where a page of IOVAs leads: what an entry of the translation cache, the IOTLB, says.
 #[derive(Clone, Copy, PartialEq)]
@@ -24,6 +25,19 @@ pub struct Hit {
     pub global: bool,
     /// Whether the first stage's leaf has N set, and so maps 64 KiB ("Svnapot"); false where that stage is Bare.
     pub napot: bool,
+}
+
+impl Model for Hit {
+    ghost use Rattle.std.specs.Prelude.{◌<◌, ◌^◌};
+    ghost use Rattle.iom_nested.specs.Hits.{Page};
+
+    ghost Value = { Page };
+
+    ghost view = { λ hit. record { frame = hit.frame; level = hit.level; global = hit.global; napot = hit.napot } };
+
+    ghost inverse = { λ page. record { frame = page.frame; level = page.level; global = page.global; napot = page.napot } };
+
+    ghost invariant = { λ hit. (hit.frame < 2 ^ 44) × (hit.level < 5) };
 }
 
 /// Why an IOVA leads nowhere.
@@ -64,10 +78,8 @@ pub fn translate(
     iova: u64,
     kind: Kind,
 ) -> Result<Hit, Fault>
-    requires well_formed { IsWellFormed context.now }
     requires translated { is_bare context.now ≡ false }
     ensures translation { result ≡ translation ram.now features context.now iova kind }
-    ensures fits { IfOk result HitFits }
 {
     let reached = first_stage(ram, features, context, iova, kind)?;
     second_stage(ram, features, context, reached, kind)
@@ -90,7 +102,6 @@ pub fn first_stage(
     iova: u64,
     kind: Kind,
 ) -> Result<Reached, Fault>
-    requires well_formed { IsWellFormed context.now }
     ensures reached { result
         ≡ told_of kind (first_stage ram.now features context.now iova kind (first_shape_of context.now)) }
     ensures fits { IfOk result
@@ -104,11 +115,11 @@ pub fn first_stage(
         Some(_) => walk(
             &Second::new(ram, features, context),
             format,
-            context.ppn,
+            context.fields.ppn,
             iova,
             kind,
         ),
-        None => walk(&Physical { ram }, format, context.ppn, iova, kind),
+        None => walk(&Physical { ram }, format, context.fields.ppn, iova, kind),
     };
     reached_by(outcome, iova, kind)
 }
@@ -123,7 +134,6 @@ pub fn first_stage_listed(
     iova: u64,
     kind: Kind,
 ) -> Result<Reached, Fault>
-    requires well_formed { IsWellFormed context.now }
     requires empty { met.old.items ≡ [] }
     ensures entries { met.new.items ≡ first_path ram.now features context.now iova kind (first_shape_of context.now) }
     ensures few { array_vec_len met.new ≤ 5 }
@@ -136,7 +146,7 @@ pub fn first_stage_listed(
         return Ok(unmoved(iova));
     };
     let format = Format { shape, features };
-    let (root, bare) = (context.ppn, Physical { ram });
+    let (root, bare) = (context.fields.ppn, Physical { ram });
     let outcome = match second_shape(context) {
         Some(_) => walk_listed(
             met,
@@ -199,19 +209,17 @@ pub fn second_stage(
     reached: Reached,
     kind: Kind,
 ) -> Result<Hit, Fault>
-    requires well_formed { IsWellFormed context.now }
     requires level { reached.level < 5 }
     requires inside { second_shape_of context.now ≡ None → reached.addr < 2 ^ 56 }
     ensures hit { result
         ≡ told_of kind (second_stage ram.now features context.now kind (second_shape_of context.now) reached) }
-    ensures fits { IfOk result HitFits }
 {
     let frame = match second_shape(context) {
         None => reached.addr / 4096,
         Some(shape) => match walk(
             &Physical { ram },
             Format { shape, features },
-            context.gppn,
+            context.fields.gppn,
             reached.addr,
             kind,
         ) {
@@ -247,7 +255,7 @@ fn entry_outside(kind: Kind) -> Fault
 pub fn first_shape(context: &Context) -> Option<Shape>
     ensures { result ≡ first_shape_of context.now }
 {
-    match context.mode {
+    match context.fields.mode {
         0 => None,
         8 => Some(Shape::Sv39),
         9 => Some(Shape::Sv48),

@@ -7,8 +7,8 @@ ghost use Rattle.iom_image.specs.Loading.{state_from};
 ghost use Rattle.iom_image.specs.Reading.{image_of};
 ghost use Rattle.iom_image.specs.declared.fault.LoadFault.TheVariants as fault;
 ghost use Rattle.iom_tool.specs.Console.{console};
-ghost use Rattle.iom_tool.specs.Running.{is_read, is_write, stops_at_a_read};
-ghost use Rattle.iom_tool.specs.Watching.{read_failed, write_failed, is_flushed};
+ghost use Rattle.iom_reader.specs.Running.{is_read, is_write, stops_at_a_read};
+ghost use Rattle.iom_reader.specs.Watching.{read_failed, write_failed, is_flushed};
 ghost use Rattle.iom_play.specs.Playing.{Plays};
 
 use iom_core::Platform;

@@ -23,31 +23,35 @@ kept command = grind (arith, common_steps)
 
 pub command_of_words : (command : Command) → CommandFits command → command_of (command_words command) ≡ Some command
 unfolding command_of
-command_of_words (Vma av page pscv pscid gv gscid) fits =
-    let first : ℕ = first_word (Vma av page pscv pscid gv gscid) in
-    let second : ℕ = second_word (Vma av page pscv pscid gv gscid) in
-    let opcode : field_of first 0 7 ≡ 1 = omega (arith, small av, small pscv, small gv, fits.1, fits.2) in
-    let func3 : field_of first 7 3 ≡ 0 = omega (arith, small av, small pscv, small gv, fits.1, fits.2) in
-    let av_there : field_of first 10 1 ≡ flag av = omega (arith, small av, small pscv, small gv, fits.1, fits.2) in
-    let pscid_there : field_of first 12 20 ≡ pscid = omega (arith, small av, small pscv, small gv, fits.1, fits.2) in
-    let pscv_there : field_of first 32 1 ≡ flag pscv = omega (arith, small av, small pscv, small gv, fits.1, fits.2) in
-    let gv_there : field_of first 33 1 ≡ flag gv = omega (arith, small av, small pscv, small gv, fits.1, fits.2) in
-    let gscid_there : field_of first 44 16 ≡ gscid = omega (arith, small av, small pscv, small gv, fits.1, fits.2) in
-    let page_there : field_of second 10 52 ≡ page = omega (arith, fits.0) in
-    rw (opcode, func3, told first 10 av av_there, told first 32 pscv pscv_there, told first 33 gv gv_there, pscid_there, gscid_there, page_there)
-    (kept (Vma av page pscv pscid gv gscid))
-command_of_words (Gvma av page pscid gv gscid) fits =
-    let first : ℕ = first_word (Gvma av page pscid gv gscid) in
-    let second : ℕ = second_word (Gvma av page pscid gv gscid) in
-    let opcode : field_of first 0 7 ≡ 1 = omega (arith, small av, small gv, fits.1, fits.2) in
-    let func3 : field_of first 7 3 ≡ 1 = omega (arith, small av, small gv, fits.1, fits.2) in
-    let av_there : field_of first 10 1 ≡ flag av = omega (arith, small av, small gv, fits.1, fits.2) in
-    let pscid_there : field_of first 12 20 ≡ pscid = omega (arith, small av, small gv, fits.1, fits.2) in
-    let gv_there : field_of first 33 1 ≡ flag gv = omega (arith, small av, small gv, fits.1, fits.2) in
-    let gscid_there : field_of first 44 16 ≡ gscid = omega (arith, small av, small gv, fits.1, fits.2) in
-    let page_there : field_of second 10 52 ≡ page = omega (arith, fits.0) in
-    rw (opcode, func3, told first 10 av av_there, told first 33 gv gv_there, pscid_there, gscid_there, page_there)
-    (kept (Gvma av page pscid gv gscid))
+command_of_words (Vma av page pscv pscid gv gscid nl s) fits =
+    let first : ℕ = first_word (Vma av page pscv pscid gv gscid nl s) in
+    let second : ℕ = second_word (Vma av page pscv pscid gv gscid nl s) in
+    let opcode : field_of first 0 7 ≡ 1 = omega (arith, small av, small pscv, small gv, small nl, fits.1, fits.2) in
+    let func3 : field_of first 7 3 ≡ 0 = omega (arith, small av, small pscv, small gv, small nl, fits.1, fits.2) in
+    let av_there : field_of first 10 1 ≡ flag av = omega (arith, small av, small pscv, small gv, small nl, fits.1, fits.2) in
+    let pscid_there : field_of first 12 20 ≡ pscid = omega (arith, small av, small pscv, small gv, small nl, fits.1, fits.2) in
+    let pscv_there : field_of first 32 1 ≡ flag pscv = omega (arith, small av, small pscv, small gv, small nl, fits.1, fits.2) in
+    let gv_there : field_of first 33 1 ≡ flag gv = omega (arith, small av, small pscv, small gv, small nl, fits.1, fits.2) in
+    let gscid_there : field_of first 44 16 ≡ gscid = omega (arith, small av, small pscv, small gv, small nl, fits.1, fits.2) in
+    let nl_there : field_of first 34 1 ≡ flag nl = omega (arith, small av, small pscv, small gv, small nl, fits.1, fits.2) in
+    let s_there : field_of second 9 1 ≡ flag s = omega (arith, small s) in
+    let page_there : field_of second 10 52 ≡ page = omega (arith, small s, fits.0) in
+    rw (opcode, func3, told first 10 av av_there, told first 32 pscv pscv_there, told first 33 gv gv_there, told first 34 nl nl_there, told second 9 s s_there, pscid_there, gscid_there, page_there)
+    (kept (Vma av page pscv pscid gv gscid nl s))
+command_of_words (Gvma av page pscid gv gscid nl s) fits =
+    let first : ℕ = first_word (Gvma av page pscid gv gscid nl s) in
+    let second : ℕ = second_word (Gvma av page pscid gv gscid nl s) in
+    let opcode : field_of first 0 7 ≡ 1 = omega (arith, small av, small gv, small nl, fits.1, fits.2) in
+    let func3 : field_of first 7 3 ≡ 1 = omega (arith, small av, small gv, small nl, fits.1, fits.2) in
+    let av_there : field_of first 10 1 ≡ flag av = omega (arith, small av, small gv, small nl, fits.1, fits.2) in
+    let pscid_there : field_of first 12 20 ≡ pscid = omega (arith, small av, small gv, small nl, fits.1, fits.2) in
+    let gv_there : field_of first 33 1 ≡ flag gv = omega (arith, small av, small gv, small nl, fits.1, fits.2) in
+    let gscid_there : field_of first 44 16 ≡ gscid = omega (arith, small av, small gv, small nl, fits.1, fits.2) in
+    let nl_there : field_of first 34 1 ≡ flag nl = omega (arith, small av, small gv, small nl, fits.1, fits.2) in
+    let s_there : field_of second 9 1 ≡ flag s = omega (arith, small s) in
+    let page_there : field_of second 10 52 ≡ page = omega (arith, small s, fits.0) in
+    rw (opcode, func3, told first 10 av av_there, told first 33 gv gv_there, told first 34 nl nl_there, told second 9 s s_there, pscid_there, gscid_there, page_there)
+    (kept (Gvma av page pscid gv gscid nl s))
 command_of_words (Fence av wsi pr pw value addr) fits =
     let first : ℕ = first_word (Fence av wsi pr pw value addr) in
     let second : ℕ = second_word (Fence av wsi pr pw value addr) in

@@ -1,26 +1,27 @@
 -- Commands and the two words that stand for each in the command queue: RISC-V IOMMU Architecture 1.0, "Command-Queue (CQ)".
 -- A word is the sum of its fields at their places: opcode from bit 0, func3 from bit 7, and the operands; all other bits are 0.
-use Rattle.std.specs.Prelude.{ℕ, ◌≡◌, ◌+◌, ◌*◌, ◌/◌, ◌%◌, ◌^◌, ◌<◌, ◌==◌, ◌&&◌, List, [], ◌∷◌, Option, Some, None, if◌then◌else◌}
+use Rattle.std.specs.Prelude.{ℕ, ◌≡◌, ◌+◌, ◌*◌, ◌/◌, ◌%◌, ◌^◌, ◌<◌, ◌==◌, ◌&&◌, ◌||◌, Bool, true, not, List, [], ◌∷◌, Option, Some, None, if◌then◌else◌}
 use Rattle.iom_bits.specs.Bits.{has_bit, flag, field_of}
+use Rattle.iom_bits.specs.declared.features.Features.{Features}
 use Rattle.iom_queue.specs.declared.command.Command.{Command}
 use Rattle.iom_queue.specs.declared.command.Command.TheVariants.{Vma, Gvma, Fence, Iodir}
 
--- "IOTINVAL": opcode 1, func3 0 for VMA and 1 for GVMA; AV 10, PSCID 31:12, PSCV 32 (0 for GVMA), GV 33, GSCID 59:44.
+-- "IOTINVAL": opcode 1, func3 0 for VMA and 1 for GVMA; AV 10, PSCID 31:12, PSCV 32 (0 for GVMA), GV 33, NL 34, GSCID 59:44.
 -- "IOFENCE.C": opcode 2, func3 0; AV 10, WSI 11, PR 12, PW 13, DATA 63:32.
 -- "IODIR": opcode 3, func3 0 for INVAL_DDT; DV 33, DID 63:40
 abbrev pub first_word : Command → ℕ
-first_word (Vma av page pscv pscid gv gscid) =
-    1 + 2 ^ 7 * 0 + 2 ^ 10 * flag av + 2 ^ 12 * pscid + 2 ^ 32 * flag pscv + 2 ^ 33 * flag gv + 2 ^ 44 * gscid
-first_word (Gvma av page pscid gv gscid) =
-    1 + 2 ^ 7 * 1 + 2 ^ 10 * flag av + 2 ^ 12 * pscid + 2 ^ 33 * flag gv + 2 ^ 44 * gscid
+first_word (Vma av page pscv pscid gv gscid nl s) =
+    1 + 2 ^ 7 * 0 + 2 ^ 10 * flag av + 2 ^ 12 * pscid + 2 ^ 32 * flag pscv + 2 ^ 33 * flag gv + 2 ^ 34 * flag nl + 2 ^ 44 * gscid
+first_word (Gvma av page pscid gv gscid nl s) =
+    1 + 2 ^ 7 * 1 + 2 ^ 10 * flag av + 2 ^ 12 * pscid + 2 ^ 33 * flag gv + 2 ^ 34 * flag nl + 2 ^ 44 * gscid
 first_word (Fence av wsi pr pw value addr) =
     2 + 2 ^ 7 * 0 + 2 ^ 10 * flag av + 2 ^ 11 * flag wsi + 2 ^ 12 * flag pr + 2 ^ 13 * flag pw + 2 ^ 32 * value
 first_word (Iodir dv did) = 3 + 2 ^ 7 * 0 + 2 ^ 33 * flag dv + 2 ^ 40 * did
 
--- IOTINVAL: ADDR[63:12], the number of a page, in bits 61:10. IOFENCE.C: ADDR[63:2] in bits 61:0. IODIR: 0
+-- IOTINVAL: S 9, and ADDR[63:12], the number of a page, in bits 61:10. IOFENCE.C: ADDR[63:2] in bits 61:0. IODIR: 0
 abbrev pub second_word : Command → ℕ
-second_word (Vma av page pscv pscid gv gscid) = 2 ^ 10 * page
-second_word (Gvma av page pscid gv gscid) = 2 ^ 10 * page
+second_word (Vma av page pscv pscid gv gscid nl s) = 2 ^ 9 * flag s + 2 ^ 10 * page
+second_word (Gvma av page pscid gv gscid nl s) = 2 ^ 9 * flag s + 2 ^ 10 * page
 second_word (Fence av wsi pr pw value addr) = addr / 4
 second_word (Iodir dv did) = 0
 
@@ -29,8 +30,8 @@ command_words command = first_word command ∷ second_word command ∷ []
 
 -- each operand fits its field; a fence stores at a multiple of 4
 abbrev pub CommandFits : Command → Type 0
-CommandFits (Vma av page pscv pscid gv gscid) = (page < 2 ^ 52) × (pscid < 2 ^ 20) × (gscid < 2 ^ 16)
-CommandFits (Gvma av page pscid gv gscid) = (page < 2 ^ 52) × (pscid < 2 ^ 20) × (gscid < 2 ^ 16)
+CommandFits (Vma av page pscv pscid gv gscid nl s) = (page < 2 ^ 52) × (pscid < 2 ^ 20) × (gscid < 2 ^ 16)
+CommandFits (Gvma av page pscid gv gscid nl s) = (page < 2 ^ 52) × (pscid < 2 ^ 20) × (gscid < 2 ^ 16)
 CommandFits (Fence av wsi pr pw value addr) = (value < 2 ^ 32) × (addr < 2 ^ 64) × (addr % 4 ≡ 0)
 CommandFits (Iodir dv did) = did < 2 ^ 24
 
@@ -39,14 +40,23 @@ pub record IsCommandEncoding (command : Command) (words : List ℕ) : Type 0 whe
   pub fits : CommandFits command
   pub words_are : words ≡ command_words command
 
+-- "IOMMU capabilities", NL and S: an IOMMU without one of them has a reserved bit in its place, which is 0 in each command
+abbrev pub is_offered : Features → Command → Bool
+is_offered features (Vma av page pscv pscid gv gscid nl s) = (features.nl || not nl) && (features.s || not s)
+is_offered features (Gvma av page pscid gv gscid nl s) = (features.nl || not nl) && (features.s || not s)
+is_offered features (Fence av wsi pr pw value addr) = true
+is_offered features (Iodir dv did) = true
+
 -- the operands of each command, as they stand in two words
 abbrev pub vma_in : ℕ → ℕ → Command
 vma_in first second =
     Vma (has_bit first 10) (field_of second 10 52) (has_bit first 32) (field_of first 12 20) (has_bit first 33) (field_of first 44 16)
+    (has_bit first 34) (has_bit second 9)
 
 abbrev pub gvma_in : ℕ → ℕ → Command
 gvma_in first second =
     Gvma (has_bit first 10) (field_of second 10 52) (field_of first 12 20) (has_bit first 33) (field_of first 44 16)
+    (has_bit first 34) (has_bit second 9)
 
 abbrev pub fence_in : ℕ → ℕ → Command
 fence_in first second =

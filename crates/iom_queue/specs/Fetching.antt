@@ -1,9 +1,10 @@
 -- Which command comes next: RISC-V IOMMU Architecture 1.0, "Command-Queue (CQ)" and "Command-queue control and status".
 use Rattle.std.specs.Prelude.{ℕ, ◌≡◌, ◌≢◌, ◌+◌, ◌*◌, ◌==◌, ◌||◌, Bool, true, false, not, List, Option, Some, None, IsSome, if◌then◌else◌}
 use Rattle.iom_bits.specs.Bits.{has_bit, field_of}
+use Rattle.iom_bits.specs.declared.features.Features.{Features}
 use Rattle.iom_mem.specs.Memory.{Memory, words_at}
 use Rattle.iom_regs.specs.Table.{Registers, is_on}
-use Rattle.iom_queue.specs.Commands.{CommandFits, command_words, command_of}
+use Rattle.iom_queue.specs.Commands.{CommandFits, is_offered, command_words, command_of}
 use Rattle.iom_queue.specs.declared.command.Command.{Command}
 use Rattle.iom_queue.specs.declared.fetch.Fetch.{Fetch}
 use Rattle.iom_queue.specs.declared.fetch.Fetch.TheVariants.{Idle, Fault, Illegal, Ready}
@@ -21,23 +22,24 @@ command_addr registers = field_of registers.cqb 10 44 * 4096 + registers.cqh * 1
 abbrev pub words_at_head : Registers → Memory → Option (List ℕ)
 words_at_head registers memory = words_at memory (command_addr registers) 2
 
--- words that stand for no command are illegal
-abbrev pub fetched_command : Option Command → Fetch
-fetched_command (Some command) = Ready command
-fetched_command None = Illegal
+-- words that stand for no command, or for one that isn't offered, are illegal
+abbrev pub fetched_command : Features → Option Command → Fetch
+fetched_command features (Some command) = if is_offered features command then Ready command else Illegal
+fetched_command features None = Illegal
 
 -- words outside memory are a fault of the queue
-abbrev pub fetched : Option (List ℕ) → Fetch
-fetched (Some words) = fetched_command (command_of words)
-fetched None = Fault
+abbrev pub fetched : Features → Option (List ℕ) → Fetch
+fetched features (Some words) = fetched_command features (command_of words)
+fetched features None = Fault
 
 -- what the command unit finds
 unfoldable pub fetch_of : Registers → Memory → Fetch
-fetch_of registers memory = if is_idle registers then Idle else fetched (words_at_head registers memory)
+fetch_of registers memory = if is_idle registers then Idle else fetched registers.features (words_at_head registers memory)
 
--- the words are those of no command
-abbrev pub IsIllegal : Option (List ℕ) → Type 0
-IsIllegal words = (command : Command) → CommandFits command → words ≢ Some (command_words command)
+-- the words are those of no command that is offered
+abbrev pub IsIllegal : Features → Option (List ℕ) → Type 0
+IsIllegal features words =
+    (command : Command) → CommandFits command → is_offered features command ≡ true → words ≢ Some (command_words command)
 
 -- the same without a decoder: which words stand at the head, and which command they are those of
 abbrev pub IsFetch : Registers → Memory → Fetch → Type 0
@@ -46,7 +48,7 @@ IsFetch registers memory Fault =
     (is_idle registers ≡ false) × (words_at_head registers memory ≡ None)
 IsFetch registers memory Illegal =
     (is_idle registers ≡ false) × IsSome (words_at_head registers memory)
-    × IsIllegal (words_at_head registers memory)
+    × IsIllegal registers.features (words_at_head registers memory)
 IsFetch registers memory (Ready command) =
-    (is_idle registers ≡ false) × CommandFits command
+    (is_idle registers ≡ false) × CommandFits command × (is_offered registers.features command ≡ true)
     × (words_at_head registers memory ≡ Some (command_words command))

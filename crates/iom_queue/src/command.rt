@@ -1,9 +1,9 @@
 ghost use Rattle.std.specs.Prelude.{◌≡◌, ◌+◌, ◌*◌, ◌^◌, ◌<◌, [], ◌∷◌, Some, IfSome, IfNone};
 ghost use Rattle.iom_bits.specs.Bits.{flag, field_of};
-ghost use Rattle.iom_queue.specs.Commands.{CommandFits, IsCommandEncoding, first_word, second_word, command_words, command_of, operands_of};
+ghost use Rattle.iom_queue.specs.Commands.{CommandFits, IsCommandEncoding, is_offered, first_word, second_word, command_words, command_of, operands_of};
 
 use crate::fields::{flag_at, operand};
-use iom_bits::{field, has_bit};
+use iom_bits::{Features, field, has_bit};
 
 /// A command of the command queue, 16 bytes in memory (RISC-V IOMMU Architecture 1.0, "Command-Queue (CQ)"). An operand whose valid
 /// bit is 0 is kept and means nothing.
@@ -13,7 +13,7 @@ pub enum Command {
     Vma {
         /// `page` is valid.
         av: bool,
-        /// The IOVA divided by 4096, 52 bits.
+        /// The IOVA divided by 4096, 52 bits. With `s` it stands for a range of pages.
         page: u64,
         /// `pscid` is valid.
         pscv: bool,
@@ -23,12 +23,16 @@ pub enum Command {
         gv: bool,
         /// The guest soft-context id.
         gscid: u16,
+        /// NL: entries that aren't leaves are dropped too. Reserved without the capability NL.
+        nl: bool,
+        /// S: where its lowest 0 is bit X, `page` stands for the 2^(X+1) pages, aligned, around it. Reserved without the capability S.
+        s: bool,
     },
     /// IOTINVAL.GVMA ("IOTINVAL"): drops second-stage translations.
     Gvma {
         /// `page` is valid.
         av: bool,
-        /// The guest-physical address divided by 4096, 52 bits.
+        /// The guest-physical address divided by 4096, 52 bits. With `s` it stands for a range of pages.
         page: u64,
         /// Bits 31:12 of the first word; they mean nothing, since PSCV is 0.
         pscid: u32,
@@ -36,6 +40,10 @@ pub enum Command {
         gv: bool,
         /// The guest soft-context id.
         gscid: u16,
+        /// NL: entries that aren't leaves are dropped too. Reserved without the capability NL.
+        nl: bool,
+        /// S: where its lowest 0 is bit X, `page` stands for the 2^(X+1) pages, aligned, around it. Reserved without the capability S.
+        s: bool,
     },
     /// IOFENCE.C ("IOFENCE.C"): all commands before it are done.
     Fence {
@@ -95,15 +103,17 @@ fn first_word(command: &Command) -> u64
             pscid,
             gv,
             gscid,
+            nl,
             ..
-        } => invalidation(VMA, av, pscid, gv, gscid) + flag_at(pscv, 32),
+        } => invalidation(VMA, av, pscid, gv, gscid) + flag_at(pscv, 32) + flag_at(nl, 34),
         Command::Gvma {
             av,
             pscid,
             gv,
             gscid,
+            nl,
             ..
-        } => invalidation(GVMA, av, pscid, gv, gscid),
+        } => invalidation(GVMA, av, pscid, gv, gscid) + flag_at(nl, 34),
         Command::Fence {
             av,
             wsi,
@@ -138,20 +148,22 @@ fn invalidation(func3: u64, av: bool, pscid: u32, gv: bool, gscid: u16) -> u64
         + operand(gscid as u64, 44)
 }
 
-// The second word of a command: an address divided by 4 or a page's number, or 0.
+// The second word of a command: an address divided by 4, a page's number and S, or 0.
 fn second_word(command: &Command) -> u64
     requires { CommandFits command.now }
     ensures { result ≡ second_word command.now }
 {
     match *command {
-        Command::Vma { page, .. } | Command::Gvma { page, .. } => operand(page, 10),
+        Command::Vma { page, s, .. } | Command::Gvma { page, s, .. } => {
+            flag_at(s, 9) + operand(page, 10)
+        }
         Command::Fence { addr, .. } => addr / 4,
         Command::Iodir { .. } => 0,
     }
 }
 
-/// The command that two words of 8 bytes stand for; None where they stand for no command: the opcode or func3 is none of this
-/// model, or a reserved bit is set.
+/// The command that two words of 8 bytes stand for, whatever an IOMMU offers of it; None where they stand for no command: the
+/// opcode or func3 is none of this model, or a bit is set that is reserved with all capabilities.
 #[tactic(auto, unfolding(crate::specs::Commands::command_of))]
 pub fn decode_command(words: [u64; 2]) -> Option<Command>
     ensures value { result ≡ command_of words }
@@ -166,6 +178,18 @@ pub fn decode_command(words: [u64; 2]) -> Option<Command>
         Some(command)
     } else {
         None
+    }
+}
+
+/// Whether an IOMMU with these features offers a command: NL and S only where it has the capability ("IOMMU capabilities").
+pub fn is_offered(features: Features, command: &Command) -> bool
+    ensures { result ≡ is_offered features command.now }
+{
+    match *command {
+        Command::Vma { nl, s, .. } | Command::Gvma { nl, s, .. } => {
+            (features.nl || !nl) && (features.s || !s)
+        }
+        Command::Fence { .. } | Command::Iodir { .. } => true,
     }
 }
 
@@ -185,6 +209,8 @@ fn operands(first: u64, second: u64) -> Option<Command>
             pscid: field(first, 12, 20) as u32,
             gv: has_bit(first, 33),
             gscid: field(first, 44, 16) as u16,
+            nl: has_bit(first, 34),
+            s: has_bit(second, 9),
         }),
         (IOTINVAL, GVMA) => Some(Command::Gvma {
             av: has_bit(first, 10),
@@ -192,6 +218,8 @@ fn operands(first: u64, second: u64) -> Option<Command>
             pscid: field(first, 12, 20) as u32,
             gv: has_bit(first, 33),
             gscid: field(first, 44, 16) as u16,
+            nl: has_bit(first, 34),
+            s: has_bit(second, 9),
         }),
         (IOFENCE, 0) => Some(Command::Fence {
             av: has_bit(first, 10),

@@ -2,7 +2,7 @@ ghost use Rattle.std.specs.Prelude.{◌≡◌, ◌+◌, ◌<◌, ◌^◌};
 ghost use Rattle.iom_regs.specs.Table.{with_pending};
 ghost use Rattle.iom_queue.specs.Fetching.{is_idle, command_addr, fetch_of, IsFetch};
 
-use crate::command::{Command, decode_command};
+use crate::command::{Command, decode_command, is_offered};
 use iom_mem::Ram;
 use iom_regs::{Regs, Which};
 
@@ -16,7 +16,7 @@ pub enum Fetch {
     Idle,
     /// A byte of the command lies outside memory.
     Fault,
-    /// The words at the head stand for no command.
+    /// The words at the head stand for no command that this IOMMU offers.
     Illegal,
     /// The command at the head.
     Ready(Command),
@@ -37,8 +37,8 @@ pub fn next_command(registers: &Regs, ram: &Ram) -> Fetch
         return Fetch::Fault;
     };
     match decode_command(words) {
-        Some(command) => Fetch::Ready(command),
-        None => Fetch::Illegal,
+        Some(command) if is_offered(registers.features(), &command) => Fetch::Ready(command),
+        _ => Fetch::Illegal,
     }
 }
 

@@ -1,4 +1,5 @@
 pub mod Controls
 pub mod Features
 pub mod Shifts
+pub mod Vectors
 pub mod Wide

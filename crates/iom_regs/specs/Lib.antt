@@ -4,4 +4,5 @@ pub mod Controls
 pub mod Queues
 pub mod Rings
 pub mod Sound
+pub mod Interrupts
 pub mod Views

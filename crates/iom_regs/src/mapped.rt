@@ -82,6 +82,7 @@ impl MappedRegisters {
     ghost use Rattle.iom_regs.specs.Table.{Ddtp, Cqcsr, Fqcsr, Icvec, reset, shown_at, slot_at, written, written_at, written_wide, with_pending};
     ghost use Rattle.iom_regs.specs.Sound.{IsSound};
     ghost use Rattle.iom_regs.specs.Queues.{tail_passed};
+    ghost use Rattle.iom_regs.specs.Interrupts.{is_high, vector_count};
     ghost use Rattle.iom_regs.specs.Views.{command_errors_of, fault_errors_of, mode_of, root_of, queue_of};
 
     /// The registers of an IOMMU with these features, at reset: every register that can change is 0.
@@ -142,6 +143,15 @@ impl MappedRegisters {
             head: ring.head,
             tail: ring.tail,
         }
+    }
+
+    /// Whether the line of a vector is high: cip is set and civ is that vector, or fip is set and fiv is.
+    pub fn is_high(&self, vector: u64) -> bool
+        ensures value { result ≡ is_high self.now vector }
+        ensures sound { IsSound self.now }
+    {
+        has_bit(self.ipsr, 0) && field(self.icvec, 0, 4) == vector
+            || has_bit(self.ipsr, 1) && field(self.icvec, 4, 4) == vector
     }
 
     /// What stops the command queue: two bits of cqcsr.

@@ -33,6 +33,8 @@ impl Regs {
     ghost use Rattle.iom_regs.specs.Controls.{IsCqcsr, IsFqcsr};
     ghost use Rattle.iom_regs.specs.Queues.{command_passed, with_cqmf, with_cmd_ill, with_fence, record_passed, with_fqof, with_fqmf};
     ghost use Rattle.iom_regs.specs.Sound.{IsSound};
+    ghost use Rattle.iom_regs.specs.Interrupts.{is_high, vector_count};
+    ghost use Rattle.std.specs.Prelude.{false};
     ghost use Rattle.iom_regs.specs.Views.{command_errors_of, fault_errors_of, mode_of, root_of, queue_of};
 
     /// The registers of an IOMMU without any of the features that `Features` names, at reset: ddtp's mode is Off, and both queues
@@ -140,6 +142,16 @@ impl Regs {
         ensures settled { with_pending self.now ≡ self.now }
     {
         self.mapped.queue(which)
+    }
+
+    /// Whether the interrupt line of a vector is high: the command queue's cause is pending (cip) and civ is that vector, or the
+    /// fault queue's is (fip) and fiv is ("Interrupt-cause-to-vector register"). A line that isn't there is low.
+    #[tactic(auto, using(crate::proofs::Vectors::low_beyond))]
+    pub fn is_high(&self, vector: u64) -> bool
+        ensures value { result ≡ is_high self.now vector }
+        ensures there { vector_count self.now.features.vectors ≤ vector → result ≡ false }
+    {
+        self.mapped.is_high(vector)
     }
 
     /// What stops the command queue: two bits of cqcsr ("Command-queue CSR (cqcsr)").

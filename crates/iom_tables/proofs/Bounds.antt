@@ -10,7 +10,6 @@ use Rattle.iom_bits.specs.declared.causes.Cause.TheVariants.{DirBad, DirInvalid}
 use Rattle.iom_bits.specs.declared.causes.Kind.{Kind}
 use Rattle.iom_bits.specs.declared.causes.Kind.TheVariants.{Read}
 use Rattle.iom_bits.specs.declared.features.Features.{Features}
-use Rattle.iom_bits.specs.Features.{no_features}
 use Rattle.iom_mem.specs.Memory.{Memory, word, words_at}
 use Rattle.iom_regs.specs.Sound.{IsSound}
 use Rattle.iom_regs.specs.Table.{Registers}
@@ -46,7 +45,6 @@ use Rattle.iom_core.specs.State.{Machine}
 use Rattle.iom_core.specs.declared.access.Request.{Request}
 use Rattle.iom_tables.specs.Bounds.{EntryFits, MetFits, ModeFits, PartFits}
 use Rattle.iom_tables.specs.Parts.{access_parts, address_by, directory_parts, entry_parts, first_by, first_parts, parts_by, parts_of, read_at, read_by, second_by, second_parts, stage_parts}
-use Rattle.iom_core.specs.Access.{Fits}
 use Rattle.iom_core.specs.Looking.{by_tables}
 use Rattle.iom_tables.specs.declared.part.Part.{Part}
 use Rattle.iom_tables.specs.declared.part.Part.TheVariants as part
@@ -388,21 +386,21 @@ stages_fit memory features iova kind (Ok context) well below =
     (first_stage_fits memory features context iova kind (first_shape_of context) (first_root context.mode context.ppn well.first_root) below))
 stages_fit memory features iova kind (Err why) well below = All-nil PartFits
 
-directory_parts_fit : (m : Machine) (did : ℕ) → did < 2 ^ 24 → All PartFits (directory_parts m did)
-directory_parts_fit m did below =
+directory_parts_fit : (m : Machine) (did : ℕ) → All PartFits (directory_parts m did)
+directory_parts_fit m did =
     let items : List Met = path_of m.memory m.registers did in
-    each_by_width PartFits (not (is_too_wide (levels_of (mode_of m.registers)) did)) (wide.Directory did) (map part.Directory items) (λ is. below)
+    each_by_width PartFits (not (is_too_wide (levels_of (mode_of m.registers)) did)) (wide.Directory did) (map part.Directory items) (λ is. tt)
     (All-map PartFits part.Directory items (path_fits m.memory m.registers did))
 
-pub mode_fits : (own : Mode) (m : Machine) (request : Request) → request.did < 2 ^ 24 →
-    ((levels : ℕ) → own ≡ mode.Levels levels → All PartFits (stage_parts m.memory no_features request.iova request.kind (located m.memory m.registers request.did))) →
+pub mode_fits : (own : Mode) (m : Machine) (request : Request) →
+    ((levels : ℕ) → own ≡ mode.Levels levels → All PartFits (stage_parts m.memory m.registers.features request.iova request.kind (located m.memory m.registers request.did))) →
     All PartFits (parts_by own m request)
-mode_fits mode.Off m request below each = All-nil PartFits
-mode_fits mode.Bare m request below each = All-nil PartFits
-mode_fits (mode.Levels levels) m request below each =
+mode_fits mode.Off m request each = All-nil PartFits
+mode_fits mode.Bare m request each = All-nil PartFits
+mode_fits (mode.Levels levels) m request each =
     let found : Result Context Cause = located m.memory m.registers request.did in
-    All-append PartFits (directory_parts m request.did) (stage_parts m.memory no_features request.iova request.kind found)
-    (directory_parts_fit m request.did below) (each levels refl)
+    All-append PartFits (directory_parts m request.did) (stage_parts m.memory m.registers.features request.iova request.kind found)
+    (directory_parts_fit m request.did) (each levels refl)
 
 levels_fit : (n : ℕ) → n ≤ 4 → ModeFits (if n == 0 then mode.Off else if n == 1 then mode.Bare else mode.Levels (n - 1))
 levels_fit n few =
@@ -418,12 +416,12 @@ levels_fit n few =
     ] in by_off (n == 0) refl
 
 pub each_fits : (m : Machine) (request : Request) (parts : List Part) → parts ≡ parts_of m request → IsSound m.registers →
-    All PartFits (parts_by (mode_of m.registers) m request) → Fits (by_tables m request) → All PartFits parts
+    All PartFits (parts_by (mode_of m.registers) m request) → All PartFits parts
 unfolding parts_of
-each_fits m request parts are sound walk fits =
+each_fits m request parts are sound walk =
     let ddtp : Part = part.Ddtp (mode_of m.registers) (root_of m.registers) in
     let end : Part = part.End (by_tables m request) in
     let between : List Part = parts_by (mode_of m.registers) m request in
     subst (All PartFits) (sym are)
     (All-cons PartFits ddtp (between ++ end ∷ []) (levels_fit (field_of m.registers.ddtp 0 4) sound.mode, field_below m.registers.ddtp 10 44)
-    (All-append PartFits between (end ∷ []) walk (All-cons PartFits end [] fits (All-nil PartFits))))
+    (All-append PartFits between (end ∷ []) walk (All-cons PartFits end [] tt (All-nil PartFits))))

@@ -6,7 +6,6 @@ use Rattle.iom_bits.specs.declared.causes.Cause.{Cause}
 use Rattle.iom_bits.specs.declared.causes.Kind.{Kind}
 use Rattle.iom_bits.specs.declared.causes.Kind.TheVariants.{Read}
 use Rattle.iom_bits.specs.declared.features.Features.{Features}
-use Rattle.iom_bits.specs.Features.{no_features}
 use Rattle.iom_mem.specs.Memory.{Memory, word, words_at}
 use Rattle.iom_regs.specs.Table.{Registers}
 use Rattle.iom_regs.specs.Views.{mode_of, root_of}
@@ -178,8 +177,8 @@ by_mode_read mode.Off m request = All-nil (IsRead m.memory)
 by_mode_read mode.Bare m request = All-nil (IsRead m.memory)
 by_mode_read (mode.Levels levels) m request =
     let found : Result Context Cause = located m.memory m.registers request.did in
-    All-append (IsRead m.memory) (directory_parts m request.did) (stage_parts m.memory no_features request.iova request.kind found)
-    (directory_parts_read m request.did) (stages_read m.memory no_features request.iova request.kind found)
+    All-append (IsRead m.memory) (directory_parts m request.did) (stage_parts m.memory m.registers.features request.iova request.kind found)
+    (directory_parts_read m request.did) (stages_read m.memory m.registers.features request.iova request.kind found)
 
 pub each_read : (m : Machine) (request : Request) → All (IsRead m.memory) (parts_of m request)
 unfolding parts_of

@@ -7,7 +7,6 @@ use Rattle.iom_bits.specs.declared.causes.Cause.TheVariants.{TooWide}
 use Rattle.iom_bits.specs.declared.causes.Kind.{Kind}
 use Rattle.iom_bits.specs.declared.causes.Kind.TheVariants.{Read}
 use Rattle.iom_bits.specs.declared.features.Features.{Features}
-use Rattle.iom_bits.specs.Features.{no_features}
 use Rattle.iom_mem.specs.Memory.{Memory, word, words_at}
 use Rattle.iom_regs.specs.Table.{Registers}
 use Rattle.iom_regs.specs.Views.{mode_of, root_of}
@@ -145,47 +144,47 @@ leaf_in_width at format root address kind leaf ends wide =
     let other : outcome.Fault ≡ outcome.Leaf leaf = rw wide at ends in absurd (cc)
 
 -- the directory
-leaf_passes : (place : ℕ) (words : Option (List ℕ)) (context : Context) →
-    directory.verdict_on (met.Leaf place words ∷ []) ≡ Ok context → IsNoFault (decided_by (met.Leaf place words))
+leaf_passes : (features : Features) (place : ℕ) (words : Option (List ℕ)) (context : Context) →
+    directory.verdict_on features (met.Leaf place words ∷ []) ≡ Ok context → IsNoFault (decided_by features (met.Leaf place words))
 unfolding directory.verdict_on
-leaf_passes place None context is = cc
-leaf_passes place (Some words) context is = rw is tt
+leaf_passes features place None context is = cc
+leaf_passes features place (Some words) context is = rw is tt
 
 fault_never : (cause : Cause) (context : Context) (found : Result Context Cause) → found ≡ Err cause → found ≡ Ok context → ⊥
 fault_never cause context found is other = cc
 
-entry_passes : (place : ℕ) (entry : Option ℕ) (pointed : Result ℕ Cause) (from : ℕ → List Met) (context : Context) → pointed_by entry ≡ pointed →
-    ((table : ℕ) → directory.verdict_on (from table) ≡ Ok context → All (λ item. IsNoFault (decided_by item)) (from table)) →
-    directory.verdict_on (met.Entry place entry ∷ behind pointed from) ≡ Ok context →
-    All (λ item. IsNoFault (decided_by item)) (met.Entry place entry ∷ behind pointed from)
+entry_passes : (features : Features) (place : ℕ) (entry : Option ℕ) (pointed : Result ℕ Cause) (from : ℕ → List Met) (context : Context) → pointed_by entry ≡ pointed →
+    ((table : ℕ) → directory.verdict_on features (from table) ≡ Ok context → All (λ item. IsNoFault (decided_by features item)) (from table)) →
+    directory.verdict_on features (met.Entry place entry ∷ behind pointed from) ≡ Ok context →
+    All (λ item. IsNoFault (decided_by features item)) (met.Entry place entry ∷ behind pointed from)
 unfolding directory.verdict_on
-entry_passes place entry (Ok table) from context is more found =
-    let left : directory.verdict_on (from table) ≡ Ok context = rw is at found in
-    All-cons (λ item. IsNoFault (decided_by item)) (met.Entry place entry) (from table) (rw is tt) (more table left)
-entry_passes place entry (Err cause) from context is more found =
-    absurd (fault_never cause context (directory.verdict_on (met.Entry place entry ∷ [])) (rw is refl) found)
+entry_passes features place entry (Ok table) from context is more found =
+    let left : directory.verdict_on features (from table) ≡ Ok context = rw is at found in
+    All-cons (λ item. IsNoFault (decided_by features item)) (met.Entry place entry) (from table) (rw is tt) (more table left)
+entry_passes features place entry (Err cause) from context is more found =
+    absurd (fault_never cause context (directory.verdict_on features (met.Entry place entry ∷ [])) (rw is refl) found)
 
-directory_from : (memory : Memory) (did level table : ℕ) (context : Context) →
-    directory.verdict_on (directory.path_from memory did level table) ≡ Ok context →
-    All (λ item. IsNoFault (decided_by item)) (directory.path_from memory did level table)
-directory_from memory did zero table context found =
-    All-cons (λ item. IsNoFault (decided_by item)) (met.Leaf (leaf_place did table) (words_at memory (leaf_place did table) 4)) []
-    (leaf_passes (leaf_place did table) (words_at memory (leaf_place did table) 4) context found) (All-nil (λ item. IsNoFault (decided_by item)))
-directory_from memory did (suc level) table context found =
+directory_from : (features : Features) (memory : Memory) (did level table : ℕ) (context : Context) →
+    directory.verdict_on features (directory.path_from memory did level table) ≡ Ok context →
+    All (λ item. IsNoFault (decided_by features item)) (directory.path_from memory did level table)
+directory_from features memory did zero table context found =
+    All-cons (λ item. IsNoFault (decided_by features item)) (met.Leaf (leaf_place did table) (words_at memory (leaf_place did table) 4)) []
+    (leaf_passes features (leaf_place did table) (words_at memory (leaf_place did table) 4) context found) (All-nil (λ item. IsNoFault (decided_by features item)))
+directory_from features memory did (suc level) table context found =
     let place : ℕ = entry_place did (suc level) table in
-    entry_passes place (word memory place) (pointed_by (word memory place)) (directory.path_from memory did level) context refl
-    (λ next. directory_from memory did level next context) found
+    entry_passes features place (word memory place) (pointed_by (word memory place)) (directory.path_from memory did level) context refl
+    (λ next. directory_from features memory did level next context) found
 
 path_passes : (memory : Memory) (registers : Registers) (did : ℕ) (context : Context) → located memory registers did ≡ Ok context →
-    All Passes (map part.Directory (path_of memory registers did))
+    All (Passes registers.features) (map part.Directory (path_of memory registers did))
 unfolding located path_of
 path_passes memory registers did context =
     let path : List Met = directory.path_from memory did (levels_of (mode_of registers) - 1) (root_of registers) in
-    elim (is_too_wide (levels_of (mode_of registers)) did) as (λ wide. (if wide then Err TooWide else directory.verdict_on path) ≡ Ok context →
-    All Passes (map part.Directory (if wide then [] else path))) [
-      | true ↦ λ found. All-nil Passes
-      | false ↦ λ found. All-map Passes part.Directory path
-          (directory_from memory did (levels_of (mode_of registers) - 1) (root_of registers) context found)
+    elim (is_too_wide (levels_of (mode_of registers)) did) as (λ wide. (if wide then Err TooWide else directory.verdict_on registers.features path) ≡ Ok context →
+    All (Passes registers.features) (map part.Directory (if wide then [] else path))) [
+      | true ↦ λ found. All-nil (Passes registers.features)
+      | false ↦ λ found. All-map (Passes registers.features) part.Directory path
+          (directory_from registers.features memory did (levels_of (mode_of registers) - 1) (root_of registers) context found)
     ]
 
 -- a context that is found has an id that keeps the width rule
@@ -196,9 +195,9 @@ found_in_width memory registers did context found wide =
     let is : is_too_wide (levels_of (mode_of registers)) did ≡ true = not_false _ wide in
     fault_never TooWide context (located memory registers did) (rw is refl) found
 
-directory_passes : (m : Machine) (did : ℕ) (context : Context) → located m.memory m.registers did ≡ Ok context → All Passes (directory_parts m did)
+directory_passes : (m : Machine) (did : ℕ) (context : Context) → located m.memory m.registers did ≡ Ok context → All (Passes m.registers.features) (directory_parts m did)
 directory_passes m did context found =
-    each_by_width Passes (not (is_too_wide (levels_of (mode_of m.registers)) did)) (wide.Directory did)
+    each_by_width (Passes m.registers.features) (not (is_too_wide (levels_of (mode_of m.registers)) did)) (wide.Directory did)
     (map part.Directory (path_of m.memory m.registers did)) (found_in_width m.memory m.registers did context found)
     (path_passes m.memory m.registers did context found)
 
@@ -208,18 +207,18 @@ Leads memory features root kind guest None = Unit {0}
 Leads memory features root kind guest (Some shape) = (leaf : Leaf) × (outcome_of (ram_got memory) (format_of features shape) root guest kind ≡ outcome.Leaf leaf)
 
 second_by_passes : (memory : Memory) (features : Features) (root : ℕ) (kind : Kind) (guest : ℕ) (shape : Option Shape) → Leads memory features root kind guest shape →
-    All Passes (second_by memory features root kind guest shape)
-second_by_passes memory features root kind guest None leads = All-nil Passes
+    All (Passes features) (second_by memory features root kind guest shape)
+second_by_passes memory features root kind guest None leads = All-nil (Passes features)
 second_by_passes memory features root kind guest (Some shape) leads =
     let path : List PathEntry = path_told (ram_got memory) (format_of features shape) root guest kind in
-    each_by_width Passes (is_in_width shape guest) (wide.Second guest) (map (part.Second guest) path)
+    each_by_width (Passes features) (is_in_width shape guest) (wide.Second guest) (map (part.Second guest) path)
     (leaf_in_width (ram_got memory) (format_of features shape) root guest kind leads.0 leads.1)
-    (All-map Passes (part.Second guest) path
+    (All-map (Passes features) (part.Second guest) path
     (All-weaker (IsLet (ram_got memory) features kind) (λ entry. Lets entry.ruling) (λ entry is. is.lets) path
     (walk_lets (ram_got memory) (format_of features shape) root guest kind leads.0 leads.1)))
 
 second_passes : (memory : Memory) (features : Features) (context : Context) (kind : Kind) (guest : ℕ) →
-    Leads memory features context.gppn kind guest (second_shape_of context) → All Passes (second_parts memory features context kind guest)
+    Leads memory features context.gppn kind guest (second_shape_of context) → All (Passes features) (second_parts memory features context kind guest)
 unfolding second_parts
 second_passes memory features context kind guest leads = second_by_passes memory features context.gppn kind guest (second_shape_of context) leads
 
@@ -248,18 +247,18 @@ place_leads memory features root kind entry (Some shape) is =
 
 -- the first stage
 first_entry_passes : (memory : Memory) (features : Features) (context : Context) (kind : Kind) (entry : PathEntry) → IsLet (table_got memory features context) features kind entry →
-    All Passes (entry_parts memory features context entry)
+    All (Passes features) (entry_parts memory features context entry)
 first_entry_passes memory features context kind entry is =
     let first : Part = part.First entry (read_at memory features context entry.place) in
-    All-append Passes (second_parts memory features context Read entry.place) (first ∷ [])
+    All-append (Passes features) (second_parts memory features context Read entry.place) (first ∷ [])
     (second_passes memory features context Read entry.place (place_leads memory features context.gppn kind entry (second_shape_of context) is))
-    (All-cons Passes first [] is.lets (All-nil Passes))
+    (All-cons (Passes features) first [] is.lets (All-nil (Passes features)))
 
 entries_pass : (memory : Memory) (features : Features) (context : Context) (kind : Kind) (entries : List PathEntry) →
-    All (IsLet (table_got memory features context) features kind) entries → All Passes (flat_map (entry_parts memory features context) entries)
-entries_pass memory features context kind [] each = All-nil Passes
+    All (IsLet (table_got memory features context) features kind) entries → All (Passes features) (flat_map (entry_parts memory features context) entries)
+entries_pass memory features context kind [] each = All-nil (Passes features)
 entries_pass memory features context kind (entry ∷ more) each =
-    All-append Passes (entry_parts memory features context entry) (flat_map (entry_parts memory features context) more)
+    All-append (Passes features) (entry_parts memory features context entry) (flat_map (entry_parts memory features context) more)
     (first_entry_passes memory features context kind entry (All-head (IsLet (table_got memory features context) features kind) entry more each))
     (entries_pass memory features context kind more (All-tail (IsLet (table_got memory features context) features kind) entry more each))
 
@@ -278,19 +277,19 @@ access_by_leads memory features context kind reached (Some shape) hit is =
     access_leads memory context.gppn kind reached (outcome_of (ram_got memory) (format_of features shape) context.gppn reached.addr kind) hit is
 
 access_passes : (memory : Memory) (features : Features) (context : Context) (kind : Kind) (reached : Reached) (hit : Hit) →
-    second_stage memory features context kind (second_shape_of context) reached ≡ Ok hit → All Passes (access_parts memory features context kind (Ok reached))
+    second_stage memory features context kind (second_shape_of context) reached ≡ Ok hit → All (Passes features) (access_parts memory features context kind (Ok reached))
 access_passes memory features context kind reached hit is =
     second_passes memory features context kind reached.addr (access_by_leads memory features context kind reached (second_shape_of context) hit is)
 
 -- both stages
 end_passes : (memory : Memory) (features : Features) (context : Context) (iova : ℕ) (kind : Kind) (shape : Shape) (end : Outcome) (hit : Hit) →
     outcome_of (table_got memory features context) (format_of features shape) context.ppn iova kind ≡ end → behind_first memory features context kind (reached_by iova end) ≡ Ok hit →
-    All Passes (first_by memory features context iova kind (Some shape) ++ access_parts memory features context kind (reached_by iova end))
+    All (Passes features) (first_by memory features context iova kind (Some shape) ++ access_parts memory features context kind (reached_by iova end))
 end_passes memory features context iova kind shape (outcome.Leaf leaf) hit is found =
     let path : List PathEntry = path_told (table_got memory features context) (format_of features shape) context.ppn iova kind in
     let reached : Reached = record { addr = leaf.frame * 4096 + iova % 4096; level = leaf.level; global = leaf.global; napot = leaf.napot } in
-    All-append Passes (first_by memory features context iova kind (Some shape)) (access_parts memory features context kind (Ok reached))
-    (each_by_width Passes (is_in_width shape iova) (wide.First iova) (flat_map (entry_parts memory features context) path)
+    All-append (Passes features) (first_by memory features context iova kind (Some shape)) (access_parts memory features context kind (Ok reached))
+    (each_by_width (Passes features) (is_in_width shape iova) (wide.First iova) (flat_map (entry_parts memory features context) path)
     (leaf_in_width (table_got memory features context) (format_of features shape) context.ppn iova kind leaf is)
     (entries_pass memory features context kind path (walk_lets (table_got memory features context) (format_of features shape) context.ppn iova kind leaf is)))
     (access_passes memory features context kind reached hit found)
@@ -300,7 +299,7 @@ end_passes memory features context iova kind shape outcome.Fault hit is found = 
 
 stages_by_pass : (memory : Memory) (features : Features) (context : Context) (iova : ℕ) (kind : Kind) (shape : Option Shape) (hit : Hit) →
     behind_first memory features context kind (first_stage memory features context iova kind shape) ≡ Ok hit →
-    All Passes (first_by memory features context iova kind shape ++ access_parts memory features context kind (first_stage memory features context iova kind shape))
+    All (Passes features) (first_by memory features context iova kind shape ++ access_parts memory features context kind (first_stage memory features context iova kind shape))
 stages_by_pass memory features context iova kind None hit found =
     access_passes memory features context kind (record { addr = iova; level = 0; global = false; napot = false }) hit found
 stages_by_pass memory features context iova kind (Some shape) hit found =
@@ -308,13 +307,13 @@ stages_by_pass memory features context iova kind (Some shape) hit found =
 
 stages_pass : (memory : Memory) (features : Features) (context : Context) (iova : ℕ) (kind : Kind) (hit : Hit) →
     behind_first memory features context kind (first_stage memory features context iova kind (first_shape_of context)) ≡ Ok hit →
-    All Passes (stage_parts memory features iova kind (Ok context))
+    All (Passes features) (stage_parts memory features iova kind (Ok context))
 unfolding first_parts
 stages_pass memory features context iova kind hit found = stages_by_pass memory features context iova kind (first_shape_of context) hit found
 
 -- a context both of whose stages are Bare hits the page itself
 bare_stages_pass : (memory : Memory) (features : Features) (context : Context) (iova : ℕ) (kind : Kind) → is_bare context ≡ true →
-    All Passes (stage_parts memory features iova kind (Ok context))
+    All (Passes features) (stage_parts memory features iova kind (Ok context))
 bare_stages_pass memory features context iova kind bare =
     let first : (context.mode == 0) ≡ true = search rules in
     let second : (context.gmode == 0) ≡ true = search rules in
@@ -325,14 +324,14 @@ hit_of kind (Ok found) hit is = cc
 hit_of kind (Err failure) hit is = cc
 
 translated_stages_pass : (memory : Memory) (features : Features) (context : Context) (iova : ℕ) (kind : Kind) (hit : Hit) → translation memory features context iova kind ≡ Ok hit →
-    All Passes (stage_parts memory features iova kind (Ok context))
+    All (Passes features) (stage_parts memory features iova kind (Ok context))
 unfolding translation
 translated_stages_pass memory features context iova kind hit is = stages_pass memory features context iova kind hit (hit_of kind _ hit is)
 
 -- below a context, by the way that is led
 page_passes : (memory : Memory) (features : Features) (request : Request) (context : Context) (found : Result Hit Fault) →
     translation memory features context request.iova request.kind ≡ found → IsGranted (way_to context found) →
-    All Passes (stage_parts memory features request.iova request.kind (Ok context))
+    All (Passes features) (stage_parts memory features request.iova request.kind (Ok context))
 page_passes memory features request context (Ok hit) is granted = translated_stages_pass memory features context request.iova request.kind hit is
 page_passes memory features request context (Err fault) is granted = absurd granted
 
@@ -344,7 +343,7 @@ under_where bare memory features request context =
 
 under_passes : (memory : Memory) (features : Features) (request : Request) (context : Context) (bare : Bool) → is_bare context ≡ bare →
     IsGranted (under_where bare memory features request context).way →
-    All Passes (stage_parts memory features request.iova request.kind (Ok context))
+    All (Passes features) (stage_parts memory features request.iova request.kind (Ok context))
 unfolding page_look
 under_passes memory features request context true is granted = bare_stages_pass memory features context request.iova request.kind is
 under_passes memory features request context false is granted =
@@ -352,38 +351,38 @@ under_passes memory features request context false is granted =
     page_passes memory features request context told refl (subst (λ r. IsGranted (way_to context r)) (looked_none (request_key request context) told) granted)
 
 pub context_passes : (memory : Memory) (features : Features) (request : Request) (context : Context) → IsGranted (led_under memory features [] request context).way →
-    All Passes (stage_parts memory features request.iova request.kind (Ok context))
+    All (Passes features) (stage_parts memory features request.iova request.kind (Ok context))
 context_passes memory features request context granted = under_passes memory features request context (is_bare context) refl granted
 
 found_passes : (m : Machine) (request : Request) (found : Result Context Cause) → located m.memory m.registers request.did ≡ found →
     IsGranted (led_by_context (uncached m) request (context_look (uncached m) request.did).filled found).way →
-    All Passes (directory_parts m request.did ++ stage_parts m.memory no_features request.iova request.kind found)
+    All (Passes m.registers.features) (directory_parts m request.did ++ stage_parts m.memory m.registers.features request.iova request.kind found)
 found_passes m request (Ok context) is granted =
-    All-append Passes (directory_parts m request.did) (stage_parts m.memory no_features request.iova request.kind (Ok context))
+    All-append (Passes m.registers.features) (directory_parts m request.did) (stage_parts m.memory m.registers.features request.iova request.kind (Ok context))
     (directory_passes m request.did context is)
-    (context_passes m.memory no_features request context granted)
+    (context_passes m.memory m.registers.features request context granted)
 found_passes m request (Err why) is granted = absurd granted
 
 mode_passes : (m : Machine) (request : Request) (own : Mode) → IsGranted ((led_by_mode own (uncached m) request).way) →
-    (own ≢ mode.Off) × All Passes (parts_by own m request)
+    (own ≢ mode.Off) × All (Passes m.registers.features) (parts_by own m request)
 mode_passes m request mode.Off granted = absurd granted
-mode_passes m request mode.Bare granted = (λ is. cc, All-nil Passes)
+mode_passes m request mode.Bare granted = (λ is. cc, All-nil (Passes m.registers.features))
 mode_passes m request (mode.Levels levels) granted = (
   λ is. cc,
   found_passes m request (located m.memory m.registers request.did) refl
       (subst (λ r. IsGranted (led_by_context (uncached m) request (context_look (uncached m) request.did).filled r).way) (used_uncached m request.did) granted),
 )
 
-each_passes : (m : Machine) (request : Request) → IsGranted (by_tables m request) → All Passes (parts_of m request)
+each_passes : (m : Machine) (request : Request) → IsGranted (by_tables m request) → All (Passes m.registers.features) (parts_of m request)
 unfolding parts_of led
 each_passes m request granted =
     let ddtp : Part = part.Ddtp (mode_of m.registers) (root_of m.registers) in
     let end : Part = part.End (by_tables m request) in
     let between : List Part = parts_by (mode_of m.registers) m request in
-    let passed : (mode_of m.registers ≢ mode.Off) × All Passes between = mode_passes m request (mode_of m.registers) granted in
-    All-cons Passes ddtp (between ++ end ∷ []) passed.0
-    (All-append Passes between (end ∷ []) passed.1 (All-cons Passes end [] granted (All-nil Passes)))
+    let passed : (mode_of m.registers ≢ mode.Off) × All (Passes m.registers.features) between = mode_passes m request (mode_of m.registers) granted in
+    All-cons (Passes m.registers.features) ddtp (between ++ end ∷ []) passed.0
+    (All-append (Passes m.registers.features) between (end ∷ []) passed.1 (All-cons (Passes m.registers.features) end [] granted (All-nil (Passes m.registers.features))))
 
 pub each_passes_of : (m : Machine) (request : Request) (parts : List Part) → parts ≡ parts_of m request →
-    IsGranted (by_tables m request) → All Passes parts
-each_passes_of m request parts are granted = subst (All Passes) (sym are) (each_passes m request granted)
+    IsGranted (by_tables m request) → All (Passes m.registers.features) parts
+each_passes_of m request parts are granted = subst (All (Passes m.registers.features)) (sym are) (each_passes m request granted)

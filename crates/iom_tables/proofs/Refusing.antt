@@ -8,7 +8,6 @@ use Rattle.iom_bits.specs.declared.causes.Cause.TheVariants.{TooWide}
 use Rattle.iom_bits.specs.declared.causes.Kind.{Kind}
 use Rattle.iom_bits.specs.declared.causes.Kind.TheVariants.{Read}
 use Rattle.iom_bits.specs.declared.features.Features.{Features}
-use Rattle.iom_bits.specs.Features.{no_features}
 use Rattle.iom_mem.specs.Memory.{Memory, word, words_at}
 use Rattle.iom_regs.specs.Table.{Registers}
 use Rattle.iom_regs.specs.Views.{mode_of, root_of}
@@ -91,63 +90,63 @@ any_of P (x ∷ xs) is = elim is [
 ]
 
 -- a part that refuses, where what is too wide does so by itself
-abbrev Bars : Part → Type 0
-Bars (part.Ddtp own root) = own ≡ mode.Off
-Bars (part.Directory met) = ¬ IsNoFault (decided_by met)
-Bars (part.Wide what) = Unit {0}
-Bars (part.First entry addr) = ¬ Lets entry.ruling
-Bars (part.Second guest entry) = ¬ Lets entry.ruling
-Bars (part.End end) = ⊥
+abbrev Bars : Features → Part → Type 0
+Bars features (part.Ddtp own root) = own ≡ mode.Off
+Bars features (part.Directory met) = ¬ IsNoFault (decided_by features met)
+Bars features (part.Wide what) = Unit {0}
+Bars features (part.First entry addr) = ¬ Lets entry.ruling
+Bars features (part.Second guest entry) = ¬ Lets entry.ruling
+Bars features (part.End end) = ⊥
 
 -- the width rule refuses, or one of the entries does
-refused_by_width : (kept : Bool) (what : Wide) (entries : List Part) → (kept ≡ false) ⊎ Occurs Bars entries → Occurs Bars (by_width kept what entries)
-refused_by_width true what entries is = elim is [ inl wide ↦ absurd (cc) | inr some ↦ some ]
-refused_by_width false what entries is = inl tt
+refused_by_width : (features : Features) (kept : Bool) (what : Wide) (entries : List Part) → (kept ≡ false) ⊎ Occurs (Bars features) entries → Occurs (Bars features) (by_width kept what entries)
+refused_by_width features true what entries is = elim is [ inl wide ↦ absurd (cc) | inr some ↦ some ]
+refused_by_width features false what entries is = inl tt
 
 -- the directory
-abbrev Faults : Met → Type 0
-Faults item = ¬ IsNoFault (decided_by item)
+abbrev Faults : Features → Met → Type 0
+Faults features item = ¬ IsNoFault (decided_by features item)
 
-leaf_refuses : (place : ℕ) (words : Option (List ℕ)) (cause : Cause) →
-    directory.verdict_on (met.Leaf place words ∷ []) ≡ Err cause → Faults (met.Leaf place words)
+leaf_refuses : (features : Features) (place : ℕ) (words : Option (List ℕ)) (cause : Cause) →
+    directory.verdict_on features (met.Leaf place words ∷ []) ≡ Err cause → Faults features (met.Leaf place words)
 unfolding directory.verdict_on
-leaf_refuses place None cause is = λ never. never
-leaf_refuses place (Some words) cause is = rw is (λ never. never)
+leaf_refuses features place None cause is = λ never. never
+leaf_refuses features place (Some words) cause is = rw is (λ never. never)
 
-entry_refuses : (place : ℕ) (entry : Option ℕ) (pointed : Result ℕ Cause) (from : ℕ → List Met) (cause : Cause) → pointed_by entry ≡ pointed →
-    ((table : ℕ) → directory.verdict_on (from table) ≡ Err cause → Occurs Faults (from table)) →
-    directory.verdict_on (met.Entry place entry ∷ behind pointed from) ≡ Err cause →
-    Occurs Faults (met.Entry place entry ∷ behind pointed from)
+entry_refuses : (features : Features) (place : ℕ) (entry : Option ℕ) (pointed : Result ℕ Cause) (from : ℕ → List Met) (cause : Cause) → pointed_by entry ≡ pointed →
+    ((table : ℕ) → directory.verdict_on features (from table) ≡ Err cause → Occurs (Faults features) (from table)) →
+    directory.verdict_on features (met.Entry place entry ∷ behind pointed from) ≡ Err cause →
+    Occurs (Faults features) (met.Entry place entry ∷ behind pointed from)
 unfolding directory.verdict_on
-entry_refuses place entry (Ok table) from cause is more found =
-    let left : directory.verdict_on (from table) ≡ Err cause = rw is at found in inr (more table left)
-entry_refuses place entry (Err why) from cause is more found = inl (rw is (λ never. never))
+entry_refuses features place entry (Ok table) from cause is more found =
+    let left : directory.verdict_on features (from table) ≡ Err cause = rw is at found in inr (more table left)
+entry_refuses features place entry (Err why) from cause is more found = inl (rw is (λ never. never))
 
-directory_from : (memory : Memory) (did level table : ℕ) (cause : Cause) →
-    directory.verdict_on (directory.path_from memory did level table) ≡ Err cause → Occurs Faults (directory.path_from memory did level table)
-directory_from memory did zero table cause found =
-    inl (leaf_refuses (leaf_place did table) (words_at memory (leaf_place did table) 4) cause found)
-directory_from memory did (suc level) table cause found =
+directory_from : (features : Features) (memory : Memory) (did level table : ℕ) (cause : Cause) →
+    directory.verdict_on features (directory.path_from memory did level table) ≡ Err cause → Occurs (Faults features) (directory.path_from memory did level table)
+directory_from features memory did zero table cause found =
+    inl (leaf_refuses features (leaf_place did table) (words_at memory (leaf_place did table) 4) cause found)
+directory_from features memory did (suc level) table cause found =
     let place : ℕ = entry_place did (suc level) table in
-    entry_refuses place (word memory place) (pointed_by (word memory place)) (directory.path_from memory did level) cause refl
-    (λ next. directory_from memory did level next cause) found
+    entry_refuses features place (word memory place) (pointed_by (word memory place)) (directory.path_from memory did level) cause refl
+    (λ next. directory_from features memory did level next cause) found
 
 path_refuses : (memory : Memory) (registers : Registers) (did : ℕ) (cause : Cause) → located memory registers did ≡ Err cause →
-    (not (is_too_wide (levels_of (mode_of registers)) did) ≡ false) ⊎ Occurs Bars (map part.Directory (path_of memory registers did))
+    (not (is_too_wide (levels_of (mode_of registers)) did) ≡ false) ⊎ Occurs (Bars registers.features) (map part.Directory (path_of memory registers did))
 unfolding located path_of
 path_refuses memory registers did cause =
     let path : List Met = directory.path_from memory did (levels_of (mode_of registers) - 1) (root_of registers) in
-    let Goal : Bool → Type 0 = λ wide. is_too_wide (levels_of (mode_of registers)) did ≡ wide → (if wide then Err TooWide else directory.verdict_on path) ≡ Err cause →
-    (not (is_too_wide (levels_of (mode_of registers)) did) ≡ false) ⊎ Occurs Bars (map part.Directory (if wide then [] else path)) in
+    let Goal : Bool → Type 0 = λ wide. is_too_wide (levels_of (mode_of registers)) did ≡ wide → (if wide then Err TooWide else directory.verdict_on registers.features path) ≡ Err cause →
+    (not (is_too_wide (levels_of (mode_of registers)) did) ≡ false) ⊎ Occurs (Bars registers.features) (map part.Directory (if wide then [] else path)) in
     let by_cases : (wide : Bool) → Goal wide = λ wide. elim wide as Goal [
       | true ↦ λ is found. inl (ap not is)
-      | false ↦ λ is found. inr (in_mapped Faults Bars part.Directory (λ item is. is) path
-          (directory_from memory did (levels_of (mode_of registers) - 1) (root_of registers) cause found))
+      | false ↦ λ is found. inr (in_mapped (Faults registers.features) (Bars registers.features) part.Directory (λ item is. is) path
+          (directory_from registers.features memory did (levels_of (mode_of registers) - 1) (root_of registers) cause found))
     ] in by_cases (is_too_wide (levels_of (mode_of registers)) did) refl
 
-directory_refuses : (m : Machine) (did : ℕ) (cause : Cause) → located m.memory m.registers did ≡ Err cause → Occurs Bars (directory_parts m did)
+directory_refuses : (m : Machine) (did : ℕ) (cause : Cause) → located m.memory m.registers did ≡ Err cause → Occurs (Bars m.registers.features) (directory_parts m did)
 directory_refuses m did cause is =
-    refused_by_width (not (is_too_wide (levels_of (mode_of m.registers)) did)) (wide.Directory did)
+    refused_by_width m.registers.features (not (is_too_wide (levels_of (mode_of m.registers)) did)) (wide.Directory did)
     (map part.Directory (path_of m.memory m.registers did)) (path_refuses m.memory m.registers did cause is)
 
 -- a walk that doesn't end at a leaf
@@ -235,14 +234,14 @@ LeadsNot memory features root kind guest None = ⊥
 LeadsNot memory features root kind guest (Some shape) = NoLeaf (outcome_of (ram_got memory) (format_of features shape) root guest kind)
 
 second_by_stops : (memory : Memory) (features : Features) (root : ℕ) (kind : Kind) (guest : ℕ) (shape : Option Shape) → LeadsNot memory features root kind guest shape →
-    Occurs Bars (second_by memory features root kind guest shape)
+    Occurs (Bars features) (second_by memory features root kind guest shape)
 second_by_stops memory features root kind guest None never = absurd never
 second_by_stops memory features root kind guest (Some shape) stops =
     let path : List PathEntry = path_told (ram_got memory) (format_of features shape) root guest kind in
-    refused_by_width (is_in_width shape guest) (wide.Second guest) (map (part.Second guest) path)
+    refused_by_width features (is_in_width shape guest) (wide.Second guest) (map (part.Second guest) path)
     (elim (outcome_stops (ram_got memory) (format_of features shape) root guest kind stops) [
       | inl beyond ↦ inl beyond
-      | inr some ↦ inr (in_mapped IsStop Bars (part.Second guest) (λ entry is. is) path some)
+      | inr some ↦ inr (in_mapped IsStop (Bars features) (part.Second guest) (λ entry is. is) path some)
     ])
 
 access_no_leaf : (reached : Reached) (end : Outcome) (failure : Failure) → hit_by reached end ≡ Err failure → NoLeaf end
@@ -259,7 +258,7 @@ access_leads_not memory features context kind reached (Some shape) failure is =
 
 access_stops : (memory : Memory) (features : Features) (context : Context) (kind : Kind) (reached : Reached) (failure : Failure) →
     second_stage memory features context kind (second_shape_of context) reached ≡ Err failure →
-    Occurs Bars (access_parts memory features context kind (Ok reached))
+    Occurs (Bars features) (access_parts memory features context kind (Ok reached))
 unfolding second_parts
 access_stops memory features context kind reached failure is =
     second_by_stops memory features context.gppn kind reached.addr (second_shape_of context)
@@ -273,31 +272,31 @@ first_no_leaf iova (outcome.Guest place) failure is = λ leaf other. cc
 first_no_leaf iova outcome.Fault failure is = λ leaf other. cc
 
 first_by_stops : (memory : Memory) (features : Features) (context : Context) (iova : ℕ) (kind : Kind) (shape : Option Shape) (failure : Failure) →
-    first_stage memory features context iova kind shape ≡ Err failure → Occurs Bars (first_by memory features context iova kind shape)
+    first_stage memory features context iova kind shape ≡ Err failure → Occurs (Bars features) (first_by memory features context iova kind shape)
 first_by_stops memory features context iova kind None failure is = absurd (cc)
 first_by_stops memory features context iova kind (Some shape) failure is =
     let path : List PathEntry = path_told (table_got memory features context) (format_of features shape) context.ppn iova kind in
-    refused_by_width (is_in_width shape iova) (wide.First iova) (flat_map (entry_parts memory features context) path)
+    refused_by_width features (is_in_width shape iova) (wide.First iova) (flat_map (entry_parts memory features context) path)
     (elim (outcome_stops (table_got memory features context) (format_of features shape) context.ppn iova kind
     (first_no_leaf iova (outcome_of (table_got memory features context) (format_of features shape) context.ppn iova kind) failure is)) [
       | inl beyond ↦ inl beyond
-      | inr stops ↦ inr (in_flat IsStop Bars (entry_parts memory features context)
-          (λ entry is. in_second Bars (second_parts memory features context Read entry.place) (part.First entry (read_at memory features context entry.place) ∷ []) (inl is))
+      | inr stops ↦ inr (in_flat IsStop (Bars features) (entry_parts memory features context)
+          (λ entry is. in_second (Bars features) (second_parts memory features context Read entry.place) (part.First entry (read_at memory features context entry.place) ∷ []) (inl is))
           path stops)
     ])
 
 -- both stages
 stages_stop : (memory : Memory) (features : Features) (context : Context) (iova : ℕ) (kind : Kind) (reached : Result Reached Failure) (failure : Failure) →
     first_stage memory features context iova kind (first_shape_of context) ≡ reached → behind_first memory features context kind reached ≡ Err failure →
-    Occurs Bars (stage_parts memory features iova kind (Ok context))
+    Occurs (Bars features) (stage_parts memory features iova kind (Ok context))
 unfolding first_parts
 stages_stop memory features context iova kind (Ok reached) failure is found =
     let access : Result Reached Failure → List Part = access_parts memory features context kind in
     let first : Result Reached Failure = first_stage memory features context iova kind (first_shape_of context) in
-    in_second Bars (first_parts memory features context iova kind) (access first)
-    (subst (λ r. Occurs Bars (access r)) (sym is) (access_stops memory features context kind reached failure found))
+    in_second (Bars features) (first_parts memory features context iova kind) (access first)
+    (subst (λ r. Occurs (Bars features) (access r)) (sym is) (access_stops memory features context kind reached failure found))
 stages_stop memory features context iova kind (Err why) failure is found =
-    in_first Bars (first_parts memory features context iova kind)
+    in_first (Bars features) (first_parts memory features context iova kind)
     (access_parts memory features context kind (first_stage memory features context iova kind (first_shape_of context)))
     (first_by_stops memory features context iova kind (first_shape_of context) why is)
 
@@ -306,7 +305,7 @@ failure_of kind (Ok hit) fault is = absurd (cc)
 failure_of kind (Err failure) fault is = (failure, refl)
 
 translated_stages_stop : (memory : Memory) (features : Features) (context : Context) (iova : ℕ) (kind : Kind) (fault : Fault) → translation memory features context iova kind ≡ Err fault →
-    Occurs Bars (stage_parts memory features iova kind (Ok context))
+    Occurs (Bars features) (stage_parts memory features iova kind (Ok context))
 unfolding translation
 translated_stages_stop memory features context iova kind fault is =
     let f = failure_of kind _ fault is in stages_stop memory features context iova kind _ f.0 refl f.1
@@ -314,13 +313,13 @@ translated_stages_stop memory features context iova kind fault is =
 -- below a context, by the way that is led
 page_refuses : (memory : Memory) (features : Features) (request : Request) (context : Context) (found : Result Hit Fault) →
     translation memory features context request.iova request.kind ≡ found → (IsGranted (way_to context found) → ⊥) →
-    Occurs Bars (stage_parts memory features request.iova request.kind (Ok context))
+    Occurs (Bars features) (stage_parts memory features request.iova request.kind (Ok context))
 page_refuses memory features request context (Ok hit) is denied = absurd (denied tt)
 page_refuses memory features request context (Err fault) is denied = translated_stages_stop memory features context request.iova request.kind fault is
 
 under_refuses : (memory : Memory) (features : Features) (request : Request) (context : Context) (bare : Bool) →
     (IsGranted (under_where bare memory features request context).way → ⊥) →
-    Occurs Bars (stage_parts memory features request.iova request.kind (Ok context))
+    Occurs (Bars features) (stage_parts memory features request.iova request.kind (Ok context))
 unfolding page_look
 under_refuses memory features request context true denied = absurd (denied tt)
 under_refuses memory features request context false denied =
@@ -328,39 +327,39 @@ under_refuses memory features request context false denied =
     page_refuses memory features request context told refl (subst (λ r. IsGranted (way_to context r) → ⊥) (looked_none (request_key request context) told) denied)
 
 pub context_refuses : (memory : Memory) (features : Features) (request : Request) (context : Context) → (IsGranted (led_under memory features [] request context).way → ⊥) →
-    Occurs Bars (stage_parts memory features request.iova request.kind (Ok context))
+    Occurs (Bars features) (stage_parts memory features request.iova request.kind (Ok context))
 context_refuses memory features request context denied = under_refuses memory features request context (is_bare context) denied
 
 found_refuses : (m : Machine) (request : Request) (found : Result Context Cause) → located m.memory m.registers request.did ≡ found →
     (IsGranted (led_by_context (uncached m) request (context_look (uncached m) request.did).filled found).way → ⊥) →
-    Occurs Bars (directory_parts m request.did ++ stage_parts m.memory no_features request.iova request.kind found)
+    Occurs (Bars m.registers.features) (directory_parts m request.did ++ stage_parts m.memory m.registers.features request.iova request.kind found)
 found_refuses m request (Ok context) is denied =
-    in_second Bars (directory_parts m request.did) (stage_parts m.memory no_features request.iova request.kind (Ok context))
-    (context_refuses m.memory no_features request context denied)
+    in_second (Bars m.registers.features) (directory_parts m request.did) (stage_parts m.memory m.registers.features request.iova request.kind (Ok context))
+    (context_refuses m.memory m.registers.features request context denied)
 found_refuses m request (Err why) is denied =
-    in_first Bars (directory_parts m request.did) (stage_parts m.memory no_features request.iova request.kind (Err why))
+    in_first (Bars m.registers.features) (directory_parts m request.did) (stage_parts m.memory m.registers.features request.iova request.kind (Err why))
     (directory_refuses m request.did why is)
 
 mode_refuses : (m : Machine) (request : Request) (own : Mode) → (IsGranted ((led_by_mode own (uncached m) request).way) → ⊥) →
-    (own ≡ mode.Off) ⊎ Occurs Bars (parts_by own m request)
+    (own ≡ mode.Off) ⊎ Occurs (Bars m.registers.features) (parts_by own m request)
 mode_refuses m request mode.Off denied = inl refl
 mode_refuses m request mode.Bare denied = absurd (denied tt)
 mode_refuses m request (mode.Levels levels) denied =
     inr (found_refuses m request (located m.memory m.registers request.did) refl
     (subst (λ r. IsGranted (led_by_context (uncached m) request (context_look (uncached m) request.did).filled r).way → ⊥) (used_uncached m request.did) denied))
 
-some_refuses : (m : Machine) (request : Request) → (IsGranted (by_tables m request) → ⊥) → Occurs Bars (parts_of m request)
+some_refuses : (m : Machine) (request : Request) → (IsGranted (by_tables m request) → ⊥) → Occurs (Bars m.registers.features) (parts_of m request)
 unfolding parts_of led
 some_refuses m request denied =
     let end : Part = part.End (by_tables m request) in
     let between : List Part = parts_by (mode_of m.registers) m request in
     elim (mode_refuses m request (mode_of m.registers) denied) [
       | inl off ↦ inl off
-      | inr later ↦ inr (in_first Bars between (end ∷ []) later)
+      | inr later ↦ inr (in_first (Bars m.registers.features) between (end ∷ []) later)
     ]
 
 -- what is too wide breaks its rule
-refuses : (m : Machine) (request : Request) (one : Part) → IsWide m request one → Bars one → Refuses m request one
+refuses : (m : Machine) (request : Request) (one : Part) → IsWide m request one → Bars m.registers.features one → Refuses m request one
 refuses m request (part.Ddtp own root) wide is = is
 refuses m request (part.Directory met) wide is = is
 refuses m request (part.Wide what) wide is = wide
@@ -368,7 +367,7 @@ refuses m request (part.First entry addr) wide is = is
 refuses m request (part.Second guest entry) wide is = is
 refuses m request (part.End end) wide is = is
 
-all_refuse : (m : Machine) (request : Request) (parts : List Part) → All (IsWide m request) parts → Occurs Bars parts → Occurs (Refuses m request) parts
+all_refuse : (m : Machine) (request : Request) (parts : List Part) → All (IsWide m request) parts → Occurs (Bars m.registers.features) parts → Occurs (Refuses m request) parts
 all_refuse m request [] each is = absurd is
 all_refuse m request (one ∷ more) each is = elim is [
   | inl here ↦ inl (refuses m request one (All-head (IsWide m request) one more each) here)

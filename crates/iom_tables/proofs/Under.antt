@@ -5,7 +5,7 @@ use Rattle.std.proofs.lemmas.List.Elements.{All-nil, All-cons, All-append}
 use Rattle.iom_bits.specs.declared.features.Features.{Features}
 use Rattle.iom_mem.specs.Memory.{Memory}
 use Rattle.iom_ddt.specs.declared.context.Context.{Context}
-use Rattle.iom_core.specs.Access.{Fits, led_under}
+use Rattle.iom_core.specs.Access.{led_under}
 use Rattle.iom_core.specs.declared.access.Request.{Request}
 use Rattle.iom_tables.specs.Bounds.{PartFits}
 use Rattle.iom_tables.specs.Fetches.{IsRead}
@@ -32,10 +32,10 @@ under_read memory features request context parts are =
     each_under (IsRead memory) memory features request context parts are (stages_read memory features request.iova request.kind (Ok context)) tt
 
 pub under_passes : (memory : Memory) (features : Features) (request : Request) (context : Context) (parts : List Part) → parts ≡ parts_under memory features request context →
-    IsGranted (led_under memory features [] request context).way → All Passes parts
+    IsGranted (led_under memory features [] request context).way → All (Passes features) parts
 under_passes memory features request context parts are granted =
-    each_under Passes memory features request context parts are (context_passes memory features request context granted) granted
+    each_under (Passes features) memory features request context parts are (context_passes memory features request context granted) granted
 
 pub under_fits : (memory : Memory) (features : Features) (request : Request) (context : Context) (parts : List Part) → parts ≡ parts_under memory features request context →
-    All PartFits (stage_parts memory features request.iova request.kind (Ok context)) → Fits (led_under memory features [] request context).way → All PartFits parts
-under_fits memory features request context parts are stages fits = each_under PartFits memory features request context parts are stages fits
+    All PartFits (stage_parts memory features request.iova request.kind (Ok context)) → All PartFits parts
+under_fits memory features request context parts are stages = each_under PartFits memory features request context parts are stages tt

@@ -5,7 +5,6 @@ use Rattle.std.proofs.lemmas.List.Elements.{All-nil, All-cons, All-append}
 use Rattle.iom_bits.specs.declared.causes.Cause.{Cause}
 use Rattle.iom_bits.specs.declared.causes.Kind.{Kind}
 use Rattle.iom_bits.specs.declared.causes.Kind.TheVariants.{Read}
-use Rattle.iom_bits.specs.Features.{no_features}
 use Rattle.iom_regs.specs.Views.{mode_of, root_of}
 use Rattle.iom_regs.specs.declared.views.Mode.{Mode}
 use Rattle.iom_regs.specs.declared.views.Mode.TheVariants as mode
@@ -60,46 +59,46 @@ module _ (m : Machine) (request : Request) where
   -- the stages of the context that was found
   module _ (context : Context) (found : located m.memory m.registers request.did ≡ Ok context) where
     second_by_wide : (kind : Kind) (guest : ℕ) (shape : Option Shape) → second_shape_of context ≡ shape →
-        All (IsWide m request) (second_by m.memory no_features context.gppn kind guest shape)
+        All (IsWide m request) (second_by m.memory m.registers.features context.gppn kind guest shape)
     second_by_wide kind guest None is = All-nil (IsWide m request)
     second_by_wide kind guest (Some shape) is =
-        let path : List PathEntry = path_told (ram_got m.memory) (format_of no_features shape) context.gppn guest kind in
+        let path : List PathEntry = path_told (ram_got m.memory) (format_of m.registers.features shape) context.gppn guest kind in
         each_by_width (IsWide m request) (is_in_width shape guest) (wide.Second guest) (map (part.Second guest) path)
         (λ beyond. (context, (found, subst (λ s. IsBeyond s guest) (sym is) beyond)))
         (each_mapped (IsWide m request) (part.Second guest) (λ entry. tt) path)
 
-    second_wide : (kind : Kind) (guest : ℕ) → All (IsWide m request) (second_parts m.memory no_features context kind guest)
+    second_wide : (kind : Kind) (guest : ℕ) → All (IsWide m request) (second_parts m.memory m.registers.features context kind guest)
     unfolding second_parts
     second_wide kind guest = second_by_wide kind guest (second_shape_of context) refl
 
-    entry_wide : (entry : PathEntry) → All (IsWide m request) (entry_parts m.memory no_features context entry)
+    entry_wide : (entry : PathEntry) → All (IsWide m request) (entry_parts m.memory m.registers.features context entry)
     entry_wide entry =
-        let first : Part = part.First entry (read_at m.memory no_features context entry.place) in
-        All-append (IsWide m request) (second_parts m.memory no_features context Read entry.place) (first ∷ [])
+        let first : Part = part.First entry (read_at m.memory m.registers.features context entry.place) in
+        All-append (IsWide m request) (second_parts m.memory m.registers.features context Read entry.place) (first ∷ [])
         (second_wide Read entry.place) (All-cons (IsWide m request) first [] tt (All-nil (IsWide m request)))
 
     first_by_wide : (kind : Kind) (shape : Option Shape) → first_shape_of context ≡ shape →
-        All (IsWide m request) (first_by m.memory no_features context request.iova kind shape)
+        All (IsWide m request) (first_by m.memory m.registers.features context request.iova kind shape)
     first_by_wide kind None is = All-nil (IsWide m request)
     first_by_wide kind (Some shape) is =
-        let path : List PathEntry = path_told (table_got m.memory no_features context) (format_of no_features shape) context.ppn request.iova kind in
-        each_by_width (IsWide m request) (is_in_width shape request.iova) (wide.First request.iova) (flat_map (entry_parts m.memory no_features context) path)
+        let path : List PathEntry = path_told (table_got m.memory m.registers.features context) (format_of m.registers.features shape) context.ppn request.iova kind in
+        each_by_width (IsWide m request) (is_in_width shape request.iova) (wide.First request.iova) (flat_map (entry_parts m.memory m.registers.features context) path)
         (λ beyond. (refl, (context, (found, subst (λ s. IsBeyond s request.iova) (sym is) beyond))))
-        (each_flat (IsWide m request) (entry_parts m.memory no_features context) entry_wide path)
+        (each_flat (IsWide m request) (entry_parts m.memory m.registers.features context) entry_wide path)
 
-    first_wide : (kind : Kind) → All (IsWide m request) (first_parts m.memory no_features context request.iova kind)
+    first_wide : (kind : Kind) → All (IsWide m request) (first_parts m.memory m.registers.features context request.iova kind)
     unfolding first_parts
     first_wide kind = first_by_wide kind (first_shape_of context) refl
 
-    access_wide : (kind : Kind) (reached : Result Reached Failure) → All (IsWide m request) (access_parts m.memory no_features context kind reached)
+    access_wide : (kind : Kind) (reached : Result Reached Failure) → All (IsWide m request) (access_parts m.memory m.registers.features context kind reached)
     access_wide kind (Ok reached) = second_wide kind reached.addr
     access_wide kind (Err failure) = All-nil (IsWide m request)
 
   stages_wide : (found : Result Context Cause) → located m.memory m.registers request.did ≡ found →
-      All (IsWide m request) (stage_parts m.memory no_features request.iova request.kind found)
+      All (IsWide m request) (stage_parts m.memory m.registers.features request.iova request.kind found)
   stages_wide (Ok context) is =
-      let reached : Result Reached Failure = first_stage m.memory no_features context request.iova request.kind (first_shape_of context) in
-      All-append (IsWide m request) (first_parts m.memory no_features context request.iova request.kind) (access_parts m.memory no_features context request.kind reached)
+      let reached : Result Reached Failure = first_stage m.memory m.registers.features context request.iova request.kind (first_shape_of context) in
+      All-append (IsWide m request) (first_parts m.memory m.registers.features context request.iova request.kind) (access_parts m.memory m.registers.features context request.kind reached)
       (first_wide context is request.kind) (access_wide context is request.kind reached)
   stages_wide (Err why) is = All-nil (IsWide m request)
 
@@ -114,7 +113,7 @@ module _ (m : Machine) (request : Request) where
   mode_wide mode.Bare = All-nil (IsWide m request)
   mode_wide (mode.Levels levels) =
       let found : Result Context Cause = located m.memory m.registers request.did in
-      All-append (IsWide m request) (directory_parts m request.did) (stage_parts m.memory no_features request.iova request.kind found)
+      All-append (IsWide m request) (directory_parts m request.did) (stage_parts m.memory m.registers.features request.iova request.kind found)
       directory_wide (stages_wide found refl)
 
   pub each_is_wide : All (IsWide m request) (parts_of m request)

@@ -7,7 +7,6 @@ use Rattle.iom_ddt.specs.declared.listing.Met.TheVariants as met
 use Rattle.iom_regs.specs.declared.views.Mode.{Mode}
 use Rattle.iom_regs.specs.declared.views.Mode.TheVariants as mode
 use Rattle.iom_walk.specs.declared.listing.PathEntry.{PathEntry}
-use Rattle.iom_core.specs.Access.{Fits}
 use Rattle.iom_tables.specs.declared.part.Part.{Part}
 use Rattle.iom_tables.specs.declared.part.Part.TheVariants as part
 use Rattle.iom_tables.specs.declared.part.Wide.{Wide}
@@ -28,9 +27,9 @@ MetFits (met.Leaf place words) = place < 2 ^ 56
 abbrev pub EntryFits : PathEntry → Type 0
 EntryFits entry = (entry.place < 2 ^ 56) × (entry.level < 5)
 
--- a device id has 24 bits, an address 64
+-- an address has 64 bits
 abbrev pub WideFits : Wide → Type 0
-WideFits (wide.Directory did) = did < 2 ^ 24
+WideFits (wide.Directory did) = Unit {0}
 WideFits (wide.First iova) = iova < 2 ^ 64
 WideFits (wide.Second guest) = guest < 2 ^ 64
 
@@ -40,4 +39,4 @@ PartFits (part.Directory met) = MetFits met
 PartFits (part.Wide what) = WideFits what
 PartFits (part.First entry addr) = EntryFits entry × IfSome addr (λ addr. addr < 2 ^ 56)
 PartFits (part.Second guest entry) = (guest < 2 ^ 59) × EntryFits entry
-PartFits (part.End way) = Fits way
+PartFits (part.End way) = Unit {0}

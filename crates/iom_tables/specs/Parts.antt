@@ -6,7 +6,6 @@ use Rattle.iom_bits.specs.declared.causes.Cause.{Cause}
 use Rattle.iom_bits.specs.declared.causes.Kind.{Kind}
 use Rattle.iom_bits.specs.declared.causes.Kind.TheVariants.{Read}
 use Rattle.iom_bits.specs.declared.features.Features.{Features}
-use Rattle.iom_bits.specs.Features.{no_features}
 use Rattle.iom_mem.specs.Memory.{Memory}
 use Rattle.iom_regs.specs.Views.{mode_of, root_of}
 use Rattle.iom_regs.specs.declared.views.Mode.{Mode}
@@ -101,7 +100,7 @@ parts_by mode.Off m request = []
 parts_by mode.Bare m request = []
 parts_by (mode.Levels levels) m request =
     directory_parts m request.did
-    ++ stage_parts m.memory no_features request.iova request.kind (located m.memory m.registers request.did)
+    ++ stage_parts m.memory m.registers.features request.iova request.kind (located m.memory m.registers request.did)
 
 -- ddtp first, and last the way that the request is led
 unfoldable pub parts_of : Machine → Request → List Part

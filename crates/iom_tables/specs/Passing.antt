@@ -2,6 +2,7 @@
 -- "Process to locate the Device-context" and "Process to translate an IOVA".
 use Rattle.std.specs.Prelude.{ℕ, ◌≡◌, ◌≢◌, ◌⊎◌, true, false, Option, Some, None, Result, Ok, Err}
 use Rattle.iom_bits.specs.declared.causes.Cause.{Cause}
+use Rattle.iom_bits.specs.declared.features.Features.{Features}
 use Rattle.iom_regs.specs.Views.{mode_of}
 use Rattle.iom_regs.specs.declared.views.Mode.TheVariants as mode
 use Rattle.iom_ddt.specs.Directory.{decided_by, is_too_wide, levels_of, located}
@@ -36,13 +37,13 @@ IsNoFault (Some (Err cause)) = ⊥
 abbrev pub Lets : Ruling → Type 0
 Lets row = (row ≡ ruling.Pointer) ⊎ (row ≡ ruling.Leaf)
 
-abbrev pub Passes : Part → Type 0
-Passes (part.Ddtp own root) = own ≢ mode.Off
-Passes (part.Directory met) = IsNoFault (decided_by met)
-Passes (part.Wide what) = ⊥
-Passes (part.First entry addr) = Lets entry.ruling
-Passes (part.Second guest entry) = Lets entry.ruling
-Passes (part.End end) = IsGranted end
+abbrev pub Passes : Features → Part → Type 0
+Passes features (part.Ddtp own root) = own ≢ mode.Off
+Passes features (part.Directory met) = IsNoFault (decided_by features met)
+Passes features (part.Wide what) = ⊥
+Passes features (part.First entry addr) = Lets entry.ruling
+Passes features (part.Second guest entry) = Lets entry.ruling
+Passes features (part.End end) = IsGranted end
 
 -- an address breaks the width rule of a stage; a Bare one has none
 abbrev pub IsBeyond : Option Shape → ℕ → Type 0
@@ -62,7 +63,7 @@ Breaks m request (wide.Second guest) =
 -- the same refuses it; the end only tells that something did
 abbrev pub Refuses : Machine → Request → Part → Type 0
 Refuses m request (part.Ddtp own root) = own ≡ mode.Off
-Refuses m request (part.Directory met) = ¬ IsNoFault (decided_by met)
+Refuses m request (part.Directory met) = ¬ IsNoFault (decided_by m.registers.features met)
 Refuses m request (part.Wide what) = Breaks m request what
 Refuses m request (part.First entry addr) = ¬ Lets entry.ruling
 Refuses m request (part.Second guest entry) = ¬ Lets entry.ruling

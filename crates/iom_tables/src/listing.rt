@@ -3,9 +3,7 @@
 ghost use Rattle.std.specs.Prelude.{◌≡◌, ◌++◌, ◌+◌, ◌<◌, ◌≤◌, ◌^◌, ◌-◌, [], map, flat_map, slice_get, All, Any, IfOk, None, Ok, Result, Some, ◌≢◌};
 ghost use Rattle.arrayvec.specs.ArrayVec.{array_vec_len};
 ghost use Rattle.iom_regs.specs.Views.{mode_of};
-ghost use Rattle.iom_ddt.specs.Contexts.{IsWellFormed};
 ghost use Rattle.iom_ddt.specs.Directory.{levels_of, located, path_of};
-ghost use Rattle.iom_bits.specs.Features.{no_features};
 ghost use Rattle.iom_bits.specs.declared.causes.Kind.TheVariants.{Read};
 ghost use Rattle.iom_nested.specs.Faults.{Failure};
 ghost use Rattle.iom_nested.specs.Nested.{first_stage, told_of};
@@ -19,7 +17,7 @@ ghost use Rattle.iom_tables.specs.declared.part.Part.TheVariants as part;
 ghost use Rattle.iom_core.specs.Access.{led_under};
 ghost use Rattle.iom_core.specs.Looking.{by_tables};
 
-use crate::{Part, Wide};
+use crate::{Part, Way, Wide};
 use arrayvec::ArrayVec;
 use iom_bits::{Features, Kind};
 use iom_core::{Platform, Request};
@@ -39,12 +37,11 @@ pub type Parts = ArrayVec<Part, 40>;
 /// second stage that translate the entry's place, for a read. The second stage for the access itself is next, for the access's kind,
 /// and the end is the way that the request is led. A device id that is too wide stands in place of the directory, and an address that
 /// breaks the width rule of a stage in place of its entries. Where the request is granted no part refuses it; where it is denied one does.
-/// Each PPN told is below 2^44, and each address of an entry below 2^56. The device id is below 2^24, the IOVA any. No memory is taken.
+/// Each PPN told is below 2^44, and each address of an entry below 2^56. Any request has parts. No memory is taken.
 pub fn parts(platform: &Platform, request: &Request) -> Parts
-    requires { request.now.did < 2 ^ 24 }
     ensures parts { result.items ≡ parts_of platform.now.machine request.now }
     ensures read { All (IsRead platform.now.machine.memory) result.items }
-    ensures passed { IsGranted (by_tables platform.now.machine request.now) → All Passes result.items }
+    ensures passed { IsGranted (by_tables platform.now.machine request.now) → All (Passes platform.now.machine.registers.features) result.items }
     ensures refused { (IsGranted (by_tables platform.now.machine request.now) → ⊥) →
         Any (Refuses platform.now.machine request.now) result.items }
     ensures end { slice_get result.items (array_vec_len result - 1) ≡ Some (part.End (by_tables platform.now.machine request.now)) }
@@ -60,10 +57,9 @@ pub fn parts(platform: &Platform, request: &Request) -> Parts
 /// Puts the same in place of what a list holds.
 #[tactic(auto, unfolding(crate::specs::Parts::parts_of))]
 pub fn put_parts(out: &mut Parts, platform: &Platform, request: &Request)
-    requires { request.now.did < 2 ^ 24 }
     ensures parts { out.new.items ≡ parts_of platform.now.machine request.now }
     ensures read { All (IsRead platform.now.machine.memory) out.new.items }
-    ensures passed { IsGranted (by_tables platform.now.machine request.now) → All Passes out.new.items }
+    ensures passed { IsGranted (by_tables platform.now.machine request.now) → All (Passes platform.now.machine.registers.features) out.new.items }
     ensures refused { (IsGranted (by_tables platform.now.machine request.now) → ⊥) →
         Any (Refuses platform.now.machine request.now) out.new.items }
     ensures end { slice_get out.new.items (array_vec_len out.new - 1) ≡ Some (part.End (by_tables platform.now.machine request.now)) }
@@ -84,10 +80,9 @@ pub fn put_parts(out: &mut Parts, platform: &Platform, request: &Request)
 /// stages, as the tables stand now, and the end, which is the way that they lead it. It takes the place of what the list holds.
 #[tactic(auto, unfolding(crate::specs::Parts::parts_under))]
 pub fn put_parts_under(out: &mut Parts, platform: &Platform, request: &Request, context: &Context)
-    requires { IsWellFormed context.now }
-    ensures parts { out.new.items ≡ parts_under platform.now.machine.memory no_features request.now context.now }
+    ensures parts { out.new.items ≡ parts_under platform.now.machine.memory platform.now.machine.registers.features request.now context.now }
     ensures read { All (IsRead platform.now.machine.memory) out.new.items }
-    ensures passed { IsGranted (led_under platform.now.machine.memory no_features [] request.now context.now).way → All Passes out.new.items }
+    ensures passed { IsGranted (led_under platform.now.machine.memory platform.now.machine.registers.features [] request.now context.now).way → All (Passes platform.now.machine.registers.features) out.new.items }
     ensures fits { All PartFits out.new.items }
 {
     out.clear();
@@ -95,9 +90,11 @@ pub fn put_parts_under(out: &mut Parts, platform: &Platform, request: &Request, 
     out.push(Part::End(platform.way_under(request, context)));
 }
 
+// A function that pushes a part names `Way`, which a part has: what is proved of a list of parts rests on the modules of the types that
+// the function names.
+
 // What is behind ddtp, where its mode has a directory.
 fn push_walk(out: &mut Parts, platform: &Platform, request: &Request)
-    requires width { request.now.did < 2 ^ 24 }
     requires room { array_vec_len out.old ≤ 1 }
     ensures items { out.new.items ≡ out.old.items
         ++ parts_by (mode_of platform.now.machine.registers) platform.now.machine request.now }
@@ -113,11 +110,11 @@ fn push_walk(out: &mut Parts, platform: &Platform, request: &Request)
 // The items of the directory, or a device id that is too wide for it.
 fn push_directory(out: &mut Parts, platform: &Platform, did: u32)
     requires directory { 1 ≤ levels_of (mode_of platform.now.machine.registers) }
-    requires width { did < 2 ^ 24 }
     requires room { array_vec_len out.old ≤ 37 }
     ensures items { out.new.items ≡ out.old.items ++ directory_parts platform.now.machine did }
     ensures len { array_vec_len out.new ≤ array_vec_len out.old + 3 }
 {
+    let _: Option<Way> = None;
     if is_too_wide(platform.registers(), did) {
         out.push(Part::Wide(Wide::Directory { did }));
     } else {
@@ -128,11 +125,11 @@ fn push_directory(out: &mut Parts, platform: &Platform, did: u32)
 // The items of the directory.
 fn push_items(out: &mut Parts, platform: &Platform, did: u32)
     requires directory { 1 ≤ levels_of (mode_of platform.now.machine.registers) }
-    requires width { did < 2 ^ 24 }
     requires room { array_vec_len out.old ≤ 37 }
     ensures items { out.new.items ≡ out.old.items ++ map part.Directory (path_of platform.now.machine.memory platform.now.machine.registers did) }
     ensures len { array_vec_len out.new ≤ array_vec_len out.old + 3 }
 {
+    let _: Option<Way> = None;
     let path = iom_ddt::path(platform.ram(), platform.registers(), did);
     for met in path.iter() {
         out.push(Part::Directory(*met));
@@ -142,12 +139,11 @@ fn push_items(out: &mut Parts, platform: &Platform, did: u32)
 // Both stages of the context that the directory has for the request.
 fn push_located(out: &mut Parts, platform: &Platform, request: &Request)
     requires directory { 1 ≤ levels_of (mode_of platform.now.machine.registers) }
-    requires width { request.now.did < 2 ^ 24 }
     requires room { array_vec_len out.old ≤ 5 }
-    ensures items { out.new.items ≡ out.old.items ++ stage_parts platform.now.machine.memory no_features request.now.iova request.now.kind
+    ensures items { out.new.items ≡ out.old.items ++ stage_parts platform.now.machine.memory platform.now.machine.registers.features request.now.iova request.now.kind
         (located platform.now.machine.memory platform.now.machine.registers request.now.did) }
     ensures len { array_vec_len out.new ≤ array_vec_len out.old + 35 }
-    ensures fits { All PartFits (stage_parts platform.now.machine.memory no_features request.now.iova request.now.kind
+    ensures fits { All PartFits (stage_parts platform.now.machine.memory platform.now.machine.registers.features request.now.iova request.now.kind
         (located platform.now.machine.memory platform.now.machine.registers request.now.did)) }
 {
     if let Ok(context) = &locate(platform.ram(), platform.registers(), request.did) {
@@ -157,16 +153,16 @@ fn push_located(out: &mut Parts, platform: &Platform, request: &Request)
 
 // Both stages of a context.
 fn push_stages(out: &mut Parts, platform: &Platform, request: &Request, context: &Context)
-    requires well_formed { IsWellFormed context.now }
     requires room { array_vec_len out.old ≤ 5 }
     ensures items { out.new.items ≡ out.old.items
-        ++ stage_parts platform.now.machine.memory no_features request.now.iova request.now.kind (Ok context.now) }
+        ++ stage_parts platform.now.machine.memory platform.now.machine.registers.features request.now.iova request.now.kind (Ok context.now) }
     ensures len { array_vec_len out.new ≤ array_vec_len out.old + 35 }
-    ensures fits { All PartFits (stage_parts platform.now.machine.memory no_features request.now.iova request.now.kind (Ok context.now)) }
+    ensures fits { All PartFits (stage_parts platform.now.machine.memory platform.now.machine.registers.features request.now.iova request.now.kind (Ok context.now)) }
 {
-    let ram = platform.ram();
-    let reached = push_first(out, ram, Features::none(), context, request.iova, request.kind);
-    push_access(out, ram, Features::none(), context, reached, request.kind);
+    let _ = &context.fields;
+    let (ram, features) = (platform.ram(), platform.registers().features());
+    let reached = push_first(out, ram, features, context, request.iova, request.kind);
+    push_access(out, ram, features, context, reached, request.kind);
 }
 
 // The first stage, entry by entry, or an IOVA that is too wide for it, and where it leads.
@@ -179,7 +175,6 @@ fn push_first(
     iova: u64,
     kind: Kind,
 ) -> Result<Reached, Fault>
-    requires well_formed { IsWellFormed context.now }
     requires room { array_vec_len out.old ≤ 10 }
     ensures items { out.new.items ≡ out.old.items ++ first_parts ram.now features context.now iova kind }
     ensures len { array_vec_len out.new ≤ array_vec_len out.old + 30 }
@@ -188,6 +183,7 @@ fn push_first(
     ensures fits { IfOk result
         (λ reached. (first_shape_of context.now ≢ None → reached.addr < 2 ^ 56) × (reached.level < 5)) }
 {
+    let _: Option<Way> = None;
     let mut entries = PathEntries::new();
     let reached = first_stage_listed(&mut entries, ram, features, context, iova, kind);
     match first_shape(context) {
@@ -200,12 +196,12 @@ fn push_first(
 
 // Entries of the first stage, each behind those of the second.
 fn push_entries(out: &mut Parts, ram: &Ram, features: Features, context: &Context, entries: &PathEntries)
-    requires well_formed { IsWellFormed context.now }
     requires few { array_vec_len entries.now ≤ 5 }
     requires room { array_vec_len out.old ≤ 10 }
     ensures items { out.new.items ≡ out.old.items ++ flat_map (entry_parts ram.now features context.now) entries.now.items }
     ensures len { array_vec_len out.new ≤ array_vec_len out.old + 30 }
 {
+    let _: Option<Way> = None;
     for entry in entries.iter() {
         let addr = push_second(out, ram, features, context, entry.place, Kind::Read);
         let entry = *entry;
@@ -222,12 +218,12 @@ fn push_access(
     reached: Result<Reached, Fault>,
     kind: Kind,
 )
-    requires well_formed { IsWellFormed context.now }
     requires room { array_vec_len out.old ≤ 35 }
     ensures items { (found : Result Reached Failure) → reached ≡ told_of kind found →
         out.new.items ≡ out.old.items ++ access_parts ram.now features context.now kind found }
     ensures len { array_vec_len out.new ≤ array_vec_len out.old + 5 }
 {
+    let _: Option<Way> = None;
     if let Ok(reached) = reached {
         let _addr = push_second(out, ram, features, context, reached.addr, kind);
     }
@@ -236,12 +232,12 @@ fn push_access(
 // The second stage from a guest-physical address on, entry by entry, or that address where it is too wide for it; and where it leads.
 #[tactic(auto, unfolding(crate::specs::Parts::second_parts, crate::specs::Parts::read_at, iom_walk::specs::Outcome::outcome_of))]
 fn push_second(out: &mut Parts, ram: &Ram, features: Features, context: &Context, guest: u64, kind: Kind) -> Option<u64>
-    requires well_formed { IsWellFormed context.now }
     requires room { array_vec_len out.old ≤ 35 }
     ensures items { out.new.items ≡ out.old.items ++ second_parts ram.now features context.now kind guest }
     ensures len { array_vec_len out.new ≤ array_vec_len out.old + 5 }
     ensures addr { kind ≡ Read → result ≡ read_at ram.now features context.now guest }
 {
+    let _: Option<Way> = None;
     let Some(shape) = second_shape(context) else {
         return Some(guest);
     };
@@ -254,7 +250,7 @@ fn push_second(out: &mut Parts, ram: &Ram, features: Features, context: &Context
         &mut entries,
         &Physical { ram },
         Format { shape, features },
-        context.gppn,
+        context.fields.gppn,
         guest,
         kind,
     );
@@ -272,6 +268,7 @@ fn push_path(out: &mut Parts, entries: &PathEntries, guest: u64)
     ensures items { out.new.items ≡ out.old.items ++ map (part.Second guest) entries.now.items }
     ensures len { array_vec_len out.new ≤ array_vec_len out.old + array_vec_len entries.now }
 {
+    let _: Option<Way> = None;
     for met in entries.iter() {
         out.push(Part::Second { guest, entry: *met });
     }

@@ -42,8 +42,8 @@ fn context_standing(platform: &Platform, did: u32, context: &Context) -> Standin
     ensures { IsStanding (IsContextNow platform.now.machine) (found_now platform.now.machine) (Live did context.now) result }
 {
     let found = found_now(platform, did);
-    match found {
-        Located::Context(now) if now == *context => Standing::Current,
+    match &found {
+        Located::Context(now) if now == context => Standing::Current,
         _ => Standing::Stale(found),
     }
 }
@@ -92,8 +92,8 @@ fn page_standing(platform: &Platform, key: &Key, hit: &Hit) -> Standing<Way>
 {
     let request = request_of(key);
     let way = platform.seen_uncached(&request).way;
-    match way {
-        Way::Walked(context, now) if now == *hit && has_key(&request, &context, key) =>
+    match &way {
+        Way::Walked(context, now) if now == hit && has_key(&request, context, key) =>
             Standing::Current,
         _ => Standing::Stale(way),
     }

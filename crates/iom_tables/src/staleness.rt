@@ -1,5 +1,4 @@
-ghost use Rattle.std.specs.Prelude.{◌≡◌, ◌↔◌, ◌<◌, ◌^◌, IsTrue, IfSome, is_some};
-ghost use Rattle.iom_core.specs.Access.{Fits};
+ghost use Rattle.std.specs.Prelude.{◌≡◌, ◌↔◌, IsTrue, IfSome, is_some};
 ghost use Rattle.iom_core.specs.Looking.{by_tables};
 ghost use Rattle.iom_tables.specs.Stale.{IsStale, differing, stale_way};
 
@@ -8,13 +7,11 @@ use crate::way::is_same;
 use iom_core::{Platform, Request};
 
 /// What the tables say now of a request whose way is another, since a cache has it otherwise; None where the request isn't
-/// stale. Nothing is cached, reported or changed. The device id is below 2^24, the IOVA any.
+/// stale. Nothing is cached, reported or changed.
 pub fn stale(platform: &Platform, request: &Request) -> Option<Way>
-    requires { request.now.did < 2 ^ 24 }
     ensures stale { IsTrue (is_some result) ↔ IsStale platform.now.machine request.now }
     ensures tables { IfSome result (λ way. way ≡ by_tables platform.now.machine request.now) }
     ensures told { result ≡ stale_way platform.now.machine request.now }
-    ensures fits { IfSome result Fits }
 {
     let tables = platform.seen_uncached(request).way;
     differing(&platform.seen(request).way, tables)
@@ -22,9 +19,7 @@ pub fn stale(platform: &Platform, request: &Request) -> Option<Way>
 
 /// What the tables say, where it is another way than this one.
 pub fn differing(now: &Way, tables: Way) -> Option<Way>
-    requires { Fits tables }
     ensures told { result ≡ differing now.now tables }
-    ensures fits { IfSome result Fits }
 {
     if is_same(now, &tables) {
         None

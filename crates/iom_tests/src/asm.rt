@@ -100,13 +100,18 @@ const STATEMENTS: &[(&[u8], bool)] = &[
     (b"cmd iodir did=", false),
     (b"cmd iodir did = 5", false),
     (b"cmd gvma pscv=1", false),
+    (b"cmd vma nl=1 s=1", true),
+    (b"cmd gvma s=2", false),
+    (b"cmd fence nl=1", false),
     (b"cmd fence addr=2", false),
     (b"cmd", false),
     (b"CMD iodir", false),
     (b"context mode=8 ppn=1", true),
     (b"context mode=1", false),
     (b"context mode=9 ppn=1", true),
-    (b"context mode=10", false),
+    (b"context mode=10 ppn=1", true),
+    (b"context mode=11", false),
+    (b"context gmode=10 gppn=2", false),
     (b"context gmode=8 gppn=1", false),
     (b"context gmode=9 gppn=4", true),
     (b"context gmode=9 gppn=1", false),
@@ -431,7 +436,10 @@ cmd vma page=0xabc gv=1 gscid=7
 context mode=8 ppn=0x80002
 dir ppn=0x80003
 pte flags=0xd7 ppn=0x80010
-u64 0x10";
+u64 0x10
+at 0x80090100
+cmd vma s=1 page=3 av=1
+cmd gvma nl=1";
 
 const STATED_LISTED: &[Listing<'static>] = &[
     (
@@ -466,6 +474,16 @@ const STATED_TOLD: &[Line<'static>] = &[
     (Item::Pte, 0x8009_0048, b"pte ppn=0x80010 flags=0xd7"),
     (Item::Dir, 0x8009_0048, b"u64 0x200040d7"),
     (Item::Word, 0x8009_0050, b"u64 0x10"),
+    (
+        Item::Cmd,
+        0x8009_0100,
+        b"cmd vma av=0x1 page=0x3 pscv=0x0 pscid=0x0 gv=0x0 gscid=0x0 s=0x1",
+    ),
+    (
+        Item::Cmd,
+        0x8009_0110,
+        b"cmd gvma av=0x0 page=0x0 pscid=0x0 gv=0x0 gscid=0x0 nl=0x1",
+    ),
     (
         Item::Fault,
         0x8009_0058,

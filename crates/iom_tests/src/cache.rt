@@ -1,6 +1,6 @@
 use iom_bits::Kind;
 use iom_cache::{ContextCache, Key, Place, TransCache, key_of};
-use iom_ddt::Context;
+use iom_ddt::{Context, ContextFields};
 use iom_nested::Hit;
 use iom_queue::Command;
 use std::alloc::{AllocError, Global};
@@ -20,6 +20,14 @@ const GLOBAL: Hit = Hit {
     napot: false,
 };
 
+// Of a leaf that maps 64 KiB.
+const NAPOT: Hit = Hit {
+    frame: 0x80010,
+    level: 0,
+    global: false,
+    napot: true,
+};
+
 const SUPERPAGE: Hit = Hit {
     frame: 0x80010,
     level: 1,
@@ -35,15 +43,17 @@ const LARGEST: Hit = Hit {
 };
 
 const CONTEXT: Context = Context {
-    dtf: false,
-    custom: 0,
-    gmode: 8,
-    gppn: 0x80020,
-    gscid: 7,
-    tav: false,
-    pscid: 3,
-    mode: 0,
-    ppn: 0,
+    fields: ContextFields {
+        dtf: false,
+        custom: 0,
+        gmode: 8,
+        gppn: 0x80020,
+        gscid: 7,
+        tav: false,
+        pscid: 3,
+        mode: 0,
+        ppn: 0,
+    },
 };
 
 // A key of device 5 under process 3.
@@ -77,6 +87,22 @@ fn vma(av: bool, page: u64, pscv: bool) -> Command {
         pscid: 3,
         gv: false,
         gscid: 0,
+        nl: false,
+        s: false,
+    }
+}
+
+// An IOTINVAL.VMA of a range, that asks for entries that aren't leaves too.
+fn vma_range(page: u64) -> Command {
+    Command::Vma {
+        av: true,
+        page,
+        pscv: false,
+        pscid: 0,
+        gv: false,
+        gscid: 0,
+        nl: true,
+        s: true,
     }
 }
 
@@ -88,12 +114,14 @@ fn gvma(gv: bool, gscid: u16) -> Command {
         pscid: 0,
         gv,
         gscid,
+        nl: false,
+        s: false,
     }
 }
 
-// Fills where no live place has the key, with a hit that fits.
+// Fills where no live place has the key.
 fn fill(cache: &mut TransCache, key: Key, hit: Hit) {
-    if cache.find(&key).is_none() && hit.frame < 1 << 44 && hit.level < 5 {
+    if cache.find(&key).is_none() {
         cache.fill(key, hit);
     }
 }
@@ -119,7 +147,7 @@ fn is_dropped(alloc: Global, command: Command, key: Key, hit: Hit) -> Result<boo
 fn filled_contexts(alloc: Global, end: u32) -> Result<ContextCache, AllocError> {
     let mut cache = ContextCache::new(alloc)?;
     for did in 0..end {
-        if cache.find(did).is_none() && CONTEXT.is_well_formed() {
+        if cache.find(did).is_none() {
             cache.fill(did, CONTEXT);
         }
     }
@@ -220,6 +248,23 @@ fn drops_by_the_table(rt: HostRuntime) -> Result<(), Fail> {
         // Of 2^27 pages.
         (vma(true, 0x7ff_ffff, false), host, LARGEST, true),
         (vma(true, 0x800_0000, false), host, LARGEST, false),
+        // Of 16 pages.
+        (vma(true, 0x4020f, false), host, NAPOT, true),
+        (vma(true, 0x40210, false), host, NAPOT, false),
+        (vma_range(0x4020c), host, NAPOT, true),
+        (vma_range(0x4020f), host, NAPOT, true),
+        (vma_range(0x40217), host, NAPOT, false),
+        // S: 0x40203 is the 8 pages from 0x40200 on, 0x401ff the 1024 from 0x40000 on; all ones are all pages.
+        (vma_range(0x40203), host, HIT, true),
+        (vma_range(0x40203), process_key(0x40207), HIT, true),
+        (vma_range(0x40203), process_key(0x40208), HIT, false),
+        (vma_range(0x40203), process_key(0x401ff), HIT, false),
+        (vma_range(0x40200), host, HIT, true),
+        (vma_range(0x40202), host, HIT, false),
+        (vma_range(0x40203), process_key(0x403ff), SUPERPAGE, true),
+        (vma_range(0x40403), process_key(0x403ff), SUPERPAGE, false),
+        (vma_range(0x401ff), process_key(0x403ff), SUPERPAGE, true),
+        (vma_range((1 << 52) - 1), host, HIT, true),
         (gvma(false, 0), guest, HIT, true),
         (gvma(false, 0), host, HIT, false),
         (gvma(true, 6), guest, HIT, false),

@@ -10,6 +10,8 @@ mod blk_requests;
 #[cfg(test)]
 mod cache;
 #[cfg(test)]
+mod capabilities;
+#[cfg(test)]
 mod chains;
 #[cfg(test)]
 mod ddt;
@@ -21,6 +23,8 @@ mod harmed;
 mod mem;
 #[cfg(test)]
 mod nested;
+#[cfg(test)]
+mod offered;
 #[cfg(test)]
 mod playing;
 #[cfg(test)]

@@ -2,15 +2,15 @@ ghost use Rattle.std.specs.Prelude.{Ok, Err};
 
 use crate::first_wrong;
 use iom_bits::{Cause, Features, Kind};
-use iom_ddt::Context;
+use iom_ddt::{Context, ContextFields};
 use iom_mem::{MemFault, Ram};
-use iom_nested::{Fault, Hit, Second, translate};
+use iom_nested::{Fault, Hit, Second, second_shape, translate};
 use iom_walk::{Got, Words};
 use std::alloc::Global;
 use std::test::Fail;
 
 // Both stages: the first stage's root is at the guest's page 0x30, the second's at page 0x80020.
-const BOTH: Context = Context {
+const BOTH: ContextFields = ContextFields {
     dtf: false,
     custom: 0,
     gmode: 8,
@@ -66,30 +66,26 @@ fn memory(alloc: Global, words: &[(u64, u64)], last: (u64, u64)) -> Result<Ram, 
 }
 
 // An IOVA under a context; the frame, the level and whether it is global.
-type Found = (Context, u64, Kind, u64, u8, bool);
+type Found = (ContextFields, u64, Kind, u64, u8, bool);
 
 // An IOVA under a context; the cause and iotval2 of the fault.
-type Failure = (Context, u64, Kind, Cause, u64);
+type Failure = (ContextFields, u64, Kind, Cause, u64);
 
 // What an IOVA leads to under a context; None where the context has no stage or isn't well formed.
-fn led(ram: &Ram, context: &Context, iova: u64, kind: Kind) -> Option<Result<Hit, Fault>> {
-    if !context.is_well_formed() || context.is_bare() {
+fn led(ram: &Ram, fields: &ContextFields, iova: u64, kind: Kind) -> Option<Result<Hit, Fault>> {
+    let context = Context::new(*fields)?;
+    if context.is_bare() {
         return None;
     }
-    Some(translate(ram, Features::none(), context, iova, kind))
+    Some(translate(ram, Features::none(), &context, iova, kind))
 }
 
 // The number of the first that is otherwise.
 fn found_otherwise(ram: &Ram, cases: &[Found]) -> Option<usize> {
     for (i, (context, iova, kind, frame, level, global)) in cases.iter().enumerate() {
-        let hit = Hit {
-            frame: *frame,
-            level: *level,
-            global: *global,
-            napot: false,
-        };
-        if led(ram, context, *iova, *kind) != Some(Ok(hit)) {
-            return Some(i);
+        match led(ram, context, *iova, *kind) {
+            Some(Ok(hit)) if (hit.frame, hit.level, hit.global) == (*frame, *level, *global) => {}
+            _ => return Some(i),
         }
     }
     None
@@ -124,19 +120,19 @@ fn otherwise(
     ])
 }
 
-const BARE_SECOND: Context = Context { gmode: 0, ..BOTH };
+const BARE_SECOND: ContextFields = ContextFields { gmode: 0, ..BOTH };
 
-const BARE_FIRST: Context = Context { mode: 0, ..BOTH };
+const BARE_FIRST: ContextFields = ContextFields { mode: 0, ..BOTH };
 
 // The first stage alone, with its root in memory.
-const FIRST: Context = Context {
+const FIRST: ContextFields = ContextFields {
     gmode: 0,
     ppn: 0x80030,
     ..BOTH
 };
 
 // The second stage's root outside memory.
-const OUTSIDE: Context = Context {
+const OUTSIDE: ContextFields = ContextFields {
     gppn: 0x4000,
     ..BOTH
 };
@@ -277,19 +273,19 @@ const FOUR_LEVELS: &[(u64, u64)] = &[
     (0x8003_2008, 0xcc01),
 ];
 
-const FOUR: Context = Context {
+const FOUR: ContextFields = ContextFields {
     gmode: 9,
     mode: 9,
     ..BOTH
 };
 
-const FIRST_OF_THREE: Context = Context { mode: 8, ..FOUR };
+const FIRST_OF_THREE: ContextFields = ContextFields { mode: 8, ..FOUR };
 
-const SECOND_OF_THREE: Context = Context { gmode: 8, ..FOUR };
+const SECOND_OF_THREE: ContextFields = ContextFields { gmode: 8, ..FOUR };
 
-const BARE_FIRST_OF_FOUR: Context = Context { mode: 0, ..FOUR };
+const BARE_FIRST_OF_FOUR: ContextFields = ContextFields { mode: 0, ..FOUR };
 
-const BARE_FIRST_OF_THREE: Context = Context {
+const BARE_FIRST_OF_THREE: ContextFields = ContextFields {
     mode: 0,
     ..SECOND_OF_THREE
 };
@@ -342,13 +338,101 @@ fn each_stage_has_its_own_levels(rt: HostRuntime) -> Result<(), Fail> {
     Ok(())
 }
 
+// Both stages of five levels: first-stage tables at the guest's pages 0x30 to 0x34, the second stage two tables and a page of 1 GiB.
+const FIVE_LEVELS: &[(u64, u64)] = &[
+    (0x8002_0000, 0x80024 << 10 | 1),
+    (0x8002_4000, 0x80025 << 10 | 1),
+    (0x8002_5000, 0x2000_00d7),
+    (0x8003_0008, 0xc401),
+    (0x8003_1008, 0xc801),
+    (0x8003_2008, 0xcc01),
+    (0x8003_3008, 0xd001),
+];
+
+const FIVE: ContextFields = ContextFields {
+    gmode: 10,
+    mode: 10,
+    ..BOTH
+};
+
+const FIRST_OF_FOUR: ContextFields = ContextFields { mode: 9, ..FIVE };
+
+const BARE_FIRST_OF_FIVE: ContextFields = ContextFields { mode: 0, ..FIVE };
+
+const IN_FIVE: &[Found] = &[
+    (FIVE, 0x1_0080_4020_1abc, Kind::Write, 0x80040, 0, false),
+    (BARE_FIRST_OF_FIVE, 0x20_0abc, Kind::Read, 0x80200, 0, false),
+];
+
+const NOT_IN_FIVE: &[Failure] = &[
+    // In four levels the fourth table is the last.
+    (
+        FIRST_OF_FOUR,
+        0x80_4020_1abc,
+        Kind::Read,
+        Cause::Page(Kind::Read),
+        0,
+    ),
+    // Beyond the width of five levels.
+    (
+        BARE_FIRST_OF_FIVE,
+        0x800_0000_0000_0003,
+        Kind::Read,
+        Cause::Guest(Kind::Read),
+        0x800_0000_0000_0000,
+    ),
+];
+
+#[test]
+fn stages_of_five_levels(rt: HostRuntime) -> Result<(), Fail> {
+    let last = (0x8003_4008, 0x1_00d7);
+    let found = otherwise(rt.alloc(), FIVE_LEVELS, last, IN_FIVE, NOT_IN_FIVE)?;
+    assert_eq!(rt; found, [None, None]);
+    Ok(())
+}
+
+// Where an IOVA leads on an IOMMU with Svnapot: the frame, and whether the first stage's leaf is one of 64 KiB.
+fn with_svnapot(ram: &Ram, iova: u64) -> Option<(u64, bool)> {
+    let features = Features {
+        svnapot: true,
+        ..Features::none()
+    };
+    let context = Context::new(BOTH)?;
+    if context.is_bare() {
+        return None;
+    }
+    match translate(ram, features, &context, iova, Kind::Read) {
+        Ok(hit) => Some((hit.frame, hit.napot)),
+        Err(_) => None,
+    }
+}
+
+// Leaves of 64 KiB: one of the first stage, whose hits say so, and one of the second.
+#[test]
+fn leaves_of_64_kib(rt: HostRuntime) -> Result<(), Fail> {
+    let mut whole = memory(rt.alloc(), TABLES, SECOND_WHOLE)?;
+    put(
+        &mut whole,
+        &[(0x8003_2018, 1 << 63 | 0x48 << 10 | 0xd7)],
+    );
+    let behind = (0x8002_62b0, 1 << 63 | 0x80058 << 10 | 0xd7);
+    let small = memory(rt.alloc(), SECOND_SMALL, behind)?;
+    let facts = [
+        with_svnapot(&whole, 0x4020_3abc) == Some((0x80043, true)),
+        with_svnapot(&whole, 0x4020_1abc) == Some((0x80040, false)),
+        with_svnapot(&small, 0x4045_6abc) == Some((0x80056, false)),
+    ];
+    assert_eq!(rt; first_wrong(&facts), None);
+    Ok(())
+}
+
 // What the guest has at an address, under a context that has a second stage.
 fn guest_word(ram: &Ram, addr: u64) -> Option<Got> {
-    if BOTH.is_well_formed() {
-        Some(Second::new(ram, Features::none(), &BOTH).word(addr))
-    } else {
-        None
+    let context = Context::new(BOTH)?;
+    if second_shape(&context).is_none() {
+        return None;
     }
+    Some(Second::new(ram, Features::none(), &context).word(addr))
 }
 
 // A word of the guest's memory, one outside memory and one that the second stage doesn't map.

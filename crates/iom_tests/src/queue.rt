@@ -1,11 +1,12 @@
 use crate::first_wrong;
-use iom_bits::{Cause, Kind};
+use iom_bits::{Cause, Features, Kind};
 use iom_mem::Ram;
 use iom_queue::{
     Command, Fetch, Record, decode_command, decode_record, deliver, encode_command, encode_record,
     is_reported, next_command,
 };
 use iom_regs::Regs;
+use std::alloc::Global;
 use std::test::Fail;
 
 const BASE: u64 = 0x8000_0000;
@@ -17,6 +18,30 @@ const VMA: Command = Command::Vma {
     pscid: 0xf_ffff,
     gv: true,
     gscid: 0xffff,
+    nl: false,
+    s: false,
+};
+
+// With NL and with S.
+const VMA_NL: Command = Command::Vma {
+    av: true,
+    page: 0x40201,
+    pscv: false,
+    pscid: 0,
+    gv: false,
+    gscid: 0,
+    nl: true,
+    s: false,
+};
+
+const GVMA_S: Command = Command::Gvma {
+    av: true,
+    page: 0x40201,
+    pscid: 0,
+    gv: false,
+    gscid: 0,
+    nl: false,
+    s: true,
 };
 
 const GVMA: Command = Command::Gvma {
@@ -25,6 +50,8 @@ const GVMA: Command = Command::Gvma {
     pscid: 1,
     gv: true,
     gscid: 7,
+    nl: true,
+    s: true,
 };
 
 const FENCE: Command = Command::Fence {
@@ -50,7 +77,11 @@ const IODIR: Command = Command::Iodir { dv: true, did: 5 };
 // The words of these commands, put together by hand.
 const VMA_WORDS: [u64; 2] = [0x0fff_f003_ffff_f401, 0x1008_0400];
 
-const GVMA_WORDS: [u64; 2] = [0x0000_7002_0000_1081, 0x3fff_ffff_ffff_fc00];
+const GVMA_WORDS: [u64; 2] = [0x0000_7006_0000_1081, 0x3fff_ffff_ffff_fe00];
+
+const VMA_NL_WORDS: [u64; 2] = [0x4_0000_0401, 0x1008_0400];
+
+const GVMA_S_WORDS: [u64; 2] = [0x481, 0x1008_0600];
 
 const FENCE_WORDS: [u64; 2] = [0xdead_beef_0000_0402, 0x2000_0040];
 
@@ -80,6 +111,8 @@ fn decoded(words: &[[u64; 2]]) -> Option<usize> {
 
 const ENCODINGS: &[(Command, [u64; 2])] = &[
     (VMA, VMA_WORDS),
+    (VMA_NL, VMA_NL_WORDS),
+    (GVMA_S, GVMA_S_WORDS),
     (GVMA, GVMA_WORDS),
     (FENCE, FENCE_WORDS),
     (ORDERED, ORDERED_WORDS),
@@ -96,9 +129,9 @@ const REFUSED: &[[u64; 2]] = &[
     [0x83, 0],
     // reserved bits of IOTINVAL; PSCV in a GVMA
     [0x801, 0],
-    [0x4_0000_0001, 0],
+    [0x8_0000_0001, 0],
     [0x1000_0000_0000_0001, 0],
-    [1, 0x200],
+    [1, 0x100],
     [1, 0x4000_0000_0000_0000],
     [0x1_0000_0081, 0],
     // of IOFENCE.C
@@ -118,6 +151,8 @@ fn commands_are_their_words(rt: HostRuntime) {
     let facts = [
         encode_command(&VMA) == VMA_WORDS,
         encode_command(&GVMA) == GVMA_WORDS,
+        encode_command(&VMA_NL) == VMA_NL_WORDS,
+        encode_command(&GVMA_S) == GVMA_S_WORDS,
         encode_command(&FENCE) == FENCE_WORDS,
         encode_command(&ORDERED) == ORDERED_WORDS,
         encode_command(&IODIR) == IODIR_WORDS,
@@ -342,5 +377,45 @@ fn commands_are_fetched(rt: HostRuntime) -> Result<(), Fail> {
     set(&mut registers, 24, 8, 0x2000_0008);
     set(&mut registers, 36, 4, 300);
     assert_eq!(rt; otherwise_fetched(&mut registers, &ram, CHANGES), None);
+    Ok(())
+}
+
+// What an IOMMU with these features finds in two words at the head.
+fn fetched(alloc: Global, features: Features, words: [u64; 2]) -> Result<Fetch, Fail> {
+    let mut ram = Ram::new(alloc, BASE, 0x1000)?;
+    for (i, word) in words.iter().enumerate() {
+        let _inside = ram.write(BASE + 8 * i as u64, &word.to_le_bytes());
+    }
+    let mut registers = Regs::with_features(features);
+    set(&mut registers, 24, 8, 0x2000_0000);
+    set(&mut registers, 72, 4, 1);
+    set(&mut registers, 36, 4, 1);
+    Ok(next_command(&registers, &ram))
+}
+
+// An IOMMU that offers NL, S, both or none of them.
+fn offering(nl: bool, s: bool) -> Features {
+    let mut features = Features::none();
+    features.nl = nl;
+    features.s = s;
+    features
+}
+
+// NL and S are operands with their capability, and reserved without.
+#[test]
+fn operands_by_capability(rt: HostRuntime) -> Result<(), Fail> {
+    let cases = [
+        (true, false, VMA_NL_WORDS, Fetch::Ready(VMA_NL)),
+        (false, true, VMA_NL_WORDS, Fetch::Illegal),
+        (false, true, GVMA_S_WORDS, Fetch::Ready(GVMA_S)),
+        (true, false, GVMA_S_WORDS, Fetch::Illegal),
+        (true, true, GVMA_WORDS, Fetch::Ready(GVMA)),
+        (true, false, GVMA_WORDS, Fetch::Illegal),
+        (false, false, VMA_WORDS, Fetch::Ready(VMA)),
+    ];
+    for (nl, s, words, want) in cases {
+        let found = fetched(rt.alloc(), offering(nl, s), words)?;
+        assert!(rt; found == want);
+    }
     Ok(())
 }

@@ -1,4 +1,4 @@
-//! Images of version 2, read-only disks, and images of version 1 as ones of version 2.
+//! Images of version 2, read-only disks, and images of version 1 and 2 as ones of version 3.
 
 use crate::asm::{
     Changed, Judged, REQUEST, is_assembled, not_cut, otherwise_changed, otherwise_judged, with_byte,
@@ -17,11 +17,20 @@ const READ_ONLY: &[u8] =
 const WRITABLE: &[u8] =
     b"RVIOMMU1\0\0\0\x80\0\0\0\0\0\x10\0\0\0\0\0\0\0\0\0\0\x01\0\0\0\x05\0\0\0\x01\0\0\0\x01\0\0\0\xaa";
 
-const UPGRADED: &[u8] =
+const FLAGGED: &[u8] =
     b"RVIOMMU2\0\0\0\x80\0\0\0\0\0\x10\0\0\0\0\0\0\0\0\0\0\x01\0\0\0\x05\0\0\0\x01\0\0\0\0\0\0\0\x01\0\0\0\xaa";
+
+// Both disks in version 3, of a machine without Svnapot.
+const READ_ONLY_UPGRADED: &[u8] =
+    b"RVIOMMU3\0\0\0\0\0\0\0\x01\0\0\0\x80\0\0\0\0\0\x10\0\0\0\0\0\0\0\0\0\0\x01\0\0\0\x05\0\0\0\x01\0\0\0\x01\0\0\0\x01\0\0\0\xaa";
+
+const UPGRADED: &[u8] =
+    b"RVIOMMU3\0\0\0\0\0\0\0\x01\0\0\0\x80\0\0\0\0\0\x10\0\0\0\0\0\0\0\0\0\0\x01\0\0\0\x05\0\0\0\x01\0\0\0\0\0\0\0\x01\0\0\0\xaa";
 
 const JUDGED: &[Judged<'static>] = &[
     (READ_ONLY, None),
+    (FLAGGED, None),
+    (READ_ONLY_UPGRADED, None),
     (UPGRADED, None),
     // The flags 3 are judged once they are whole, before the length.
     (
@@ -40,7 +49,8 @@ const CHANGED: &[Changed<'static>] = &[
     (READ_ONLY, 40, 0, None),
     (READ_ONLY, 43, 0x80, Some(LoadFault::BadDevice)),
     (READ_ONLY, 7, b'1', Some(LoadFault::Trailing)),
-    (READ_ONLY, 7, b'3', Some(LoadFault::BadMagic)),
+    (READ_ONLY, 7, b'3', Some(LoadFault::BadCapabilities)),
+    (READ_ONLY, 7, b'4', Some(LoadFault::BadMagic)),
     (WRITABLE, 7, b'2', Some(LoadFault::Truncated)),
 ];
 
@@ -60,15 +70,18 @@ fn flags_are_judged(rt: HostRuntime) -> Result<(), Fail> {
     Ok(())
 }
 
-// Images, and what they are as ones of version 2.
+// Images, and what they are as ones of version 3.
 const UPGRADES: &[(&[u8], &[u8])] = &[
-    (READ_ONLY, READ_ONLY),
+    (READ_ONLY, READ_ONLY_UPGRADED),
     (WRITABLE, UPGRADED),
+    (FLAGGED, UPGRADED),
     (UPGRADED, UPGRADED),
+    (READ_ONLY_UPGRADED, READ_ONLY_UPGRADED),
 ];
 
-// An image of version 2 that differs from that of version 1 by its eighth byte alone.
-const BUILT_IN: &[u8] = b"RVIOMMU2\0\0\0\x80\0\0\0\0\0\0\x10\0\0\0\0\0\0\0\0\0\0\0\0\0";
+// Without a disk the upgraded image differs in its first bytes alone.
+const BUILT_IN: &[u8] =
+    b"RVIOMMU3\0\0\0\0\0\0\0\x01\0\0\0\x80\0\0\0\0\0\0\x10\0\0\0\0\0\0\0\0\0\0\0\0\0";
 
 fn is_upgraded(alloc: Global, image: &[u8], want: &[u8]) -> bool {
     match upgrade(alloc, image) {
@@ -95,17 +108,17 @@ fn is_refused(alloc: Global, image: &[u8], want: LoadFault) -> bool {
 fn images_are_upgraded(rt: HostRuntime) -> Result<(), Fail> {
     assert_eq!(rt; otherwise(rt.alloc(), UPGRADES), None);
     assert!(rt; is_upgraded(rt.alloc(), &built_in(), BUILT_IN));
-    assert!(rt; is_refused(rt.alloc(), b"RVIOMMU3", LoadFault::BadMagic));
+    assert!(rt; is_refused(rt.alloc(), b"RVIOMMU4", LoadFault::BadMagic));
     assert!(rt; is_refused(rt.alloc(), b"RVIOMMU", LoadFault::Truncated));
     Ok(())
 }
 
-// An image with chunks and with disks of both kinds stays as it is.
+// An image with chunks, with disks of both kinds and with capabilities stays as it is.
 #[test]
-fn image_of_version_2_stays(rt: HostRuntime) -> Result<(), Fail> {
+fn image_of_version_3_stays(rt: HostRuntime) -> Result<(), Fail> {
     let image = assemble(
         rt.alloc(),
-        b"ram 0x80000000 0x1000\nbytes 0102\nat 0x80000ffe\nbytes 03\ndisk 5 1 aa\nrodisk 6 2\n",
+        b"ram 0x80000000 0x1000\nbytes 0102\nat 0x80000ffe\nbytes 03\ndisk 5 1 aa\nrodisk 6 2\ncapabilities nl=1\n",
     )?;
     assert!(rt; is_upgraded(rt.alloc(), &image, &image));
     Ok(())

@@ -340,7 +340,12 @@ fn walks_five_levels(rt: HostRuntime) {
             leaf(0x802a5, 1, false),
         ),
         read_at(Shape::Sv57, 0x1_0080_c0a0_7abc, aligned, largest),
-        read_at(Shape::Sv57x4, 0x1_0080_c0a0_7abc, misaligned, Outcome::Fault),
+        read_at(
+            Shape::Sv57x4,
+            0x1_0080_c0a0_7abc,
+            misaligned,
+            Outcome::Fault,
+        ),
         read_at(Shape::Sv57, 0, circle, Outcome::Fault),
         read_at(Shape::Sv57, 0xff_ffff_ffff_ffff, none, Outcome::Outside),
         read_at(Shape::Sv57, 0x100_0000_0000_0000, none, Outcome::Fault),

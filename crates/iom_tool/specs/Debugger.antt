@@ -1,5 +1,5 @@
 -- Questions, which are no steps, and the texts of their answers.
-use Rattle.std.specs.Prelude.{ℕ, ◌++◌, List, codes, Option, Some, None, slice_get}
+use Rattle.std.specs.Prelude.{ℕ, ◌++◌, Bool, List, [], codes, Option, Some, None, slice_get, if◌then◌else◌}
 use Rattle.std.specs.Option.{unwrap_or}
 use Rattle.iom_bits.specs.Bits.{flag}
 use Rattle.iom_bits.specs.declared.causes.Kind.{Kind}
@@ -31,12 +31,17 @@ abbrev pub kind_text : Kind → List ℕ
 kind_text Read = codes "read"
 kind_text Write = codes "write"
 
+-- told of a leaf of 64 KiB alone
+abbrev pub napot_text : Bool → List ℕ
+napot_text napot = if napot then named (codes "napot") (hexed 1) else []
+
 abbrev pub page_text : Key → Hit → List ℕ
 page_text key hit =
     codes "page" ++ named (codes "did") (hexed key.did) ++ named (codes "pscid") (id_text key.pscid)
     ++ named (codes "gscid") (id_text key.gscid) ++ named (codes "page") (hexed key.page)
     ++ named (codes "kind") (kind_text key.kind) ++ named (codes "frame") (hexed hit.frame)
     ++ named (codes "level") (hexed hit.level) ++ named (codes "global") (hexed (flag hit.global))
+    ++ napot_text hit.napot
 
 -- a place beyond the last one, an empty one, or what a live one holds
 unfoldable pub place_text : Place Key Hit → List ℕ

@@ -6,5 +6,4 @@ pub mod Ring
 pub mod Console
 pub mod Debugger
 pub mod Output
-pub mod Watching
 pub mod Running

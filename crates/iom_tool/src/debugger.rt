@@ -89,6 +89,9 @@ fn push_page(out: &mut Draft, key: Key, hit: Hit)
     push_named(out, b"frame", hit.frame);
     push_named(out, b"level", hit.level as u64);
     push_named(out, b"global", hit.global as u64);
+    if hit.napot {
+        push_named(out, b"napot", 1);
+    }
 }
 
 // Appends a blank, a name, `=` and a number in hex.

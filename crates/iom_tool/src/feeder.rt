@@ -1,12 +1,14 @@
-ghost use Rattle.std.specs.Prelude.{◌≡◌, ℕ, List, [], None, Some, IfErr, OnOk};
+ghost use Rattle.std.specs.Prelude.{◌≡◌, false, ℕ, List, [], None, Some, IfErr, OnOk};
 ghost use Rattle.iom_tool.specs.Console.{console};
-ghost use Rattle.iom_tool.specs.Running.{Progress, progress, Fed, AfterPiece, AfterEnd, StaysRefused};
+ghost use Rattle.iom_reader.specs.Answering.{Progress, progress};
+ghost use Rattle.iom_reader.specs.Running.{Fed, AfterPiece, AfterEnd};
+ghost use Rattle.iom_reader.specs.Watching.{write_failed};
+ghost use Rattle.iom_tool.specs.Running.{StaysRefused, by_steps};
 
-use crate::fault::RunFault;
-use crate::rest::Rest;
+use crate::console::Console;
 use crate::trace::Trace;
-use crate::watched::WatchedWriter;
 use iom_core::Platform;
+use iom_reader::{Rest, RunFault, WatchedWriter};
 use std::io::Write;
 
 /// A script given in pieces, whichever way its text is cut.
@@ -44,11 +46,12 @@ impl<'a> Feeder<'a> {
 
     /// Takes a piece of a script, and answers each line that it ends before it goes on. The refusals are those of
     /// `run` but `Read`; after one each later call answers the same one, writes nothing and changes nothing.
+    #[tactic(auto, using(crate::proofs::Steps::lawful))]
     pub fn feed<W: Write>(&mut self, piece: &[u8], writer: &mut W) -> Result<(), RunFault>
-        ensures fed { self.old.refusal ≡ None → (start : Progress) (text : List ℕ)
-            → Fed start (progress (W.contents writer.old) (console self.old.platform.now self.old.trace.now))
+        ensures fed { self.old.refusal ≡ None → (start : Progress by_steps.State) (text : List ℕ)
+            → Fed by_steps start (progress (W.contents writer.old) (console self.old.platform.now self.old.trace.now))
             self.old.rest.line.items self.old.rest.lines self.old.rest.bytes text
-            → AfterPiece start (progress (W.contents writer.new) (console self.new.platform.now self.new.trace.now))
+            → AfterPiece by_steps start (progress (W.contents writer.new) (console self.new.platform.now self.new.trace.now))
             self.new.rest.line.items self.new.rest.lines self.new.rest.bytes text piece.now result }
         ensures open { OnOk result (self.new.refusal ≡ None) }
         ensures refused { IfErr result (λ fault. self.new.refusal ≡ Some fault) }
@@ -62,9 +65,8 @@ impl<'a> Feeder<'a> {
             return Err(fault);
         }
         let mut writer = WatchedWriter::new(writer);
-        let fed = self
-            .rest
-            .feed(self.platform, self.trace, piece, &mut writer);
+        let mut console = Console::new(self.platform, self.trace);
+        let fed = self.rest.feed(&mut console, piece, &mut writer);
         if let Err(fault) = fed {
             self.refuse(fault);
         }
@@ -84,10 +86,10 @@ impl<'a> Feeder<'a> {
 
     /// Answers a last line that lacks its line end, and flushes. The fault is `Write`, or what was refused before.
     pub fn finish<W: Write>(self, writer: &mut W) -> Result<(), RunFault>
-        ensures fed { self.entry.refusal ≡ None → (start : Progress) (text : List ℕ)
-            → Fed start (progress (W.contents writer.old) (console self.entry.platform.now self.entry.trace.now))
+        ensures fed { self.entry.refusal ≡ None → (start : Progress by_steps.State) (text : List ℕ)
+            → Fed by_steps start (progress (W.contents writer.old) (console self.entry.platform.now self.entry.trace.now))
             self.entry.rest.line.items self.entry.rest.lines self.entry.rest.bytes text
-            → AfterEnd start (progress (W.contents writer.new) (console self.exit.0.now self.exit.1.0.now)) text result }
+            → AfterEnd by_steps start (progress (W.contents writer.new) (console self.exit.0.now self.exit.1.0.now)) text result }
         ensures stays { (fault : RunFault) → self.entry.refusal ≡ Some fault → StaysRefused fault result
             (progress (W.contents writer.old) (console self.entry.platform.now self.entry.trace.now))
             (progress (W.contents writer.new) (console self.exit.0.now self.exit.1.0.now)) }
@@ -102,6 +104,25 @@ impl<'a> Feeder<'a> {
             return Err(fault);
         }
         let mut writer = WatchedWriter::new(writer);
-        rest.finish(platform, trace, &mut writer)
+        finished(platform, trace, &mut rest, &mut writer)
     }
+}
+
+// Has a last line answered that lacks its line end, and flushes.
+#[tactic(auto, using(crate::proofs::Steps::lawful))]
+fn finished<W: Write>(
+    platform: &mut Platform,
+    trace: &mut Trace,
+    rest: &mut Rest,
+    writer: &mut WatchedWriter<'_, W>,
+) -> Result<(), RunFault>
+    requires { write_failed writer.old ≡ false }
+    ensures fed { (start : Progress by_steps.State) (text : List ℕ)
+        → Fed by_steps start (progress (W.contents writer.old.inner.now) (console platform.old trace.old))
+        rest.old.line.items rest.old.lines rest.old.bytes text
+        → AfterEnd by_steps start (progress (W.contents writer.new.inner.now) (console platform.new trace.new)) text result }
+    ensures same_writer { writer.new.inner.ghost_name ≡ writer.old.inner.ghost_name }
+{
+    let mut console = Console::new(platform, trace);
+    rest.finish(&mut console, writer)
 }

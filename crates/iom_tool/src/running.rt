@@ -1,17 +1,15 @@
 ghost use Rattle.std.specs.Prelude.{◌≡◌, false, true};
 ghost use Rattle.iom_tool.specs.Console.{console};
-ghost use Rattle.iom_tool.specs.Running.{progress, Ends, is_read, is_write, stops_at_a_read};
-ghost use Rattle.iom_tool.specs.Watching.{read_failed, write_failed, is_flushed};
+ghost use Rattle.iom_reader.specs.Answering.{progress};
+ghost use Rattle.iom_reader.specs.Running.{Ends, is_read, is_write, stops_at_a_read};
+ghost use Rattle.iom_tool.specs.Running.{by_steps};
+ghost use Rattle.iom_reader.specs.Watching.{read_failed, write_failed, is_flushed};
 
-use crate::fault::RunFault;
-use crate::rest::{MOST_BYTES, Rest};
+use crate::console::Console;
 use crate::trace::Trace;
-use crate::watched::{WatchedReader, WatchedWriter};
 use iom_core::Platform;
+use iom_reader::{RunFault, WatchedReader, WatchedWriter, answer_all};
 use std::io::{Read, Write};
-
-/// The most bytes that are asked of a reader at once.
-const MOST_BYTES_OF_A_PIECE: usize = 0x8000;
 
 /// Carries out the script that `reader` gives, and writes the answers to `writer`: those to the lines of what was read
 /// are written and flushed before it reads on, and at the end.
@@ -26,7 +24,7 @@ pub fn run<R: Read, W: Write>(
     reader: &mut R,
     writer: &mut W,
 ) -> Result<(), RunFault>
-    ensures { Ends (R.remaining reader.old) (R.remaining reader.new)
+    ensures { Ends by_steps (R.remaining reader.old) (R.remaining reader.new)
         (progress (W.contents writer.old) (console platform.old trace.old))
         (progress (W.contents writer.new) (console platform.new trace.new)) result }
 {
@@ -37,6 +35,7 @@ pub fn run<R: Read, W: Write>(
 
 /// The same over a reader and a writer that are watched: each fault is answered only where it happened, and all is flushed at
 /// the end, and where a read failed.
+#[tactic(auto, using(crate::proofs::Steps::lawful))]
 pub fn run_watched<R: Read, W: Write>(
     platform: &mut Platform,
     trace: &mut Trace,
@@ -45,7 +44,7 @@ pub fn run_watched<R: Read, W: Write>(
 ) -> Result<(), RunFault>
     requires can_read { read_failed reader.old ≡ false }
     requires can_write { write_failed writer.old ≡ false }
-    ensures ends { Ends (R.remaining reader.old.inner.now) (R.remaining reader.new.inner.now)
+    ensures ends { Ends by_steps (R.remaining reader.old.inner.now) (R.remaining reader.new.inner.now)
         (progress (W.contents writer.old.inner.now) (console platform.old trace.old))
         (progress (W.contents writer.new.inner.now) (console platform.new trace.new)) result }
     ensures read_told { read_failed reader.new ≡ is_read result }
@@ -54,19 +53,6 @@ pub fn run_watched<R: Read, W: Write>(
     ensures same_reader { reader.new.inner.ghost_name ≡ reader.old.inner.ghost_name }
     ensures same_writer { writer.new.inner.ghost_name ≡ writer.old.inner.ghost_name }
 {
-    let mut rest = Rest::new();
-    let mut piece = [0; MOST_BYTES_OF_A_PIECE];
-    for _turn in 0..=MOST_BYTES {
-        if !writer.flush() {
-            return Err(RunFault::Write);
-        }
-        let Some(count) = reader.read(&mut piece, writer) else {
-            return Err(RunFault::Read);
-        };
-        if count == 0 {
-            return rest.finish(platform, trace, writer);
-        }
-        rest.feed(platform, trace, &piece[..count], writer)?;
-    }
-    unreachable!()
+    let mut console = Console::new(platform, trace);
+    answer_all(&mut console, reader, writer)
 }

@@ -1,12 +1,13 @@
 -- What the table of entries says of pointers and leaves.
-use Rattle.std.proofs.Common.{◌≡◌, ℕ, refl, arith}
+use Rattle.std.proofs.Common.{◌≡◌, ℕ, false, refl, arith}
 use Rattle.std.proofs.lemmas.Grind.{common_steps}
 use Rattle.iom_bits.specs.declared.causes.Kind.{Kind}
 use Rattle.iom_bits.specs.declared.causes.Kind.TheVariants.{Read, Write}
 use Rattle.iom_bits.specs.declared.features.Features.{Features}
 use Rattle.iom_walk.specs.declared.source.Got.{Got}
 use Rattle.iom_walk.specs.declared.entry.Verdict.TheVariants as verdict
-use Rattle.iom_walk.specs.Verdict.{ruling_of, verdict_of, is_pointer, word_of}
+use Rattle.iom_bits.specs.Bits.{field_of, has_bit}
+use Rattle.iom_walk.specs.Verdict.{is_reserved, ruling_of, verdict_of, is_pointer, word_of}
 
 -- being a pointer doesn't depend on the access
 pub pointer_for_each : (features : Features) (kind : Kind) (level : ℕ) (got : Got) →
@@ -22,3 +23,12 @@ pointer_word features kind level word got told = grind (arith, common_steps)
 pub leaf_word : (features : Features) (kind : Kind) (level word : ℕ) (got : Got) → verdict.Leaf word ≡ verdict_of features kind level got → word ≡ word_of got
 unfolding verdict_of ruling_of
 leaf_word features kind level word got told = grind (arith, common_steps)
+
+-- where bits 63:54 are 0, none of them is set
+pub none_reserved : (features : Features) (level word : ℕ) → field_of word 54 10 ≡ 0 → is_reserved features level word ≡ false
+unfolding is_reserved has_bit
+none_reserved features level word none =
+    let low : field_of word 54 7 ≡ 0 = omega (arith, none) in
+    let type : field_of word 61 2 ≡ 0 = omega (arith, none) in
+    let n : field_of word 63 1 ≡ 0 = omega (arith, none) in
+    rw (low, type, n) refl

@@ -130,9 +130,19 @@ fn word_judged_by(features: Features, word: u64, level: u8, kind: Kind) -> Rulin
     }
 }
 
-// Whether one of bits 63:54 is set that is reserved.
-#[tactic(auto, unfolding(crate::specs::Verdict::is_reserved))]
+// Whether one of bits 63:54 is set that is reserved. In most entries none is set.
+#[inline(always)]
+#[tactic(auto, using(crate::proofs::Entries::none_reserved))]
 fn has_reserved(features: Features, word: u64, level: u8) -> bool
+    ensures { result ≡ is_reserved features level word }
+{
+    field(word, 54, 10) != 0 && is_reserved(features, word, level)
+}
+
+// The same bit by bit.
+#[inline(never)]
+#[tactic(auto, unfolding(crate::specs::Verdict::is_reserved))]
+fn is_reserved(features: Features, word: u64, level: u8) -> bool
     ensures { result ≡ is_reserved features level word }
 {
     let is_leaf = !has_no_access(word);

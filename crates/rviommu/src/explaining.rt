@@ -1,22 +1,23 @@
-//! Scripts whose lines are told with the reasons of their accesses.
+//! The word `explain`: lines are told with the reasons of their accesses.
+
+ghost use Rattle.std.specs.Prelude.{◌≡◌, false, IfErr};
+ghost use Rattle.iom_reader.specs.Running.{is_write};
+ghost use Rattle.iom_reader.specs.Watching.{read_failed, write_failed};
 
 use crate::access::{Asked, Caches, asked_by, push_stale, push_warrant};
-use crate::checking::before_comment;
 use crate::fault::Fault;
-use crate::lines::{Lines, TOO_MANY};
-use crate::progress::Progress;
 use crate::summary::tell;
 use crate::text::Text;
 use crate::walk::{WALK_ROOM, Walk};
 use iom_core::{Answer, Denial, Step};
 use iom_debug::{
-    Debugger, Outcome, Reason, Reasons, Reply, Summary, address_of, counted, repeated,
+    Debugger, Outcome, Reason, Reply, Summary, address_of, before_comment, counted, first_bytes,
+    repeated, write_told,
 };
-use iom_tool::{Draft, Entry, RunFault, Trace, answer_text, put_entry, step_of};
+use iom_reader::{Answerer, RunFault, WatchedReader, WatchedWriter, answer_all};
+use iom_tool::{Draft, Entry, Trace, answer_text, put_entry, step_of};
 use std::alloc::{AllocError, Global};
-use std::fs::Files;
-use std::io::{BufRead, Write};
-use std::time::Clock;
+use std::io::{Read, Write};
 
 /// How many steps a trace keeps at most.
 const MOST_STEPS: u64 = 32;
@@ -24,10 +25,9 @@ const MOST_STEPS: u64 = 32;
 /// How many bytes are told of a step at once: its walk, and few lines more.
 const TEXT_ROOM: usize = WALK_ROOM + 1024;
 
-/// What is told of a script's accesses, and where.
+/// What is told of a script's accesses.
 #[derive(Drop)]
-struct Account<'w, W> {
-    writer: &'w mut W,
+struct Teller {
     // What is told of a step, or of a line that is none.
     text: Text,
     // The last walk that was told.
@@ -35,6 +35,17 @@ struct Account<'w, W> {
     // One text of either.
     draft: Draft,
     summary: Summary,
+    // Whether memory was refused: then nothing more is told.
+    is_short: bool,
+}
+
+/// A script whose lines are told with the reasons of their accesses.
+#[derive(Drop)]
+struct Explaining<'a> {
+    debugger: Debugger<'a>,
+    // how many lines were read
+    number: u64,
+    teller: Teller,
 }
 
 // What is known of an access before it is made.
@@ -73,63 +84,61 @@ fn told(trace: &Trace, taken: u64) -> Reply {
     counted(taken, answer.as_slice())
 }
 
-impl<W: Write> Account<'_, W> {
+impl Teller {
     // What is known of the access that a step is about to make. Its walk is told where the caches don't lead it alone.
-    fn look(
-        &mut self,
-        debugger: &Debugger<'_>,
-        step: &Step,
-    ) -> Result<Option<Known>, Fault<'static>> {
+    fn look(&mut self, debugger: &Debugger<'_>, step: &Step) -> Option<Known> {
         let platform = &*debugger.platform;
-        let Some(request) = platform.request_of(step) else {
-            return Ok(None);
-        };
+        let request = platform.request_of(step)?;
         let seen = platform.seen(&request);
         let is_cached = seen.is_cached();
         if !is_cached {
-            self.walk.tell(platform, &request, &seen, &mut self.draft)?;
+            let told = self.walk.tell(platform, &request, &seen, &mut self.draft);
+            self.is_short = self.is_short || told.is_err();
         }
         let history = debugger.reasons.history();
         let filler = history.context_of(platform, request.did).unwrap_or(0);
         let address = address_of(&seen.way, request.iova);
-        Ok(Some(Known {
+        Some(Known {
             is_cached,
             caches: Caches::new(&seen, filler, address),
-        }))
+        })
     }
 
-    // Takes a step, tells it and its reason, and answers whether it was done.
-    fn take(
+    // Tells the last step, and the reason of its access, by what was known of that before.
+    fn tell(
         &mut self,
-        debugger: &mut Debugger<'_>,
+        debugger: &Debugger<'_>,
         number: u64,
-        step: Step,
-    ) -> Result<bool, Fault<'static>> {
-        let known = self.look(debugger, &step)?;
-        let asked = asked_by(debugger.platform, &step);
-        let is_done = debugger.take(number, step);
-        if let Some(entry) = newest(debugger.trace) {
-            self.tell_step(number, entry)?;
-            if let Some(reason) = debugger.reasons.newest()
-                && let Some(known) = &known
-            {
-                let stale = debugger.reasons.newest_stale();
-                self.tell(known, asked, reason, stale, denial(&entry.answer))?;
-            }
-            self.write()?;
-        }
-        Ok(is_done)
+        known: Option<Known>,
+        asked: Option<Asked>,
+    ) {
+        let told = self.tell_newest(debugger, number, known, asked);
+        self.is_short = self.is_short || told.is_err();
     }
 
-    // Tells a step and its answer.
-    fn tell_step(&mut self, number: u64, entry: &Entry) -> Result<(), AllocError> {
+    // The same. The fault is want of memory.
+    fn tell_newest(
+        &mut self,
+        debugger: &Debugger<'_>,
+        number: u64,
+        known: Option<Known>,
+        asked: Option<Asked>,
+    ) -> Result<(), AllocError> {
+        let Some(entry) = newest(debugger.trace) else {
+            return Ok(());
+        };
         put_entry(&mut self.draft, entry);
         self.text.push_number(number)?;
-        self.text.push_line(self.draft.as_slice())
+        self.text.push_line(self.draft.as_slice())?;
+        let (Some(reason), Some(known)) = (debugger.reasons.newest(), &known) else {
+            return Ok(());
+        };
+        let stale = debugger.reasons.newest_stale();
+        self.tell_reason(known, asked, reason, stale, denial(&entry.answer))
     }
 
     // Tells the reason of an access: where the tables led it, if it was stale, and the cause that it was denied for, if it was.
-    fn tell(
+    fn tell_reason(
         &mut self,
         known: &Known,
         asked: Option<Asked>,
@@ -160,120 +169,177 @@ impl<W: Write> Account<'_, W> {
         })
     }
 
-    // Writes what is told, at once.
-    fn write(&mut self) -> Result<(), RunFault> {
-        let text = self.text.as_slice();
-        self.writer.write_all(text).map_err(|_| RunFault::Write)?;
-        self.text.clear();
-        Ok(())
+    // Tells a line that is no step by itself, with its answer.
+    fn tell_line(&mut self, number: u64, line: &[u8], answer: &[u8]) {
+        let told = self.tell_answered(number, line, answer);
+        self.is_short = self.is_short || told.is_err();
     }
 
-    // Tells how the accesses went.
-    fn sum_up(&mut self) -> Result<(), Fault<'static>> {
-        tell(&self.summary, self.writer)
-    }
-
-    // Takes the steps of a line of many, while they are done. The line's own answer comes back.
-    fn take_all(
+    // The same. The fault is want of memory.
+    fn tell_answered(
         &mut self,
-        debugger: &mut Debugger<'_>,
         number: u64,
         line: &[u8],
-        most: u64,
-    ) -> Result<Reply, Fault<'static>> {
-        for taken in 1..=most {
-            let Some((step, _)) = repeated(line) else {
-                break;
-            };
-            let is_done = self.take(debugger, number, step)?;
-            if taken == most || !is_done {
-                return Ok(told(debugger.trace, taken));
-            }
-        }
-        Ok(Reply::new())
-    }
-
-    // Carries out a line, and tells it: a step with its reason.
-    fn line(
-        &mut self,
-        debugger: &mut Debugger<'_>,
-        number: u64,
-        line: &[u8],
-    ) -> Result<(), Fault<'static>> {
-        if let Some(step) = step_of(line) {
-            self.take(debugger, number, step)?;
-            return Ok(());
-        }
-        self.other_line(debugger, number, line)
-    }
-
-    // Carries out a line that is no step by itself, and tells it behind the steps that it takes. It stands apart, since its answers take room
-    // that is cleared.
-    #[inline(never)]
-    fn other_line(
-        &mut self,
-        debugger: &mut Debugger<'_>,
-        number: u64,
-        line: &[u8],
-    ) -> Result<(), Fault<'static>> {
-        let reply = match repeated(line) {
-            Some((_, most)) => self.take_all(debugger, number, line, most)?,
-            None => debugger.line(number, line),
-        };
-        if reply.is_empty() {
-            return Ok(());
-        }
+        answer: &[u8],
+    ) -> Result<(), AllocError> {
         self.text.push_number(number)?;
         self.text.push_escaped(before_comment(line))?;
         self.text.push(b" -> ")?;
-        self.text.push_escaped(reply.as_slice())?;
-        self.text.push(b"\n")?;
-        self.write()?;
-        Ok(())
+        self.text.push_escaped(answer)?;
+        self.text.push(b"\n")
+    }
+
+    // Writes what is told, at once. Where memory was refused nothing is.
+    fn write<W: Write>(&mut self, writer: &mut WatchedWriter<'_, W>) -> Result<(), RunFault>
+        requires { write_failed writer.old ≡ false }
+        ensures fault { IfErr result (λ fault. fault ≡ RunFault.Write) }
+        ensures told { write_failed writer.new ≡ is_write result }
+        ensures same_writer { writer.new.inner.ghost_name ≡ writer.old.inner.ghost_name }
+    {
+        if self.is_short {
+            self.text.clear();
+        }
+        let written = write_told(writer, self.text.as_slice());
+        self.text.clear();
+        written
     }
 }
 
-// Carries out the lines, each told before the next is read.
-fn carried_out<R: BufRead, W: Write>(
+// Takes a step, tells it and its reason, and answers whether it was done, and there was memory.
+fn take<W: Write>(
     debugger: &mut Debugger<'_>,
-    lines: &mut Lines<R>,
-    account: &mut Account<'_, W>,
-    progress: &mut Progress<'_, impl Clock + Eprint + Files>,
-) -> Result<(), Fault<'static>> {
-    for number in 1..=TOO_MANY {
-        let Some(line) = lines.next_line(number, account.writer)? else {
+    teller: &mut Teller,
+    number: u64,
+    step: Step,
+    writer: &mut WatchedWriter<'_, W>,
+) -> Result<bool, RunFault>
+    requires { write_failed writer.old ≡ false }
+    ensures fault { IfErr result (λ fault. fault ≡ RunFault.Write) }
+    ensures told { write_failed writer.new ≡ is_write result }
+    ensures same_writer { writer.new.inner.ghost_name ≡ writer.old.inner.ghost_name }
+    ensures same_platform { debugger.new.platform.ghost_name ≡ debugger.old.platform.ghost_name }
+    ensures same_trace { debugger.new.trace.ghost_name ≡ debugger.old.trace.ghost_name }
+    ensures same_reasons { debugger.new.reasons.ghost_name ≡ debugger.old.reasons.ghost_name }
+{
+    let known = teller.look(debugger, &step);
+    let asked = asked_by(debugger.platform, &step);
+    let is_done = debugger.take(number, step);
+    teller.tell(debugger, number, known, asked);
+    teller.write(writer)?;
+    Ok(is_done && !teller.is_short)
+}
+
+// Takes the steps of a line of many, while they are done. The line's own answer comes back.
+fn take_all<W: Write>(
+    debugger: &mut Debugger<'_>,
+    teller: &mut Teller,
+    number: u64,
+    line: &[u8],
+    most: u64,
+    writer: &mut WatchedWriter<'_, W>,
+) -> Result<Reply, RunFault>
+    requires { write_failed writer.old ≡ false }
+    ensures fault { IfErr result (λ fault. fault ≡ RunFault.Write) }
+    ensures told { write_failed writer.new ≡ is_write result }
+    ensures same_writer { writer.new.inner.ghost_name ≡ writer.old.inner.ghost_name }
+    ensures same_platform { debugger.new.platform.ghost_name ≡ debugger.old.platform.ghost_name }
+    ensures same_trace { debugger.new.trace.ghost_name ≡ debugger.old.trace.ghost_name }
+    ensures same_reasons { debugger.new.reasons.ghost_name ≡ debugger.old.reasons.ghost_name }
+{
+    for taken in 1..=most {
+        let Some((step, _)) = repeated(line) else {
             break;
         };
-        account.line(debugger, number, line)?;
-        progress.reach(lines.taken());
+        let is_done = take(debugger, teller, number, step, writer)?;
+        if taken == most || !is_done {
+            return Ok(told(debugger.trace, taken));
+        }
     }
-    Ok(())
+    Ok(Reply::new())
 }
 
-/// Carries out the script that a reader gives on an image, tells each line and the reasons of its accesses, and at the end how they
-/// went. The faults are those of `run`.
-pub fn explain<R: BufRead, W: Write>(
-    alloc: Global,
-    image: &[u8],
-    reader: &mut R,
-    writer: &mut W,
-    progress: &mut Progress<'_, impl Clock + Eprint + Files>,
-) -> Result<(), Fault<'static>> {
-    let mut platform = iom_asm::load(alloc, image)?;
-    let mut trace = Trace::new(alloc)?;
-    let text = Text::with_room(alloc, TEXT_ROOM)?;
-    let walk = Walk::new(alloc)?;
-    let summary = Summary::new(alloc);
-    let mut reasons = Reasons::new(&platform);
-    let mut debugger = Debugger::new(&mut platform, &mut trace, &mut reasons);
-    let mut lines = Lines::new(alloc, reader);
-    let mut account = Account {
-        writer,
-        text,
-        walk,
-        draft: Draft::new(),
-        summary,
+// Carries out a line that is no step by itself, and tells it behind the steps that it takes. It stands apart, since its answers take room
+// that is cleared.
+#[inline(never)]
+fn other_line<W: Write>(
+    debugger: &mut Debugger<'_>,
+    teller: &mut Teller,
+    number: u64,
+    line: &[u8],
+    writer: &mut WatchedWriter<'_, W>,
+) -> Result<(), RunFault>
+    requires { write_failed writer.old ≡ false }
+    ensures fault { IfErr result (λ fault. fault ≡ RunFault.Write) }
+    ensures told { write_failed writer.new ≡ is_write result }
+    ensures same_writer { writer.new.inner.ghost_name ≡ writer.old.inner.ghost_name }
+    ensures same_platform { debugger.new.platform.ghost_name ≡ debugger.old.platform.ghost_name }
+    ensures same_trace { debugger.new.trace.ghost_name ≡ debugger.old.trace.ghost_name }
+    ensures same_reasons { debugger.new.reasons.ghost_name ≡ debugger.old.reasons.ghost_name }
+{
+    let reply = match repeated(line) {
+        Some((_, most)) => take_all(debugger, teller, number, line, most, writer)?,
+        None => debugger.line(number, line),
     };
-    carried_out(&mut debugger, &mut lines, &mut account, progress)?;
-    account.sum_up()
+    if !reply.is_empty() {
+        teller.tell_line(number, line, reply.as_slice());
+    }
+    teller.write(writer)
+}
+
+impl Answerer for Explaining<'_> {
+    ghost use Rattle.std.specs.Prelude.{◌∷◌, []};
+
+    // What is told is not said yet.
+    ghost answering = { record { State = Unit {0}; whole = λ old new lines. Unit {0}; half = λ old new lines. Unit {0} } };
+
+    ghost state = { λ e. tt };
+
+    ghost names = { λ e. e.debugger.platform.ghost_name ∷ e.debugger.trace.ghost_name ∷ e.debugger.reasons.ghost_name ∷ [] };
+
+    fn answer<W: Write>(
+        &mut self,
+        line: &[u8],
+        writer: &mut WatchedWriter<'_, W>,
+    ) -> Result<(), RunFault> {
+        if self.teller.is_short {
+            return Ok(());
+        }
+        self.number = self.number.saturating_add(1);
+        let line = first_bytes(line);
+        let (debugger, teller) = (&mut self.debugger, &mut self.teller);
+        if let Some(step) = step_of(line) {
+            let _is_done = take(debugger, teller, self.number, step, writer)?;
+            return Ok(());
+        }
+        other_line(debugger, teller, self.number, line, writer)
+    }
+}
+
+/// Carries out the script that a reader gives, tells each line and the reasons of its accesses, and at the end how they went. The faults
+/// are those of `run`, and `OutOfMemory`.
+pub fn explain<R: Read, W: Write>(
+    alloc: Global,
+    debugger: Debugger<'_>,
+    reader: &mut WatchedReader<'_, R>,
+    writer: &mut WatchedWriter<'_, W>,
+) -> Result<(), Fault<'static>>
+    requires can_read { read_failed reader.old ≡ false }
+    requires can_write { write_failed writer.old ≡ false }
+{
+    let mut explaining = Explaining {
+        debugger,
+        number: 0,
+        teller: Teller {
+            text: Text::with_room(alloc, TEXT_ROOM)?,
+            walk: Walk::new(alloc)?,
+            draft: Draft::new(),
+            summary: Summary::new(alloc),
+            is_short: false,
+        },
+    };
+    answer_all(&mut explaining, reader, writer)?;
+    if explaining.teller.is_short {
+        return Err(Fault::OutOfMemory);
+    }
+    tell(&explaining.teller.summary, writer.inner)
 }

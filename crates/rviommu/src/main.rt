@@ -1,37 +1,31 @@
 //! The program `rviommu`: scripts on images, the assembler, listings and upgrades.
 #![tactic(auto)]
 
-use checking::Tally;
-use debugging::{Telling, carry_out};
 use explaining::explain;
 use fault::Fault;
 use iom_asm::Item;
 use iom_cli::{How, Task, WordsFault, task_of};
+use iom_debug::{Checking, Debugger, Debugging, Reasons, check, debug};
 use iom_play::WRITE_BLOCK;
-use iom_tool::{RunFault, WatchedReader, WatchedWriter};
+use iom_reader::{RunFault, WatchedReader, WatchedWriter};
+use iom_tool::Trace;
 use progress::Progress;
 use std::alloc::Global;
 use std::env;
 use std::fs::Files;
-use std::io::{self, BufReader, BufWriter, IsTerminal, Read, Write};
+use std::io::{self, BufWriter, IsTerminal, Read, Write};
 use std::process::ExitCode;
 use std::rt::Env;
 use std::time::Clock;
 
 mod access;
-mod checking;
-mod debugging;
 mod explaining;
 mod fault;
 mod files;
-mod lines;
 mod progress;
 mod summary;
 mod text;
 mod walk;
-
-/// The bytes of input that are read at once, where lines are looked at one by one; their room is cleared at the start.
-const READ_BLOCK: usize = 0x8000;
 
 // What the program reads and writes.
 #[derive(Drop)]
@@ -42,39 +36,33 @@ struct Streams<I, O> {
     has_terminal: bool,
 }
 
-// Runs the script that an input gives.
-fn run<'a, R: Read, W: Write>(
-    alloc: Global,
-    image: &[u8],
-    input: &mut R,
-    writer: &mut W,
-) -> Result<(), Fault<'a>> {
-    let mut reader = WatchedReader::new(input);
-    let mut writer = WatchedWriter::new(writer);
-    Ok(iom_play::play(alloc, image, &mut reader, &mut writer)?.ended?)
-}
-
 // Runs, debugs, checks or explains the script that an input gives.
 fn play<'a, R: Read, W: Write>(
     alloc: Global,
     image: &[u8],
     how: How,
     input: &mut R,
-    writer: &mut W,
-    progress: &mut Progress<'_, impl Clock + Eprint + Files>,
+    output: &mut W,
 ) -> Result<(), Fault<'a>> {
-    let telling = match how {
-        How::Run => return run(alloc, image, input, writer),
-        How::Explain => None,
-        How::Debug => Some(Telling::Answers),
-        How::Check { is_stale_told } => Some(Telling::Failures(Tally::new(is_stale_told))),
-    };
-    let mut reader = BufReader::with_capacity(alloc, READ_BLOCK, input).map_err(
-        |_| Fault::OutOfMemory,
-    )?;
-    match telling {
-        Some(telling) => carry_out(alloc, image, telling, &mut reader, writer, progress),
-        None => explain(alloc, image, &mut reader, writer, progress),
+    let mut reader = WatchedReader::new(input);
+    let mut writer = WatchedWriter::new(output);
+    if let How::Run = how {
+        return Ok(iom_play::play(alloc, image, &mut reader, &mut writer)?.ended?);
+    }
+    let mut platform = iom_asm::load(alloc, image)?;
+    let mut trace = Trace::new(alloc)?;
+    let mut reasons = Reasons::new(&platform);
+    let debugger = Debugger::new(&mut platform, &mut trace, &mut reasons);
+    match how {
+        How::Check { is_stale_told } => {
+            let mut checking = Checking::new(debugger, is_stale_told);
+            if !check(&mut checking, &mut reader, &mut writer)? {
+                return Err(Fault::Failed);
+            }
+            Ok(())
+        }
+        How::Explain => explain(alloc, debugger, &mut reader, &mut writer),
+        _ => Ok(debug(&mut Debugging::new(debugger), &mut reader, &mut writer)?),
     }
 }
 
@@ -84,21 +72,15 @@ fn played<'a>(
     alloc: Global,
     image: &[u8],
     how: How,
-    mut streams: Streams<impl Read + Drop, impl Write + Drop>,
+    streams: Streams<impl Read + Drop, impl Write + Drop>,
 ) -> Result<(), Fault<'a>> {
-    let mut progress = Progress::new(rt, how.word(), streams.has_terminal);
+    let is_shown = streams.has_terminal && !matches!(how, How::Run);
+    let mut input = Progress::new(rt, how.word(), is_shown, streams.input);
     let mut writer = BufWriter::with_capacity(alloc, WRITE_BLOCK, streams.output).map_err(
         |_| Fault::OutOfMemory,
     )?;
-    let ended = play(
-        alloc,
-        image,
-        how,
-        &mut streams.input,
-        &mut writer,
-        &mut progress,
-    );
-    progress.clear();
+    let ended = play(alloc, image, how, &mut input, &mut writer);
+    input.clear();
     // The answers before a fault are written too.
     writer.flush().map_err(|_| RunFault::Write)?;
     ended

@@ -1,6 +1,7 @@
-//! How far a script is, told on standard error while it is played.
+//! How far a script is, told on standard error while it is read.
 
 use std::fs::{self, Files};
+use std::io::{self, Read};
 use std::time::{Clock, Duration, Instant};
 
 /// How many seconds a script is played before anything is told.
@@ -16,12 +17,15 @@ struct Watch {
     told: Option<u64>,
 }
 
-/// How far a script is, in one line that is written again and again, and cleared at the end.
+/// A script that is read. How far it is stands in one line that is written again and again, and cleared at the end.
 #[derive(Drop)]
-pub struct Progress<'r, R> {
+pub struct Progress<'r, R, I> {
     rt: &'r R,
     word: &'r str,
     watch: Option<Watch>,
+    input: I,
+    // how many bytes were read
+    taken: u64,
 }
 
 // A watch on the script on standard input, where that is a file which isn't empty.
@@ -37,16 +41,21 @@ fn watch_on(rt: &(impl Clock + Files)) -> Option<Watch> {
     })
 }
 
-impl<'r, R: Clock + Eprint + Files> Progress<'r, R> {
+impl<'r, R: Clock + Eprint + Files, I: Read> Progress<'r, R, I> {
     /// Of the script on standard input that this word plays. It is told only where there is a terminal to tell it on and the script
     /// is a file.
-    pub fn new(rt: &'r R, word: &'r str, has_terminal: bool) -> Progress<'r, R> {
-        let watch = if has_terminal { watch_on(rt) } else { None };
-        Progress { rt, word, watch }
+    pub fn new(rt: &'r R, word: &'r str, has_terminal: bool, input: I) -> Progress<'r, R, I> {
+        Progress {
+            rt,
+            word,
+            watch: if has_terminal { watch_on(rt) } else { None },
+            input,
+            taken: 0,
+        }
     }
 
-    /// Tells that so many bytes of the script are played, if it takes long. What can't be told goes untold.
-    pub fn reach(&mut self, bytes: u64) {
+    // Tells that so many bytes of the script are played, if it takes long. What can't be told goes untold.
+    fn reach(&mut self, bytes: u64) {
         let Some(watch) = &mut self.watch else {
             return;
         };
@@ -69,5 +78,17 @@ impl<'r, R: Clock + Eprint + Files> Progress<'r, R> {
         if let Some(Watch { told: Some(_), .. }) = self.watch {
             let _ = self.rt.eprint("\r                \r");
         }
+    }
+}
+
+impl<R: Clock + Eprint + Files, I: Read> Read for Progress<'_, R, I> {
+    ghost remaining = { λ p. I.remaining p.input };
+
+    // What was read before is played by now.
+    fn read(&mut self, buffer: &mut [u8]) -> io::Result<usize> {
+        self.reach(self.taken);
+        let count = self.input.read(buffer)?;
+        self.taken = self.taken.saturating_add(count as u64);
+        Ok(count)
     }
 }

@@ -1,7 +1,6 @@
 //! The walk of an access, told.
 
 ghost use Rattle.std.specs.Prelude.{◌<◌, ◌^◌, All, IfSome};
-ghost use Rattle.iom_ddt.specs.Contexts.{IsWellFormed};
 ghost use Rattle.iom_tables.specs.Bounds.{PartFits};
 
 use crate::text::Text;
@@ -57,7 +56,7 @@ impl Walk {
 
     /// Tells the walk of a request that is seen so, as the tables stand now, under the context that leads it, each part in a draft first,
     /// in place of what that holds. A cached context that the directory doesn't have any more stands in place of ddtp and the directory.
-    /// The device id is below 2^24. The fault is want of memory.
+    /// The fault is want of memory.
     pub fn tell(
         &mut self,
         platform: &Platform,
@@ -65,8 +64,6 @@ impl Walk {
         seen: &Seen,
         draft: &mut Draft,
     ) -> Result<(), AllocError>
-        requires width { request.now.did < 2 ^ 24 }
-        requires context { IfSome seen.now.context (λ found. IsWellFormed found.1) }
     {
         if let Some((Source::Found, context)) = &seen.context
             && !is_current(platform, request, context)
@@ -90,9 +87,8 @@ impl Walk {
     }
 }
 
-// Whether the directory has this context of a request's device. The device id is below 2^24.
+// Whether the directory has this context of a request's device.
 fn is_current(platform: &Platform, request: &Request, context: &Context) -> bool
-    requires { request.now.did < 2 ^ 24 }
 {
     match platform.registers().mode() {
         Mode::Off | Mode::Bare => false,

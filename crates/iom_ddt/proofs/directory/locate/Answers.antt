@@ -14,7 +14,7 @@ returns-then-is_too_wide-clause-meaning c = record { too_wide = λ wide. refl; o
 pub returns-in_err-table-clause-verdict : goal.returns-in_err-table-clause-verdict
 returns-in_err-table-clause-verdict c =
     let p = err_from_is_err_and c.from_residual.result c.from_residual.ensures.1 in
-    rw (p.1, p.2) (stops _ _ _ _ _ _ _ _ (omega (arith, c.loop-level-test.true)) c.ddi.ensures.part c.pointed_by.ensures.entry c.in_err-table.was c.loop-level.invariant.left)
+    rw (p.1, p.2) (stops _ _ _ _ _ _ _ _ _ (omega (arith, c.loop-level-test.true)) c.ddi.ensures.part c.pointed_by.ensures.entry c.in_err-table.was c.loop-level.invariant.left)
     ∙ located_by_path _ _ _ _ (c.levels_of-levels.ensures ∙ ap levels_of c.mode.ensures.mode) (sym c.is_too_wide.ensures ∙ c.if-is_too_wide.false)
 
 pub returns-in_err-table-clause-meaning : goal.returns-in_err-table-clause-meaning
@@ -22,25 +22,25 @@ returns-in_err-table-clause-meaning c =
     let p = err_from_is_err_and c.from_residual.result c.from_residual.ensures.1 in
     rw (p.1, p.2) (located_by_end _ _ _ _ _ (c.levels_of-levels.ensures ∙ ap levels_of c.mode.ensures.mode) (sym c.is_too_wide.ensures ∙ c.if-is_too_wide.false)
     (c.loop-level.invariant.meant _
-    (ends_in_fault _ _ _ _ _ _ _ (omega (arith, c.loop-level-test.true)) c.ddi.ensures.part c.pointed_by.ensures.entry c.in_err-table.was)))
+    (ends_in_fault c.args.registers.now.features _ _ _ _ _ _ _ (omega (arith, c.loop-level-test.true)) c.ddi.ensures.part c.pointed_by.ensures.entry c.in_err-table.was)))
 
 pub loop-level-preserved : goal.loop-level-preserved
 loop-level-preserved c = record {
   table_fits = grind arith;
   some = omega (arith, c.loop-level-test.true);
-  left = passes _ _ _ _ _ _ _ _ (omega (arith, c.loop-level-test.true)) c.ddi.ensures.part c.pointed_by.ensures.entry c.in_ok-table.was c.loop-level.invariant.left;
+  left = passes _ _ _ _ _ _ _ _ _ (omega (arith, c.loop-level-test.true)) c.ddi.ensures.part c.pointed_by.ensures.entry c.in_ok-table.was c.loop-level.invariant.left;
   meant = λ found end.
       c.loop-level.invariant.meant found
-      (goes_on _ _ _ _ _ _ _ _ (omega (arith, c.loop-level-test.true)) c.ddi.ensures.part c.pointed_by.ensures.entry c.in_ok-table.was end);
+      (goes_on c.args.registers.now.features _ _ _ _ _ _ _ _ (omega (arith, c.loop-level-test.true)) c.ddi.ensures.part c.pointed_by.ensures.entry c.in_ok-table.was end);
 }
 
 pub returns-clause-verdict : goal.returns-clause-verdict
 returns-clause-verdict c =
-    ends _ _ _ _ _ _ _ (omega (arith, c.loop-level-test.false)) c.ddi-2.ensures.part c.context_at.ensures.verdict c.loop-level.invariant.left
+    ends _ _ _ _ _ _ _ _ (omega (arith, c.loop-level-test.false)) c.ddi-2.ensures.part c.context_at.ensures.verdict c.loop-level.invariant.left
     ∙ located_by_path _ _ _ _ (c.levels_of-levels.ensures ∙ ap levels_of c.mode.ensures.mode) (sym c.is_too_wide.ensures ∙ c.if-is_too_wide.false)
 
 pub returns-clause-meaning : goal.returns-clause-meaning
 returns-clause-meaning c =
     located_by_end _ _ _ _ _ (c.levels_of-levels.ensures ∙ ap levels_of c.mode.ensures.mode) (sym c.is_too_wide.ensures ∙ c.if-is_too_wide.false)
     (c.loop-level.invariant.meant _
-    (ends_in_context _ _ _ _ _ _ (omega (arith, c.loop-level-test.false)) c.ddi-2.ensures.part c.context_at.ensures.meaning))
+    (ends_in_context c.args.registers.now.features _ _ _ _ _ _ (omega (arith, c.loop-level-test.false)) c.ddi-2.ensures.part c.context_at.ensures.meaning))

@@ -10,7 +10,7 @@ abbrev pub invariant-loop-level : goal.invariant-loop-level
 invariant-loop-level l = record {
   table_fits : l.table < 2 ^ 44;
   some : 1 ≤ l.level;
-  left : verdict_on (path_from l.ram l.did (l.level - 1) l.table) ≡ verdict_on (path_from l.ram l.did (l.levels - 1) (root_of l.registers));
-  meant : (found : Result Context Cause) → IsEnd (path_from l.ram l.did (l.level - 1) l.table) found →
-      IsEnd (path_from l.ram l.did (l.levels - 1) (root_of l.registers)) found;
+  left : verdict_on l.registers.features (path_from l.ram l.did (l.level - 1) l.table) ≡ verdict_on l.registers.features (path_from l.ram l.did (l.levels - 1) (root_of l.registers));
+  meant : (found : Result Context Cause) → IsEnd l.registers.features (path_from l.ram l.did (l.level - 1) l.table) found →
+      IsEnd l.registers.features (path_from l.ram l.did (l.levels - 1) (root_of l.registers)) found;
 }

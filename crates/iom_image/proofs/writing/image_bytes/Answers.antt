@@ -21,4 +21,4 @@ returns c =
     let image = c.args.image.now in
     let chunks : c.len.result ≡ length (map chunk_seen image.chunks.entries) = c.len.ensures.len ∙ sym (length-map image.chunks.entries chunk_seen) in
     let disks : c.len-2.result ≡ length (map disk_seen image.disks.items) = c.len-2.ensures ∙ image.disks.ok.0 ∙ sym (length-map image.disks.items disk_seen) in
-    written (image_seen image) _ _ _ _ _ _ c.new-out.ensures.items chunks disks c.in_ok-push_head.ensures c.in_ok-push_chunks.ensures (rw c.deref.ensures.value at c.in_ok-push_disks.ensures)
+    written (image_seen image) _ _ _ _ _ _ c.new-out.ensures.items chunks disks c.in_ok-push_head.ensures c.in_ok-push_chunks.ensures (rw (c.deref.ensures.value, c.is_flagged.ensures) at c.in_ok-push_disks.ensures)

@@ -1,6 +1,5 @@
 use Rattle.std.proofs.Common.{◌≡◌, Result, Ok, subst, rules}
 use Rattle.std.specs.Prelude.{All}
-use Rattle.iom_bits.specs.Features.{no_features}
 use Rattle.iom_bits.specs.declared.causes.Cause.{Cause}
 use Rattle.iom_ddt.specs.Directory.{located}
 use Rattle.iom_ddt.specs.declared.context.Context.{Context}
@@ -13,5 +12,5 @@ returns-in-Ok-clause-fits c =
     let m = c.args.platform.now.machine in
     let request = c.args.request.now in
     let found : Ok c.in-Ok.context ≡ located m.memory m.registers request.did = search rules in
-    subst (λ (r : Result Context Cause). All PartFits (stage_parts m.memory no_features request.iova request.kind r)) found
+    subst (λ (r : Result Context Cause). All PartFits (stage_parts m.memory m.registers.features request.iova request.kind r)) found
     c.push_stages.ensures.fits

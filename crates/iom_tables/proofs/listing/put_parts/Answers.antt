@@ -1,8 +1,6 @@
 use Rattle.std.proofs.Common.{rules, subst}
 use Rattle.iom_regs.specs.Sound.{IsSound}
 use Rattle.iom_tables.specs.Parts.{parts_of}
-use Rattle.iom_core.specs.Access.{Fits}
-use Rattle.iom_core.specs.declared.looking.Seen.{Seen}
 use Rattle.iom_tables.proofs.Bounds.{each_fits}
 use Rattle.iom_tables.proofs.Fetches.{each_read_of}
 use Rattle.iom_tables.proofs.Passing.{each_passes_of}
@@ -25,4 +23,4 @@ returns-clause-refused c = some_refuses_of c.args.platform.now.machine c.args.re
 pub returns-clause-fits : goal.returns-clause-fits
 returns-clause-fits c =
     each_fits c.args.platform.now.machine c.args.request.now _ (returns-clause-parts c) (subst IsSound c.registers-registers.ensures c.mode-mode.ensures.sound)
-    c.push_walk.ensures.fits (subst (λ (seen : Seen). Fits seen.way) c.seen_uncached.ensures.seen c.seen_uncached.ensures.fits)
+    c.push_walk.ensures.fits

@@ -21,7 +21,7 @@ returns-clause-newest c =
           c.tables_for-tables.ensures.told c.stale_by-stale.ensures.told;
     } in
     newest_told _ c.self.inside.told c.args.platform.now c.args.step.now c.args.number reason
-    (ap (λ (a : Account). a.told) c.keep.ensures) own
+    c.keep.ensures own
 
 pub returns-clause-along : goal.returns-clause-along
 returns-clause-along c =
@@ -38,14 +38,13 @@ returns-clause-along c =
           c.tables_for-tables.ensures.told c.stale_by-stale.ensures.told;
     } in
     let before : c.args.self.now.history ≡ c.self.inside.history = cc in
-    let history : c.keep.new.self.history ≡ c.step-taken.new.self = cc in
     let inside : c.args.self.now.told ≡ c.self.inside.told = cc in
-    let told : c.keep.new.self.told ≡ keep_last 32 (c.args.self.now.told ++ reason ∷ []) =
-    ap (λ (a : Account). a.told) c.keep.ensures ∙ ap (λ (l : List Reason). keep_last 32 (l ++ reason ∷ [])) (sym inside) in
-    along_step c.args.self.now c.args.platform.now c.args.step.now c.args.number c.keep.new.self c.step-taken.new.platform reason
+    let left : Account = record { history = c.step-taken.new.self; told = c.keep.new.self } in
+    let told : c.keep.new.self ≡ keep_last 32 (c.args.self.now.told ++ reason ∷ []) =
+    c.keep.ensures ∙ ap (λ (l : List Reason). keep_last 32 (l ++ reason ∷ [])) (sym inside) in
+    along_step c.args.self.now c.args.platform.now c.args.step.now c.args.number left c.step-taken.new.platform reason
     c.step-taken.ensures.state told own
     (λ start steps numbers h.
-    subst (λ (notes : Notes). Follows notes c.step-taken.new.platform start (steps ++ c.args.step.now ∷ []) (numbers ++ c.args.number ∷ [])) (sym history)
-    (c.step-taken.ensures.follows start steps numbers (subst (λ (notes : Notes). Follows notes c.args.platform.now start steps numbers) before h)))
+    c.step-taken.ensures.follows start steps numbers (subst (λ (notes : Notes). Follows notes c.args.platform.now start steps numbers) before h))
     (λ start steps numbers h.
     c.step-taken.ensures.origin start steps numbers (subst (λ (notes : Notes). Follows notes c.args.platform.now start steps numbers) before h))

@@ -1,6 +1,5 @@
 use Rattle.std.proofs.Common.{◌≡◌}
-use Rattle.iom_cache.specs.Places.{find, EachLive}
-use Rattle.iom_cache.specs.Entries.{HoldsContext}
+use Rattle.iom_cache.specs.Places.{find}
 use Rattle.iom_cache.specs.Keys.{same_did}
 use Rattle.iom_cache.proofs.contexts.ContextCache.find.Given as goal
 
@@ -10,5 +9,4 @@ invariant-loop-place l = record {
   can_next : (goal.iterator-loop-place).can_next l.place-iterator;
   is_finite : (goal.iterator-loop-place).is_finite l.place-iterator;
   rest : find (same_did l.did) l.place-iterator ≡ find (same_did l.did) l.self;
-  live : EachLive HoldsContext l.self → EachLive HoldsContext l.place-iterator;
 }

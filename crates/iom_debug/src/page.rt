@@ -1,0 +1,105 @@
+//! What is told of a line or of a step, put together before it is written at once.
+
+ghost use Rattle.std.specs.Prelude.{◌≡◌, ◌+◌, ◌*◌, ◌++◌, ◌∷◌, [], ◌≤◌, length, take, codes, false, IfErr, OnErr, OnOk};
+ghost use Rattle.std.specs.Io.KnownBytes.{Appends};
+ghost use Rattle.hex.specs.Hex.{encode_lower};
+ghost use Rattle.iom_text.specs.Texts.{numeral};
+ghost use Rattle.iom_reader.specs.Running.{WritesFront, is_write};
+ghost use Rattle.iom_reader.specs.Watching.{write_failed};
+ghost use Rattle.iom_debug.specs.Telling.{escaped, shown};
+
+use arrayvec::ArrayVec;
+use hex::encode_to_slice;
+use iom_reader::{RunFault, WatchedWriter, write_out};
+use iom_text::decimal;
+use std::io::Write;
+
+/// How many bytes of a line are kept: one more than a line may have.
+const KEPT: usize = 513;
+
+/// Room for it.
+pub type Page = ArrayVec<u8, 16384>;
+
+/// Appends bytes, for which there is room.
+#[inline(always)]
+pub fn put(out: &mut Page, text: &[u8])
+    requires { length out.old.items + length text.now ≤ 16384 }
+    ensures text { out.new.items ≡ out.old.items ++ text.now }
+    ensures room { length out.new.items ≡ length out.old.items + length text.now }
+{
+    let _fits = out.try_extend_from_slice(text);
+}
+
+/// Appends a number in decimal, at most 20 bytes.
+pub fn put_number(out: &mut Page, number: u64)
+    requires { length out.old.items + 20 ≤ 16384 }
+    ensures text { out.new.items ≡ out.old.items ++ numeral 10 number }
+    ensures room { length out.new.items ≤ length out.old.items + 20 }
+{
+    put(out, decimal(number).as_slice());
+}
+
+// Appends a byte in hex.
+fn put_hex(out: &mut Page, byte: u8)
+    requires { length out.old.items + 4 ≤ 16384 }
+    ensures text { out.new.items ≡ out.old.items ++ (codes "\\x" ++ encode_lower (byte ∷ [])) }
+    ensures room { length out.new.items ≤ length out.old.items + 4 }
+{
+    let mut digits = [0; 2];
+    let _fits = encode_to_slice(&[byte], &mut digits);
+    put(out, b"\\x");
+    put(out, &digits);
+}
+
+// Appends a byte, escaped where it isn't printable.
+#[tactic(auto, unfolding(crate::specs::Telling::shown))]
+fn put_shown(out: &mut Page, byte: u8)
+    requires { length out.old.items + 4 ≤ 16384 }
+    ensures text { out.new.items ≡ out.old.items ++ shown byte }
+    ensures room { length out.new.items ≤ length out.old.items + 4 }
+{
+    match byte {
+        b'\t' => put(out, b"\\t"),
+        b'\n' => put(out, b"\\n"),
+        b'\r' => put(out, b"\\r"),
+        b'"' | b'\'' | b'\\' => put(out, &[b'\\', byte]),
+        b' '..=b'~' => put(out, &[byte]),
+        _ => put_hex(out, byte),
+    }
+}
+
+/// Appends bytes, those that aren't printable escaped: four bytes each at most.
+pub fn put_escaped(out: &mut Page, text: &[u8])
+    requires { length out.old.items + 4 * length text.now ≤ 16384 }
+    ensures text { out.new.items ≡ out.old.items ++ escaped text.now }
+    ensures room { length out.new.items ≤ length out.old.items + 4 * length text.now }
+{
+    for byte in text {
+        put_shown(out, *byte);
+    }
+}
+
+/// The first 513 bytes of a line, which tell all that it says.
+pub fn first_bytes(line: &[u8]) -> &[u8]
+    ensures bytes { result.now ≡ take 513 line.now }
+    ensures short { length result.now ≤ 513 }
+{
+    let count = line.len().min(KEPT);
+    &line[..count]
+}
+
+/// Writes what is told, where it has a byte. The fault is `Write`.
+#[tactic(auto, using(crate::proofs::Telling::nothing_written))]
+pub fn write_told<W: Write>(writer: &mut WatchedWriter<'_, W>, text: &[u8]) -> Result<(), RunFault>
+    requires { write_failed writer.old ≡ false }
+    ensures ok { OnOk result (Appends (W.contents writer.old.inner.now) (W.contents writer.new.inner.now) text.now) }
+    ensures front { OnErr result (WritesFront (W.contents writer.old.inner.now) (W.contents writer.new.inner.now) text.now) }
+    ensures fault { IfErr result (λ fault. fault ≡ RunFault.Write) }
+    ensures told { write_failed writer.new ≡ is_write result }
+    ensures same_writer { writer.new.inner.ghost_name ≡ writer.old.inner.ghost_name }
+{
+    if text.is_empty() {
+        return Ok(());
+    }
+    write_out(writer, text)
+}

@@ -1,0 +1,5 @@
+pub mod Splits
+pub mod Lists
+pub mod Feeding
+pub mod Runs
+pub mod Chains

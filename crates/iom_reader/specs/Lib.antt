@@ -1,0 +1,5 @@
+pub mod Lines
+pub mod Watching
+pub mod Answering
+pub mod Speaking
+pub mod Running

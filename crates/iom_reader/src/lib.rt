@@ -1,0 +1,16 @@
+//! A script, cut into lines, whoever answers them.
+#![tactic(auto)]
+
+pub use answerer::Answerer;
+pub use fault::RunFault;
+pub use reading::answer_all;
+pub use rest::Rest;
+pub use watched::{WatchedReader, WatchedWriter};
+pub use writing::write_out;
+
+mod answerer;
+mod fault;
+mod reading;
+mod rest;
+mod watched;
+mod writing;

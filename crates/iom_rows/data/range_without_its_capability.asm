@@ -1,0 +1,5 @@
+ram 0x80000000 0x100000
+capabilities nl=1
+at 0x80090000
+cmd vma nl=1
+cmd vma av=1 s=1
