@@ -1,5 +1,5 @@
 -- What the laws say of the entries themselves: none is kept whose V is 0, and what a walk meets it has read.
-use Rattle.std.specs.Prelude.{ℕ, ◌≡◌, ◌/◌, true, List, get_or, Some, None}
+use Rattle.std.specs.Prelude.{ℕ, ◌≡◌, ◌/◌, ◌^◌, true, List, get_or, Some, None}
 use Rattle.iom_bits.specs.Bits.{has_bit}
 use Rattle.iom_bits.specs.declared.features.Features.{Features}
 use Rattle.iom_ddt.specs.Directory.{with_modes}
