@@ -1,7 +1,6 @@
 -- What this model caches after a step was cached before it or read by its access, and isn't dropped.
 use Rattle.std.proofs.Common.{◌≡◌, ◌∙◌, ◌++◌, ◌⊎◌, ◌-◌, ℕ, Bool, true, false, List, [], Option, Some, None, Result, Ok, Err, if◌then◌else◌, refl, ap, sym, subst, inl, inr}
 use Rattle.std.specs.Option.{option_map}
-use Rattle.iom_bits.specs.Features.{no_features}
 use Rattle.iom_bits.specs.declared.causes.Cause.{Cause}
 use Rattle.iom_regs.specs.Views.{mode_of}
 use Rattle.iom_regs.specs.declared.views.Mode.{Mode}
@@ -49,15 +48,15 @@ use Rattle.iom_every.proofs.Walked.{translation_is}
 -- the caches drop what the machine drops
 pub context_drops : (command : Command) (did : ℕ) (context : Context) → drops_entry command (OfDevice did (Ok context)) ≡ drops_context command did context
 unfolding drops_entry
-context_drops (Vma av page pscv pscid gv gscid) did context = refl
-context_drops (Gvma av page pscid gv gscid) did context = refl
+context_drops (Vma av page pscv pscid gv gscid nl s) did context = refl
+context_drops (Gvma av page pscid gv gscid nl s) did context = refl
 context_drops (Fence av wsi pr pw value addr) did context = refl
 context_drops (Iodir dv own) did context = refl
 
 pub page_drops : (command : Command) (key : Key) (hit : Hit) → drops_entry command (OfPage key hit) ≡ drops_page command key hit
 unfolding drops_entry
-page_drops (Vma av page pscv pscid gv gscid) key hit = refl
-page_drops (Gvma av page pscid gv gscid) key hit = refl
+page_drops (Vma av page pscv pscid gv gscid nl s) key hit = refl
+page_drops (Gvma av page pscid gv gscid nl s) key hit = refl
 page_drops (Fence av wsi pr pw value addr) key hit = refl
 page_drops (Iodir dv own) key hit = refl
 
@@ -79,31 +78,31 @@ unfolding context_look
 context_read m did filled is =
     let t : WasTold did (live_context m did) (located m.memory m.registers did) filled = was_told did (live_context m did) (located m.memory m.registers did) filled is in
     let enters : entered (uncached m) (uses_of m) did ≡ None = entered_is m did ∙ ap (option_map at_leaf) t.none in
-    let has : IsAmong (directory_in did (depth_of m - 1) (path_of m.memory m.registers did)) (OfDevice did (Ok t.value)) = located_has m.memory m.registers did t.value t.told_so in
+    let has : IsAmong (directory_in m.registers.features did (depth_of m - 1) (path_of m.memory m.registers did)) (OfDevice did (Ok t.value)) = located_has m.memory m.registers did t.value t.told_so in
     subst (λ (filled : ℕ × Context). IsAmong (directory_reads (uncached m) did (entered (uncached m) (uses_of m) did)) (OfDevice filled.0 (Ok filled.1))) t.is
     (subst (λ (found : Option Entered). IsAmong (directory_reads (uncached m) did found) (OfDevice did (Ok t.value))) (sym enters) has)
 
 -- so is a page
-page_read : (m : Machine) (request : Request) (context : Context) (filled : Key × Hit) → (page_look m.memory no_features m.pages request context).filled ≡ Some filled → IsAmong (page_way m.memory (uses_of m) request context).reads (OfPage filled.0 filled.1)
+page_read : (m : Machine) (request : Request) (context : Context) (filled : Key × Hit) → (page_look m.memory m.registers.features m.pages request context).filled ≡ Some filled → IsAmong (page_way m.memory m.registers.features (uses_of m) request context).reads (OfPage filled.0 filled.1)
 unfolding page_look
 page_read m request context filled is =
     let key : Key = request_key request context in
     let live : Option Hit = find (same_key key) m.pages in
-    let t : WasTold key live (translation m.memory no_features context request.iova request.kind) filled = was_told key live (translation m.memory no_features context request.iova request.kind) filled is in
+    let t : WasTold key live (translation m.memory m.registers.features context request.iova request.kind) filled = was_told key live (translation m.memory m.registers.features context request.iova request.kind) filled is in
     let none : used_by (page_use key) (uses_of m) ≡ None = used_page key m.contexts m.pages ∙ t.none in
-    let hits : translation_by m.memory no_features (uses_of m) context request.iova request.kind ≡ Ok t.value =
-    translation_is m.memory no_features (uses_of m) context (no_stage m context) request.iova request.kind ∙ t.told_so in
-    let stages : List Entry = stage_reads m.memory no_features (uses_of m) context request.iova request.kind in
-    let has : IsAmong (stages ++ whole_of request context (translation_by m.memory no_features (uses_of m) context request.iova request.kind)) (OfPage key t.value) =
-    among-right stages (whole_of request context (translation_by m.memory no_features (uses_of m) context request.iova request.kind)) (OfPage key t.value)
+    let hits : translation_by m.memory m.registers.features (uses_of m) context request.iova request.kind ≡ Ok t.value =
+    translation_is m.memory m.registers.features (uses_of m) context (no_stage m context) request.iova request.kind ∙ t.told_so in
+    let stages : List Entry = stage_reads m.memory m.registers.features (uses_of m) context request.iova request.kind in
+    let has : IsAmong (stages ++ whole_of request context (translation_by m.memory m.registers.features (uses_of m) context request.iova request.kind)) (OfPage key t.value) =
+    among-right stages (whole_of request context (translation_by m.memory m.registers.features (uses_of m) context request.iova request.kind)) (OfPage key t.value)
     (subst (λ (found : Result Hit Fault). IsAmong (whole_of request context found) (OfPage key t.value)) (sym hits) (inl refl)) in
-    subst (λ (filled : Key × Hit). IsAmong (page_way m.memory (uses_of m) request context).reads (OfPage filled.0 filled.1)) t.is
-    (subst (λ (found : Option Hit). IsAmong (page_by m.memory (uses_of m) request context found).reads (OfPage key t.value)) (sym none) has)
+    subst (λ (filled : Key × Hit). IsAmong (page_way m.memory m.registers.features (uses_of m) request context).reads (OfPage filled.0 filled.1)) t.is
+    (subst (λ (found : Option Hit). IsAmong (page_by m.memory m.registers.features (uses_of m) request context found).reads (OfPage key t.value)) (sym none) has)
 
-under_read : (m : Machine) (request : Request) (context : Context) (filled : Key × Hit) → (led_under m.memory no_features m.pages request context).page ≡ Some filled → IsAmong (under m.memory (uses_of m) request context).reads (OfPage filled.0 filled.1)
+under_read : (m : Machine) (request : Request) (context : Context) (filled : Key × Hit) → (led_under m.memory m.registers.features m.pages request context).page ≡ Some filled → IsAmong (under m.memory m.registers.features (uses_of m) request context).reads (OfPage filled.0 filled.1)
 under_read m request context filled =
-    let ours : Way Entry Led = record { led = way_to context (page_way m.memory (uses_of m) request context).led; reads = (page_way m.memory (uses_of m) request context).reads } in
-    let standing : Under = record { way = way_to context (page_look m.memory no_features m.pages request context).used; page = (page_look m.memory no_features m.pages request context).filled } in
+    let ours : Way Entry Led = record { led = way_to context (page_way m.memory m.registers.features (uses_of m) request context).led; reads = (page_way m.memory m.registers.features (uses_of m) request context).reads } in
+    let standing : Under = record { way = way_to context (page_look m.memory m.registers.features m.pages request context).used; page = (page_look m.memory m.registers.features m.pages request context).filled } in
     let direct : Way Entry Led = record { led = ByContext context; reads = [] } in
     let direct_under : Under = record { way = ByContext context; page = None } in
     let reads : Way Entry Led → List Entry = λ way. way.reads in
@@ -118,12 +117,12 @@ by_fill : (m : Machine) (request : Request) (fill : Option (ℕ × Context)) (fo
 by_fill m request fill (Ok context) = refl
 by_fill m request fill (Err why) = refl
 
-by_reads : (m : Machine) (request : Request) (reads : List Entry) (found : Result Context Cause) (e : Entry) → IsAmong reads e → IsAmong (by_context m.memory (uses_of m) request reads found).reads e
-by_reads m request reads (Ok context) e h = among-left reads (under m.memory (uses_of m) request context).reads e h
+by_reads : (m : Machine) (request : Request) (reads : List Entry) (found : Result Context Cause) (e : Entry) → IsAmong reads e → IsAmong (by_context m.memory m.registers.features (uses_of m) request reads found).reads e
+by_reads m request reads (Ok context) e h = among-left reads (under m.memory m.registers.features (uses_of m) request context).reads e h
 by_reads m request reads (Err why) e h = h
 
-by_page : (m : Machine) (request : Request) (reads : List Entry) (fill : Option (ℕ × Context)) (found : Result Context Cause) (filled : Key × Hit) → (led_by_context m request fill found).page ≡ Some filled → IsAmong (by_context m.memory (uses_of m) request reads found).reads (OfPage filled.0 filled.1)
-by_page m request reads fill (Ok context) filled is = among-right reads (under m.memory (uses_of m) request context).reads (OfPage filled.0 filled.1) (under_read m request context filled is)
+by_page : (m : Machine) (request : Request) (reads : List Entry) (fill : Option (ℕ × Context)) (found : Result Context Cause) (filled : Key × Hit) → (led_by_context m request fill found).page ≡ Some filled → IsAmong (by_context m.memory m.registers.features (uses_of m) request reads found).reads (OfPage filled.0 filled.1)
+by_page m request reads fill (Ok context) filled is = among-right reads (under m.memory m.registers.features (uses_of m) request context).reads (OfPage filled.0 filled.1) (under_read m request context filled is)
 by_page m request reads fill (Err why) filled is = absurd (cc)
 
 mode_context : (m : Machine) (request : Request) (mode : Mode) (filled : ℕ × Context) → (led_by_mode mode m request).context ≡ Some filled → IsAmong (by_mode mode (uncached m) (uses_of m) request).reads (OfDevice filled.0 (Ok filled.1))
@@ -140,7 +139,7 @@ mode_page m request Bare filled is = absurd (cc)
 mode_page m request (Levels levels) filled is =
     let found : Option Entered = entered (uncached m) (uses_of m) request.did in
     let reads : List Entry = directory_reads (uncached m) request.did found in
-    subst (λ (at : Result Context Cause). IsAmong (by_context m.memory (uses_of m) request reads at).reads (OfPage filled.0 filled.1)) (sym (context_is m request.did))
+    subst (λ (at : Result Context Cause). IsAmong (by_context m.memory m.registers.features (uses_of m) request reads at).reads (OfPage filled.0 filled.1)) (sym (context_is m request.did))
     (by_page m request reads (context_look m request.did).filled (context_look m request.did).used filled is)
 
 -- what an access fills is read by it

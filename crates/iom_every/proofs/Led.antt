@@ -1,7 +1,6 @@
 -- Over what this model caches, a request is led as the model leads it.
 use Rattle.std.proofs.Common.{◌≡◌, ◌∙◌, ◌++◌, ℕ, true, false, List, [], Option, Some, None, Result, Ok, Err, if◌then◌else◌, refl, ap, sym}
 use Rattle.std.specs.Option.{option_map}
-use Rattle.iom_bits.specs.Features.{no_features}
 use Rattle.iom_bits.specs.declared.causes.Cause.{Cause}
 use Rattle.iom_regs.specs.Views.{mode_of}
 use Rattle.iom_regs.specs.declared.views.Mode.{Mode}
@@ -59,23 +58,23 @@ context_is m did = ap (located_by (uncached m) did) (entered_is m did) ∙ locat
 
 -- where the page leads
 page_found : (m : Machine) (request : Request) (context : Context) (found : Option Hit) →
-    (page_by m.memory (uses_of m) request context found).led ≡ (look (request_key request context) found (translation m.memory no_features context request.iova request.kind)).used
+    (page_by m.memory m.registers.features (uses_of m) request context found).led ≡ (look (request_key request context) found (translation m.memory m.registers.features context request.iova request.kind)).used
 page_found m request context (Some hit) = refl
 page_found m request context None =
-    translation_is m.memory no_features (uses_of m) context (no_stage m context) request.iova request.kind
-    ∙ sym (looked_none (request_key request context) (translation m.memory no_features context request.iova request.kind))
+    translation_is m.memory m.registers.features (uses_of m) context (no_stage m context) request.iova request.kind
+    ∙ sym (looked_none (request_key request context) (translation m.memory m.registers.features context request.iova request.kind))
 
 pub page_is : (m : Machine) (request : Request) (context : Context) →
-    (page_way m.memory (uses_of m) request context).led ≡ (page_look m.memory no_features m.pages request context).used
+    (page_way m.memory m.registers.features (uses_of m) request context).led ≡ (page_look m.memory m.registers.features m.pages request context).used
 unfolding page_look
 page_is m request context =
-    ap (λ (found : Option Hit). (page_by m.memory (uses_of m) request context found).led) (used_page (request_key request context) m.contexts m.pages)
+    ap (λ (found : Option Hit). (page_by m.memory m.registers.features (uses_of m) request context found).led) (used_page (request_key request context) m.contexts m.pages)
     ∙ page_found m request context (find (same_key (request_key request context)) m.pages)
 
-under_is : (m : Machine) (request : Request) (context : Context) → (under m.memory (uses_of m) request context).led ≡ (led_under m.memory no_features m.pages request context).way
+under_is : (m : Machine) (request : Request) (context : Context) → (under m.memory m.registers.features (uses_of m) request context).led ≡ (led_under m.memory m.registers.features m.pages request context).way
 under_is m request context =
-    let ours : Way Entry Led = record { led = way_to context (page_way m.memory (uses_of m) request context).led; reads = (page_way m.memory (uses_of m) request context).reads } in
-    let standing : Under = record { way = way_to context (page_look m.memory no_features m.pages request context).used; page = (page_look m.memory no_features m.pages request context).filled } in
+    let ours : Way Entry Led = record { led = way_to context (page_way m.memory m.registers.features (uses_of m) request context).led; reads = (page_way m.memory m.registers.features (uses_of m) request context).reads } in
+    let standing : Under = record { way = way_to context (page_look m.memory m.registers.features m.pages request context).used; page = (page_look m.memory m.registers.features m.pages request context).filled } in
     let direct : Way Entry Led = record { led = ByContext context; reads = [] } in
     let direct_under : Under = record { way = ByContext context; page = None } in
     let led_of : Way Entry Led → Led = λ way. way.led in
@@ -86,7 +85,7 @@ under_is m request context =
     ]
 
 by_is : (m : Machine) (request : Request) (reads : List Entry) (fill : Option (ℕ × Context)) (found : Result Context Cause) →
-    (by_context m.memory (uses_of m) request reads found).led ≡ (led_by_context m request fill found).way
+    (by_context m.memory m.registers.features (uses_of m) request reads found).led ≡ (led_by_context m request fill found).way
 by_is m request reads fill (Ok context) = under_is m request context
 by_is m request reads fill (Err why) = refl
 

@@ -1,5 +1,5 @@
 -- A walk that enters at an entry that it would read now ends as one from the root.
-use Rattle.std.proofs.Common.{◌≡◌, ◌∙◌, ◌||◌, ◌&&◌, ◌==◌, ◌<◌, ◌/◌, ℕ, zero, suc, Bool, true, false, not, List, [], ◌∷◌, Option, Some, None, if◌then◌else◌, nat_lt, refl, ap, sym, subst, inl, inr, arith}
+use Rattle.std.proofs.Common.{◌≡◌, ◌∙◌, ◌||◌, ◌&&◌, ◌==◌, ◌<◌, ◌/◌, ◌^◌, ℕ, zero, suc, Bool, true, false, not, List, [], ◌∷◌, Option, Some, None, if◌then◌else◌, nat_lt, refl, ap, sym, subst, inl, inr, arith}
 use Rattle.std.specs.List.{AllByRecursion, find, list_any}
 use Rattle.std.proofs.lemmas.Bool.{eq-eqb, lt-ltb}
 use Rattle.iom_bits.specs.Bits.{has_bit}
@@ -158,7 +158,7 @@ enters_path at format address kind (suc count) table above held among =
 -- what is kept of a path stands for the address, at a level that the path has
 pub record IsOfPath (address count : ℕ) (held : Held) : Type 0 where
   pub level : held.level < count
-  pub part : held.part ≡ address / 4096 / held.pages
+  pub part : held.part ≡ address / 4096 / 2 ^ held.width
 
 of_path : (at : ℕ → ℕ → Got) (format : Format) (address count table : ℕ) (above : Bool) (held : Held) →
     IsAmong (held_in format.features above address (path_by at format address table count)) held → IsOfPath address count held
@@ -189,7 +189,7 @@ of_path at format address (suc count) table above held among =
 fits_is : (shape : Shape) (address : ℕ) (held : Held) → IsOfPath address (levels shape) held → is_for shape address held ≡ true
 fits_is shape address held h =
     let level : nat_lt held.level (levels shape) ≡ true = lt-ltb held.level (levels shape) h.level in
-    let part : (held.part == (address / 4096 / held.pages)) ≡ true = eq-eqb held.part (address / 4096 / held.pages) h.part in
+    let part : (held.part == (address / 4096 / 2 ^ held.width)) ≡ true = eq-eqb held.part (address / 4096 / 2 ^ held.width) h.part in
     rw (level, part) refl
 
 pub entering : (at : ℕ → ℕ → Got) (format : Format) (root address : ℕ) (kind : Kind) (held : Held) → IsAmong (held_in format.features false address (met at format root address None)) held →

@@ -1,9 +1,8 @@
 -- What a walk reads: each valid entry that it meets, and no other.
-use Rattle.std.proofs.Common.{◌≡◌, ◌++◌, ◌||◌, ◌-◌, ◌/◌, ℕ, Bool, true, false, List, [], ◌∷◌, get_or, map, Option, Some, None, Result, Ok, Err, if◌then◌else◌, refl, ap, sym, subst, inl, inr}
+use Rattle.std.proofs.Common.{◌≡◌, ◌++◌, ◌||◌, ◌-◌, ◌/◌, ◌^◌, ℕ, Bool, true, false, List, [], ◌∷◌, get_or, map, Option, Some, None, Result, Ok, Err, if◌then◌else◌, refl, ap, sym, subst, inl, inr}
 use Rattle.std.specs.Prelude.{flat_map}
 use Rattle.std.specs.List.{AllByRecursion}
 use Rattle.iom_bits.specs.Bits.{has_bit}
-use Rattle.iom_bits.specs.Features.{no_features}
 use Rattle.iom_bits.specs.declared.causes.Cause.{Cause}
 use Rattle.iom_bits.specs.declared.causes.Kind.{Kind}
 use Rattle.iom_bits.specs.declared.features.Features.{Features}
@@ -15,7 +14,7 @@ use Rattle.iom_ddt.specs.Contexts.{is_bare}
 use Rattle.iom_ddt.specs.declared.context.Context.{Context}
 use Rattle.iom_ddt.specs.declared.listing.Met.{Met as Listed}
 use Rattle.iom_ddt.specs.declared.listing.Met.TheVariants as listed
-use Rattle.iom_ddt.specs.Directory.{path_of}
+use Rattle.iom_ddt.specs.Directory.{path_of, with_modes}
 use Rattle.iom_ddt.specs.Words.{context_in}
 use Rattle.iom_walk.specs.Path.{Entry as Met}
 use Rattle.iom_walk.specs.Verdict.{is_global, is_valid, word_of}
@@ -35,7 +34,7 @@ use Rattle.iom_core.specs.declared.way.Way.TheVariants.{Context as ByContext}
 use Rattle.iom_choices.specs.Models.{end_of}
 use Rattle.iom_choices.specs.Systems.{IsAmong, Way, aimed, reads_of}
 use Rattle.iom_choices.proofs.Lists.{among-left, among-right, each_append}
-use Rattle.iom_every.specs.Entries.{Entry, Held, OfDirectory, OfDevice, OfFirst, OfPage, OfSecond, id_part, pages_at}
+use Rattle.iom_every.specs.Entries.{Entry, Held, OfDirectory, OfDevice, OfFirst, OfPage, OfSecond, id_part, width_at}
 use Rattle.iom_every.specs.Every.{May, iommu, platform}
 use Rattle.iom_every.specs.Guards.{IsReadAs, IsValid}
 use Rattle.iom_every.specs.Rows.{bare}
@@ -88,8 +87,8 @@ pub record IsHeldAs (features : Features) (global : Bool) (address : ℕ) (entry
   pub held : Held
   pub among : IsAmong helds held
   pub level : held.level ≡ entry.level
-  pub pages : held.pages ≡ pages_at features entry.level (word_of entry.got)
-  pub part : held.part ≡ address / 4096 / held.pages
+  pub width : held.width ≡ width_at features entry.level (word_of entry.got)
+  pub part : held.part ≡ address / 4096 / 2 ^ held.width
   pub word : held.word ≡ word_of entry.got
   pub own : is_global (word_of entry.got) ≡ true → held.global ≡ true
 
@@ -109,7 +108,7 @@ held_has features global address (first ∷ path) entry (inl same) valid =
       held = kept;
       among = subst (λ (b : Bool). IsAmong (if b then kept ∷ rest else rest) kept) (sym is) (inl refl);
       level = ap (λ (met : Met). met.level) same;
-      pages = ap (λ (met : Met). pages_at features met.level (word_of met.got)) same;
+      width = ap (λ (met : Met). width_at features met.level (word_of met.got)) same;
       part = refl;
       word = ap (λ (met : Met). word_of met.got) same;
       own = λ g. or_right global _ (subst (λ (met : Met). is_global (word_of met.got) ≡ true) (sym same) g);
@@ -126,7 +125,7 @@ held_has features global address (first ∷ path) entry (inr among) valid =
         | false ↦ h.among
       ];
       level = h.level;
-      pages = h.pages;
+      width = h.width;
       part = h.part;
       word = h.word;
       own = h.own;
@@ -137,7 +136,7 @@ read_as : (features : Features) (tagged : Held → Entry) (address : ℕ) (entry
     ((e : Entry) → IsAmong (map tagged (held_in features global address path)) e → IsAmong reads e) → IsReadAs features tagged address entry reads
 read_as features tagged address entry global path reads among valid more =
     let h : IsHeldAs features global address entry (held_in features global address path) = held_has features global address path entry among valid in
-    record { held = h.held; among = more (tagged h.held) (among_map tagged (held_in features global address path) h.held h.among); level = h.level; pages = h.pages; part = h.part; word = h.word; global = h.own }
+    record { held = h.held; among = more (tagged h.held) (among_map tagged (held_in features global address path) h.held h.among); level = h.level; width = h.width; part = h.part; word = h.word; global = h.own }
 
 -- the entries of the first stage
 pub first_read : (memory : Memory) (features : Features) (source : List (Look × Entry)) (context : Context) (iova : ℕ) (kind : Kind) (shape : Shape) (entry : Met) → first_shape_of context ≡ Some shape →
@@ -212,54 +211,54 @@ whole_valid : (request : Request) (context : Context) (found : Result Hit Fault)
 whole_valid request context (Ok hit) = (tt, tt)
 whole_valid request context (Err fault) = tt
 
-page_valid : (memory : Memory) (source : List (Look × Entry)) (request : Request) (context : Context) (found : Option Hit) → AllByRecursion IsValid (page_by memory source request context found).reads
-page_valid memory source request context (Some hit) = tt
-page_valid memory source request context None = each_append IsValid _ _
-    (stages_valid memory no_features source context request.iova request.kind)
-    (whole_valid request context (translation_by memory no_features source context request.iova request.kind))
+page_valid : (memory : Memory) (features : Features) (source : List (Look × Entry)) (request : Request) (context : Context) (found : Option Hit) → AllByRecursion IsValid (page_by memory features source request context found).reads
+page_valid memory features source request context (Some hit) = tt
+page_valid memory features source request context None = each_append IsValid _ _
+    (stages_valid memory features source context request.iova request.kind)
+    (whole_valid request context (translation_by memory features source context request.iova request.kind))
 
-under_valid : (memory : Memory) (source : List (Look × Entry)) (request : Request) (context : Context) → AllByRecursion IsValid (under memory source request context).reads
-under_valid memory source request context =
-    let ours : Way Entry Led = record { led = way_to context (page_way memory source request context).led; reads = (page_way memory source request context).reads } in
+under_valid : (memory : Memory) (features : Features) (source : List (Look × Entry)) (request : Request) (context : Context) → AllByRecursion IsValid (under memory features source request context).reads
+under_valid memory features source request context =
+    let ours : Way Entry Led = record { led = way_to context (page_way memory features source request context).led; reads = (page_way memory features source request context).reads } in
     let direct : Way Entry Led = record { led = ByContext context; reads = [] } in
     let reads : Way Entry Led → List Entry = λ way. way.reads in
     elim (is_bare context) as (λ b. AllByRecursion IsValid (reads (if b then direct else ours))) [
       | true ↦ tt
-      | false ↦ page_valid memory source request context _
+      | false ↦ page_valid memory features source request context _
     ]
 
-directory_valid : (did level : ℕ) (path : List Listed) → AllByRecursion IsValid (directory_in did level path)
-directory_valid did level [] = tt
-directory_valid did level (listed.Entry place None ∷ more) = tt
-directory_valid did level (listed.Entry place (Some word) ∷ more) =
-    let rest : List Entry = directory_in did (level - 1) more in
+directory_valid : (features : Features) (did level : ℕ) (path : List Listed) → AllByRecursion IsValid (directory_in features did level path)
+directory_valid features did level [] = tt
+directory_valid features did level (listed.Entry place None ∷ more) = tt
+directory_valid features did level (listed.Entry place (Some word) ∷ more) =
+    let rest : List Entry = directory_in features did (level - 1) more in
     let Goal : Bool → Type 0 = λ b. has_bit word 0 ≡ b → AllByRecursion IsValid (if b then OfDirectory level (id_part level did) word ∷ rest else []) in
     let by_valid : (b : Bool) → Goal b = λ b. elim b as Goal [
-      | true ↦ λ is. (is, directory_valid did (level - 1) more)
+      | true ↦ λ is. (is, directory_valid features did (level - 1) more)
       | false ↦ λ is. tt
     ] in by_valid (has_bit word 0) refl
-directory_valid did level (listed.Leaf place None ∷ more) = tt
-directory_valid did level (listed.Leaf place (Some words) ∷ more) =
-    let Goal : Bool → Type 0 = λ b. has_bit (get_or words 0 0) 0 ≡ b → AllByRecursion IsValid (if b then OfDevice did (context_in words) ∷ [] else []) in
+directory_valid features did level (listed.Leaf place None ∷ more) = tt
+directory_valid features did level (listed.Leaf place (Some words) ∷ more) =
+    let Goal : Bool → Type 0 = λ b. has_bit (get_or words 0 0) 0 ≡ b → AllByRecursion IsValid (if b then OfDevice did (with_modes features (context_in words)) ∷ [] else []) in
     let by_valid : (b : Bool) → Goal b = λ b. elim b as Goal [
-      | true ↦ λ is. ((words, is, refl), tt)
+      | true ↦ λ is. ((features, words, is, refl), tt)
       | false ↦ λ is. tt
     ] in by_valid (has_bit (get_or words 0 0) 0) refl
 
 entered_valid : (m : Machine) (did : ℕ) (found : Option Entered) → AllByRecursion IsValid (directory_reads m did found)
-entered_valid m did None = directory_valid did (depth_of m - 1) (path_of m.memory m.registers did)
+entered_valid m did None = directory_valid m.registers.features did (depth_of m - 1) (path_of m.memory m.registers did)
 entered_valid m did (Some (AtLeaf said)) = tt
-entered_valid m did (Some (Below level word)) = directory_valid did (level - 1) (below m did level word)
+entered_valid m did (Some (Below level word)) = directory_valid m.registers.features did (level - 1) (below m did level word)
 
-by_valid : (memory : Memory) (source : List (Look × Entry)) (request : Request) (reads : List Entry) (found : Result Context Cause) → AllByRecursion IsValid reads → AllByRecursion IsValid (by_context memory source request reads found).reads
-by_valid memory source request reads (Ok context) h = each_append IsValid reads _ h (under_valid memory source request context)
-by_valid memory source request reads (Err why) h = h
+by_valid : (memory : Memory) (features : Features) (source : List (Look × Entry)) (request : Request) (reads : List Entry) (found : Result Context Cause) → AllByRecursion IsValid reads → AllByRecursion IsValid (by_context memory features source request reads found).reads
+by_valid memory features source request reads (Ok context) h = each_append IsValid reads _ h (under_valid memory features source request context)
+by_valid memory features source request reads (Err why) h = h
 
 mode_valid : (mode : Mode) (m : Machine) (source : List (Look × Entry)) (request : Request) → AllByRecursion IsValid (by_mode mode m source request).reads
 mode_valid Off m source request = tt
 mode_valid Bare m source request = tt
 mode_valid (Levels levels) m source request =
-    by_valid m.memory source request _ (located_by m request.did (entered m source request.did)) (entered_valid m request.did (entered m source request.did))
+    by_valid m.memory m.registers.features source request _ (located_by m request.did (entered m source request.did)) (entered_valid m request.did (entered m source request.did))
 
 pub way_valid : (state : State) (source : List (Look × Entry)) (request : Request) → AllByRecursion IsValid (way_of state source request).reads
 unfolding way_of
@@ -278,46 +277,46 @@ may_valid ahead start (last ∷ steps) entry may = elim may.1 [
 ]
 
 -- What a request reads: the entries of the directory, and below a context those of both stages and the whole translation.
-in_context : (memory : Memory) (source : List (Look × Entry)) (request : Request) (reads : List Entry) (found : Result Context Cause) (e : Entry) → IsAmong reads e → IsAmong (by_context memory source request reads found).reads e
-in_context memory source request reads (Ok context) e among = among-left reads (under memory source request context).reads e among
-in_context memory source request reads (Err why) e among = among
+in_context : (memory : Memory) (features : Features) (source : List (Look × Entry)) (request : Request) (reads : List Entry) (found : Result Context Cause) (e : Entry) → IsAmong reads e → IsAmong (by_context memory features source request reads found).reads e
+in_context memory features source request reads (Ok context) e among = among-left reads (under memory features source request context).reads e among
+in_context memory features source request reads (Err why) e among = among
 
 pub directory_read : (state : State) (source : List (Look × Entry)) (request : Request) (levels : ℕ) → mode_of state.machine.registers ≡ Levels levels → (e : Entry) →
     IsAmong (directory_reads state.machine request.did (entered state.machine source request.did)) e → IsAmong (way_of state source request).reads e
 unfolding way_of
 directory_read state source request levels is e among =
     subst (λ (mode : Mode). IsAmong (by_mode mode state.machine source request).reads e) (sym is)
-    (in_context state.machine.memory source request _ (located_by state.machine request.did (entered state.machine source request.did)) e among)
+    (in_context state.machine.memory state.machine.registers.features source request _ (located_by state.machine request.did (entered state.machine source request.did)) e among)
 
 pub page_reads : (state : State) (source : List (Look × Entry)) (request : Request) (context : Context) (levels : ℕ) → mode_of state.machine.registers ≡ Levels levels →
     located_by state.machine request.did (entered state.machine source request.did) ≡ Ok context → is_bare context ≡ false → used_by (page_use (request_key request context)) source ≡ None →
-    (e : Entry) → IsAmong (page_by state.machine.memory source request context None).reads e → IsAmong (way_of state source request).reads e
+    (e : Entry) → IsAmong (page_by state.machine.memory state.machine.registers.features source request context None).reads e → IsAmong (way_of state source request).reads e
 unfolding way_of
 page_reads state source request context levels is located bare_not none e among =
     let m : Machine = state.machine in
     let dir : List Entry = directory_reads m request.did (entered m source request.did) in
-    let ours : Way Entry Led = record { led = way_to context (page_way m.memory source request context).led; reads = (page_way m.memory source request context).reads } in
+    let ours : Way Entry Led = record { led = way_to context (page_way m.memory m.registers.features source request context).led; reads = (page_way m.memory m.registers.features source request context).reads } in
     let direct : Way Entry Led = record { led = ByContext context; reads = [] } in
     let reads : Way Entry Led → List Entry = λ way. way.reads in
-    let here : IsAmong (page_way m.memory source request context).reads e =
-    subst (λ (found : Option Hit). IsAmong (page_by m.memory source request context found).reads e) (sym none) among in
-    let below_it : IsAmong (under m.memory source request context).reads e =
+    let here : IsAmong (page_way m.memory m.registers.features source request context).reads e =
+    subst (λ (found : Option Hit). IsAmong (page_by m.memory m.registers.features source request context found).reads e) (sym none) among in
+    let below_it : IsAmong (under m.memory m.registers.features source request context).reads e =
     subst (λ (b : Bool). IsAmong (reads (if b then direct else ours)) e) (sym bare_not) here in
     subst (λ (mode : Mode). IsAmong (by_mode mode m source request).reads e) (sym is)
-    (subst (λ (found : Result Context Cause). IsAmong (by_context m.memory source request dir found).reads e) (sym located)
-    (among-right dir (under m.memory source request context).reads e below_it))
+    (subst (λ (found : Result Context Cause). IsAmong (by_context m.memory m.registers.features source request dir found).reads e) (sym located)
+    (among-right dir (under m.memory m.registers.features source request context).reads e below_it))
 
 pub stages_read : (state : State) (source : List (Look × Entry)) (request : Request) (context : Context) (levels : ℕ) → mode_of state.machine.registers ≡ Levels levels →
     located_by state.machine request.did (entered state.machine source request.did) ≡ Ok context → is_bare context ≡ false → used_by (page_use (request_key request context)) source ≡ None →
-    (e : Entry) → IsAmong (stage_reads state.machine.memory no_features source context request.iova request.kind) e → IsAmong (way_of state source request).reads e
+    (e : Entry) → IsAmong (stage_reads state.machine.memory state.machine.registers.features source context request.iova request.kind) e → IsAmong (way_of state source request).reads e
 stages_read state source request context levels is located bare_not none e among =
-    page_reads state source request context levels is located bare_not none e (among-left (stage_reads state.machine.memory no_features source context request.iova request.kind) _ e among)
+    page_reads state source request context levels is located bare_not none e (among-left (stage_reads state.machine.memory state.machine.registers.features source context request.iova request.kind) _ e among)
 
 pub whole_read : (state : State) (source : List (Look × Entry)) (request : Request) (context : Context) (levels : ℕ) (hit : Hit) → mode_of state.machine.registers ≡ Levels levels →
     located_by state.machine request.did (entered state.machine source request.did) ≡ Ok context → is_bare context ≡ false → used_by (page_use (request_key request context)) source ≡ None →
-    translation_by state.machine.memory no_features source context request.iova request.kind ≡ Ok hit → IsAmong (way_of state source request).reads (OfPage (request_key request context) hit)
+    translation_by state.machine.memory state.machine.registers.features source context request.iova request.kind ≡ Ok hit → IsAmong (way_of state source request).reads (OfPage (request_key request context) hit)
 whole_read state source request context levels hit is located bare_not none hits =
-    let stages : List Entry = stage_reads state.machine.memory no_features source context request.iova request.kind in
+    let stages : List Entry = stage_reads state.machine.memory state.machine.registers.features source context request.iova request.kind in
     page_reads state source request context levels is located bare_not none (OfPage (request_key request context) hit)
     (subst (λ (found : Result Hit Fault). IsAmong (stages ++ whole_of request context found) (OfPage (request_key request context) hit)) (sym hits)
     (among-right stages (OfPage (request_key request context) hit ∷ []) _ (inl refl)))

@@ -8,22 +8,22 @@ use Rattle.iom_walk.specs.Verdict.{is_napot}
 use Rattle.iom_nested.specs.declared.translation.Hit.{Hit}
 use Rattle.iom_cache.specs.declared.key.Key.{Key}
 
--- An entry of a stage's tables, pointer or leaf: its level, how many pages it stands for, the number of the page that it was read for divided by
--- that, its word, and whether it or an entry above it has G set.
+-- An entry of a stage's tables, pointer or leaf: its level, its width, which says that it stands for 2 ^ width pages, the number of the page that it was
+-- read for divided by that, its word, and whether it or an entry above it has G set.
 pub record Held : Type 0 where
   pub level : ℕ
-  pub pages : ℕ
+  pub width : ℕ
   pub part : ℕ
   pub word : ℕ
   pub global : Bool
 
 -- an entry of a level stands for 2 ^ (9 * level) pages; under Svnapot one at level 0 whose N is set for sixteen
-abbrev pub pages_at : Features → ℕ → ℕ → ℕ
-pages_at features level word = if features.svnapot && level == 0 && is_napot word then 2 ^ 4 else 2 ^ (9 * level)
+abbrev pub width_at : Features → ℕ → ℕ → ℕ
+width_at features level word = if features.svnapot && level == 0 && is_napot word then 4 else 9 * level
 
 -- it is an entry for this page
 abbrev pub covers : Held → ℕ → Bool
-covers held page = held.part == page / held.pages
+covers held page = held.part == page / 2 ^ held.width
 
 -- the part of a device id that a non-leaf entry of the directory stands for: all bits from its own index on
 abbrev pub id_part : ℕ → ℕ → ℕ

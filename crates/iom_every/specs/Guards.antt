@@ -1,20 +1,21 @@
 -- What the laws say of the entries themselves: none is kept whose V is 0, and what a walk meets it has read.
-use Rattle.std.specs.Prelude.{ℕ, ◌≡◌, ◌/◌, true, List, get_or, Some, None}
+use Rattle.std.specs.Prelude.{ℕ, ◌≡◌, ◌/◌, ◌^◌, true, List, get_or, Some, None}
 use Rattle.iom_bits.specs.Bits.{has_bit}
 use Rattle.iom_bits.specs.declared.features.Features.{Features}
+use Rattle.iom_ddt.specs.Directory.{with_modes}
 use Rattle.iom_ddt.specs.Words.{context_in}
 use Rattle.iom_walk.specs.Path.{Entry as Met}
 use Rattle.iom_walk.specs.Verdict.{is_global, is_valid, word_of}
 use Rattle.iom_core.specs.State.{Machine}
 use Rattle.iom_choices.specs.Systems.{IsAmong}
-use Rattle.iom_every.specs.Entries.{Entry, Held, OfDirectory, OfDevice, OfFirst, OfSecond, OfPage, pages_at}
+use Rattle.iom_every.specs.Entries.{Entry, Held, OfDirectory, OfDevice, OfFirst, OfSecond, OfPage, width_at}
 use Rattle.iom_every.specs.Uses.{Entered, ForDevice, device_use}
 use Rattle.iom_every.specs.Ways.{depth_of, located_by}
 
 -- V is set; of a device in the first of the words that say what its context is
 abbrev pub IsValid : Entry → Type 0
 IsValid (OfDirectory level part word) = has_bit word 0 ≡ true
-IsValid (OfDevice did said) = (words : List ℕ) × (has_bit (get_or words 0 0) 0 ≡ true) × (said ≡ context_in words)
+IsValid (OfDevice did said) = (features : Features) × (words : List ℕ) × (has_bit (get_or words 0 0) 0 ≡ true) × (said ≡ with_modes features (context_in words))
 IsValid (OfFirst gscid pscid held) = is_valid held.word ≡ true
 IsValid (OfSecond gscid held) = is_valid held.word ≡ true
 IsValid (OfPage key hit) = Unit {0}
@@ -25,8 +26,8 @@ pub record IsReadAs (features : Features) (tagged : Held → Entry) (address : �
   pub held : Held
   pub among : IsAmong reads (tagged held)
   pub level : held.level ≡ entry.level
-  pub pages : held.pages ≡ pages_at features entry.level (word_of entry.got)
-  pub part : held.part ≡ address / 4096 / held.pages
+  pub width : held.width ≡ width_at features entry.level (word_of entry.got)
+  pub part : held.part ≡ address / 4096 / 2 ^ held.width
   pub word : held.word ≡ word_of entry.got
   pub global : is_global (word_of entry.got) ≡ true → held.global ≡ true
 

@@ -1,6 +1,6 @@
 -- A walk that enters at an entry that is held, and goes on in memory: RISC-V Privileged Architecture 1.12, "Virtual Address Translation
 -- Process". What stands at an address is asked level by level.
-use Rattle.std.specs.Prelude.{ℕ, zero, suc, ◌/◌, ◌||◌, Bool, true, false, List, [], ◌∷◌, Option, Some, None, if◌then◌else◌}
+use Rattle.std.specs.Prelude.{ℕ, zero, suc, ◌/◌, ◌^◌, ◌||◌, Bool, true, false, List, [], ◌∷◌, Option, Some, None, if◌then◌else◌}
 use Rattle.iom_bits.specs.declared.causes.Kind.{Kind}
 use Rattle.iom_bits.specs.declared.causes.Kind.TheVariants.{Read}
 use Rattle.iom_bits.specs.declared.features.Features.{Features}
@@ -13,7 +13,7 @@ use Rattle.iom_walk.specs.declared.outcome.Outcome.TheVariants as outcome
 use Rattle.iom_walk.specs.declared.shape.Format.{Format}
 use Rattle.iom_walk.specs.declared.source.Got.{Got}
 use Rattle.iom_walk.specs.declared.source.Got.TheVariants as got
-use Rattle.iom_every.specs.Entries.{Held, pages_at}
+use Rattle.iom_every.specs.Entries.{Held, width_at}
 
 -- the longest path from a table on, where `at` says what stands at an address for each level
 unfoldable pub path_by : (ℕ → ℕ → Got) → Format → ℕ → ℕ → ℕ → List Entry
@@ -66,8 +66,8 @@ outcome_by at format root address kind used =
 abbrev pub kept_of : Features → Bool → ℕ → Entry → Held
 kept_of features global address entry = record {
   level = entry.level;
-  pages = pages_at features entry.level (word_of entry.got);
-  part = address / 4096 / pages_at features entry.level (word_of entry.got);
+  width = width_at features entry.level (word_of entry.got);
+  part = address / 4096 / 2 ^ width_at features entry.level (word_of entry.got);
   word = word_of entry.got;
   global = global;
 }

@@ -2,7 +2,7 @@
 -- answered by an entry of the source, behind all checks that come before it.
 use Rattle.std.specs.Prelude.{ℕ, ◌++◌, ◌-◌, List, [], ◌∷◌, get_or, Option, Some, None, Result, Ok, Err, if◌then◌else◌}
 use Rattle.iom_bits.specs.Bits.{has_bit}
-use Rattle.iom_bits.specs.Features.{no_features}
+use Rattle.iom_bits.specs.declared.features.Features.{Features}
 use Rattle.iom_bits.specs.declared.causes.Cause.{Cause}
 use Rattle.iom_bits.specs.declared.causes.Cause.TheVariants as cause
 use Rattle.iom_mem.specs.Memory.{Memory}
@@ -10,7 +10,7 @@ use Rattle.iom_regs.specs.Views.{mode_of}
 use Rattle.iom_regs.specs.declared.views.Mode.{Mode}
 use Rattle.iom_regs.specs.declared.views.Mode.TheVariants as mode
 use Rattle.iom_ddt.specs.Contexts.{is_bare}
-use Rattle.iom_ddt.specs.Directory.{behind, is_too_wide, levels_of, located, path_from, path_of, pointed_by, verdict_on}
+use Rattle.iom_ddt.specs.Directory.{behind, is_too_wide, levels_of, located, path_from, path_of, pointed_by, verdict_on, with_modes}
 use Rattle.iom_ddt.specs.Words.{context_in}
 use Rattle.iom_ddt.specs.declared.context.Context.{Context}
 use Rattle.iom_ddt.specs.declared.listing.Met.{Met}
@@ -43,57 +43,57 @@ below m did level word = behind (pointed_by (Some word)) (path_from m.memory did
 abbrev pub located_by : Machine → ℕ → Option Entered → Result Context Cause
 located_by m did None = located m.memory m.registers did
 located_by m did (Some (AtLeaf said)) = said
-located_by m did (Some (Below level word)) = verdict_on (listed.Entry 0 (Some word) ∷ below m did level word)
+located_by m did (Some (Below level word)) = verdict_on m.registers.features (listed.Entry 0 (Some word) ∷ below m did level word)
 
 -- The entries of the directory that are met, from a level on; each that is valid may be kept.
-abbrev pub directory_in : ℕ → ℕ → List Met → List Entry
-directory_in did level [] = []
-directory_in did level (listed.Entry place None ∷ more) = []
-directory_in did level (listed.Entry place (Some word) ∷ more) =
-    if has_bit word 0 then OfDirectory level (id_part level did) word ∷ directory_in did (level - 1) more else []
-directory_in did level (listed.Leaf place None ∷ more) = []
-directory_in did level (listed.Leaf place (Some words) ∷ more) =
-    if has_bit (get_or words 0 0) 0 then OfDevice did (context_in words) ∷ [] else []
+abbrev pub directory_in : Features → ℕ → ℕ → List Met → List Entry
+directory_in features did level [] = []
+directory_in features did level (listed.Entry place None ∷ more) = []
+directory_in features did level (listed.Entry place (Some word) ∷ more) =
+    if has_bit word 0 then OfDirectory level (id_part level did) word ∷ directory_in features did (level - 1) more else []
+directory_in features did level (listed.Leaf place None ∷ more) = []
+directory_in features did level (listed.Leaf place (Some words) ∷ more) =
+    if has_bit (get_or words 0 0) 0 then OfDevice did (with_modes features (context_in words)) ∷ [] else []
 
 abbrev pub directory_reads : Machine → ℕ → Option Entered → List Entry
-directory_reads m did None = directory_in did (depth_of m - 1) (path_of m.memory m.registers did)
+directory_reads m did None = directory_in m.registers.features did (depth_of m - 1) (path_of m.memory m.registers did)
 directory_reads m did (Some (AtLeaf said)) = []
-directory_reads m did (Some (Below level word)) = directory_in did (level - 1) (below m did level word)
+directory_reads m did (Some (Below level word)) = directory_in m.registers.features did (level - 1) (below m did level word)
 
 -- by a whole translation, or by the stages, whose hit may be kept
 abbrev pub whole_of : Request → Context → Result Hit Fault → List Entry
 whole_of request context (Ok hit) = OfPage (request_key request context) hit ∷ []
 whole_of request context (Err fault) = []
 
-abbrev pub page_by : Memory → List (Look × Entry) → Request → Context → Option Hit → Way Entry (Result Hit Fault)
-page_by memory source request context (Some hit) = record { led = Ok hit; reads = [] }
-page_by memory source request context None = record {
-  led = translation_by memory no_features source context request.iova request.kind;
-  reads = stage_reads memory no_features source context request.iova request.kind
-      ++ whole_of request context (translation_by memory no_features source context request.iova request.kind);
+abbrev pub page_by : Memory → Features → List (Look × Entry) → Request → Context → Option Hit → Way Entry (Result Hit Fault)
+page_by memory features source request context (Some hit) = record { led = Ok hit; reads = [] }
+page_by memory features source request context None = record {
+  led = translation_by memory features source context request.iova request.kind;
+  reads = stage_reads memory features source context request.iova request.kind
+      ++ whole_of request context (translation_by memory features source context request.iova request.kind);
 }
 
-abbrev pub page_way : Memory → List (Look × Entry) → Request → Context → Way Entry (Result Hit Fault)
-page_way memory source request context = page_by memory source request context (used_by (page_use (request_key request context)) source)
+abbrev pub page_way : Memory → Features → List (Look × Entry) → Request → Context → Way Entry (Result Hit Fault)
+page_way memory features source request context = page_by memory features source request context (used_by (page_use (request_key request context)) source)
 
-abbrev pub under : Memory → List (Look × Entry) → Request → Context → Way Entry Led
-under memory source request context =
+abbrev pub under : Memory → Features → List (Look × Entry) → Request → Context → Way Entry Led
+under memory features source request context =
     if is_bare context then record { led = ByContext context; reads = [] }
-    else record { led = way_to context (page_way memory source request context).led; reads = (page_way memory source request context).reads }
+    else record { led = way_to context (page_way memory features source request context).led; reads = (page_way memory features source request context).reads }
 
 -- by the context; what was read of the directory stays read whatever comes of it
-abbrev pub by_context : Memory → List (Look × Entry) → Request → List Entry → Result Context Cause → Way Entry Led
-by_context memory source request reads (Err why) = record { led = Denied (plain why); reads = reads }
-by_context memory source request reads (Ok context) = record {
-  led = (under memory source request context).led;
-  reads = reads ++ (under memory source request context).reads;
+abbrev pub by_context : Memory → Features → List (Look × Entry) → Request → List Entry → Result Context Cause → Way Entry Led
+by_context memory features source request reads (Err why) = record { led = Denied (plain why); reads = reads }
+by_context memory features source request reads (Ok context) = record {
+  led = (under memory features source request context).led;
+  reads = reads ++ (under memory features source request context).reads;
 }
 
 abbrev pub by_mode : Mode → Machine → List (Look × Entry) → Request → Way Entry Led
 by_mode mode.Off m source request = record { led = Denied (plain cause.Off); reads = [] }
 by_mode mode.Bare m source request = record { led = ByRegister; reads = [] }
 by_mode (mode.Levels levels) m source request =
-    by_context m.memory source request (directory_reads m request.did (entered m source request.did)) (located_by m request.did (entered m source request.did))
+    by_context m.memory m.registers.features source request (directory_reads m request.did (entered m source request.did)) (located_by m request.did (entered m source request.did))
 
 unfoldable pub way_of : State → List (Look × Entry) → Request → Way Entry Led
 way_of state source request = by_mode (mode_of state.machine.registers) state.machine source request

@@ -1,6 +1,5 @@
 ghost use Rattle.std.specs.Prelude.{◌≡◌, ℕ, Bool, true, false, List, Option, Some, None, Ok};
 ghost use Rattle.iom_bits.specs.declared.causes.Kind.{Kind};
-ghost use Rattle.iom_bits.specs.Features.{no_features};
 ghost use Rattle.iom_bits.specs.declared.features.Features.{Features};
 ghost use Rattle.iom_mem.specs.Memory.{Memory};
 ghost use Rattle.iom_regs.specs.Views.{mode_of};
@@ -59,10 +58,10 @@ pub fn requests_read()
     ensures stages { (state : State) (source : List (Look × Entry)) (request : Request) (context : Context) (levels : ℕ) → mode_of state.machine.registers ≡ Levels levels →
         located_by state.machine request.did (entered state.machine source request.did) ≡ Ok context → is_bare context ≡ false →
         used_by (page_use (request_key request context)) source ≡ None →
-        (entry : Entry) → IsAmong (stage_reads state.machine.memory no_features source context request.iova request.kind) entry → IsAmong (way_of state source request).reads entry }
+        (entry : Entry) → IsAmong (stage_reads state.machine.memory state.machine.registers.features source context request.iova request.kind) entry → IsAmong (way_of state source request).reads entry }
     ensures whole { (state : State) (source : List (Look × Entry)) (request : Request) (context : Context) (levels : ℕ) (hit : Hit) → mode_of state.machine.registers ≡ Levels levels →
         located_by state.machine request.did (entered state.machine source request.did) ≡ Ok context → is_bare context ≡ false →
         used_by (page_use (request_key request context)) source ≡ None →
-        translation_by state.machine.memory no_features source context request.iova request.kind ≡ Ok hit →
+        translation_by state.machine.memory state.machine.registers.features source context request.iova request.kind ≡ Ok hit →
         IsAmong (way_of state source request).reads (OfPage (request_key request context) hit) }
 {}
