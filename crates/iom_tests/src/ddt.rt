@@ -108,7 +108,7 @@ fn refusal(
     ram.write(0x8000_0000, &[1]);
     ram.write(0x8000_0008, &(modes.1 << 60).to_le_bytes());
     ram.write(0x8000_0018, &(modes.0 << 60).to_le_bytes());
-    let mut registers = Regs::reset(features);
+    let mut registers = Regs::with_features(features);
     registers.write(DDTP, 8, 0x2000_0002);
     match registers.mode() {
         Mode::Levels(_) => Ok(locate(&ram, &registers, 0).err()),

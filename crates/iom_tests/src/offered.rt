@@ -23,7 +23,7 @@ fn answer(alloc: Global, features: Features, addr: u64, word: u64) -> Result<Ans
 // Whether one byte was read, with this value.
 fn is_byte(answer: &Answer, value: u8) -> bool {
     match answer {
-        Answer::Bytes(bytes) => bytes.as_slice() == [value],
+        Answer::Bytes(bytes) => bytes.as_slice() == [value].as_slice(),
         _ => false,
     }
 }
