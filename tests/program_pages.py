@@ -270,7 +270,7 @@ class Facts(Case):
             ("pte ppn=1 flags=1", True), ("u64 1 2 3 4 5 6 7 8", True), ("u64 1 2 3 4 5 6 7 8 9", False), ("u64", False), ("bytes aabb", True),
             ("bytes abc", False), ("disk 5 1 aabb", True), ("disk 5 1 abc", False), ("rodisk 5 1 aabb", True), ("capabilities", True), ("capabilities nl=1 vectors=3", False),
             *((f"capabilities {key}=1", True) for key in ("sv57", "sv57x4", "svpbmt", "nl", "s", "vectors")), ("ram 0x90000000 0x1000", False),
-            *((f"context mode={mode}", mode in (0, 8, 9)) for mode in range(16)), *((f"context gmode={mode}", mode in (0, 8, 9)) for mode in range(16)),
+            *((f"context mode={mode}", mode in (0, 8, 9, 10)) for mode in range(16)), *((f"context gmode={mode}", mode in (0, 8, 9, 10)) for mode in range(16)),
         ]:
             self.assertEqual(self.is_assembled(f"{IMAGE}{statement}\n"), wanted, f"whether {statement!r} is assembled")
         self.assertEqual(self.is_assembled("u64 1\n" + IMAGE), False, "whether a first statement may be another")
