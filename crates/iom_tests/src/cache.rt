@@ -274,16 +274,6 @@ fn drops_by_the_table(rt: HostRuntime) -> Result<(), Fail> {
     Ok(())
 }
 
-const FULL: &[Stands<u32, Context>] = &[
-    (0, Place::Live(1, CONTEXT)),
-    (15, Place::Live(16, CONTEXT)),
-    (16, Place::Beyond),
-];
-
-const ONE_DROPPED: &[Stands<u32, Context>] = &[(0, Place::Live(1, CONTEXT)), (1, Place::Empty)];
-
-const ALL_DROPPED: &[Stands<u32, Context>] = &[(15, Place::Empty)];
-
 fn drop_each(cache: &mut ContextCache, commands: &[Command]) {
     for command in commands {
         cache.drop_matching(command);
@@ -294,12 +284,18 @@ fn drop_each(cache: &mut ContextCache, commands: &[Command]) {
 #[test]
 fn keeps_sixteen_contexts(rt: HostRuntime) -> Result<(), Fail> {
     let mut cache = filled_contexts(rt.alloc(), 17)?;
-    assert_eq!(rt; otherwise_in(&cache, FULL), None);
+    let full = [
+        (0, Place::Live(1, CONTEXT)),
+        (15, Place::Live(16, CONTEXT)),
+        (16, Place::Beyond),
+    ];
+    assert_eq!(rt; otherwise_in(&cache, &full), None);
     let one = [vma(false, 0, false), Command::Iodir { dv: true, did: 2 }];
     drop_each(&mut cache, &one);
-    assert_eq!(rt; otherwise_in(&cache, ONE_DROPPED), None);
+    let one_dropped = [(0, Place::Live(1, CONTEXT)), (1, Place::Empty)];
+    assert_eq!(rt; otherwise_in(&cache, &one_dropped), None);
     drop_each(&mut cache, &[Command::Iodir { dv: false, did: 2 }]);
-    assert_eq!(rt; otherwise_in(&cache, ALL_DROPPED), None);
+    assert_eq!(rt; otherwise_in(&cache, &[(15, Place::Empty)]), None);
     Ok(())
 }
 
