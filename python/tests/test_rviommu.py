@@ -434,7 +434,7 @@ class Starts(unittest.TestCase):
             self.assertFalse(platform.dev_step(0))
 
     def test_refusals(self):
-        for image, why in ((b"", "truncated"), (b"RVIOMMU3" + bytes(24), "bad magic"), (assemble("ram 0x80000000 0x1000") + b"x", "trailing bytes")):
+        for image, why in ((b"", "truncated"), (b"RVIOMMU4" + bytes(24), "bad magic"), (assemble("ram 0x80000000 0x1000") + b"x", "trailing bytes")):
             with self.assertRaisesRegex(ImageError, why):
                 Platform(image)
         for text, line, why in (("ram 0x80000000 0x1000\nno\n", 2, "bad line"), ("ram 0x80000000 0x1000\nat 0\nbytes 00\n", 3, "outside memory"), ("", 0, "bad line")):
@@ -479,7 +479,7 @@ class Forms(unittest.TestCase):
     """Each form is told by the program's own lines, which have their own way to the words."""
 
     def told(self, kind, form):
-        platform = Platform()
+        platform = Platform(assemble(f"ram {RAM:#x} 0x1000\ncapabilities nl=1 s=1\n"))
         platform.put(RAM, form)
         return platform.line(f"show {kind} {RAM:#x}")
 
