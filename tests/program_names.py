@@ -135,29 +135,6 @@ def glossary():
     first = [(spans(crate), spans(names), term, where) for crate, names, term, where in first]
     return first, [(spans(crate), spans(names), term, where) for term, names, crate, where in second]
 
-    def test_has_public_name_library(self):
-        """GLOSSARY: it has each public name of a library, and each function of the C library"""
-        first, _ = glossary()
-        for crate in CRATES:
-            told = {word for crates, names, *_ in first if crate in crates for name in names for word in re.findall(r"\w+", name)}
-            self.assertEqual(sorted(public(crate) - told), [], f"what it lacks of {crate}")
-
-    def test_name_term_standard_stands(self):
-        """GLOSSARY: a name with a term of the standard stands in both tables"""
-        first, second = glossary()
-        pairs = [{(crate, word) for crates, names, *_ in table for crate in crates for name in names for word in re.findall(r"\w+", name)} for table in (first, second)]
-        for table, other, which in ((first, pairs[1], "second"), (second, pairs[0], "first")):
-            own = [(crates, name) for crates, names, term, where in table if where and not term.startswith("none") for name in names]
-            lacking = [name for crates, name in own if not any((crate, re.findall(r"\w+", name)[-1]) in other for crate in crates)]
-            self.assertEqual(lacking, [], f"what its {which} table lacks")
-
-    def test_name_begins_crate_type(self):
-        """GLOSSARY: each name that begins with a crate's type or has a low line is the crate's"""
-        for table in glossary():
-            named = [(crates, name) for crates, names, *_ in table for name in names if re.fullmatch(r"\w+(::\w+)*", name) and re.search("[_A-Z]", name)]
-            lacking = [name for crates, name in named if crates and not any(has(below_it, name) for crate in crates for below_it in below(CRATES, crate))]
-            self.assertEqual(lacking, [], "what is not there")
-
 
 class Names(Case):
     def test_file_they_name_there(self):
