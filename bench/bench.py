@@ -1,47 +1,54 @@
 #!/usr/bin/env -S python3 -B
-"""bench.py PROGRAM [OTHER]    Lines per second of PROGRAM, and of OTHER beside it, on six scripts.
+"""bench.py PROGRAM [OTHER]    Times PROGRAM, and OTHER beside it, on scripts, images and texts.
 
-Five scripts have 1,000,000 lines: mode Bare, and one stage and both with 24 pages (all found in the translation cache once it
-is warm) and with 176 (most of them not). The sixth has 32 lines, and each program is started on it a thousand times. Each
-program runs on each script 25 times (the sixth: five times a thousand), in turn, with the script as standard input and a
-file as standard output; the best time counts. Where two programs are given, the ratio is that of their speeds, the first
-to the second: the median over all turns, since a host's speed changes from one second to the next and two runs of a turn
-follow each other. Their outputs must be the same, byte for byte. The status is 1 where they differ or a run fails.
+- Six scripts: mode Bare, one stage and both, with 24 pages (all found in the translation cache once it is warm) and
+  with 176 (most of them not), of 1,000,000 lines each; and one of 32 lines, on which each program is started a
+  thousand times.
+- `explain` of PROGRAM beside its run, on 300,000 device reads, in seconds of the processor.
+- An image of 64 MiB that is loaded, texts of 10,000 to 200,000 data lines that are assembled, and items that are
+  listed.
+
+The programs take turns. The best time counts; a ratio is the median over the turns of their speeds, the first to the
+second, since a host's speed changes from one second to the next. What they write must be the same, byte for byte, and
+have a line for each line of a script. The status is 1 if it differs or a run fails.
 """
 import filecmp
+import itertools
 import os
+import random
 import statistics
+import struct
 import sys
 import tempfile
 import time
 
 import generate
 
-LINES = 1_000_000
-SHORT = 32
-STARTS = 1000
-# name, stages, pages, lines, starts, times
-SCRIPTS = [
-    ("mode Bare", 0, 256, LINES, 1, 25),
-    ("one stage, 24 pages", 1, 24, LINES, 1, 25),
-    ("one stage, 176 pages", 1, 176, LINES, 1, 25),
-    ("both stages, 24 pages", 2, 24, LINES, 1, 25),
-    ("both stages, 176 pages", 2, 176, LINES, 1, 25),
-    ("32 lines, a thousand starts", 0, 256, SHORT, STARTS, 5),
+# Name, stages and pages of a script.
+BARE = ("mode Bare", 0, 256)
+STAGED = [
+    (f"{name}, {pages} pages", stages, pages)
+    for stages, name in ((1, "one stage"), (2, "both stages"))
+    for pages in (24, 176)
 ]
+LINES, SHORT, STARTS, READS = 1_000_000, 32, 1000, 300_000
+BASE, SIZE, LISTED = 0x80000000, 1 << 26, 1 << 23
+TEXTS = (10_000, 100_000, 200_000)
+ITEM_BYTES = {"u64": 8, "context": 32}
 
 
-def timed(program, script, output, starts):
-    """Runs the program so many times, and returns the seconds that it took."""
-    at_script = (os.POSIX_SPAWN_OPEN, 0, script, os.O_RDONLY, 0)
+def timed(words, given, output, starts):
+    """Runs a program so many times; returns the seconds that passed, and those of the processor."""
+    at_input = (os.POSIX_SPAWN_OPEN, 0, given, os.O_RDONLY, 0)
     at_output = (os.POSIX_SPAWN_OPEN, 1, output, os.O_WRONLY | os.O_CREAT | os.O_TRUNC, 0o644)
-    start = time.perf_counter()
+    start, used = time.perf_counter(), 0.0
     for _ in range(starts):
-        child = os.posix_spawn(program, [program], os.environ, file_actions=[at_script, at_output])
-        status = os.waitstatus_to_exitcode(os.waitpid(child, 0)[1])
+        child = os.posix_spawn(words[0], words, os.environ, file_actions=[at_input, at_output])
+        _, status, usage = os.wait4(child, 0)
+        used += usage.ru_utime + usage.ru_stime
         if status:
-            sys.exit(f"bench: {program} ended with status {status}")
-    return time.perf_counter() - start
+            sys.exit(f"bench: {' '.join(words)} ended with status {os.waitstatus_to_exitcode(status)}")
+    return time.perf_counter() - start, used
 
 
 def line_count(path):
@@ -49,47 +56,105 @@ def line_count(path):
         return sum(block.count(b"\n") for block in iter(lambda: file.read(1 << 20), b""))
 
 
-def measured(programs, room, name, stages, pages, lines, starts, times):
-    """Prints the speeds on one script; returns whether the outputs are the same and have an answer for each line."""
-    script = f"{room}/script"
-    with open(script, "w", encoding="ascii") as out:
-        generate.write(out, stages, pages, lines)
-    outputs = [f"{room}/output{at}" for at in range(len(programs))]
-    taken = [[] for _ in programs]
-    for turn in range(times):
-        row = list(zip(programs, outputs, taken))
-        # Each program is the first in every second turn.
-        for program, output, seconds in row if turn % 2 else reversed(row):
-            seconds.append(timed(program, script, output, starts))
-    best = [min(it) for it in taken]
-    speeds = ", ".join(f"{lines * starts / it:,.0f} lines per second ({it:.3f} s)" for it in best)
-    ratio = ""
-    if len(taken) == 2:
-        ratio = f"; ratio {statistics.median(other / own for own, other in zip(*taken)):.2f}"
-    is_same = all(filecmp.cmp(outputs[0], it, shallow=False) for it in outputs[1:])
-    is_whole = line_count(outputs[0]) == lines
-    print(f"{name}: {speeds}{ratio}{'' if is_same else '; outputs DIFFER'}", flush=True)
-    if not is_whole:
-        print(f"{name}: {line_count(outputs[0]):,} answers for {lines:,} lines")
-    return is_same and is_whole
+class Bench:
+    """The programs, and a folder for what they read and write."""
+
+    def __init__(self, programs, room):
+        self.programs, self.room, self.is_well = programs, room, True
+
+    def path(self, name):
+        return os.path.join(self.room, name)
+
+    def judge(self, name, is_so, fault):
+        if not is_so:
+            print(f"{name}: {fault}", flush=True)
+            self.is_well = False
+
+    def measured(self, name, runs, count, unit, times, starts=1, by_processor=False, given=os.devnull):
+        """Carries out the runs in turn, prints their speeds, and returns the files of their outputs."""
+        outputs = [self.path(f"output{at}") for at in range(len(runs))]
+        taken = [[] for _ in runs]
+        for turn in range(times):
+            # Each is the first in every second turn.
+            for at in range(len(runs)) if turn % 2 else reversed(range(len(runs))):
+                taken[at].append(timed(runs[at], given, outputs[at], starts)[by_processor])
+        best = [min(it) for it in taken]
+        speeds = ", ".join(f"{count * starts / it:,.0f} {unit} per second ({it:.4f} s)" for it in best)
+        ratio = f"; ratio {statistics.median(other / own for own, other in zip(*taken)):.2f}" if len(taken) == 2 else ""
+        print(f"{name}: {speeds}{ratio}", flush=True)
+        return outputs
+
+    def want_same(self, name, written):
+        is_same = all(filecmp.cmp(written[0], it, shallow=False) for it in written[1:])
+        self.judge(name, is_same, "what was written DIFFERS")
+
+    def script(self, name, stages, pages, lines, starts, times):
+        script = self.path("script")
+        with open(script, "w", encoding="ascii") as out:
+            generate.write(out, stages, pages, lines)
+        outputs = self.measured(name, [[it] for it in self.programs], lines, "lines", times, starts, given=script)
+        self.want_same(name, outputs)
+        answers = line_count(outputs[0])
+        self.judge(name, answers == lines, f"{answers:,} answers for {lines:,} lines")
+
+    def explained(self, name, stages, pages):
+        """The lines of a script that set the IOMMU up, and then device reads alone."""
+        everything, script, program = self.path("everything"), self.path("script"), self.programs[0]
+        with open(everything, "w", encoding="ascii") as out:
+            generate.write(out, stages, pages, 4 * READS)
+        with open(everything, encoding="ascii") as read, open(script, "w", encoding="ascii") as out:
+            out.writelines(f"{line}\n" for line in generate.SET_UP[stages])
+            out.writelines(itertools.islice((line for line in read if line.startswith("dma read")), READS))
+        lines = line_count(script)
+        runs = [[program, "explain"], [program]]
+        outputs = self.measured(f"explain and run, {name}", runs, lines, "lines", 9, by_processor=True, given=script)
+        with open(outputs[0], "rb") as file:
+            told = sum(line[:1].isdigit() for line in file)
+        self.judge(name, told == lines, f"{told:,} lines are told of {lines:,}")
+
+    def used(self, name, words, count, unit, made=()):
+        """A use of an image or a text; `made` names what each program writes, where that is a file."""
+        runs = [[program, *words, *made[at : at + 1]] for at, program in enumerate(self.programs)]
+        outputs = self.measured(name, runs, count, unit, 7)
+        self.want_same(name, made[: len(runs)] or outputs)
+
+    def images(self):
+        image, text = self.path("image"), self.path("text")
+        with open(image, "wb") as out:
+            out.write(b"RVIOMMU1" + struct.pack("<QQII", BASE, SIZE, 1, 0) + struct.pack("<QI", BASE, SIZE))
+            out.write(random.Random(1).randbytes(SIZE))
+        self.used("load 64 MiB", ["run", image], SIZE >> 20, "MiB")
+        for count in TEXTS:
+            write_text(text, count)
+            made = [self.path("made0"), self.path("made1")]
+            self.used(f"assemble {count:,} data lines", ["asm", text], count, "data lines", made)
+        for kind, size in ITEM_BYTES.items():
+            count = LISTED // size
+            self.used(f"list {count:,} items, {kind}", ["list", image, kind, hex(BASE), str(count)], count, "items")
 
 
-def named(most, usage):
-    """The programs that the words name, as many as `most` at most."""
-    programs = [os.path.abspath(word) for word in sys.argv[1:]]
-    if not 1 <= len(programs) <= most:
-        sys.exit(usage)
-    for program in programs:
-        if not os.access(program, os.X_OK) or os.path.isdir(program):
-            sys.exit(f"{program} is no program")
-    return programs
+def write_text(path, count):
+    """Writes a text of that many data lines in random order, eight free bytes after each number."""
+    numbers = random.Random(1)
+    places = random.Random(1).sample(range(count), count)
+    with open(path, "w", encoding="ascii") as out:
+        out.write(f"ram {BASE:#x} {SIZE:#x}\n")
+        out.writelines(f"at {BASE + 16 * place:#x}\nu64 {numbers.getrandbits(64):#x}\n" for place in places)
 
 
 def main():
-    programs = named(2, __doc__)
+    programs = [os.path.abspath(word) for word in sys.argv[1:]]
+    if len(programs) not in (1, 2) or not all(os.access(it, os.X_OK) for it in programs):
+        sys.exit(__doc__)
     with tempfile.TemporaryDirectory(prefix="rviommu-bench-") as room:
-        is_well = [measured(programs, room, *script) for script in SCRIPTS]
-    sys.exit(0 if all(is_well) else 1)
+        bench = Bench(programs, room)
+        for script in (BARE, *STAGED):
+            bench.script(*script, LINES, 1, 25)
+        bench.script("32 lines, a thousand starts", 0, 256, SHORT, STARTS, 5)
+        for script in STAGED:
+            bench.explained(*script)
+        bench.images()
+    sys.exit(0 if bench.is_well else 1)
 
 
 if __name__ == "__main__":

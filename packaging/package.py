@@ -1,29 +1,34 @@
 #!/usr/bin/env -S python3 -B
-"""package.py dist|deb|wheel [PROGRAM [PREFIX]]    Packs the built program and the C library into dist/, as an archive, as Debian packages or,
-without the program, as a wheel of the Python module.
+"""Packs the program and the C library into dist/.
 
-The packages are rviommu, the program; librviommuN, the shared object, N being the number in its name; and librviommu-dev, what builds against
-it. Where the page is built (web/out), it is packed too.
+They are packed as an archive, as Debian packages or, without the program, as a wheel of the Python module. The Debian
+packages are rviommu, the program; librviommuN, the shared object, N being the number in its name; and librviommu-dev,
+what builds against it. If the page is built (web/out), it is packed too.
 
-Two packings of one commit with one program and library are equal byte for byte: each file has the date of the version in CHANGELOG.md,
-one owner and fixed rights, and the order is by name. Prints each file that was written. PROGRAM is the built program,
-crates/rviommu/out/rviommu where it is not given; PREFIX is where c/build.py made the library, c/out where it is not given.
+Two packings of one commit with one program and library are equal byte for byte: each file has the date of the version
+in CHANGELOG.md, one owner and fixed rights, and the order is by name. Prints each file that was written. PROGRAM is the
+built program, crates/rviommu/out/rviommu if it is not given; PREFIX is where c/build.py made the library, else c/out.
 """
+import argparse
 import datetime
 import gzip
 import hashlib
-import io
 import os
 import shutil
 import subprocess
 import sys
-import tarfile
 import tempfile
+from pathlib import Path
 
 from crates import TOP, version
 
-MADE = os.path.join(TOP, "dist")
+MADE = TOP / "dist"
 MAINTAINER = "rviommu maintainers <maintainers@users.noreply.lacingprune.example>"
+GLIBC = "2.36"
+VERSION, DAY = version()
+DATE = datetime.datetime.fromisoformat(f"{DAY}T00:00:00+00:00")
+SECONDS = f"{DATE.timestamp():.0f}"
+LIB = "lib/x86_64-linux-gnu"
 
 CONTROL = """\
 Package: {name}
@@ -37,8 +42,6 @@ Maintainer: {maintainer}
 Installed-Size: {size}
 Description: {description}
 """
-
-LIBC = "libc6 (>= 2.36)"
 
 ABOUT_PROGRAM = """\
 proved platform model of the RISC-V IOMMU
@@ -61,276 +64,193 @@ proved platform model of the RISC-V IOMMU, to build against
  C++. This package has the header, the archive and the pkg-config file, and a
  driver with its test as an example."""
 
-COPYRIGHT = """\
+COPYRIGHT = f"""\
 Format: https://www.debian.org/doc/packaging-manuals/copyright-format/1.0/
 Upstream-Name: rviommu
 
 Files: *
-Copyright: {year} the authors of rviommu
+Copyright: {DATE.year} the authors of rviommu
 License: none-given
  The repository that this package is made from has no licence. This package
  claims none: ask its authors what you may do with it.
 """
+
+CHANGES = f"""\
+rviommu ({VERSION}) unstable; urgency=low
+
+  * See CHANGELOG.md.
+
+ -- {MAINTAINER}  {DATE:%a, %d %b %Y %H:%M:%S +0000}
+"""
+
 
 class Link(str):
     """A symbolic link in a package, in place of a file's bytes: the name that it leads to."""
 
 
 def read(name):
-    with open(os.path.join(TOP, name), "rb") as file:
-        return file.read()
+    return (TOP / name).read_bytes()
 
 
-def version_and_date():
-    """The newest version of CHANGELOG.md, and the seconds at which its day began."""
-    number, date = version()
-    return number, int(datetime.datetime.fromisoformat(f"{date}T00:00:00+00:00").timestamp())
+def read_all(folder, place, *endings):
+    """The files of a folder of the repository, with one of these endings if any is named, by their paths in a place."""
+    found = [it for it in sorted((TOP / folder).glob("*")) if it.is_file()]
+    return {f"{place}/{it.name}": it.read_bytes() for it in found if it.suffix in endings or not endings}
 
 
-def stripped(path, *words):
-    """A program or a library without its symbols, where there is a strip; else as it is."""
-    with tempfile.TemporaryDirectory() as folder:
-        copy = os.path.join(folder, os.path.basename(path))
-        shutil.copyfile(path, copy)
-        if shutil.which("strip"):
-            subprocess.run(["strip", *words, "--remove-section=.comment", "--remove-section=.note", copy], check=True)
-        with open(copy, "rb") as file:
-            return file.read()
-
-
-def examples(*folders):
-    """The files of examples/, or of a folder in it."""
-    folder = os.path.join("examples", *folders)
-    names = sorted(name for name in os.listdir(os.path.join(TOP, folder)) if os.path.isfile(os.path.join(TOP, folder, name)))
-    return {f"{folder}/{name}": read(f"{folder}/{name}") for name in names}
-
-
-def soname(prefix):
-    """The name of the shared object's file, as librviommu.so.1."""
-    return os.readlink(os.path.join(prefix, "lib", "librviommu.so"))
-
-
-def shared(prefix, lib):
-    """The shared object, by its path in the folder `lib`."""
-    name = soname(prefix)
-    return {f"{lib}/{name}": stripped(os.path.join(prefix, "lib", name), "--strip-unneeded")}
-
-
-def header(prefix, top, lib):
-    """What builds against the library, by paths below `top`: the header in include, the others in the folder `lib`."""
-
-    def made(*names):
-        return os.path.join(prefix, "lib", *names)
-
-    with open(made("pkgconfig", "rviommu.pc"), encoding="utf-8") as file:
-        flags = file.read()
-    up = "/".join([".."] * (lib.count("/") + 2))
-    flags = flags.replace("${pcfiledir}/../..\n", "${pcfiledir}/" + up + "\n").replace("${prefix}/lib\n", "${prefix}/" + lib + "\n")
-    files = {
-        **{f"include/{name}": read(f"include/{name}") for name in ("rviommu.h", "rviommu_record.h")},
-        f"{lib}/librviommu.a": stripped(made("librviommu.a"), "--strip-debug", "--enable-deterministic-archives"),
-        f"{lib}/librviommu.so": Link(soname(prefix)),
-        f"{lib}/pkgconfig/rviommu.pc": flags.encode(),
-    }
-    return {top + path: data for path, data in files.items()}
-
-
-def page():
-    """The files of the page, by their names, where it is built."""
-    folder = os.path.join(TOP, "web", "out")
-    if not os.path.isfile(os.path.join(folder, "index.html")):
-        return {}
-    names = sorted(name for name in os.listdir(folder) if name.endswith((".html", ".css", ".js")))
-    return {f"page/{name}": read(f"web/out/{name}") for name in names}
-
-
-def archived(names, date):
-    """A tar archive of these files: (path, bytes, rights) each."""
-    made = io.BytesIO()
-    folders = set()
-    with tarfile.open(fileobj=made, mode="w", format=tarfile.USTAR_FORMAT) as archive:
-
-        def add(path, data, mode):
-            entry = tarfile.TarInfo(path)
-            entry.mtime, entry.mode, entry.uname, entry.gname = date, mode, "root", "root"
-            if data is None:
-                entry.type = tarfile.DIRTYPE
-                return archive.addfile(entry)
-            if isinstance(data, Link):
-                entry.type, entry.linkname = tarfile.SYMTYPE, data
-                return archive.addfile(entry)
-            entry.size = len(data)
-            archive.addfile(entry, io.BytesIO(data))
-
-        for path, data, mode in sorted(names):
-            above = path.split("/")[:-1]
-            for depth in range(1, len(above) + 1):
-                folder = "/".join(above[:depth])
-                if folder not in folders:
-                    folders.add(folder)
-                    add(folder, None, 0o755)
-            add(path, data, mode)
-    return made.getvalue()
+def page(place):
+    """The files of the page, if it is built."""
+    return read_all("web/out", place, ".html", ".css", ".js") if (TOP / "web/out/index.html").exists() else {}
 
 
 def zipped(data):
-    made = io.BytesIO()
-    with gzip.GzipFile(filename="", mode="wb", compresslevel=9, fileobj=made, mtime=0) as file:
-        file.write(data)
-    return made.getvalue()
+    return gzip.compress(data, 9, mtime=0)
 
 
-def write(name, data):
-    os.makedirs(MADE, exist_ok=True)
-    path = os.path.join(MADE, name)
-    with open(path, "wb") as file:
-        file.write(data)
-    print(os.path.relpath(path, TOP))
+def stripped(path, *words):
+    """A program or a library without its symbols, if there is a strip; else as it is."""
+    with tempfile.TemporaryDirectory() as folder:
+        copy = Path(folder, path.name)
+        shutil.copyfile(path, copy)
+        if shutil.which("strip"):
+            subprocess.run(["strip", *words, "--remove-section=.comment", "--remove-section=.note", copy], check=True)
+        return copy.read_bytes()
 
 
-def dist(program, prefix):
-    version, date = version_and_date()
-    files = {
-        "rviommu": stripped(program),
-        "rviommu.1": read("man/rviommu.1"),
-        "completions/rviommu.bash": read("completions/rviommu.bash"),
-        "completions/_rviommu": read("completions/_rviommu"),
-        "README.md": read("README.md"),
-        "CHANGELOG.md": read("CHANGELOG.md"),
-        "c/README.md": read("c/README.md"),
-        **examples(),
-        **examples("c"),
-        **page(),
-        **header(prefix, "", "lib"),
-        **shared(prefix, "lib"),
-    }
-    top = f"rviommu-{version}-linux-x86_64"
-    names = [(f"{top}/{path}", data, 0o755 if path == "rviommu" else 0o644) for path, data in files.items()]
-    write(f"{top}.tar.gz", zipped(archived(names, date)))
+class Library:
+    """The C library that was built into a folder."""
 
+    def __init__(self, prefix):
+        self.lib = prefix / "lib"
+        # The name of the shared object's file, as librviommu.so.1.
+        self.soname = os.readlink(self.lib / "librviommu.so")
 
-def debian_changelog(version, date):
-    day = datetime.datetime.fromtimestamp(date, datetime.timezone.utc).strftime("%a, %d %b %Y %H:%M:%S +0000")
-    return f"rviommu ({version}) unstable; urgency=low\n\n  * See CHANGELOG.md.\n\n -- {MAINTAINER}  {day}\n".encode()
+    def shared(self, lib):
+        return {f"{lib}/{self.soname}": stripped(self.lib / self.soname, "--strip-unneeded")}
 
-
-def documents(name, version, date):
-    """What the documents of each package have, by their paths."""
-    doc = f"usr/share/doc/{name}"
-    year = datetime.datetime.fromtimestamp(date, datetime.timezone.utc).year
-    return {
-        f"{doc}/changelog.gz": zipped(debian_changelog(version, date)),
-        f"{doc}/copyright": COPYRIGHT.format(year=year).encode(),
-    }
-
-
-def of_program(program, name, version, date):
-    """The files of the program's package."""
-    doc = f"usr/share/doc/{name}"
-    return {
-        "usr/bin/rviommu": stripped(program),
-        "usr/share/man/man1/rviommu.1.gz": zipped(read("man/rviommu.1")),
-        "usr/share/bash-completion/completions/rviommu": read("completions/rviommu.bash"),
-        "usr/share/zsh/vendor-completions/_rviommu": read("completions/_rviommu"),
-        f"{doc}/README.md": read("README.md"),
-        f"{doc}/CHANGELOG.md": read("CHANGELOG.md"),
-        **{f"{doc}/{path}": data for path, data in examples().items()},
-        **{f"usr/share/rviommu/{path}": data for path, data in page().items()},
-        **documents(name, version, date),
-    }
-
-
-def of_library(prefix, name, version, date):
-    """The files of the shared object's package."""
-    number = soname(prefix).partition(".so.")[2]
-    return {
-        **shared(prefix, "usr/lib/x86_64-linux-gnu"),
-        **documents(name, version, date),
-        "DEBIAN/triggers": b"activate-noawait ldconfig\n",
-        "DEBIAN/shlibs": f"librviommu {number} {name} (>= {version})\n".encode(),
-    }
-
-
-def of_header(prefix, name, version, date):
-    """The files of the package that builds against the library."""
-    doc = f"usr/share/doc/{name}"
-    return {
-        **header(prefix, "usr/", "lib/x86_64-linux-gnu"),
-        f"{doc}/README.md": read("c/README.md"),
-        **{f"{doc}/{path}": data for path, data in examples("c").items()},
-        **documents(name, version, date),
-    }
+    def header(self, top, lib):
+        """What builds against the library, by paths below `top`: headers in include, the others in the folder `lib`."""
+        flags = (self.lib / "pkgconfig/rviommu.pc").read_text(encoding="utf-8")
+        up = "/".join([".."] * (lib.count("/") + 2))
+        flags = flags.replace("${pcfiledir}/../..\n", f"${{pcfiledir}}/{up}\n")
+        flags = flags.replace("${prefix}/lib\n", f"${{prefix}}/{lib}\n")
+        archive = stripped(self.lib / "librviommu.a", "--strip-debug", "--enable-deterministic-archives")
+        return {
+            **read_all("include", f"{top}include"),
+            f"{top}{lib}/librviommu.a": archive,
+            f"{top}{lib}/librviommu.so": Link(self.soname),
+            f"{top}{lib}/pkgconfig/rviommu.pc": flags.encode(),
+        }
 
 
 def put(root, files):
     """Writes the files of a package, by their paths, below a folder."""
-    os.chmod(root, 0o755)
     for path, data in files.items():
-        whole = os.path.join(root, path)
-        os.makedirs(os.path.dirname(whole), mode=0o755, exist_ok=True)
+        whole = root / path
+        whole.parent.mkdir(parents=True, exist_ok=True)
         if isinstance(data, Link):
-            os.symlink(data, whole)
-            continue
-        with open(whole, "wb") as file:
-            file.write(data)
-        os.chmod(whole, 0o755 if path == "usr/bin/rviommu" else 0o644)
-    for folder, _, _ in os.walk(root):
-        os.chmod(folder, 0o755)
+            whole.symlink_to(data)
+        else:
+            whole.write_bytes(data)
+            whole.chmod(0o755 if path in ("rviommu", "usr/bin/rviommu") else 0o644)
+    root.chmod(0o755)
 
 
-def build(files, date, **control):
+def dist(program, library):
+    top = f"rviommu-{VERSION}-linux-x86_64"
+    with tempfile.TemporaryDirectory() as room:
+        put(Path(room, top), {
+            "rviommu": stripped(program),
+            **{Path(it).name: read(it) for it in ("man/rviommu.1", "README.md", "CHANGELOG.md")},
+            **{it: read(it) for it in ("completions/rviommu.bash", "completions/_rviommu", "c/README.md")},
+            **read_all("examples", "examples"),
+            **read_all("examples/c", "examples/c"),
+            **page("page"),
+            **library.header("", "lib"),
+            **library.shared("lib"),
+        })
+        alike = ["--sort=name", "--format=ustar", "--owner=root:0", "--group=root:0", f"--mtime=@{SECONDS}"]
+        done = subprocess.run(["tar", *alike, "-C", room, "-c", top], stdout=subprocess.PIPE, check=True)
+    made = MADE / f"{top}.tar.gz"
+    made.write_bytes(zipped(done.stdout))
+    return [made]
+
+
+def built(name, section, depends, description, files):
     """Builds one Debian package of its files."""
-    whole = {path: data for path, data in files.items() if not isinstance(data, Link)}
-    listed = {path: data for path, data in whole.items() if not path.startswith("DEBIAN/")}
-    size = sum(-(-len(data) // 1024) for data in whole.values())
-    files = files | {
-        "DEBIAN/control": CONTROL.format(maintainer=MAINTAINER, size=size, **control).encode(),
-        "DEBIAN/md5sums": "".join(f"{hashlib.md5(data).hexdigest()}  {path}\n" for path, data in sorted(listed.items())).encode(),
-    }
-    os.makedirs(MADE, exist_ok=True)
-    made = os.path.join(MADE, f"{control['name']}_{control['version']}_amd64.deb")
-    with tempfile.TemporaryDirectory() as root:
-        put(root, files)
-        how = {"env": {**os.environ, "SOURCE_DATE_EPOCH": str(date)}, "check": True, "stdout": subprocess.DEVNULL}
-        subprocess.run(["dpkg-deb", "--root-owner-group", "-Zxz", "--build", root, made], **how)
-    print(os.path.relpath(made, TOP))
+    doc = f"usr/share/doc/{name}"
+    files |= {f"{doc}/changelog.gz": zipped(CHANGES.encode()), f"{doc}/copyright": COPYRIGHT.encode()}
+    own = {path: data for path, data in files.items() if not isinstance(data, Link)}
+    sums = {path: hashlib.md5(own[path]).hexdigest() for path in sorted(own) if not path.startswith("DEBIAN/")}
+    control = CONTROL.format(
+        name=name, version=VERSION, section=section, depends=depends, maintainer=MAINTAINER, description=description,
+        size=sum(-(-len(data) // 1024) for data in own.values()))
+    files |= {"DEBIAN/control": control.encode()}
+    files |= {"DEBIAN/md5sums": "".join(f"{it}  {path}\n" for path, it in sums.items()).encode()}
+    made = MADE / f"{name}_{VERSION}_amd64.deb"
+    with tempfile.TemporaryDirectory() as room:
+        put(Path(room), files)
+        dated = {**os.environ, "SOURCE_DATE_EPOCH": SECONDS}
+        words = ["dpkg-deb", "--root-owner-group", "-Zxz", "--build", room, made]
+        subprocess.run(words, env=dated, stdout=subprocess.DEVNULL, check=True)
+    return made
 
 
-def deb(program, prefix):
-    version, date = version_and_date()
+def deb(program, library):
     if not shutil.which("dpkg-deb"):
         sys.exit("package: there is no dpkg-deb on the path (Debian's package dpkg has it)")
-    library = soname(prefix).replace(".so.", "")
-    for name, section, depends, description, files in (
-        ("rviommu", "electronics", LIBC, ABOUT_PROGRAM, of_program(program, "rviommu", version, date)),
-        (library, "libs", LIBC, ABOUT_LIBRARY, of_library(prefix, library, version, date)),
-        ("librviommu-dev", "libdevel", f"{library} (= {version})", ABOUT_HEADER, of_header(prefix, "librviommu-dev", version, date)),
-    ):
-        build(files, date, name=name, version=version, section=section, depends=depends, description=description)
+    libc, name = f"libc6 (>= {GLIBC})", library.soname.replace(".so.", "")
+    number = library.soname.partition(".so.")[2]
+    doc, dev = "usr/share/doc/rviommu", "librviommu-dev"
+    return [
+        built("rviommu", "electronics", libc, ABOUT_PROGRAM, {
+            "usr/bin/rviommu": stripped(program),
+            "usr/share/man/man1/rviommu.1.gz": zipped(read("man/rviommu.1")),
+            "usr/share/bash-completion/completions/rviommu": read("completions/rviommu.bash"),
+            "usr/share/zsh/vendor-completions/_rviommu": read("completions/_rviommu"),
+            f"{doc}/README.md": read("README.md"),
+            f"{doc}/CHANGELOG.md": read("CHANGELOG.md"),
+            **read_all("examples", f"{doc}/examples"),
+            **page("usr/share/rviommu/page"),
+        }),
+        built(name, "libs", libc, ABOUT_LIBRARY, {
+            **library.shared(f"usr/{LIB}"),
+            "DEBIAN/triggers": b"activate-noawait ldconfig\n",
+            "DEBIAN/shlibs": f"librviommu {number} {name} (>= {VERSION})\n".encode(),
+        }),
+        built(dev, "libdevel", f"{name} (= {VERSION})", ABOUT_HEADER, {
+            **library.header("usr/", LIB),
+            f"usr/share/doc/{dev}/README.md": read("c/README.md"),
+            **read_all("examples/c", f"usr/share/doc/{dev}/examples/c"),
+        }),
+    ]
 
 
-def wheel(_, prefix):
+def wheel(_, library):
     """The Python module with the shared object in it, for pip."""
-    os.environ["RVIOMMU_LIBRARY"] = os.path.join(prefix, "lib", "librviommu.so")
-    sys.path.insert(0, os.path.join(TOP, "python"))
+    os.environ["RVIOMMU_LIBRARY"] = str(library.lib / "librviommu.so")
+    sys.path.insert(0, str(TOP / "python"))
     import backend
 
-    os.makedirs(MADE, exist_ok=True)
-    print(os.path.relpath(os.path.join(MADE, backend.build_wheel(MADE)), TOP))
+    return [MADE / backend.build_wheel(str(MADE))]
 
 
 def main():
-    kinds = {"dist": dist, "deb": deb, "wheel": wheel}
-    if len(sys.argv) not in (2, 3, 4) or sys.argv[1] not in kinds:
-        sys.exit(__doc__)
-    program = sys.argv[2] if len(sys.argv) > 2 else os.path.join(TOP, "crates/rviommu/out/rviommu")
-    prefix = sys.argv[3] if len(sys.argv) > 3 else os.path.join(TOP, "c", "out")
-    if sys.argv[1] != "wheel" and not os.path.isfile(program):
+    words = argparse.ArgumentParser(description=__doc__, formatter_class=argparse.RawDescriptionHelpFormatter)
+    words.add_argument("kind", choices=["dist", "deb", "wheel"])
+    words.add_argument("program", nargs="?", type=Path, default=TOP / "crates/rviommu/out/rviommu")
+    words.add_argument("prefix", nargs="?", type=Path, default=TOP / "c/out")
+    given = words.parse_args()
+    program, prefix = given.program.absolute(), given.prefix.absolute()
+    if given.kind != "wheel" and not program.is_file():
         sys.exit(f"package: there is no program {program}: 'make build' builds it")
-    if not os.path.isfile(os.path.join(prefix, "lib", "librviommu.so")):
+    if not (prefix / "lib/librviommu.so").is_file():
         sys.exit(f"package: there is no C library in {prefix}: 'make library' builds it")
     os.umask(0o022)
-    kinds[sys.argv[1]](os.path.abspath(program), os.path.abspath(prefix))
+    MADE.mkdir(exist_ok=True)
+    pack = {"dist": dist, "deb": deb, "wheel": wheel}[given.kind]
+    for made in pack(program, Library(prefix)):
+        print(made.relative_to(TOP))
 
 
 if __name__ == "__main__":

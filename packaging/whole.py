@@ -1,7 +1,10 @@
 """A crate of the repository and all that it stands on, as one crate of the same name.
 
-The crates below become its modules. Code, definitions, contracts and proofs are those of the crates; what differs are the paths by which
-they name one another:
+The kit has no way to check several crates as one: `rt all` and `rt ci` go crate by crate (REPOSITORY.md of the kit,
+"Several crates"), and each check reads the toolchain's libraries anew and waits for the crates below.
+
+The crates below become modules. Code, definitions, contracts and proofs are those of the crates; only the paths differ
+by which they name one another:
 
     crates/iom_bits/src/lib.rt, src/causes.rt       src/iom_bits.rt, src/iom_bits/causes.rt
     crates/iom_bits/specs/Bits.antt                 specs/iom_bits/Bits.antt
@@ -14,20 +17,10 @@ they name one another:
 A module of a crate's root is public in the whole one, since definitions of other crates name its types.
 """
 import re
-from pathlib import Path
 
 import crates
-from kit import PARTS
 
 TACTICS = "#![tactic(auto)]\n"
-
-
-def texts(folder):
-    """The code, definitions and proofs of a crate, by their paths in its folder."""
-    for part in PARTS:
-        for path in sorted((folder / part).rglob("*")):
-            if path.suffix in (".rt", ".antt"):
-                yield str(path.relative_to(folder)), path.read_text(encoding="utf-8")
 
 
 class Whole:
@@ -42,7 +35,8 @@ class Whole:
 
     def definitions(self, text):
         """A text that names definitions and proofs, as the whole crate names them."""
-        text = re.sub(rf"\bRattle\.({self.names})\.specs\.(declared|contracts)\b", rf"Rattle.{self.top}.specs.\2.\1", text)
+        stated = rf"\bRattle\.({self.names})\.specs\.(declared|contracts)\b"
+        text = re.sub(stated, rf"Rattle.{self.top}.specs.\2.\1", text)
         return re.sub(rf"\bRattle\.({self.names})\.(specs|proofs)\b", rf"Rattle.{self.top}.\2.\1", text)
 
     def code(self, text, name):
@@ -67,7 +61,7 @@ class Whole:
         """The texts of the whole crate, by their paths in its folder."""
         found = {}
         for name in [*self.below, self.top]:
-            for path, text in texts(crates.FOLDER / name):
+            for path, text in crates.texts(crates.FOLDER / name).items():
                 part, _, rest = path.partition("/")
                 text = self.definitions(text)
                 if part == "src":
@@ -85,9 +79,10 @@ class Whole:
         return found
 
     def write(self, folder, words):
-        """Writes the whole crate into a folder, with a list of crates that has it alone: its name and `words`."""
+        """Writes the whole crate into a folder, with a list of crates that has only it: its name and `words`."""
         for path, text in self.files().items():
-            path = Path(folder, "crates", self.top, path)
+            path = folder / "crates" / self.top / path
             path.parent.mkdir(parents=True, exist_ok=True)
             path.write_text(text, encoding="utf-8")
-        Path(folder, "crates.txt").write_text(f"{' '.join([self.top, *words])}: {' '.join(self.libraries)}\n", encoding="utf-8")
+        line = f"{' '.join([self.top, *words])}: {' '.join(self.libraries)}\n"
+        (folder / "crates.txt").write_text(line, encoding="utf-8")
