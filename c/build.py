@@ -1,12 +1,12 @@
 #!/usr/bin/env -S python3 -B
-"""build.py [PREFIX]    Builds the C library into PREFIX, c/out where none is named.
+"""build.py [PREFIX]    Builds the C library into PREFIX, c/out if none is named.
 
-It makes PREFIX/lib/librviommu.a, librviommu.so and pkgconfig/rviommu.pc, and in PREFIX/include the headers; they may be moved together. What
-librviommu.so leads to has the number of the binary interface in its name, RVIOMMU_ABI of the header, and a program that is linked to it asks for
-that name. The
-crate iom_c and those that it stands on are proved as they are built, and what is current costs a few seconds. Its archive is
-joined with c/guard.c and with the kit's few lines of C over malloc, realloc and free. Needs rt, ar, objcopy and gcc on the path.
-Progress is told on standard error; PREFIX is printed.
+It makes PREFIX/lib/librviommu.a, librviommu.so and pkgconfig/rviommu.pc, and in PREFIX/include the headers; they may be
+moved together. What librviommu.so leads to has the number of the binary interface in its name, RVIOMMU_ABI of the
+header, and a program that is linked to it asks for that name. The crate iom_c and those that it stands on are proved as
+they are built, and what is current costs a few seconds. Its archive is joined with c/guard.c and with the kit's few
+lines of C over malloc, realloc and free. Needs rt, ar, objcopy and gcc on the path. Progress goes to standard error;
+PREFIX is printed.
 """
 import os
 import re
@@ -18,7 +18,6 @@ from pathlib import Path
 
 sys.path.insert(0, str(Path(__file__).resolve().parent.parent / "packaging"))
 import crates
-import kit
 from crates import TOP
 
 ARCHIVE = TOP / "crates/iom_c/out/libiom_c.a"
@@ -42,7 +41,7 @@ Cflags: -I${{includedir}}
 
 def is_current():
     """Whether the archive is no older than the sources of all crates."""
-    return ARCHIVE.exists() and all(kit.is_older(name, ARCHIVE) for name in crates.listed())
+    return ARCHIVE.exists() and all(crates.is_older(name, ARCHIVE) for name in crates.listed())
 
 
 def build_crate():
@@ -67,14 +66,14 @@ def guarded():
 
 
 def join(made):
-    """The archive: the crate's objects, those of c/guard.c, which stands before some of their functions, and the kit's."""
+    """The archive: the objects of the crate, of c/guard.c, which calls some of its functions, and of the kit."""
     made.unlink(missing_ok=True)
     with tempfile.TemporaryDirectory() as folder:
         crate, guard, names = (Path(folder, it) for it in ("crate.a", "guard.o", "names"))
         names.write_text("".join(f"rviommu_{it} iom_c_{it}\n" for it in guarded()))
         subprocess.run(["objcopy", f"--redefine-syms={names}", ARCHIVE, crate], check=True)
         subprocess.run(["gcc", *COMPILED, f"-I{INCLUDE}", "-c", GUARD, "-o", guard], check=True)
-        script = f"CREATE {made}\nADDLIB {crate}\nADDMOD {guard}\nADDLIB {kit.folder()}/c/liblibc_c.a\nSAVE\nEND\n"
+        script = f"CREATE {made}\nADDLIB {crate}\nADDMOD {guard}\nADDLIB {crates.kit()}/c/liblibc_c.a\nSAVE\nEND\n"
         subprocess.run(["ar", "-M"], input=script.encode(), check=True)
 
 
