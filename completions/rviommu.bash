@@ -1,6 +1,6 @@
 # bash completion for rviommu
 
-# Offers files, by bash's own completion: names stay whole, whatever they have in them, line ends too, and are quoted.
+# Offers files by bash's own completion, which quotes names and keeps them whole, even with blanks or line ends.
 _rviommu_files() {
     compopt -o default 2>/dev/null
 }

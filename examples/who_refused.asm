@@ -11,7 +11,7 @@ pte ppn=0x80030 flags=0xd7                           # it may be read and writte
 pte ppn=0x80031 flags=0xd7                           # .. page 0x31
 pte ppn=0x80032 flags=0xd7                           # .. page 0x32
 at 0x80025200                                        # .. page 0x40
-pte ppn=0x80040 flags=0x53                           # it may be read alone
+pte ppn=0x80040 flags=0x53                           # it may only be read
 at 0x80030008                                        # first stage, level 2, addresses from 0x40000000
 pte ppn=0x31 flags=1                                 # a pointer to the guest's page 0x31
 at 0x80031008                                        # level 1, from 0x40200000

@@ -1,25 +1,26 @@
 /*
  * rviommu: a proved platform model of the RISC-V IOMMU, for tests of drivers and of hardware.
  *
- * A handle owns a platform (physical memory, one IOMMU of the RISC-V IOMMU Architecture 1.0 and up to eight virtio 1.2 block
- * devices), the trace of its last 32 steps, and an account of them: why the last ones went as they did, and which steps filled what the
- * caches hold. There a step is told by its number: how many steps the handle was given with it, from 1 on. Each function here does what the
- * call of the proved library does that it stands on; that is proved of the function itself, as far as its caller does what is said
- * beside it.
+ * A handle owns three things:
+ * - a platform: physical memory, one IOMMU (RISC-V IOMMU Architecture 1.0) and up to eight virtio 1.2 block devices;
+ * - a trace of its last 32 steps;
+ * - an account of its steps: why the last ones had their answers, and which steps filled the caches. It numbers the steps of the handle
+ *   from 1 on.
+ * Each function here is proved to do what the library call behind it does, if the caller keeps the rules below and those beside the
+ * function. Only tested are the checks for an output that is NULL and for a closed handle, and how an access is cut into pieces.
  *
- * What the caller owes, for every function:
- * - No pointer is NULL, but one to an output that isn't wanted: a number, a length, a struct, or the bytes of a device's read. A buffer
- *   has as many bytes as the length beside it says, and isn't NULL where that is 0.
+ * Rules for the caller of every function:
+ * - No pointer is NULL, except one to an output that isn't wanted: a number, a length, a struct, or the bytes that a device reads. A
+ *   buffer has as many bytes as the length beside it says, and isn't NULL even if that is 0.
  * - Two pointers of one call don't overlap, unless both are const.
- * - A handle is open where it is called so: rviommu_open, rviommu_open_built_in or rviommu_copy answered RVIOMMU_OK for it, and
- *   rviommu_close was not called for it since. It may be moved, but no two copies of it may be used.
- * - One handle is used by one thread at a time. Two handles share nothing.
+ * - "The handle is open" means: rviommu_open, rviommu_open_built_in or rviommu_copy returned RVIOMMU_OK for it, and rviommu_close has
+ *   not been called for it since. A handle may be moved, but only one copy of it may be used.
+ * - One thread at a time uses a handle. Two handles share nothing.
  * - No function is called from a signal handler, nor in the forked child of a process with threads.
- * Memory is taken by malloc and given back by free, in rviommu_open, rviommu_open_built_in, rviommu_copy, rviommu_close and
- * rviommu_assemble alone.
+ * Only rviommu_open, rviommu_open_built_in, rviommu_copy, rviommu_keep_reasons, rviommu_close and rviommu_assemble call malloc and free.
  *
- * Addresses and lengths are in bytes. Numbers in memory have their lowest byte first. The length of a buffer is a size_t; every other
- * number, also of a device, a place or a step, is a uint64_t. What a function answers is an enum of its own; each has numbers from 0 on.
+ * Addresses and lengths are in bytes, and numbers in memory are little-endian. The length of a buffer is a size_t; the number of a device,
+ * a place or a step is a uint64_t. Functions of different kinds return different enums, each with numbers from 0 on.
  */
 #ifndef RVIOMMU_H
 #define RVIOMMU_H
@@ -29,55 +30,55 @@
 #include <stdint.h>
 
 #define RVIOMMU_VERSION "0.4.0"
-/* The number of the binary interface, which is in the shared object's name. It grows where a program that was built before would not
- * go on. Functions, and members in the room of the structs' `reserved`, are added without that. */
+/* The number of the binary interface, which is part of the shared object's name. It grows only with a change that would break programs
+ * built earlier. New functions, and new members in the room of `reserved`, don't change it. */
 #define RVIOMMU_ABI 1
 
 #ifdef __cplusplus
 extern "C" {
 #endif
 
-/* A handle. Its member is private; where it is closed it is NULL. */
+/* A handle. Its member is private, and NULL while the handle is closed. */
 typedef struct rviommu {
     void *own;
 } rviommu_t;
 
-/* What a step is answered. */
+/* The answer to a step. */
 enum rviommu_answer {
     RVIOMMU_VALUE = 0,      /* the number that was read */
-    RVIOMMU_DONE = 1,       /* it was carried out */
+    RVIOMMU_DONE = 1,       /* the step was carried out */
     RVIOMMU_BYTES = 2,      /* the bytes that a device read */
     RVIOMMU_IDLE = 3,       /* there was nothing to do */
     RVIOMMU_DENIED = 4,     /* the IOMMU denied the device's access, with a cause ("Fault/Event-Queue (FQ)", CAUSE) */
-    RVIOMMU_BUS_ERROR = 5,  /* a byte is outside memory: of the hart's access, or where the device's access is led */
-    RVIOMMU_BAD_ACCESS = 6, /* not an access that the registers take */
-    RVIOMMU_NO_DEVICE = 7,  /* no such block device */
-    RVIOMMU_MISUSE = 8      /* no step has this size, alignment, device id or length, or the value doesn't fit its size */
+    RVIOMMU_BUS_ERROR = 5,  /* a byte of the hart's access, or of the device's translated access, is outside memory */
+    RVIOMMU_BAD_ACCESS = 6, /* the registers have no access of this offset and size */
+    RVIOMMU_NO_DEVICE = 7,  /* there is no such block device */
+    RVIOMMU_MISUSE = 8      /* a size, an alignment, a device id or a length is wrong, or the value doesn't fit the size */
 };
 
-/* Whether something other than a step was done, and else why not. rviommu_text has the words. */
+/* Whether a call that isn't a step succeeded, and if not, why. rviommu_text gives the words for it. */
 enum rviommu_status {
     RVIOMMU_OK = 0,
-    RVIOMMU_BAD_MAGIC = 1,     /* of an image: the first eight bytes are none of "RVIOMMU1", "RVIOMMU2" and "RVIOMMU3" */
-    RVIOMMU_TRUNCATED = 2,     /* the bytes end within the image */
-    RVIOMMU_TRAILING = 3,      /* bytes follow the image */
-    RVIOMMU_BAD_RAM = 4,       /* there is no memory of this base and size */
-    RVIOMMU_BAD_CHUNK = 5,     /* a chunk of bytes isn't behind the one before, is empty or is not all in memory */
-    RVIOMMU_BAD_DEVICE = 6,    /* a block device has a bad or a second id, or a bad disk, or there are too many */
+    RVIOMMU_BAD_MAGIC = 1,     /* image: the first eight bytes aren't "RVIOMMU1", "RVIOMMU2" or "RVIOMMU3" */
+    RVIOMMU_TRUNCATED = 2,     /* image: it ends too early */
+    RVIOMMU_TRAILING = 3,      /* image: more bytes follow it */
+    RVIOMMU_BAD_RAM = 4,       /* image: the base or the size of memory is wrong */
+    RVIOMMU_BAD_CHUNK = 5,     /* image: a chunk of bytes is empty, not after the previous chunk, or not all in memory */
+    RVIOMMU_BAD_DEVICE = 6,    /* image: a block device has a bad id, the id of another, or a bad disk; or there are too many */
     RVIOMMU_OUT_OF_MEMORY = 7, /* malloc refused */
-    RVIOMMU_BAD_LINE = 8,      /* of a text: a line is no statement */
-    RVIOMMU_OVERLAP = 9,       /* of a text: a byte stands where an earlier line put one */
-    RVIOMMU_OUTSIDE = 10,      /* a byte is outside memory, or behind the end of a disk */
+    RVIOMMU_BAD_LINE = 8,      /* text: a line isn't a statement */
+    RVIOMMU_OVERLAP = 9,       /* text: a line puts a byte where an earlier line put one */
+    RVIOMMU_OUTSIDE = 10,      /* a byte is outside memory, or beyond the end of a disk */
     RVIOMMU_LITTLE_ROOM = 11,  /* the buffer is too short */
-    RVIOMMU_NO_DISK = 12,      /* no such block device */
+    RVIOMMU_NO_DISK = 12,      /* there is no such block device */
     RVIOMMU_NOT_THERE = 13,    /* there are fewer parts, steps or places, or the device id isn't below 2^24 */
-    RVIOMMU_BAD_CAPABILITIES = 14 /* an image of version 3 states a capability that there is not, or a bad number of vectors */
+    RVIOMMU_BAD_CAPABILITIES = 14 /* image of version 3: an unknown capability, or a bad number of vectors */
 };
 
-/* What stands at a place of a cache. */
+/* What is at a place of a cache. */
 enum rviommu_place {
     RVIOMMU_LIVE = 0,  /* an entry */
-    RVIOMMU_EMPTY = 1, /* none: a command dropped what stood there */
+    RVIOMMU_EMPTY = 1, /* nothing: a command dropped the entry */
     RVIOMMU_BEYOND = 2 /* there are fewer places */
 };
 
@@ -86,9 +87,9 @@ struct rviommu_page_place {
     uint64_t page;  /* the IOVA divided by 4096 */
     uint64_t frame; /* the physical address of its frame divided by 4096 */
     uint32_t did;   /* the device id */
-    uint32_t pscid; /* the process soft-context id; 0 where there is none */
-    uint32_t gscid; /* the guest soft-context id; 0 where there is none */
-    uint32_t level; /* the level of the first stage's leaf; 0 where that stage is Bare */
+    uint32_t pscid; /* the process soft-context id; 0 if there is none */
+    uint32_t gscid; /* the guest soft-context id; 0 if there is none */
+    uint32_t level; /* the level of the first stage's leaf; 0 if that stage is Bare */
     bool has_pscid; /* the first stage isn't Bare */
     bool has_gscid; /* the second stage isn't Bare */
     bool is_write;  /* it serves writes; else it serves reads */
@@ -111,67 +112,68 @@ struct rviommu_context_place {
     uint64_t reserved[2]; /* room for more members; 0 */
 };
 
-/* What the tables in memory say, beside the caches. */
+/* What the tables in memory say, compared with the caches. */
 enum rviommu_standing {
     RVIOMMU_CURRENT = 0, /* the same as the caches */
-    RVIOMMU_NOTHING = 1, /* of a place: no entry stands there */
+    RVIOMMU_NOTHING = 1, /* the place has no entry */
     RVIOMMU_NO_SUCH = 2, /* there are fewer places, or the device id isn't below 2^24 */
-    RVIOMMU_STALE = 3    /* something else, which is put */
+    RVIOMMU_STALE = 3    /* something else, which the call writes to its output */
 };
 
-/* How a request is led. */
+/* How a request is translated. */
 enum rviommu_way_kind {
     RVIOMMU_BY_REGISTER = 0, /* by ddtp, whose mode is Bare: the physical address is the IOVA */
     RVIOMMU_BY_CONTEXT = 1,  /* by a context whose stages are both Bare: the physical address is the IOVA */
-    RVIOMMU_BY_WALK = 2,     /* by the stages of a context, which lead the IOVA's page to a frame */
+    RVIOMMU_BY_WALK = 2,     /* by the stages of a context, which map the IOVA's page to a frame */
     RVIOMMU_TO_NOWHERE = 3   /* nowhere: it is denied */
 };
 
-/* The way that a request is led. What its kind doesn't have is 0. */
+/* The way of a request: how it is translated. Members that its kind doesn't have are 0. */
 struct rviommu_way {
-    struct rviommu_context_place context; /* the device's context, of BY_CONTEXT and BY_WALK */
-    uint64_t frame;                       /* the physical address of the page's frame divided by 4096, of BY_WALK */
-    uint64_t iotval2;                     /* of a guest page fault its address, in the form of a fault record's iotval2 */
+    struct rviommu_context_place context; /* BY_CONTEXT, BY_WALK: the device's context */
+    uint64_t frame;                       /* BY_WALK: the physical address of the page's frame divided by 4096 */
+    uint64_t iotval2;                     /* TO_NOWHERE: the address of a guest page fault, in the form of a fault record's iotval2 */
     uint32_t kind;                        /* an enum rviommu_way_kind */
-    uint32_t level;                       /* the level of the first stage's leaf, of BY_WALK; 0 where that stage is Bare */
-    uint32_t cause;                       /* the cause of the denial, of TO_NOWHERE */
-    bool is_global;                       /* the first stage's mapping is global, of BY_WALK */
-    bool is_reported;                     /* the denial makes a fault record, of TO_NOWHERE */
+    uint32_t level;                       /* BY_WALK: the level of the first stage's leaf; 0 if that stage is Bare */
+    uint32_t cause;                       /* TO_NOWHERE: the cause of the denial */
+    bool is_global;                       /* BY_WALK: the first stage's mapping is global */
+    bool is_reported;                     /* TO_NOWHERE: the denial makes a fault record */
     uint64_t reserved[2];                 /* room for more members; 0 */
 };
 
 /* What ddtp and the directory say of a device id ("Process to locate the Device-context"). */
 enum rviommu_located_kind {
     RVIOMMU_NO_DIRECTORY = 0, /* ddtp's mode is Off or Bare */
-    RVIOMMU_HAS_CONTEXT = 1,  /* the device's context */
-    RVIOMMU_NO_CONTEXT = 2    /* that there is none, and why */
+    RVIOMMU_HAS_CONTEXT = 1,  /* the device has a context */
+    RVIOMMU_NO_CONTEXT = 2    /* the device has no context, for a cause */
 };
 
+/* Members that its kind doesn't have are 0. */
 struct rviommu_located {
-    struct rviommu_context_place context; /* of HAS_CONTEXT, else 0 */
+    struct rviommu_context_place context; /* HAS_CONTEXT: the device's context */
     uint32_t kind;                        /* an enum rviommu_located_kind */
-    uint32_t cause;                       /* why there is none, of NO_CONTEXT, else 0 */
+    uint32_t cause;                       /* NO_CONTEXT: the cause */
     uint64_t reserved[2];                 /* room for more members; 0 */
 };
 
-/* What is looked at to lead a request. */
+/* The kinds of parts of a walk. */
 enum rviommu_part_kind {
-    RVIOMMU_PART_DDTP = 0,    /* ddtp: its mode, and as `word` its PPN */
+    RVIOMMU_PART_DDTP = 0,    /* ddtp: its mode, and its PPN in `word` */
     RVIOMMU_PART_ENTRY = 1,   /* a non-leaf entry of the device directory */
-    RVIOMMU_PART_CONTEXT = 2, /* a leaf entry of the device directory: the context's words, tc in `word` */
+    RVIOMMU_PART_CONTEXT = 2, /* a leaf entry of the device directory: the words of the context, tc in `word` */
     RVIOMMU_PART_FIRST = 3,   /* an entry of the first stage's tables */
     RVIOMMU_PART_SECOND = 4,  /* an entry of the second stage's tables */
-    RVIOMMU_PART_END = 5,     /* the end: the way that the request is led */
-    /* In place of the entries of a table: what breaks its width rule, in `word`. */
-    RVIOMMU_PART_WIDE_DEVICE = 6, /* a device id with bits above those that the directory's levels take */
-    RVIOMMU_PART_WIDE_IOVA = 7,   /* an IOVA whose high bits don't repeat the highest one that the first stage takes */
-    RVIOMMU_PART_WIDE_GUEST = 8   /* a guest-physical address with bits above those that the second stage takes */
+    RVIOMMU_PART_END = 5,     /* the end: the way of the request */
+    /* In place of the entries of a table: a number that is too wide for it, in `word`. */
+    RVIOMMU_PART_WIDE_DEVICE = 6, /* a device id with bits above those that the levels of the directory use */
+    RVIOMMU_PART_WIDE_IOVA = 7,   /* an IOVA whose high bits don't repeat the highest bit that the first stage uses */
+    RVIOMMU_PART_WIDE_GUEST = 8   /* a guest-physical address with bits above those that the second stage uses */
 };
 
-/* What decides of an entry of a page table. All but POINTER and LEAF are faults. */
+/* The verdict on an entry of a page table. All but POINTER and LEAF are faults. */
 enum rviommu_ruling {
-    RVIOMMU_ENTRY_OUTSIDE = 0,             /* it lies outside memory */
-    RVIOMMU_ENTRY_GUEST = 1,               /* the second stage leads its guest-physical address nowhere */
+    RVIOMMU_ENTRY_OUTSIDE = 0,             /* it is outside memory */
+    RVIOMMU_ENTRY_GUEST = 1,               /* the second stage doesn't translate its guest-physical address */
     RVIOMMU_ENTRY_INVALID = 2,             /* V is 0 */
     RVIOMMU_ENTRY_WRITE_ONLY = 3,          /* R is 0 and W is 1 */
     RVIOMMU_ENTRY_RESERVED = 4,            /* one of bits 63:54 is set */
@@ -187,100 +189,101 @@ enum rviommu_ruling {
     RVIOMMU_ENTRY_LEAF = 14                /* a leaf that maps the address */
 };
 
-/* A part of a walk. What its kind doesn't have is 0. */
+/* A part of a walk. Members that its kind doesn't have are 0. */
 struct rviommu_walk_part {
-    uint64_t place;         /* where an entry or a context stands: its physical address, but of FIRST its guest-physical one under a second
-                               stage */
-    uint64_t read_at;       /* the physical address that it was read at, of FIRST and SECOND */
-    uint64_t guest;         /* the guest-physical address that is translated, of SECOND */
-    uint64_t word;          /* the entry's word; of CONTEXT tc; of DDTP its PPN; of the WIDE ones what is too wide */
-    uint64_t iohgatp;       /* of CONTEXT */
-    uint64_t ta;            /* of CONTEXT */
-    uint64_t fsc;           /* of CONTEXT */
+    uint64_t place;         /* the physical address of an entry or a context; FIRST under a second stage: its guest-physical address */
+    uint64_t read_at;       /* FIRST, SECOND: the physical address that the entry was read at */
+    uint64_t guest;         /* SECOND: the guest-physical address that is translated */
+    uint64_t word;          /* the entry; CONTEXT: tc; DDTP: its PPN; the WIDE kinds: the number that is too wide */
+    uint64_t iohgatp;       /* CONTEXT */
+    uint64_t ta;            /* CONTEXT */
+    uint64_t fsc;           /* CONTEXT */
     uint32_t kind;          /* an enum rviommu_part_kind */
-    uint32_t mode;          /* ddtp.iommu_mode, of DDTP: 0 Off, 1 Bare, 2 to 4 for one to three levels */
-    uint32_t level;         /* the level of the entry's table, of FIRST and SECOND */
-    uint32_t ruling;        /* an enum rviommu_ruling, of FIRST and SECOND */
-    bool has_word;          /* there is a word: no byte of it is outside memory, and its place leads somewhere */
-    bool has_read_at;       /* of FIRST and SECOND: there is a physical address that it was read at */
-    struct rviommu_way way; /* of END */
+    uint32_t mode;          /* DDTP: ddtp.iommu_mode, which is 0 for Off, 1 for Bare, 2 to 4 for one to three levels */
+    uint32_t level;         /* FIRST, SECOND: the level of the entry's table */
+    uint32_t ruling;        /* FIRST, SECOND: an enum rviommu_ruling */
+    bool has_word;          /* there is a word: the entry's address is translated, and all of the entry is in memory */
+    bool has_read_at;       /* FIRST, SECOND: the entry's address is translated */
+    struct rviommu_way way; /* END */
     uint64_t reserved[4];   /* room for more members; 0 */
 };
 
-/* Where the translation came from that a step used. */
+/* Where a step got its translation from. */
 enum rviommu_why_kind {
-    RVIOMMU_WHY_NO_ACCESS = 0, /* none: the step made no access of a device */
-    RVIOMMU_WHY_DENIED = 1,    /* none: its access was denied */
+    RVIOMMU_WHY_NO_ACCESS = 0, /* it used none: it made no access of a device */
+    RVIOMMU_WHY_DENIED = 1,    /* it used none: its access was denied */
     RVIOMMU_WHY_REGISTER = 2,  /* ddtp, whose mode was Bare */
     RVIOMMU_WHY_CONTEXT = 3,   /* a context whose stages were both Bare */
     RVIOMMU_WHY_WALK = 4       /* the stages of a context */
 };
 
-/* Why a step went as it did. The number of a step that filled something may be its own. What its kind doesn't have is 0. */
+/* Why a step had its answer. A step that filled a cache may be this step itself. Members that its kind doesn't have are 0. */
 struct rviommu_why {
-    struct rviommu_way way; /* where `is_stale`, the way that the tables said of its access, before it */
+    struct rviommu_way way; /* if `is_stale`: the way that the tables gave its access just before the step */
     uint64_t number;        /* the number of the step */
-    uint64_t iova;          /* of its access, of all but NO_ACCESS */
-    uint64_t context;       /* the number of the step that filled the context that led it, of CONTEXT; of WALK the context under which its page
-                               was filled */
-    uint64_t walk;          /* the number of the step that filled its page, of WALK */
-    uint64_t current;       /* the number of the step that filled the context in force, which gives its page the same key, of WALK */
-    uint32_t did;           /* of its access, of all but NO_ACCESS */
+    uint64_t iova;          /* all but NO_ACCESS: the IOVA of its access */
+    uint64_t context;       /* CONTEXT: the number of the step that filled the context it used; WALK: of the step that filled the context
+                               under which its page was walked */
+    uint64_t walk;          /* WALK: the number of the step that filled its page */
+    uint64_t current;       /* WALK: the number of the step that filled the context in force, whose PSCID and GSCID its page has */
+    uint32_t did;           /* all but NO_ACCESS: the device id of its access */
     uint32_t kind;          /* an enum rviommu_why_kind */
-    bool is_write;          /* of its access, of all but NO_ACCESS: it wrote */
-    bool is_stale;          /* the caches led its access otherwise than the tables did then */
+    bool is_write;          /* all but NO_ACCESS: its access was a write */
+    bool is_stale;          /* the caches translated its access otherwise than the tables would have */
     uint64_t reserved[4];   /* room for more members; 0 */
 };
 
-/* The version of the library that runs: its three numbers in bits 23:16, 15:8 and 7:0. */
+/* The version of the library in use: its three numbers in bits 23:16, 15:8 and 7:0. */
 uint32_t rviommu_version(void);
 
 /*
- * Start and end. `handle` is closed, or was never used; an open one's memory would be lost.
+ * Opening and closing. The handle of rviommu_open, of rviommu_open_built_in, and `copy` of rviommu_copy must be closed or never used
+ * before; the memory of an open one would be lost.
  */
 
-/* Opens the platform that an image starts: its memory and block devices, the registers at reset, nothing cached. Answers
- * RVIOMMU_OK, RVIOMMU_OUT_OF_MEMORY, or RVIOMMU_BAD_MAGIC to RVIOMMU_BAD_DEVICE or RVIOMMU_BAD_CAPABILITIES for the first check
- * that fails; the handle is closed then. */
+/* Opens the platform that an image describes: its memory and block devices, with the registers at reset and nothing cached. Returns
+ * RVIOMMU_OK; RVIOMMU_OUT_OF_MEMORY; or the first check that fails, RVIOMMU_BAD_MAGIC to RVIOMMU_BAD_DEVICE or RVIOMMU_BAD_CAPABILITIES.
+ * After any but RVIOMMU_OK the handle is closed. */
 enum rviommu_status rviommu_open(const uint8_t *image, size_t length, rviommu_t *handle);
 
-/* Opens 1 MiB of memory at physical address 0x80000000, all 0, with no block device. Answers RVIOMMU_OK, or
- * RVIOMMU_OUT_OF_MEMORY; the handle is closed then. */
+/* Opens a platform with 1 MiB of memory at physical address 0x80000000, all 0, and no block device. Returns RVIOMMU_OK; or
+ * RVIOMMU_OUT_OF_MEMORY, and the handle is closed. */
 enum rviommu_status rviommu_open_built_in(rviommu_t *handle);
 
-/* Opens an equal platform with an equal account of the steps, which goes its own way from here and counts its steps on, with an empty
- * trace and no reason kept: rviommu_why and the line `trace` tell of the copy's own steps. As many reasons are kept as of the first.
- * `handle` is open and stays as it is; `copy` is closed. Answers RVIOMMU_OK, or RVIOMMU_OUT_OF_MEMORY; `copy` stays closed then. */
+/* Opens `copy` with an equal platform and an equal account. From then on the two handles are independent. The copy continues the count of
+ * steps, but its trace is empty and it has no reasons yet, so rviommu_why and the line `trace` are about its own steps only. It keeps as
+ * many reasons as `handle` does. `handle` is open and does not change. Returns RVIOMMU_OK; or RVIOMMU_OUT_OF_MEMORY, and `copy` is
+ * closed. */
 enum rviommu_status rviommu_copy(const rviommu_t *handle, rviommu_t *copy);
 
-/* Keeps from now on why the last `most` steps went as they did, for rviommu_why, or, if `accesses_only` is true, the last `most` that make
- * an access of a device. A handle that is opened keeps the last 32. Those kept so far are forgotten. The handle is open. Answers RVIOMMU_OK,
- * or RVIOMMU_OUT_OF_MEMORY, and nothing changes then. */
+/* Sets how many reasons are kept for rviommu_why: those of the last `most` steps or, if `accesses_only` is true, of the last `most` steps
+ * that make an access of a device. A newly opened handle keeps those of the last 32 steps. The reasons kept so far are dropped. The handle
+ * is open. Returns RVIOMMU_OK; or RVIOMMU_OUT_OF_MEMORY, and nothing changes. */
 enum rviommu_status rviommu_keep_reasons(rviommu_t *handle, size_t most, bool accesses_only);
 
-/* Closes an open handle, and gives its memory back. A handle whose member is NULL, as that of a closed one is, stays as it is. */
+/* Closes an open handle and frees its memory. Does nothing to a handle whose member is NULL, as that of a closed handle is. */
 void rviommu_close(rviommu_t *handle);
 
 /*
- * By text. The handle is open.
+ * Steps by text. The handle is open.
  */
 
-/* Carries out one line of the script (README.md), given without its line end, and puts the text of its answer, at most 320
- * bytes, with a 0 behind it, and its length without that. A blank line has an empty answer, and what is no line is answered "bad".
- * Answers RVIOMMU_OK; or RVIOMMU_LITTLE_ROOM where `room` is below 321, and then nothing is done. */
+/* Carries out one line of a script (rviommu(1), "SCRIPT"), given without its line end. Writes the text of the answer to `answer`, at most
+ * 320 bytes and a 0 after it, and the text's length without the 0 to `length`. The answer to a blank line is empty, and that to any line
+ * which isn't a step or a question is "bad". Returns RVIOMMU_OK; or RVIOMMU_LITTLE_ROOM if `room` is below 321, and nothing is done. */
 enum rviommu_status rviommu_line(rviommu_t *handle, const char *line, size_t line_length, char *answer, size_t room, size_t *length);
 
 /*
- * By numbers. The handle is open. Each is one step, which the trace keeps and the account counts, as they do a line that is a step;
- * but an access of a device of no byte or of more than 64 is no step. The answers that a step can have stand beside it. `value` and `bytes` are put for
- * RVIOMMU_VALUE and RVIOMMU_BYTES, `cause` for RVIOMMU_DENIED, and unchanged else. A refusal changes nothing, but for a denial's fault
- * record and what was cached on the way.
+ * Steps by numbers. The handle is open. Each call is one step: the trace keeps it and the account counts it, as for a line. Only a device's
+ * access of no bytes, or of more than 64, is no step. Each comment names the answers that are possible. `value` is written for
+ * RVIOMMU_VALUE, `bytes` for RVIOMMU_BYTES and `cause` for RVIOMMU_DENIED; with any other answer they are left unchanged. A refused step
+ * changes nothing, except that a denial may make a fault record and that translation may fill the caches.
  */
 
-/* The hart reads `size` bytes, 1, 2, 4 or 8, at a physical address, a multiple of the size: VALUE, BUS_ERROR, MISUSE. */
+/* The hart reads `size` bytes, 1, 2, 4 or 8, at a physical address that is a multiple of the size: VALUE, BUS_ERROR, MISUSE. */
 enum rviommu_answer rviommu_load(rviommu_t *handle, uint64_t address, uint64_t size, uint64_t *value);
 
-/* The hart writes the lowest `size` bytes, 1, 2, 4 or 8, of a value there: DONE, BUS_ERROR, MISUSE. */
+/* The hart writes `value` to `size` bytes, likewise: DONE, BUS_ERROR, MISUSE. */
 enum rviommu_answer rviommu_store(rviommu_t *handle, uint64_t address, uint64_t size, uint64_t value);
 
 /* The hart reads 4 or 8 bytes of the IOMMU's registers at an offset ("Memory-mapped register interface"): VALUE, BAD_ACCESS. */
@@ -289,25 +292,25 @@ enum rviommu_answer rviommu_reg_read(rviommu_t *handle, uint64_t offset, uint64_
 /* The hart writes 4 or 8 bytes of the IOMMU's registers at an offset: DONE, BAD_ACCESS, MISUSE. */
 enum rviommu_answer rviommu_reg_write(rviommu_t *handle, uint64_t offset, uint64_t size, uint64_t value);
 
-/* A device with an id below 2^24 reads 1 to 64 bytes at an IOVA, all in one page of 4096 bytes: BYTES, all `length` of them,
- * DENIED, BUS_ERROR, MISUSE. */
+/* A device reads 1 to 64 bytes at an IOVA, all in one page of 4096 bytes. Its id is below 2^24. BYTES (always `length` of them), DENIED,
+ * BUS_ERROR, MISUSE. */
 enum rviommu_answer rviommu_dma_read(rviommu_t *handle, uint64_t did, uint64_t iova, uint8_t *bytes, size_t length, uint64_t *cause);
 
-/* A device writes 1 to 64 bytes at an IOVA, all in one page: DONE, DENIED, BUS_ERROR, MISUSE. */
+/* A device writes 1 to 64 bytes at an IOVA, likewise: DONE, DENIED, BUS_ERROR, MISUSE. */
 enum rviommu_answer rviommu_dma_write(rviommu_t *handle, uint64_t did, uint64_t iova, const uint8_t *bytes, size_t length, uint64_t *cause);
 
-/* The same of any number of bytes from an IOVA on, over pages: in pieces of at most 64 bytes, each in one page, up to the first that is
- * refused. Each piece is a step. Puts in `done` how many bytes came before that piece, all of them where none is refused. Answers as the
- * last piece did; or MISUSE, which is no step, where there is no byte or the last one is past IOVA 2^64 - 1. Of the bytes after a refusal
- * `bytes` is unchanged. */
+/* A device reads or writes any number of bytes from an IOVA on, across pages. The access is made in pieces of at most 64 bytes, each in one
+ * page and each a step, until one is refused. Writes to `done` how many bytes came before the refused piece, or all of them. Returns the
+ * answer of the last piece; or MISUSE, without a step, if `length` is 0 or the last byte is beyond IOVA 2^64 - 1. After a refusal the rest
+ * of `bytes` is unchanged. */
 enum rviommu_answer rviommu_dma_read_all(rviommu_t *handle, uint64_t did, uint64_t iova, uint8_t *bytes, size_t length, size_t *done, uint64_t *cause);
 enum rviommu_answer rviommu_dma_write_all(rviommu_t *handle, uint64_t did, uint64_t iova, const uint8_t *bytes, size_t length, size_t *done,
                                           uint64_t *cause);
 
-/* The command unit takes one command and carries it out ("Command-Queue (CQ)"): DONE, also where it stops the queue, or IDLE. */
+/* The command unit takes one command and carries it out ("Command-Queue (CQ)"): DONE, even if that stops the queue, or IDLE. */
 enum rviommu_answer rviommu_command(rviommu_t *handle);
 
-/* The hart reads 1, 2 or 4 bytes of the registers of a block device, counted from 0 (VIRTIO 1.2, "MMIO Device Register Layout"):
+/* The hart reads 1, 2 or 4 bytes of the registers of a block device (VIRTIO 1.2, "MMIO Device Register Layout"). The first device is 0.
  * VALUE, BAD_ACCESS, NO_DEVICE. */
 enum rviommu_answer rviommu_dev_read(rviommu_t *handle, uint64_t device, uint64_t offset, uint64_t size, uint64_t *value);
 
@@ -318,64 +321,64 @@ enum rviommu_answer rviommu_dev_write(rviommu_t *handle, uint64_t device, uint64
 enum rviommu_answer rviommu_dev_step(rviommu_t *handle, uint64_t device, uint64_t *cause);
 
 /*
- * Looking. The handle is open. None of these is a step, and none changes the platform, the trace, the account or the handle; but during
- * the call the handle is the library's, as in each other.
+ * Looking. The handle is open. None of these calls is a step, and none changes the platform, the trace or the account. But each is a use
+ * of the handle, so no other thread may use it meanwhile.
  */
 
-/* The number of the last step: how many steps the handle was given, those of the handle that it was copied from among them. 0 before the
- * first. */
+/* The number of the last step, or 0 before the first: how many steps the handle was given, including those of the handle that it was copied
+ * from. */
 uint64_t rviommu_steps(const rviommu_t *handle);
 
-/* Which interrupts are pending: the value of ipsr, bit 0 that of the command queue, bit 1 that of the fault queue ("Interrupt pending
- * status register (ipsr)"). 0 while none is. */
+/* The pending interrupts: the value of ipsr, with bit 0 for the command queue and bit 1 for the fault queue ("Interrupt pending status
+ * register (ipsr)"). */
 uint64_t rviommu_interrupt(const rviommu_t *handle);
 
-/* The value that rviommu_reg_read would put. Answers RVIOMMU_OK; or RVIOMMU_OUTSIDE if that is no access that the registers take, and
- * `value` is unchanged then. */
+/* Writes to `value` what rviommu_reg_read would. Returns RVIOMMU_OK; or RVIOMMU_OUTSIDE if the registers have no such access, and `value` is
+ * unchanged. */
 enum rviommu_status rviommu_reg_look(const rviommu_t *handle, uint64_t offset, uint64_t size, uint64_t *value);
 
-/* The first physical address of memory, and its size. */
+/* Writes the first physical address of memory to `base`, and the size of memory to `size`. */
 void rviommu_memory_place(const rviommu_t *handle, uint64_t *base, uint64_t *size);
 
-/* Copies `length` bytes of memory from a physical address on. Answers RVIOMMU_OK; or RVIOMMU_OUTSIDE, and `bytes` is unchanged
- * then. */
+/* Copies `length` bytes of memory from a physical address on. Returns RVIOMMU_OK; or RVIOMMU_OUTSIDE, and `bytes` is unchanged. */
 enum rviommu_status rviommu_memory(const rviommu_t *handle, uint64_t address, uint8_t *bytes, size_t length);
 
-/* The size of the disk of a block device, counted from 0. Answers RVIOMMU_OK; or RVIOMMU_NO_DISK, and `size` is unchanged then. */
+/* Writes to `size` the size of a block device's disk; the first device is 0. Returns RVIOMMU_OK; or RVIOMMU_NO_DISK, and `size` is
+ * unchanged. */
 enum rviommu_status rviommu_disk_size(const rviommu_t *handle, uint64_t device, uint64_t *size);
 
-/* Copies `length` bytes of a block device's disk from an offset on. Answers RVIOMMU_OK; or RVIOMMU_NO_DISK or RVIOMMU_OUTSIDE, and
- * `bytes` is unchanged then. */
+/* Copies `length` bytes of a block device's disk from an offset on. Returns RVIOMMU_OK; or RVIOMMU_NO_DISK or RVIOMMU_OUTSIDE, and `bytes`
+ * is unchanged. */
 enum rviommu_status rviommu_disk(const rviommu_t *handle, uint64_t device, uint64_t offset, uint8_t *bytes, size_t length);
 
-/* What stands at a place of the translation cache, 64 places at most, or of the context cache, 16; the oldest is place 0.
- * Answers an enum rviommu_place; the entry is put for RVIOMMU_LIVE, and unchanged else. */
+/* Looks at a place of the translation cache, which has at most 64, or of the context cache, which has at most 16. Place 0 is the oldest. The
+ * entry is written for RVIOMMU_LIVE, else it is unchanged. */
 enum rviommu_place rviommu_page(const rviommu_t *handle, uint64_t place, struct rviommu_page_place *page);
 enum rviommu_place rviommu_context(const rviommu_t *handle, uint64_t place, struct rviommu_context_place *context);
 
-/* One of the parts of a walk, at most 40: all that is looked at to lead a request of a device for an IOVA where nothing is cached, in
- * order ("Process to translate an IOVA"). Part 0 is ddtp, the last is the end. Answers RVIOMMU_OK; or RVIOMMU_NOT_THERE where there are
- * fewer parts or the device id isn't below 2^24, and `part` is unchanged then. */
+/* Writes to `part` one part of the walk of a request, as if nothing were cached ("Process to translate an IOVA"). Part 0 is ddtp and the
+ * last one the end; there are at most 40. Returns RVIOMMU_OK; or RVIOMMU_NOT_THERE if there are fewer parts or the device id isn't below
+ * 2^24, and `part` is unchanged. */
 enum rviommu_status rviommu_part(const rviommu_t *handle, uint64_t did, uint64_t iova, bool is_write, uint64_t number, struct rviommu_walk_part *part);
 
-/* Whether a request is stale: the caches lead it otherwise than the tables do ("Caching in-memory data structures"). Answers
- * RVIOMMU_CURRENT; RVIOMMU_STALE, and puts the way that the tables say; or RVIOMMU_NO_SUCH where the device id isn't below 2^24. `way` is
- * unchanged unless it is stale. */
+/* Whether a request is stale, which means that the caches translate it otherwise than the tables would ("Caching in-memory data
+ * structures"). Returns RVIOMMU_STALE, and writes the way that the tables give to `way`; RVIOMMU_CURRENT; or RVIOMMU_NO_SUCH if the device
+ * id isn't below 2^24. `way` is unchanged unless the request is stale. */
 enum rviommu_standing rviommu_stale(const rviommu_t *handle, uint64_t did, uint64_t iova, bool is_write, struct rviommu_way *way);
 
-/* Whether the tables still say what a place of a cache holds. Answers an enum rviommu_standing; of a stale place of the translation cache
- * the way is put that the tables say of a request at the first byte of its page, and of one of the context cache what ddtp and the
- * directory say of its device; unchanged else. */
+/* Whether the tables still give the entry at a place of a cache. For RVIOMMU_STALE, rviommu_stale_page writes the way that the tables give a
+ * request at the first byte of the entry's page, and rviommu_stale_context writes what ddtp and the directory say of the entry's device.
+ * Otherwise the output is unchanged. */
 enum rviommu_standing rviommu_stale_page(const rviommu_t *handle, uint64_t place, struct rviommu_way *way);
 enum rviommu_standing rviommu_stale_context(const rviommu_t *handle, uint64_t place, struct rviommu_located *located);
 
-/* Why one of the steps whose reasons are kept went as it did, the oldest step 0. Answers RVIOMMU_OK; or RVIOMMU_NOT_THERE if there are fewer,
- * and `why` is unchanged then. */
+/* Writes to `why` one of the kept reasons; the oldest is 0. Returns RVIOMMU_OK; or RVIOMMU_NOT_THERE if fewer are kept, and `why` is
+ * unchanged. */
 enum rviommu_status rviommu_why(const rviommu_t *handle, uint64_t step, struct rviommu_why *why);
 
-/* Which step filled a place of a cache: its number; of the translation cache also, in `context`, the number of the step that filled the
- * context under which the place was filled. Where a command dropped what stood at the place, it is the step that filled that. Answers
- * RVIOMMU_OK; or RVIOMMU_NOT_THERE where there are fewer places, and the numbers are unchanged then. */
+/* The number of the step that filled a place of a cache, even if the entry was dropped since. For the translation cache that is `walk`, and
+ * `context` is the number of the step that filled the context under which the page was walked. Returns RVIOMMU_OK; or RVIOMMU_NOT_THERE if
+ * there are fewer places, and the outputs are unchanged. */
 enum rviommu_status rviommu_page_origin(const rviommu_t *handle, uint64_t place, uint64_t *context, uint64_t *walk);
 enum rviommu_status rviommu_context_origin(const rviommu_t *handle, uint64_t place, uint64_t *number);
 
@@ -383,14 +386,14 @@ enum rviommu_status rviommu_context_origin(const rviommu_t *handle, uint64_t pla
  * Texts.
  */
 
-/* Assembles a text of statements (docs/MODEL.md) into the bytes of an image, and puts how many they are. Answers RVIOMMU_OK;
- * RVIOMMU_LITTLE_ROOM, and `length` is how much there must be; RVIOMMU_OUT_OF_MEMORY; or RVIOMMU_BAD_LINE, RVIOMMU_OVERLAP or
- * RVIOMMU_OUTSIDE, and `line` is the first line with a fault, counted from 1, or 0 where there is no statement. `image` is
- * unchanged but for RVIOMMU_OK. */
+/* Assembles a text (rviommu(1), "IMAGE TEXTS") into the bytes of an image, and writes their number to `length`. Returns RVIOMMU_OK;
+ * RVIOMMU_LITTLE_ROOM, and `length` is the room that is needed; RVIOMMU_OUT_OF_MEMORY; or RVIOMMU_BAD_LINE, RVIOMMU_OVERLAP or
+ * RVIOMMU_OUTSIDE, and `line` is the first faulty line, counted from 1, or 0 if the text has no statement. `image` is unchanged unless
+ * RVIOMMU_OK is returned. */
 enum rviommu_status rviommu_assemble(const char *text, size_t text_length, uint8_t *image, size_t room, size_t *length, uint64_t *line);
 
-/* Puts the words of an enum rviommu_status with a 0 behind them, and their length without that. Answers RVIOMMU_OK; or
- * RVIOMMU_LITTLE_ROOM where `room` is below 32, and nothing is put then. */
+/* Writes the words for an enum rviommu_status to `words`, with a 0 after them, and their length without the 0 to `length`. Returns
+ * RVIOMMU_OK; or RVIOMMU_LITTLE_ROOM if `room` is below 32, and nothing is written. */
 enum rviommu_status rviommu_text(enum rviommu_status status, char *words, size_t room, size_t *length);
 
 #ifdef __cplusplus

@@ -1,8 +1,8 @@
 /*
- * rviommu_record: writes the steps of a handle as a script, each with its answer behind it, so that `rviommu check`, `debug`, `explain` and
- * the page play a test again. The script begins at the image that the handle was opened on.
+ * rviommu_record: writes the steps of a handle as a script, each with its answer, so that `rviommu check`, `debug`, `explain` and the page
+ * can replay a test. Run the script on the image that the handle was opened on.
  *
- *     struct rviommu_record record = rviommu_record_begin(&platform, script);   right after the handle was opened
+ *     struct rviommu_record record = rviommu_record_begin(&platform, script);   right after opening the handle
  *     rviommu_dma_read(&platform, 5, 0x40201000, bytes, 8, &cause);
  *     rviommu_record_steps(&record, &platform);                                 at least every 32 steps
  */
@@ -17,18 +17,18 @@
 
 struct rviommu_record {
     FILE *script;
-    uint64_t first; /* how many steps there were at the beginning */
-    uint64_t told;  /* how many steps there were when it was last written */
+    uint64_t first; /* the number of steps at the beginning */
+    uint64_t told;  /* the number of steps when the script was last written */
 };
 
-/* Begins to record in an open file, of a handle whose trace is empty: one that was opened or copied, and given no step since. */
+/* Begins a record in an open file. The handle was opened or copied, and has had no step since, so its trace is empty. */
 static inline struct rviommu_record rviommu_record_begin(const rviommu_t *handle, FILE *script) {
     struct rviommu_record record = {script, rviommu_steps(handle), rviommu_steps(handle)};
     return record;
 }
 
-/* Writes the steps that the handle was given since the last call, a line each. Answers whether all were written: false where the trace
- * had more than 32 of them, or the file takes no more. */
+/* Writes one line for each step since the last call. Returns false if not all could be written: there were more than the 32 steps that the
+ * trace keeps, or writing to the file failed. */
 static inline bool rviommu_record_steps(struct rviommu_record *record, rviommu_t *handle) {
     uint64_t now = rviommu_steps(handle), in_trace = now - record->first < 32 ? now - record->first : 32;
     bool is_whole = now - record->told <= in_trace;

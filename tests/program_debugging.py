@@ -1,7 +1,7 @@
 """The word debug: scripts that ask more than those of run."""
 import re
 
-from documents import table, table_of, spans
+from documents import table
 from frame import (
     ANSWER, ASK, BAD_FOR_RUN, EXAMPLES, MOST_IN_LINE, MOST_LINES, READ_ONLY, TESTS, TOO_LONG, WELL, Case, run, scripts, words_of)
 from samples import BREAKING, DEBUG_FORMS, SET_UP, WELL_PUT
@@ -75,11 +75,6 @@ class Debugs(Case):
         given = b"reg write ddtp 1 # => done\ndisk 0 0 2 # => aa00\nqueue fault # => none\n"
         told = b"line 3: queue fault -> on=0x0 base=0x0 entries=0x2 head=0x0 tail=0x0 stop=none, wanted none\n2 passed, 1 failed\n"
         self.want(["check", self.put("image", READ_ONLY)], told, (1, b""), given)
-
-    def test_lines_in_readme(self):
-        """README: its table of lines of debug has each of them"""
-        named = [form for row in table_of("README.md", "Line of `debug`") for form in spans(row[0])]
-        self.assertEqual([form for form in DEBUG_FORMS if not any(it.startswith(form) for it in named)], [])
 
     def test_lines_in_help(self):
         """debug --help: each line that debug alone has"""

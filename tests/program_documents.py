@@ -1,4 +1,4 @@
-"""What README, CHANGELOG.md and GATE say, where the program, a command or the repository itself can be asked."""
+"""What README, the man page, CHANGELOG.md and GATE say, if the program, a command or the repository itself can be asked."""
 import os
 import re
 import shutil
@@ -16,7 +16,7 @@ MANY += "at 0x80004000\ncmd vma\ncmd iodir\ndisk 5 1\n"
 # a queue of two commands at 0x80004000, and one of four whose first two drop all that is cached
 QUEUE = ["reg write 24 8 0x20001000", "reg write 72 4 1", "reg write 36 4 1"]
 DROPPED = ["reg write 16 8 0x20000402", "dma read 0 0 1", "reg write 24 8 0x20001001", "reg write 72 4 1", "reg write 36 4 2", "cmd", "cmd"]
-# One line for each answer that README names for a form, on an image with a block device; before it, what leads there.
+# For each answer that the man page's table names for a form, the lines that lead there, on an image with a block device.
 SAMPLES = {
     "load": {"bus error": ["load 0 8"], "misuse": ["load 0x80000001 8"]},
     "store": {"done": ["store 0x80000000 8 1"], "bus error": ["store 0x80080000 1 0"], "misuse": ["store 0x80000000 3 0"]},
@@ -42,43 +42,51 @@ CACHED = MAP.decode().splitlines()
 BARE = [CACHED[0], "put 0x800010c0 context", "dma read 6 0x80000000 1"]
 UNMAPPED = [*CACHED, UNMAP.decode().strip()]
 TO_DDTP = [*CACHED, "reg write ddtp 1"]
-# Of each row of the table of debug's lines, for each answer that it names the lines that lead there, on an image with tables and a disk.
+# The same for the lines of debug, on an image with tables and a disk.
 DEBUG_SAMPLES = {
     "vectors": {"0x0": ["reg write cqb 0x20000000", "reg write cqcsr 3", "reg write cqt 1", "cmd", "vectors"], "none": ["vectors"]},
-    "dump ADDR LEN": {"outside": ["dump 0 1"]},
-    "disk N BYTE LEN": {"outside": ["disk 0 1024 1"], "none": ["disk 1 0 1"]},
-    "dev show N": {"none": ["dev show 1"]},
-    "stale read DID IOVA": {
+    "dump": {"outside": ["dump 0 1"]},
+    "disk": {"outside": ["disk 0 1024 1"], "none": ["disk 1 0 1"]},
+    "dev show": {"none": ["dev show 1"]},
+    "stale read": {
         "same": [*CACHED, "stale read 5 0x40201abc"], "addr=ADDRESS": [*CACHED, REMAP, "stale read 5 0x40201abc"],
         "denied CAUSE": [*UNMAPPED, "stale read 5 0x40201abc"],
     },
-    "stale context I": {
+    "stale context": {
         "same": [*CACHED, "stale context 0"], "context ..": [*CACHED, "put 0x800010a0 context mode=8 ppn=0x80002", "stale context 0"],
-        "page ..": [*CACHED, REMAP, "stale page 0"], "denied CAUSE": [*UNMAPPED, "stale page 0"], "no directory": [*TO_DDTP, "stale context 0"],
+        "denied CAUSE": [*CACHED, "store 0x800010a0 8 0", "stale context 0"], "no directory": [*TO_DDTP, "stale context 0"],
+        "empty": [*CACHED, *INVALIDATE.decode().splitlines(), "stale context 0"], "none": ["stale context 0"],
+    },
+    "stale page": {
+        "same": [*CACHED, "stale page 0"], "page ..": [*CACHED, REMAP, "stale page 0"], "denied CAUSE": [*UNMAPPED, "stale page 0"],
         "register": [*TO_DDTP, "stale page 0"], "context": [*CACHED, "put 0x800010a0 context", "stale page 0"],
         "empty": [*CACHED, *INVALIDATE.decode().splitlines(), "stale page 0"], "none": ["stale page 0"],
     },
-    "origin context I": {
-        "context 12": [*CACHED, "origin context 0"], "walked context=12 walk=14": [*CACHED, "origin page 0"], "none": ["origin page 0"],
-    },
-    "why I": {
+    "origin context": {"context 12": [*CACHED, "origin context 0"], "none": ["origin context 0"]},
+    "origin page": {"walked context=12 walk=14": [*CACHED, "origin page 0"], "none": ["origin page 0"]},
+    "walk read": {"none": [*CACHED, "walk read 5 0 29"]},
+    "why": {
         "walked context=12 walk=14 current=15": [*CACHED, "why 1"], "context 12": [*BARE, "why 5"], "register": [*TO_DDTP, READ.decode(), "why 3"],
-        "denied": [READ.decode(), "why 0"], "no access": [*CACHED, "why 0"], "none": ["why 0"], " stale": [*UNMAPPED, READ.decode(), "why 3"],
+        "denied": [READ.decode(), "why 0"], "no access": [*CACHED, "why 0"], "none": ["why 0"],
     },
-    "walk read DID IOVA I": {"none": [*CACHED, "walk read 5 0 29"]},
 }
 
 
 def is_of_form(seen, form):
-    """Whether an answer is the one that README names so; ADDRESS, CAUSE and a number stand for any, and .. for what follows."""
+    """Whether an answer is the one that the man page names so; ADDRESS, CAUSE and a number stand for any, and .. for what follows."""
     pattern = re.sub(r"\d+", r"\\d+", re.escape(form)).replace("ADDRESS", "0x[0-9a-f]+").replace("CAUSE", r"\d+").replace(r"\.\.", ".+=.+")
-    return bool(re.search(pattern, seen) if form.startswith(" ") else re.fullmatch(pattern, seen))
+    return bool(re.fullmatch(pattern, seen))
 
 
-def session():
-    """The session of README: what is pasted, and the answers that it names."""
-    block = re.search(r"(?m)^A session.*\n\n((?:    .*\n)+)", text_of("README.md"))[1]
-    return re.sub(r"(?m)^    ", "", block).encode(), [line.partition("# =>")[2].strip() for line in block.splitlines() if "# =>" in line]
+def answers_of(head):
+    """The answers that the man page's table below this head names for each form of a line. A word in capitals stands for others."""
+    rows = re.search(rf"(?ms)^{head} +answers\n(.*?)^\.EE$", section("ANSWERS"))[1]
+    named = {}
+    for row in re.sub(r"\n {10,}", " ", rows).splitlines():
+        forms, answers = re.fullmatch(r"(.+?)  +(.+)", row).groups()
+        own = sorted(it for it in answers.split(", ") if not re.match("[A-Z]", it))
+        named.update({form: own for form in forms.split(", ") if own})
+    return named
 
 
 def operands(word):
@@ -127,22 +135,18 @@ class Versions(Case):
 
 
 class Readme(Case):
-    def test_session(self):
-        """README: its session, pasted as it stands, is answered as it says, and passes a check"""
-        lines, wanted = session()
-        self.assertGreater(len(wanted), 5)
-        self.want([], "".join(f"{it}\n" for it in wanted).encode(), given=lines)
-        self.want(["check"], b"%d passed, 0 failed\n" % len(wanted), given=lines)
-
     def test_commands(self):
-        """README: the commands that it shows behind a $ write what stands below them, and the one on an example gives its answers"""
+        """README: the commands that it shows after a $ write what is below them, and the one on an example gives its answers"""
         shutil.copytree(EXAMPLES, self.path("examples"))
         blocks = re.findall(r"(?m)^\n((?:    .*\n)+)", text_of("README.md"))
         shown = [re.sub(r"(?m)^    ", "", block) for block in blocks if block.startswith("    $ ")]
         self.assertTrue(shown)
         for block in shown:
-            commands_of, answers_of = (re.findall(pattern, block) for pattern in (r"(?m)^\$ (.*\n)", r"(?m)^(?!\$ ).*\n"))
-            self.assertEqual(self.shell("".join(commands_of))[1], "".join(answers_of), commands_of[-1])
+            given = [it[1] for it in re.finditer(r"(?m)^\$ (.*<<'(\w+)'\n(?:.*\n)*?\2\n|.*\n)", block)]
+            wanted = block
+            for command in given:
+                wanted = wanted.replace("$ " + command, "")
+            self.assertEqual(self.shell("".join(given))[1], wanted, given[-1])
         (command,) = re.findall(r"(?m)^    (rviommu asm .*)$", text_of("README.md"))
         self.assertEqual(self.shell(command), (0, text_of("examples/disk.answers")))
 
@@ -155,7 +159,7 @@ class Readme(Case):
         self.assertEqual((ended.returncode, ended.stdout.decode()), (0, text_of(shown.replace(".script", ".answers"))))
 
     def test_paths(self):
-        """README and CHANGELOG.md: each file, folder and name for make that they name is there"""
+        """README and CHANGELOG.md: each file, folder and target of make that they name is there"""
         targets = set(re.findall(r"(?m)^(\w+):", text_of("Makefile")))
         for name in ("README.md", "CHANGELOG.md"):
             text = text_of(name)
@@ -164,12 +168,12 @@ class Readme(Case):
             self.assertEqual([it for it in paths if "NAME" not in it and not (TOP / it).exists()], [])
 
     def test_examples(self):
-        """README: its table of examples names each of them"""
-        named = {name for row in table_of("README.md", "Example") for name in re.findall(r"`(\w+)`", row[0])}
+        """examples/README.md: its table names each of them"""
+        named = {name for row in table_of("examples/README.md", "Example") for name in re.findall(r"`(\w+)`", row[0])}
         self.assertEqual(sorted(named), sorted(it.stem for it in EXAMPLES.glob("*.script")))
 
     def test_comments(self):
-        """README: in each example a comment explains each line, at its end or above it and its neighbours"""
+        """examples/README.md: in each example a comment explains each line, at its end or above it and its neighbours"""
         for path in sorted(EXAMPLES.glob("*.script")):
             below, lacking = False, []
             for number, line in enumerate(path.read_text().splitlines(), 1):
@@ -179,9 +183,9 @@ class Readme(Case):
             self.assertEqual(lacking, [], path.name)
 
     def test_words(self):
-        """README and the man page: each word of the program with its operands, and no other"""
+        """README names each word of the program, and the man page each with its operands, and no other"""
         wanted = [" ".join([word, *operands(word)]) for word in commands() if word != "help"]
-        self.assertEqual(sorted(row[0].removeprefix("| ").strip("`") for row in table_of("README.md", "Words")), sorted([*wanted, "none"]))
+        self.assertEqual([it for it in commands() if it != "help" and it not in spans(text_of("README.md"))], [])
         shown = " ".join(plain(section("SYNOPSIS")).split()).split("rviommu")[1:]
         self.assertEqual(sorted(it.strip() for it in shown), sorted([*wanted, "", "help [WORD]"]))
 
@@ -200,26 +204,24 @@ class Readme(Case):
 
 class Answers(Case):
     def test_named(self):
-        """README: the answers that its table names for a form are those that there are, and are given"""
-        left = dict(SAMPLES)
-        for forms, _, given in table_of("README.md", "Line"):
-            named = {word.split(" CAUSE")[0] for word in re.findall(r"`([a-z][^`]*)`", given)}
-            samples = [left.pop(form.strip()) for form in re.findall(r"`([a-z ]+)[^`]*`", forms)]
-            self.assertEqual(sorted(named), sorted({it for each in samples for it in each}), forms)
-            for answer, lines in (it for each in samples for it in each.items()):
+        """man page: the answers that its table names for a form are those that there are, and are given"""
+        self.assertEqual(answers_of("line"), {form: sorted(it.replace("denied", "denied CAUSE") for it in samples) for form, samples in SAMPLES.items()})
+        for samples in SAMPLES.values():
+            for answer, lines in samples.items():
                 self.assertRegex(self.last_answer(MANY, lines), rf"\A{re.escape(answer)}( \d+)?\Z", lines[-1])
-        self.assertEqual(left, {}, "the forms that README does not name")
 
     def test_named_of_debug(self):
-        """README: the answers that its table of debug's lines names are those that there are, and are given"""
-        left = dict(DEBUG_SAMPLES)
-        for form, _, given in table_of("README.md", "Line of `debug`"):
-            samples = left.pop(spans(form)[0], {})
-            self.assertEqual(sorted(set(spans(given)) - {"place"}), sorted(samples), form)
+        """man page: the answers that its table names for a line of debug are those that there are, and are given"""
+        named = answers_of("line of debug")
+        for one, other in (("stale write", "stale read"), ("walk write", "walk read")):
+            self.assertEqual(named.pop(one), named[other])
+        self.assertEqual(named, {form: sorted(samples) for form, samples in DEBUG_SAMPLES.items()})
+        for samples in DEBUG_SAMPLES.values():
             for answer, lines in samples.items():
                 seen = self.answers(MAPPED, lines, "debug")[-1]
                 self.assertTrue(is_of_form(seen, answer), f"{lines[-1]!r} is answered {seen!r}, wanted {answer!r}")
-        self.assertEqual(left, {}, "the lines that README does not have")
+        seen = self.answers(MAPPED, [*UNMAPPED, READ.decode(), "why 3"], "debug")[-1]
+        self.assertRegex(seen, r"\Awalked .* stale denied 13\Z", "why of a stale access")
 
     def test_capabilities(self):
         """README: the value of capabilities, and each feature that is offered or left out"""

@@ -7,7 +7,7 @@ from documents import names_there, rows, sections, spans
 from frame import TOP, Case, text_of
 from crates import below, listed, stands_on
 
-DOCUMENTS = ["README.md", "CHANGELOG.md", *names_there("docs/*")]
+DOCUMENTS = ["README.md", "CHANGELOG.md", "examples/README.md", *names_there("docs/*")]
 SUFFIXES = (".rt", ".antt", ".py", ".sh", ".md", ".edit", ".script", ".answers", ".asm", ".txt", ".h", ".1")
 # Folders that each crate may have, and what a build makes.
 OF_EACH = {
@@ -24,7 +24,7 @@ NUMBERS = [
     ("docs/CONTRIBUTING.md", "the 320 bytes of a `Reply`", "crates/iom_tool/src/draft.rt", "bytes: [u8; 320],"),
     ("README.md", "each process with 2 to 3 GB of memory", "packaging/build.py", "BYTES_A_JOB = 3 << 30"),
     ("README.md", "glibc 2.36 or later", "packaging/package.py", 'LIBC = "libc6 (>= 2.36)"'),
-    ("README.md", "A file that the program reads has at most 2^30 bytes", "crates/rviommu/src/files.rt", "MOST_BYTES: u64 = 1 << 30;"),
+    ("man/rviommu.1", "A file may have at most 2^30 bytes", "crates/rviommu/src/files.rt", "MOST_BYTES: u64 = 1 << 30;"),
     ("docs/PROMISES.md", "and of 200 lists of steps made at random", "crates/iom_rows/src/generated.rt", "SCRIPTS: u64 = 200;"),
     ("docs/GATE.md", "and of 200 lists of steps made at random", "crates/iom_rows/src/generated.rt", "SCRIPTS: u64 = 200;"),
     ("docs/PROMISES.md", "100,000 lines of generated scripts", "tests/c_library.py", "PLAIN_LINES, HARMFUL_LINES = 20_000, 40_000"),

@@ -1,9 +1,9 @@
 """A proved platform model of the RISC-V IOMMU, for tests of drivers and of hardware.
 
-A `Platform` is physical memory, one IOMMU and up to eight virtio block devices. Its methods are the steps of its actors: the hart's
-loads and stores, its accesses to registers, the devices' accesses, and the IOMMU's command unit. A step that isn't carried out raises
-a `Refusal`. Addresses and lengths are in bytes; a number that doesn't fit its place is a `ValueError`. `rviommu.forms` puts together
-what stands in memory. Any threads may use one platform: each method runs as a whole.
+A `Platform` is physical memory, one IOMMU and up to eight virtio block devices. Its methods are steps: the hart's loads, stores and
+register accesses, the devices' accesses, and the commands that the IOMMU takes. A step that isn't carried out raises a `Refusal`.
+Addresses and lengths are in bytes; a number that doesn't fit its place raises `ValueError`. `rviommu.forms` builds what is stored in
+memory, as contexts and commands. Any threads may use one platform: each method runs as a whole.
 """
 from .errors import AssemblyError, BadAccess, BusError, Denied, ImageError, Misuse, NoDevice, Outside, QueueStopped, Refusal
 from . import forms

@@ -18,7 +18,7 @@ class Handle(Structure):
 
 HANDLE, NUMBER, SIZE, BYTES = POINTER(Handle), POINTER(c_uint64), POINTER(c_size_t), POINTER(c_uint8)
 
-# What each function takes. Each answers 32 bits but for those of NOTHING and of WIDE.
+# The parameters of each function. Each returns 32 bits, except those of NOTHING and of WIDE.
 FUNCTIONS = {
     "version": (),
     "open": (c_char_p, c_size_t, HANDLE),
@@ -63,8 +63,8 @@ WIDE = ("interrupt", "steps")
 
 
 def where() -> str:
-    """The shared object: $RVIOMMU_LIBRARY, the one that was packed, the one that c/build.py made beside this source, or one that the
-    system finds."""
+    """The path of the shared object: $RVIOMMU_LIBRARY, else the packed one, else the one that c/build.py made beside this source, else one
+    that the system finds."""
     named = os.environ.get("RVIOMMU_LIBRARY")
     packed = os.path.join(HERE, "librviommu.so")
     built = os.path.join(HERE, os.pardir, os.pardir, "c", "out", "lib", "librviommu.so")

@@ -1,10 +1,10 @@
-"""What goes wrong. Each error can be pickled, and says afterwards what it said before."""
+"""The errors. Each can be pickled, and has the same text afterwards."""
 from __future__ import annotations
 
 
 class Refusal(Exception):
-    """A step that the platform doesn't carry out: `Refusal(step)`, by the step's name. Of an access in pieces `done` is how many bytes came
-    before the piece that was refused."""
+    """A step that the platform doesn't carry out: `Refusal(step)`, with the step's name. If the access was made in pieces, `done` is the
+    number of bytes before the refused piece."""
 
     WORDS = "refused"
     done = 0
@@ -25,31 +25,31 @@ class Denied(Refusal):
 
 
 class BusError(Refusal):
-    """A byte is outside memory: of the hart's access, or where the device's access is led."""
+    """A byte of the hart's access, or of the device's translated access, is outside memory."""
 
     WORDS = "a byte is outside memory"
 
 
 class BadAccess(Refusal):
-    """Not an access that the registers take."""
+    """The registers have no access of this offset and size."""
 
     WORDS = "not an access that the registers take"
 
 
 class NoDevice(Refusal):
-    """No such block device."""
+    """There is no such block device."""
 
     WORDS = "no such block device"
 
 
 class Misuse(Refusal):
-    """No step has this size, alignment, device id or length, or the value doesn't fit its size."""
+    """A size, an alignment, a device id or a length is wrong, or the value doesn't fit its size."""
 
     WORDS = "no step has this size, alignment, device id, length or value"
 
 
 class QueueStopped(Exception):
-    """The command queue takes no commands; `why` is "off", or "stopped" by an error, and `cqcsr` is the value of that register."""
+    """The command queue takes no commands. `why` is "off", or "stopped" after an error; `cqcsr` is the value of that register."""
 
     def __init__(self, why: str, cqcsr: int) -> None:
         super().__init__(why, cqcsr)
@@ -60,15 +60,15 @@ class QueueStopped(Exception):
 
 
 class Outside(Exception):
-    """A byte that was to be looked at is outside memory, or after the end of a disk."""
+    """A byte to look at is outside memory, or beyond the end of a disk."""
 
 
 class ImageError(Exception):
-    """Bytes that are no image."""
+    """The bytes are no image."""
 
 
 class AssemblyError(Exception):
-    """A text that is no image's; `line` is the first line with a fault, from 1 on."""
+    """The text can't be assembled; `line` is its first faulty line, counted from 1."""
 
     def __init__(self, why: str, line: int) -> None:
         super().__init__(why, line)

@@ -1,6 +1,6 @@
-"""What stands in memory, by its fields: contexts, page-table entries, commands and fault records.
+"""The contents of memory by their fields: contexts, page-table entries, commands and fault records.
 
-Each form has `words()`, its 64-bit words, and `bytes()`, as they stand in memory. The names are those of the RISC-V IOMMU
+Each form has `words()`, its 64-bit words, and `bytes()`, the same in memory order. The names are those of the RISC-V IOMMU
 Architecture 1.0 and of the Privileged Architecture 1.12.
 """
 from __future__ import annotations
@@ -24,7 +24,7 @@ def _of(word: int, low: int, width: int) -> int:
 
 
 class Form:
-    """What stands in memory as 64-bit words."""
+    """Something that is stored in memory as 64-bit words."""
 
     def words(self) -> tuple[int, ...]:
         raise NotImplementedError
@@ -58,8 +58,8 @@ class Context(Form):
 
 @dataclass(frozen=True)
 class Pte(Form):
-    """An entry of a page table ("Sv39 Page Table Entry"): its PPN, and the letters of its bits that are 1, out of `vrwxugad`. `Pte(ppn,
-    "v")` is a pointer to a table."""
+    """An entry of a page table ("Sv39 Page Table Entry"): its PPN, and a letter of `vrwxugad` for each bit that is 1. `Pte(ppn, "v")`
+    points to a table."""
 
     ppn: int
     bits: str = "vrwuad"
@@ -73,8 +73,8 @@ class Pte(Form):
 
 @dataclass(frozen=True)
 class Vma(Form):
-    """IOTINVAL.VMA; an operand that is None isn't valid. `page` is the IOVA divided by 4096. An IOMMU takes `nl` and `s` only with the
-    capability of this name; with `s`, where its lowest 0 is bit X, `page` stands for the 2^(X+1) pages, aligned, around it."""
+    """IOTINVAL.VMA. An operand that is None is left out. `page` is the IOVA divided by 4096. An IOMMU accepts `nl` and `s` only with the
+    capability of this name. With `s`, `page` stands for the aligned 2^(X+1) pages around it, where bit X is its lowest 0."""
 
     page: int | None = None
     pscid: int | None = None
@@ -90,14 +90,14 @@ class Vma(Form):
 
 
 class Gvma(Vma):
-    """IOTINVAL.GVMA; `page` is the guest-physical address divided by 4096, and there is no PSCID."""
+    """IOTINVAL.GVMA. `page` is the guest-physical address divided by 4096, and there is no PSCID."""
 
     func3 = 1
 
 
 @dataclass(frozen=True)
 class Fence(Form):
-    """IOFENCE.C; `data`, 32 bits, is stored at the physical address `addr`, a multiple of 4, where that is given."""
+    """IOFENCE.C. If `addr` is given, a physical address that is a multiple of 4, the 32 bits of `data` are stored there."""
 
     addr: int | None = None
     data: int = 0

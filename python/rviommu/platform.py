@@ -1,4 +1,4 @@
-"""The platform: a handle of the C library, whose functions are the methods here."""
+"""The platform: a handle of the C library, with the library's functions as methods."""
 from __future__ import annotations
 
 import ctypes
@@ -47,7 +47,7 @@ def _started(status: int) -> None:
 
 
 def _number(value: SupportsIndex) -> int:
-    """A number for the library, which has 64 bits there."""
+    """A number for the library, which takes 64 bits."""
     number = operator.index(value)
     if not 0 <= number < 1 << 64:
         raise ValueError(f"{number:#x} is no number of 64 bits")
@@ -55,7 +55,7 @@ def _number(value: SupportsIndex) -> int:
 
 
 def _length(value: SupportsIndex) -> int:
-    """How many bytes, at most as many as memory can have."""
+    """A number of bytes, at most the largest memory."""
     length = operator.index(value)
     if not 0 <= length <= _MOST_MEMORY:
         raise ValueError(f"{length} is no length: at most {_MOST_MEMORY} bytes")
@@ -83,11 +83,11 @@ def assemble(text: Union[str, Bytes]) -> bytes:
 
 
 class Platform:
-    """A platform: of an image, bytes as `assemble` gives them, or else of 1 MiB of memory at 0x80000000 and no block device. It is
-    closed by `close`, at the end of a `with`, or with its last use.
+    """A platform. `image` is bytes, as `assemble` returns them; without it there are 1 MiB of memory at 0x80000000 and no block device.
+    The platform is closed by `close`, at the end of a `with`, or when it is no longer used.
 
-    Where `record` names a file, each step is written into it as a line of a script with its answer, and the image into the file of that name
-    with `.image` behind it: `rviommu check RECORD.image < RECORD` plays it again, and so do `debug` and `explain`."""
+    If `record` names a file, each step is written there as a line of a script with its answer, and the image to a file of that name with
+    `.image` added. `rviommu check RECORD.image < RECORD` replays it, and so do `debug` and `explain`."""
 
     def __init__(self, image: Optional[Bytes] = None, record: Optional[Union[str, os.PathLike[str]]] = None) -> None:
         self._begin()
@@ -130,7 +130,7 @@ class Platform:
             return f"<Platform of {size:#x} bytes of memory at {base:#x}>"
 
     def close(self) -> None:
-        """Gives the platform's memory back. A closed one is left as it is; its other methods raise `ValueError`."""
+        """Frees the platform's memory. Closing it again does nothing; all other methods then raise `ValueError`."""
         with self._lock:
             LIBRARY.rviommu_close(self._handle)
             if self._record:
@@ -157,8 +157,8 @@ class Platform:
         self._recorded = now
 
     def copy(self) -> Platform:
-        """An equal platform, which goes its own way from here, and counts its steps on. Its trace and its reasons, as many as are kept
-        here, are those of its own steps."""
+        """A new platform equal to this one; from now on the two are independent. The copy continues the count of steps. Its trace and its
+        reasons are about its own steps only, and it keeps as many reasons as this one."""
         made = Platform.__new__(Platform)
         made._begin()
         with self._lock:
@@ -173,8 +173,8 @@ class Platform:
         return self.copy()
 
     def keep_reasons(self, most: SupportsIndex, accesses_only: bool = False) -> None:
-        """Keeps from now on why the last `most` steps went as they did, or the last `most` that make an access of a device, for `why`.
-        Those kept so far are forgotten."""
+        """Sets how many reasons are kept for `why`: those of the last `most` steps or, if `accesses_only` is true, of the last `most` steps
+        that make an access of a device. The reasons kept so far are dropped."""
         count = _number(most)
         with self._lock:
             if self._call("keep_reasons", count, accesses_only) != _OK:
@@ -182,14 +182,14 @@ class Platform:
             self._most = count
 
     def line(self, text: Union[str, Bytes]) -> str:
-        """Carries out a line of the script, text or bytes; its answer, empty for a blank line."""
+        """Carries out a line of the script, and returns its answer, which is empty for a blank line."""
         given = text.encode() if isinstance(text, str) else bytes(text)
         answer, length = ctypes.create_string_buffer(_ROOM), ctypes.c_size_t()
         self._call("line", given, len(given), answer, _ROOM, length)
         return answer.raw[: length.value].decode()
 
     def _step(self, name: str, *operands: Any, number: Optional[ctypes.c_uint64] = None) -> int:
-        """Carries out a step; its answer's kind, where it is no refusal."""
+        """Carries out a step, and returns the kind of its answer. A refusal is raised."""
         answer: int = self._call(name, *operands, *([] if number is None else [number]))
         if answer == _DENIED and number is not None:
             raise Denied(number.value)
@@ -204,15 +204,15 @@ class Platform:
 
     # The hart
     def load(self, address: SupportsIndex, size: SupportsIndex = 8) -> int:
-        """The number of the bytes at a physical address."""
+        """The hart reads a number of 1, 2, 4 or 8 bytes at a physical address."""
         return self._value("load", address, size)
 
     def store(self, address: SupportsIndex, value: SupportsIndex, size: SupportsIndex = 8) -> None:
-        """Writes a number at a physical address."""
+        """The hart writes a number at a physical address."""
         self._step("store", _number(address), _number(size), _number(value))
 
     def put(self, address: SupportsIndex, form: Union[forms.Form, Bytes]) -> None:
-        """Stores a form, as a `Context` or a `Pte`, or bytes, whose number is a multiple of 8, word by word."""
+        """The hart stores a form, as a `Context` or a `Pte`, or a multiple of 8 bytes, word by word."""
         data = form.bytes() if isinstance(form, forms.Form) else bytes(form)
         if len(data) % 8:
             raise ValueError("bytes are put by words of 8")
@@ -221,16 +221,16 @@ class Platform:
                 self.store(operator.index(address) + at, int.from_bytes(data[at : at + 8], "little"))
 
     def reg_read(self, offset: SupportsIndex, size: SupportsIndex = 8) -> int:
-        """The value of a register of the IOMMU."""
+        """The hart reads a register of the IOMMU."""
         return self._value("reg_read", offset, size)
 
     def reg_write(self, offset: SupportsIndex, value: SupportsIndex, size: SupportsIndex = 8) -> None:
-        """Writes a register of the IOMMU."""
+        """The hart writes a register of the IOMMU."""
         self._step("reg_write", _number(offset), _number(size), _number(value))
 
     # Devices
     def dma_read(self, did: SupportsIndex, iova: SupportsIndex, length: SupportsIndex) -> bytes:
-        """The bytes that a device reads: 1 to 64, in one page."""
+        """A device reads 1 to 64 bytes at an IOVA, all in one page."""
         # A longer read is refused whatever its length, so it needs no more room than this.
         count = min(_length(length), _MOST_BYTES + 1)
         data, cause = _room(count), ctypes.c_uint64()
@@ -238,13 +238,13 @@ class Platform:
         return bytes(data[:count])
 
     def dma_write(self, did: SupportsIndex, iova: SupportsIndex, data: Bytes) -> None:
-        """A device writes 1 to 64 bytes, in one page."""
+        """A device writes 1 to 64 bytes at an IOVA, all in one page."""
         given = bytes(data)
         self._step("dma_write", _number(did), _number(iova), given, len(given), number=ctypes.c_uint64())
 
     def dma_read_all(self, did: SupportsIndex, iova: SupportsIndex, length: SupportsIndex) -> bytes:
-        """The bytes that a device reads: any number, over pages, in pieces of at most 64 bytes, each a step. A refusal's `done` is how many
-        bytes came before the piece that was refused."""
+        """A device reads any number of bytes, across pages, in pieces of at most 64 bytes, each of them a step. If a piece is refused, the
+        refusal's `done` is the number of bytes before it."""
         count = _length(length)
         data = _room(count)
         self._in_pieces("dma_read_all", _number(did), _number(iova), data, count)
@@ -272,24 +272,24 @@ class Platform:
                     return
 
     def dev_read(self, device: SupportsIndex, offset: SupportsIndex, size: SupportsIndex = 4) -> int:
-        """The value of a register of a block device."""
+        """The hart reads a register of a block device; the first device is 0."""
         return self._value("dev_read", device, offset, size)
 
     def dev_write(self, device: SupportsIndex, offset: SupportsIndex, value: SupportsIndex, size: SupportsIndex = 4) -> None:
-        """Writes a register of a block device."""
+        """The hart writes a register of a block device."""
         self._step("dev_write", _number(device), _number(offset), _number(size), _number(value))
 
     def dev_step(self, device: SupportsIndex) -> bool:
-        """A block device goes on by one access; False where it is idle."""
+        """A block device goes on by one access. Returns False if it is idle."""
         return self._step("dev_step", _number(device), number=ctypes.c_uint64()) == _DONE
 
     # The IOMMU
     def command(self) -> bool:
-        """The command unit takes a command; False where it is idle."""
+        """The command unit takes a command and carries it out. Returns False if it is idle."""
         return self._step("command") == _DONE
 
     def _take_commands(self) -> None:
-        """Lets the command unit take all commands. Raises `QueueStopped` where it doesn't."""
+        """Lets the command unit take all commands. Raises `QueueStopped` if the queue is off or stops."""
         while self.command():
             pass
         cqcsr = self.reg_look(_CQCSR, 4)
@@ -297,8 +297,8 @@ class Platform:
             raise QueueStopped("stopped" if cqcsr & _CQON else "off", cqcsr)
 
     def send(self, *commands: Union[forms.Form, Bytes]) -> None:
-        """Puts commands into the command queue that cqb names, moves cqt, and lets the command unit take them all. Raises
-        `QueueStopped` where the queue is off or stopped, before or by one of the commands; those after it aren't put."""
+        """Puts commands into the command queue of cqb, moves cqt, and lets the command unit take them all. Raises `QueueStopped` if the
+        queue is off or stopped, or if one of the commands stops it; the commands after that one aren't put."""
         with self._lock:
             self._take_commands()
             cqb = self.reg_read(_CQB)
@@ -310,7 +310,7 @@ class Platform:
                 self._take_commands()
 
     def take_fault(self) -> Optional[forms.FaultRecord]:
-        """The oldest record of the fault queue that fqb names, which fqh then passes; None where there is none."""
+        """Takes the oldest record from the fault queue of fqb, and moves fqh. Returns None if the queue is empty."""
         with self._lock:
             head = self.reg_read(_FQH, 4)
             if head == self.reg_read(_FQT, 4):
@@ -323,18 +323,18 @@ class Platform:
     # Looking
     @property
     def steps(self) -> int:
-        """The number of the last step: how many the platform was given, those of the one that it was copied from among them."""
+        """The number of the last step: how many steps the platform was given, including those of the one that it was copied from."""
         number: int = self._call("steps")
         return number
 
     @property
     def interrupt(self) -> int:
-        """Which interrupts are pending, the value of ipsr: bit 0 that of the command queue, bit 1 that of the fault queue."""
+        """The pending interrupts: the value of ipsr, with bit 0 for the command queue and bit 1 for the fault queue."""
         pending: int = self._call("interrupt")
         return pending
 
     def reg_look(self, offset: SupportsIndex, size: SupportsIndex = 8) -> int:
-        """The value that `reg_read` would answer, without a step."""
+        """The value that `reg_read` would return, without a step."""
         value = ctypes.c_uint64()
         if self._call("reg_look", _number(offset), _number(size), value) != _OK:
             raise BadAccess("reg_look")
@@ -356,7 +356,7 @@ class Platform:
         return bytes(data[:count])
 
     def disk(self, device: SupportsIndex, offset: SupportsIndex = 0, length: Optional[SupportsIndex] = None) -> bytes:
-        """The bytes of a block device's disk from an offset on, to its end where no length is given."""
+        """The bytes of a block device's disk from an offset on, to its end if no length is given."""
         number, at, size = _number(device), _number(offset), ctypes.c_uint64()
         if self._call("disk_size", number, size) == _NO_DISK:
             raise NoDevice("disk")
@@ -378,11 +378,11 @@ class Platform:
                 found.append(entry if told == _LIVE else None)
 
     def pages(self) -> list[Optional[Page]]:
-        """The places of the translation cache, the IOTLB, oldest first; None for an empty one."""
+        """The entries of the translation cache (IOTLB), oldest first; None for an empty place."""
         return self._places("page", Page)
 
     def contexts(self) -> list[Optional[Context]]:
-        """The places of the context cache, the DDTC, oldest first; None for an empty one."""
+        """The entries of the context cache (DDTC), oldest first; None for an empty place."""
         return self._places("context", Context)
 
     def _device(self, did: SupportsIndex) -> int:
@@ -392,7 +392,7 @@ class Platform:
         return number
 
     def walk(self, did: SupportsIndex, iova: SupportsIndex, is_write: bool = False) -> list[Part]:
-        """The parts of a walk: all that is looked at to lead a request where nothing is cached. The first is ddtp, the last the end."""
+        """The parts of the walk of a request, as if nothing were cached. The first is ddtp, the last is the end."""
         device, at = self._device(did), _number(iova)
         parts, part = [], Part()
         with self._lock:
@@ -402,7 +402,7 @@ class Platform:
         return parts
 
     def stale(self, did: SupportsIndex, iova: SupportsIndex, is_write: bool = False) -> Optional[Way]:
-        """The way that the tables say of a request that the caches lead otherwise; None where they don't."""
+        """The way that the tables give a request, if it is stale: if the caches translate it otherwise. Else None."""
         way = Way()
         return way if self._call("stale", self._device(did), _number(iova), is_write, way) == _STALE else None
 
@@ -410,17 +410,15 @@ class Platform:
         return now if self._call(name, _number(place), now) == _STALE else None
 
     def stale_page(self, place: SupportsIndex) -> Optional[Way]:
-        """The way that the tables say of a place of the translation cache that holds something else; None where it doesn't."""
+        """The way that the tables give instead of the entry at a place of the translation cache, if it is stale. Else None."""
         return self._stale_place("stale_page", place, Way())
 
     def stale_context(self, place: SupportsIndex) -> Optional[Located]:
-        """What ddtp and the directory say of the device of a place of the context cache that holds something else; None where it
-        doesn't."""
+        """What ddtp and the directory give instead of the entry at a place of the context cache, if it is stale. Else None."""
         return self._stale_place("stale_context", place, Located())
 
     def why(self, step: Optional[SupportsIndex] = None) -> Optional[Why]:
-        """Why one of the steps went as it did whose reasons are kept, the oldest step 0; the last where none is named. None where there
-        is no such step."""
+        """One of the kept reasons, the oldest 0: why a step had its answer. Without `step`, the newest one. None if there is none."""
         why = Why()
         with self._lock:
             place = self._count_reasons(why) - 1 if step is None else _number(step)
@@ -428,7 +426,7 @@ class Platform:
         return why if found else None
 
     def _count_reasons(self, why: Why) -> int:
-        """How many reasons there are, which is found by halves."""
+        """The number of kept reasons, found by bisection."""
         low, high = 0, self._most
         while low < high:
             middle = (low + high) // 2
@@ -436,13 +434,13 @@ class Platform:
         return low
 
     def page_origin(self, place: SupportsIndex) -> Optional[tuple[int, int]]:
-        """The numbers of the steps that filled a place of the translation cache: of the context under which it was filled, and of the
-        place; None where there are fewer places."""
+        """The numbers of two steps: the one that filled the context under which the page at a place of the translation cache was walked, and
+        the one that filled the place. None if there are fewer places."""
         context, walk = ctypes.c_uint64(), ctypes.c_uint64()
         found = self._call("page_origin", _number(place), context, walk) == _OK
         return (context.value, walk.value) if found else None
 
     def context_origin(self, place: SupportsIndex) -> Optional[int]:
-        """The number of the step that filled a place of the context cache; None where there are fewer places."""
+        """The number of the step that filled a place of the context cache. None if there are fewer places."""
         number = ctypes.c_uint64()
         return number.value if self._call("context_origin", _number(place), number) == _OK else None

@@ -1,4 +1,4 @@
-"""What the platform shows: places of the caches, parts of walks, ways, and why steps went as they did."""
+"""Values that the platform returns: entries of the caches, parts of walks, ways, and the reasons of steps."""
 from __future__ import annotations
 
 from ctypes import Structure, c_bool, c_uint32, c_uint64
@@ -69,7 +69,7 @@ class Context(Value):
 
 
 class Way(Value):
-    """How a request is led, `struct rviommu_way`; `kind` is a `WayKind`."""
+    """How a request is translated, `struct rviommu_way`; `kind` is a `WayKind`."""
 
     KINDS = {"kind": WayKind}
 
@@ -125,7 +125,7 @@ class Part(Value):
 
 
 class Why(Value):
-    """Why a step went as it did, `struct rviommu_why`; `kind` is a `WhyKind`."""
+    """Why a step had its answer, `struct rviommu_why`; `kind` is a `WhyKind`."""
 
     KINDS = {"kind": WhyKind}
 

@@ -1,6 +1,6 @@
 /// What stands at the end of the help: the lines of a script, and one script.
 pub const SCRIPT: &str = "\
-A script has one line a step or question; '#' starts a comment.
+Each line of a script is a step or a question; '#' starts a comment.
 Numbers are decimal, or hex after 0x; DATA is 2 to 128 hex digits.
 
   load ADDR SIZE                the hart reads memory
@@ -19,17 +19,16 @@ Numbers are decimal, or hex after 0x; DATA is 2 to 128 hex digits.
   place page I                  place I of the translation cache, the oldest 0
   trace I                       step I of the last 32, the oldest 0
 
-Each line that isn't blank is answered by one line: the number or the bytes
-that were read, done, idle, denied CAUSE, bus error, bad access, no device,
-misuse, the item, the place, the step with its answer, or bad for what is
-no line.
+Each line that isn't blank has one answer: the number or the bytes that were
+read, done, idle, denied CAUSE, bus error, bad access, no device, misuse, the
+item, the cache entry, the step with its answer, or bad for any other line.
 
-cmd answers done also where it stops the command queue, and idle from then
-on: reg read 72 4 (cqcsr) then has bit 8 (cqmf) or 10 (cmd_ill). dev step N
-answers done also where the device refuses a chain, and idle from then on:
-dev read N 0x70 4 (Status) then has bit 6. man rviommu has the registers.
+cmd answers done even if it stops the command queue, and idle after that:
+then reg read 72 4 (cqcsr) has bit 8 (cqmf) or 10 (cmd_ill). dev step N
+answers done even if the device refuses a chain, and idle after that: then
+dev read N 0x70 4 (Status) has bit 6. man rviommu has the registers.
 
-Without words memory is 1 MiB at 0x80000000, all 0. An example:
+Without a word, memory is 1 MiB at 0x80000000, all 0. An example:
 
   $ printf '%s\\n' 'reg write 16 8 1' 'dma write 5 0x80000000 aabb' \\
       'load 0x80000000 2' | rviommu
@@ -39,8 +38,8 @@ Without words memory is 1 MiB at 0x80000000, all 0. An example:
 
 /// What stands at the end of the help of `asm`.
 pub const ASM: &str = "\
-A line is one statement; '#' starts a comment. Numbers are decimal, or hex
-after 0x.
+Each line of the text is one statement; '#' starts a comment. Numbers are
+decimal, or hex after 0x.
 
   ram BASE SIZE                 the memory; the first statement
   at ADDR                       the physical address of the next data
@@ -52,9 +51,9 @@ after 0x.
   pte ppn=NUMBER flags=NUMBER   an entry of a page table
   fault KEY=NUMBER ..           a fault record
   disk DID SECTORS [HEX]        a block device and the first bytes of its disk
-  rodisk DID SECTORS [HEX]      the same with a disk that is only read
-  capabilities [KEY=NUMBER ..]  a machine with Svnapot and: sv57, sv57x4,
-                                svpbmt, nl or s 1, vectors 1, 2 or 4
+  rodisk DID SECTORS [HEX]      a block device with a read-only disk
+  capabilities [KEY=NUMBER ..]  a machine with Svnapot; sv57, sv57x4, svpbmt,
+                                nl and s are 0 or 1, vectors is 1, 2 or 4
 
 An example:
 
@@ -65,22 +64,21 @@ An example:
 
 /// What stands at the end of the help of `run`.
 pub const RUN: &str = "\
-The lines of a script are those of `rviommu --help`. An example:
+The script has the lines of `rviommu --help`. An example:
 
   $ echo 'load 0x80000000 8' | rviommu run seven.image
   0x7";
 
 /// What stands at the end of the help of `check`.
 pub const CHECK: &str = "\
-A line may end with a comment '# => ANSWER', which names the answer that it
-wants. Told are each line whose answer is another, each line that is bad and
-doesn't want it, and at the end how many passed and how many failed. The status
-is 1 where one failed. The lines of the script are those of
-`rviommu debug --help`.
+A line may end with its expected answer, in a comment '# => ANSWER'. Prints
+each line with another answer, each unexpected bad, and at the end how many
+lines passed and failed. The exit status is 1 if a line failed. The script has
+the lines of `rviommu debug --help`.
 
-With --stale a line fails also where an access of a device, by dma, dev step
-or dev run, goes by a translation or a context which the tables in memory no
-longer give: an invalidation is missing.
+With --stale, a line also fails if an access of a device, by dma, dev step or
+dev run, used a cached translation or context that no longer matches the
+tables in memory: an invalidation is missing.
 
 An example:
 
@@ -90,13 +88,14 @@ An example:
 
 /// What stands at the end of the help of `debug`.
 pub const DEBUG: &str = "\
-The lines of a script are those of `rviommu --help` and these:
+The script has the lines of `rviommu --help` and these:
 
   reg read NAME                 a register of the IOMMU by its name, as ddtp
   reg write NAME VALUE
   dev read N NAME               a register of block device N, as Status
   dev write N NAME VALUE
-  queue cmd, queue fault        where a queue stands, and whether it is on
+  queue cmd, queue fault        whether a queue is on, its head and tail, and
+                                what stopped it
   vectors                       which interrupt lines are high
   dump ADDR LEN                 1 to 64 bytes of memory
   disk N BYTE LEN               1 to 64 bytes of the disk of block device N
@@ -104,16 +103,16 @@ The lines of a script are those of `rviommu --help` and these:
   dev run N MAX                 dev step N while it is done, MAX times at most
   cmd run MAX                   cmd while it is done, MAX times at most
   put ADDR ITEM ..              the hart stores an item of `asm --help`
-  stale read DID IOVA           where a device's access would go if nothing were
-  stale write DID IOVA          cached: same, or the address or the cause
-  stale context I               place I of a cache beside what the tables in
-  stale page I                  memory say now: same, or what they say
-  walk read DID IOVA I          part I of the way of a device's access where
-  walk write DID IOVA I         nothing is cached, the first 0
-  origin context I              the lines that filled place I of a cache, and of
-  origin page I                 a translation its context
-  why I                         the lines where what step I of the trace used
-                                was cached, and whether it was stale
+  stale read DID IOVA           whether the tables would lead an access as the
+  stale write DID IOVA          caches do: same, or the address or the cause
+  stale context I               whether the tables still give place I of a
+  stale page I                  cache: same, or what they give
+  walk read DID IOVA I          part I of the walk of an access, as if nothing
+  walk write DID IOVA I         were cached, the first 0
+  origin context I              the lines that filled place I of a cache, and
+  origin page I                 the context of a translation
+  why I                         the lines that cached what step I of the trace
+                                used, and whether it was stale
 
 An example:
 
@@ -122,18 +121,18 @@ An example:
 
 /// What stands at the end of the help of `explain`.
 pub const EXPLAIN: &str = "\
-The lines of a script are those of `rviommu debug --help`. Each is told with
-its number and its answer, and each step of a line of many before that line.
-Below a step that is an access of a device stands its reason:
+The script has the lines of `rviommu debug --help`. Each line is printed with
+its number and its answer; if it makes several steps, each step comes first.
+Below each access of a device come the reasons for its answer:
 
   asks: ..      what a block device asks for
   caches: ..    what the caches held for it, and which lines had filled that
-  walk: ..      the parts of its walk, where not all of it was cached
+  walk: ..      the parts of its walk, if it was not fully cached
   warrant: ..   the lines that its translation comes from
-  stale: ..     what the tables said, where they said something else
+  stale: ..     what the tables said, if that was something else
 
-At the end stand how many accesses there were, how many were granted, denied
-for each cause, led by the caches alone, and stale, with their lines.
+At the end it counts the accesses: granted, denied by cause, served from the
+caches, and stale, with their lines.
 
 An example:
 
@@ -150,8 +149,8 @@ An example:
 
 /// What stands at the end of the help of `list`.
 pub const LIST: &str = "\
-ADDR and COUNT are decimal, or hex after 0x. An item that its words are not is
-listed as u64. An example:
+ADDR and COUNT are decimal, or hex after 0x. Words that are not an item of this
+kind are listed as u64. An example:
 
   $ rviommu list seven.image u64 0x80000000 2
   u64 0x7
@@ -159,7 +158,7 @@ listed as u64. An example:
 
 /// What stands at the end of the help of `upgrade`.
 pub const UPGRADE: &str = "\
-The new image starts the same platform. One of version 3 comes back as it is.
+The new image starts the same platform. An image of version 3 stays as it is.
 An example:
 
   $ rviommu upgrade seven.image new.image

@@ -119,17 +119,17 @@ const VERBS: [Verb; 7] = [
     },
     Verb {
         name: "check",
-        about: "Runs a script and tells each line whose answer isn't the wanted one",
+        about: "Runs a script and compares its answers with the expected ones",
         after_help: help::CHECK,
         operands: &[
             Operand {
                 name: STALE,
-                help: "Tells also each access that the tables now answer otherwise",
+                help: "Also report each access that no longer matches the tables",
                 need: Need::Flag,
             },
             Operand {
                 name: "IMAGE",
-                help: "The file of the image; without it the built-in one",
+                help: "The file of the image; without it, the built-in image",
                 need: Need::Optional,
             },
         ],
@@ -140,17 +140,17 @@ const VERBS: [Verb; 7] = [
         after_help: help::DEBUG,
         operands: &[Operand {
             name: "IMAGE",
-            help: "The file of the image; without it the built-in one",
+            help: "The file of the image; without it, the built-in image",
             need: Need::Optional,
         }],
     },
     Verb {
         name: "explain",
-        about: "Runs a script and tells why each access is answered so",
+        about: "Runs a script and prints why each access is answered so",
         after_help: help::EXPLAIN,
         operands: &[Operand {
             name: "IMAGE",
-            help: "The file of the image; without it the built-in one",
+            help: "The file of the image; without it, the built-in image",
             need: Need::Optional,
         }],
     },
@@ -166,24 +166,24 @@ const VERBS: [Verb; 7] = [
             },
             Operand {
                 name: KIND,
-                help: "What is listed",
+                help: "The kind of the items",
                 need: Need::Required,
             },
             Operand {
                 name: "ADDR",
-                help: "The physical address of the first",
+                help: "The physical address of the first item",
                 need: Need::Required,
             },
             Operand {
                 name: "COUNT",
-                help: "How many there are",
+                help: "The number of items",
                 need: Need::Required,
             },
         ],
     },
     Verb {
         name: "upgrade",
-        about: "Writes an image again in version 3",
+        about: "Rewrites an image in version 3",
         after_help: help::UPGRADE,
         operands: &[
             Operand {
@@ -226,7 +226,7 @@ fn subcommand<'a>(alloc: Global, verb: &Verb) -> Result<Command<'a>, AllocError>
 fn command<'a>(alloc: Global) -> Result<Command<'a>, AllocError> {
     let mut command = Command::new(alloc, "rviommu")
         .version("0.4.0")
-        .about("A model of the RISC-V IOMMU: without words it runs the script on standard input")
+        .about("A model of the RISC-V IOMMU: without a word it runs the script on standard input")
         .after_help(help::SCRIPT);
     for verb in &VERBS {
         command = command.subcommand(subcommand(alloc, verb)?)?;
