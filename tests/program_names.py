@@ -129,11 +129,13 @@ def public(crate):
 
 
 def glossary():
-    """Both tables as tuples of crates, names here, term and section."""
-    text = text_of("docs/GLOSSARY.md")
-    first, second = (rows(dict(sections(text))[head]) for head in ("From the repository to the standard", "From the standard to the repository"))
-    first = [(spans(crate), spans(names), term, where) for crate, names, term, where in first]
-    return first, [(spans(crate), spans(names), term, where) for term, names, crate, where in second]
+    """The tables of GLOSSARY: each row's crates, none where it names none, and the names of this repository in it."""
+    own, terms, other = (rows(body) for head, body in sections(text_of("docs/GLOSSARY.md")) if head in ("One word for one thing", "From the standards' terms to the names", "Other public names"))
+    return [
+        *(([], spans(names)) for _, _, names in own),
+        *((spans(crates), spans(names)) for _, names, crates, _ in terms),
+        *((spans(crates), spans(names)) for crates, names in other),
+    ]
 
 
 class Names(Case):
@@ -242,26 +244,18 @@ class Names(Case):
 
     def test_has_public_name_library(self):
         """GLOSSARY: it has each public name of a library, and each function of the C library"""
-        first, _ = glossary()
         for crate in CRATES:
-            told = {word for crates, names, *_ in first if crate in crates for name in names for word in re.findall(r"\w+", name)}
-            self.assertEqual(sorted(public(crate) - told), [], f"what it lacks of {crate}")
-
-    def test_name_term_standard_stands(self):
-        """GLOSSARY: a name with a term of the standard stands in both tables"""
-        first, second = glossary()
-        pairs = [{(crate, word) for crates, names, *_ in table for crate in crates for name in names for word in re.findall(r"\w+", name)} for table in (first, second)]
-        for table, other, which in ((first, pairs[1], "second"), (second, pairs[0], "first")):
-            own = [(crates, name) for crates, names, term, where in table if where and not term.startswith("none") for name in names]
-            lacking = [name for crates, name in own if not any((crate, re.findall(r"\w+", name)[-1]) in other for crate in crates)]
-            self.assertEqual(lacking, [], f"what its {which} table lacks")
+            named = {word for crates, names in glossary() if not crates or crate in crates for name in names for word in re.findall(r"\w+", name)}
+            self.assertEqual(sorted(public(crate) - named), [], f"what it lacks of {crate}")
 
     def test_name_begins_crate_type(self):
         """GLOSSARY: each name that begins with a crate's type or has a low line is the crate's"""
-        for table in glossary():
-            named = [(crates, name) for crates, names, *_ in table for name in names if re.fullmatch(r"\w+(::\w+)*", name) and re.search("[_A-Z]", name)]
-            lacking = [name for crates, name in named if crates and not any(has(below_it, name) for crate in crates for below_it in below(CRATES, crate))]
-            self.assertEqual(lacking, [], "what is not there")
+        lacking = []
+        for crates, names in glossary():
+            named = [name for name in names if re.fullmatch(r"\w+(::\w+)*", name) and re.search("[_A-Z]", name)]
+            places = [below_it for crate in crates for below_it in below(CRATES, crate)] if crates else CRATES
+            lacking += [(crates, name) for name in named if not any(has(crate, name) for crate in places)]
+        self.assertEqual(lacking, [], "what is not there")
 
     def test_public_item_field_has(self):
         """code: each public item and field has a docstring, and each longer private function a comment"""
