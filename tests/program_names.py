@@ -129,11 +129,13 @@ def public(crate):
 
 
 def glossary():
-    """Both tables as tuples of crates, names here, term and section."""
-    text = text_of("docs/GLOSSARY.md")
-    first, second = (rows(dict(sections(text))[head]) for head in ("From the repository to the standard", "From the standard to the repository"))
-    first = [(spans(crate), spans(names), term, where) for crate, names, term, where in first]
-    return first, [(spans(crate), spans(names), term, where) for term, names, crate, where in second]
+    """The tables of GLOSSARY: each row's crates, none where it names none, and the names of this repository in it."""
+    own, terms, other = (rows(body) for head, body in sections(text_of("docs/GLOSSARY.md")) if head in ("One word for one thing", "From the standards' terms to the names", "Other public names"))
+    return [
+        *(([], spans(names)) for _, _, names in own),
+        *((spans(crates), spans(names)) for _, names, crates, _ in terms),
+        *((spans(crates), spans(names)) for crates, names in other),
+    ]
 
 
 class Names(Case):
@@ -165,18 +167,9 @@ class Names(Case):
             self.assertEqual(lacking, [], document)
 
     def test_crates_crates_txt_lowest(self):
-        """MAP: the crates are those of crates.txt, lowest first, each with those that it stands on"""
-        crates = dict(sections(text_of("docs/MAP.md")))[""]
-        told = {spans(cells[0])[0]: spans(cells[2]) for cells in rows(crates) if len(cells) == 4}
-        self.assertEqual(sorted(told), sorted(CRATES), "the crates")
-        # iom_tests stands on all libraries but those that MAP names
-        wanted = {crate: sorted(CRATES[crate]) for crate in told if crate != "iom_tests"}
-        self.assertEqual({crate: sorted(told[crate]) for crate in wanted}, wanted, "what each stands on")
-        order = list(told)
-        self.assertEqual([crate for crate in wanted if any(order.index(it) > order.index(crate) for it in told[crate])], [], "the crates above one that they are below")
-        left_out = set(spans(crates.partition("all libraries above but")[2].partition(" |")[0])) - {"iom_asm"}
-        rest = set(CRATES) - set(CRATES["iom_tests"]) - {"iom_tests", "iom_rows", "iom_player", "rviommu"}
-        self.assertEqual(sorted(left_out), sorted(rest), "the libraries that iom_tests doesn't stand on")
+        """MAP: the crates are those of crates.txt, in its order"""
+        there = [spans(cells[0])[0] for cells in rows(dict(sections(text_of("docs/MAP.md")))[""]) if len(cells) == 3]
+        self.assertEqual(there, list(CRATES), "the crates")
 
     def test_definition_function_type_stands(self):
         """MAP: each definition, function and type stands in the file that it is named beside, or in its crate"""
@@ -241,27 +234,19 @@ class Names(Case):
             self.assertEqual((phrase in said, there in text_of(path)), (True, True), f"whether {document} says {phrase!r} and {path} has {there!r}")
 
     def test_has_public_name_library(self):
-        """GLOSSARY: it has each public name of a library, and each function of the C library"""
-        first, _ = glossary()
-        for crate in CRATES:
-            told = {word for crates, names, *_ in first if crate in crates for name in names for word in re.findall(r"\w+", name)}
-            self.assertEqual(sorted(public(crate) - told), [], f"what it lacks of {crate}")
-
-    def test_name_term_standard_stands(self):
-        """GLOSSARY: a name with a term of the standard stands in both tables"""
-        first, second = glossary()
-        pairs = [{(crate, word) for crates, names, *_ in table for crate in crates for name in names for word in re.findall(r"\w+", name)} for table in (first, second)]
-        for table, other, which in ((first, pairs[1], "second"), (second, pairs[0], "first")):
-            own = [(crates, name) for crates, names, term, where in table if where and not term.startswith("none") for name in names]
-            lacking = [name for crates, name in own if not any((crate, re.findall(r"\w+", name)[-1]) in other for crate in crates)]
-            self.assertEqual(lacking, [], f"what its {which} table lacks")
+        """GLOSSARY: it has each public name of a library; those of the C library stand in its header"""
+        named = {word for _, names in glossary() for name in names for word in re.findall(r"\w+", name)}
+        for crate in set(CRATES) - {"iom_c"}:
+            self.assertEqual(sorted(public(crate) - named), [], f"what it lacks of {crate}")
 
     def test_name_begins_crate_type(self):
         """GLOSSARY: each name that begins with a crate's type or has a low line is the crate's"""
-        for table in glossary():
-            named = [(crates, name) for crates, names, *_ in table for name in names if re.fullmatch(r"\w+(::\w+)*", name) and re.search("[_A-Z]", name)]
-            lacking = [name for crates, name in named if crates and not any(has(below_it, name) for crate in crates for below_it in below(CRATES, crate))]
-            self.assertEqual(lacking, [], "what is not there")
+        lacking = []
+        for crates, names in glossary():
+            named = [name for name in names if re.fullmatch(r"\w+(::\w+)*", name) and re.search("[_A-Z]", name)]
+            places = [below_it for crate in crates for below_it in below(CRATES, crate)] if crates else CRATES
+            lacking += [(crates, name) for name in named if not any(has(crate, name) for crate in places)]
+        self.assertEqual(lacking, [], "what is not there")
 
     def test_public_item_field_has(self):
         """code: each public item and field has a docstring, and each longer private function a comment"""
