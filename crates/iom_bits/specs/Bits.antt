@@ -6,7 +6,7 @@ use Rattle.std.specs.Int.{bit_at}
 unfoldable pub has_bit : ℕ → ℕ → Bool
 has_bit word bit = bit_at word bit == 1
 
--- a bit as a number: 1 where it is set
+-- a bit as a number: 1 if it is set
 abbrev pub flag : Bool → ℕ
 flag set = if set then 1 else 0
 
@@ -19,7 +19,7 @@ pub record IsField (word low width value : ℕ) : Type 0 where
   pub fits : value < 2 ^ width
   pub bits : (i : ℕ) → i < width → bit_at value i ≡ bit_at word (low + i)
 
--- the word with those bits replaced: what stands above them, `value`, what stands below them
+-- the word with those bits replaced: the bits above them, `value`, the bits below them
 abbrev pub with_field_of : ℕ → ℕ → ℕ → ℕ → ℕ
 with_field_of word low width value =
     (word / 2 ^ (low + width) * 2 ^ width + value) * 2 ^ low + word % 2 ^ low

@@ -11,7 +11,7 @@ pub fn has_bit(word: u64, bit: u32) -> bool
     (word >> bit) & 1 == 1
 }
 
-/// A bit as a number: 1 where it is set, else 0.
+/// A bit as a number: 1 if it is set, else 0.
 pub fn flag(set: bool) -> u64
     ensures { result ≡ flag set }
 {
@@ -42,21 +42,21 @@ pub fn with_field(word: u64, low: u32, width: u32, value: u64) -> u64
     (word & !mask) | (value << low)
 }
 
-/// The number of two bytes, the lowest first.
+/// Two bytes, the lowest first, as a number.
 pub fn le_u16(bytes: [u8; 2]) -> u16
     ensures { result ≡ number_of_bytes bytes }
 {
     u16::from_le_bytes(bytes)
 }
 
-/// The number of four bytes, the lowest first.
+/// Four bytes, the lowest first, as a number.
 pub fn le_u32(bytes: [u8; 4]) -> u32
     ensures { result ≡ number_of_bytes bytes }
 {
     u32::from_le_bytes(bytes)
 }
 
-/// The number of eight bytes, the lowest first.
+/// Eight bytes, the lowest first, as a number.
 pub fn le_u64(bytes: [u8; 8]) -> u64
     ensures { result ≡ number_of_bytes bytes }
 {

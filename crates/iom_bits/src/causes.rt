@@ -1,7 +1,7 @@
 ghost use Rattle.std.specs.Prelude.{◌≡◌};
 
-/// What an access does: the kind of its transaction, TTYP of a fault record (RISC-V IOMMU Architecture 1.0, "Fault/Event-Queue
-/// (FQ)").
+/// Whether an access reads or writes: its transaction type, TTYP of a fault record (RISC-V IOMMU Architecture 1.0,
+/// "Fault/Event-Queue (FQ)").
 #[derive(Clone, Copy, PartialEq)]
 pub enum Kind {
     /// It reads memory: TTYP 2, an untranslated read.
@@ -15,9 +15,9 @@ pub enum Kind {
 pub enum Cause {
     /// Read or write access fault, 5 or 7: an entry of a page table of either stage lies outside memory.
     Access(Kind),
-    /// Read or write page fault, 13 or 15: one of the first stage.
+    /// Read or write page fault, 13 or 15: the first stage refuses the access.
     Page(Kind),
-    /// Read or write guest page fault, 21 or 23: one of the second stage.
+    /// Read or write guest page fault, 21 or 23: the second stage refuses the access.
     Guest(Kind),
     /// All inbound transactions disallowed, 256: ddtp.iommu_mode is Off.
     Off,
@@ -25,7 +25,7 @@ pub enum Cause {
     DirAccess,
     /// DDT entry not valid, 258: an entry of the device directory has V = 0.
     DirInvalid,
-    /// DDT entry misconfigured, 259: an entry of the device directory has a reserved bit set, or a field that may not be.
+    /// DDT entry misconfigured, 259: an entry of the device directory has a reserved bit set, or a field with a value that isn't allowed.
     DirBad,
     /// Transaction type disallowed, 260: the device id is wider than the directory's levels.
     TooWide,
@@ -34,7 +34,7 @@ pub enum Cause {
 impl Cause {
     ghost use Rattle.iom_bits.specs.Causes.{cause_number};
 
-    /// The number that stands for it in a fault record, CAUSE, 12 bits: 5, 7, 13, 15, 21, 23 or 256 to 260.
+    /// Its number in a fault record, CAUSE, 12 bits: 5, 7, 13, 15, 21, 23 or 256 to 260.
     pub fn number(self) -> u16
         ensures { result ≡ cause_number self }
     {

@@ -1,4 +1,4 @@
-//! What an IOMMU may offer beside what each one here does.
+//! The features that an IOMMU may have or not.
 
 ghost use Rattle.std.specs.Prelude.{◌≡◌};
 ghost use Rattle.iom_bits.specs.Features.{no_features};
@@ -14,8 +14,8 @@ pub enum Vectors {
     Four,
 }
 
-/// What an IOMMU offers beside Sv39, Sv48, Sv39x4 and Sv48x4, which each one here has (RISC-V IOMMU Architecture 1.0, "IOMMU
-/// capabilities"; each name is that of its bit there, but for Svnapot, which has none).
+/// The features that an IOMMU has beside Sv39, Sv48, Sv39x4 and Sv48x4, which every IOMMU here has (RISC-V IOMMU Architecture 1.0,
+/// "IOMMU capabilities"). A feature has the name of its bit in capabilities; Svnapot has no bit there.
 #[derive(Clone, Copy)]
 pub struct Features {
     /// Svnapot: a leaf at level 0 with N set maps 64 KiB.
@@ -30,12 +30,12 @@ pub struct Features {
     pub nl: bool,
     /// S, bit 43: the address of an IOTINVAL may stand for a range.
     pub s: bool,
-    /// The interrupt vectors, which icvec chooses from.
+    /// How many interrupt vectors icvec chooses from.
     pub vectors: Vectors,
 }
 
 impl Features {
-    /// None of them, and one vector.
+    /// None of these features, and one interrupt vector.
     pub fn none() -> Features
         ensures { result ≡ no_features }
     {

@@ -1,15 +1,15 @@
--- What a write makes of the control and status registers, bit by bit: "Command-queue control and status" and "Fault-queue
--- control and status".
+-- The control and status registers after a write, bit by bit: "Command-queue control and status" and "Fault-queue control and
+-- status".
 use Rattle.std.specs.Prelude.{ℕ, ◌≡◌, ◌<◌, ◌^◌, ◌==◌, ◌||◌, if◌then◌else◌}
 use Rattle.std.specs.Int.{bit_at}
 use Rattle.iom_bits.specs.Bits.{field_of}
 use Rattle.iom_regs.specs.Table.{turns_on}
 
--- a flag: cleared where the queue is turned on or a 1 is written to it, else as it was
+-- a flag: cleared if the write turns the queue on or has a 1 there, else as it was
 abbrev pub flag_bit : ℕ → ℕ → ℕ → ℕ
 flag_bit old value bit = if turns_on old value || bit_at value bit == 1 then 0 else bit_at old bit
 
--- `new` is what `value`, written over `old`, makes of cqcsr
+-- `new` is cqcsr after `value` was written over `old`
 pub record IsCqcsr (old value new : ℕ) : Type 0 where
   pub cqen : bit_at new 0 ≡ bit_at value 0
   pub cie : bit_at new 1 ≡ bit_at value 1
@@ -22,7 +22,7 @@ pub record IsCqcsr (old value new : ℕ) : Type 0 where
   pub cqon : bit_at new 16 ≡ bit_at value 0
   pub above : new < 2 ^ 17
 
--- `new` is what `value`, written over `old`, makes of fqcsr
+-- `new` is fqcsr after `value` was written over `old`
 pub record IsFqcsr (old value new : ℕ) : Type 0 where
   pub fqen : bit_at new 0 ≡ bit_at value 0
   pub fie : bit_at new 1 ≡ bit_at value 1

@@ -5,11 +5,11 @@ use Rattle.iom_bits.specs.declared.features.Vectors.{Vectors}
 use Rattle.iom_bits.specs.declared.features.Vectors.TheVariants.{One, Two, Four}
 use Rattle.iom_regs.specs.Table.{Registers}
 
--- the command queue's cause is pending (cip, bit 0), and its vector (civ, bits 3:0) is this one
+-- the command queue's interrupt is pending (cip, bit 0), and its vector (civ, bits 3:0) is this one
 abbrev pub is_asked_by_commands : Registers → ℕ → Bool
 is_asked_by_commands r vector = has_bit r.ipsr 0 && field_of r.icvec 0 4 == vector
 
--- the fault queue's cause is pending (fip, bit 1), and its vector (fiv, bits 7:4) is this one
+-- the fault queue's interrupt is pending (fip, bit 1), and its vector (fiv, bits 7:4) is this one
 abbrev pub is_asked_by_faults : Registers → ℕ → Bool
 is_asked_by_faults r vector = has_bit r.ipsr 1 && field_of r.icvec 4 4 == vector
 

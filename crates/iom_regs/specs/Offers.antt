@@ -1,4 +1,4 @@
--- What the registers show of the features: RISC-V IOMMU Architecture 1.0, "IOMMU capabilities" and "Interrupt-cause-to-vector
+-- How the features show in the registers: RISC-V IOMMU Architecture 1.0, "IOMMU capabilities" and "Interrupt-cause-to-vector
 -- register".
 use Rattle.std.specs.Prelude.{ℕ, ◌+◌, ◌*◌, ◌^◌}
 use Rattle.iom_bits.specs.Bits.{field_of, flag}
@@ -10,7 +10,7 @@ use Rattle.iom_bits.specs.declared.features.Vectors.TheVariants.{One, Two, Four}
 abbrev pub version_1_0 : ℕ
 version_1_0 = 0x10
 
--- the bits of paging modes and extensions
+-- the bit of each paging mode and extension
 abbrev pub sv39_bit : ℕ
 sv39_bit = 9
 
@@ -46,7 +46,7 @@ igs_by_wire = 2 ^ 28
 abbrev pub pas_of_56 : ℕ
 pas_of_56 = 2 ^ 32 * 56
 
--- what each IOMMU here has, and what this one offers beside it. Svnapot has no bit
+-- the fields that every IOMMU here has, and a bit for each feature of this one. Svnapot has no bit
 abbrev pub capabilities_of : Features → ℕ
 capabilities_of features =
     version_1_0 + 2 ^ sv39_bit + 2 ^ sv48_bit + 2 ^ sv39x4_bit + 2 ^ sv48x4_bit + igs_by_wire + pas_of_56
@@ -62,7 +62,7 @@ vector_bits One = 0
 vector_bits Two = 1
 vector_bits Four = 2
 
--- icvec: civ, from bit 0 on, and fiv, from bit 4 on, are the lowest bits of what is written there, as many as number a vector.
--- pmiv and piv are 0: there are no counters and no page requests
+-- icvec: civ, from bit 0 on, and fiv, from bit 4 on, each keep only the lowest bits, those that number a vector. pmiv and piv are
+-- 0: there are no counters and no page requests
 abbrev pub icvec_of : Vectors → ℕ → ℕ
 icvec_of vectors value = field_of value 0 (vector_bits vectors) + 2 ^ 4 * field_of value 4 (vector_bits vectors)

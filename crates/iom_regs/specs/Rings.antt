@@ -1,4 +1,4 @@
--- The registers of one queue, as they are kept: a new base is ignored while the queue is on.
+-- The registers of one queue, as the code keeps them: a new base is ignored while the queue is on.
 use Rattle.std.specs.Prelude.{ℕ, ◌%◌, if◌then◌else◌}
 use Rattle.iom_regs.specs.Table.{entries_of, queue_base_of, is_on}
 use Rattle.iom_regs.specs.declared.ring.Ring.{Ring}

@@ -65,7 +65,7 @@ slot_at off =
     else if off == 764 then High Icvec
     else Free
 
--- what a read shows. "Features-control register": WSI
+-- the value of a register as a read gives it. "Features-control register": WSI
 abbrev pub shown : Registers → Name → ℕ
 shown r Capabilities = capabilities_of r.features
 shown r Fctl = 2
@@ -93,7 +93,7 @@ queue_base_of value = field_of value 0 5 + 2 ^ 10 * field_of value 10 44
 abbrev pub entries_of : ℕ → ℕ
 entries_of base = 2 ^ (field_of base 0 5 + 1)
 
--- a queue is on where bit 16 of its control and status register is set
+-- a queue is on if bit 16 of its control and status register is set
 abbrev pub is_on : ℕ → Bool
 is_on control = bit_at control 16 == 1
 
@@ -121,7 +121,7 @@ fqcsr_of old value =
     else field_of value 0 2 + (flag_after old value 8 + flag_after old value 9))
     + 2 ^ 16 * bit_at value 0
 
--- what a written number makes of the registers: "IOMMU capabilities", "Features-control register",
+-- the registers after a write of a whole register: "IOMMU capabilities", "Features-control register",
 -- "Device-directory-table pointer", "Command-queue base", "Command-queue head", "Command-queue tail", "Fault-queue base",
 -- "Fault-queue head", "Fault-queue tail", "Command-queue control and status", "Fault-queue control and status",
 -- "Interrupt pending status" and "Interrupt-cause-to-vector register", in this order
@@ -144,8 +144,8 @@ written Fqcsr value r = record r { fqcsr = fqcsr_of r.fqcsr value; fqt = if turn
 written Ipsr value r = record r { ipsr = flag_after r.ipsr value 0 + flag_after r.ipsr value 1 }
 written Icvec value r = record r { icvec = icvec_of r.features.vectors value }
 
--- "Interrupt pending status": cip, bit 0, is set where cie is and one of cqmf, cmd_to, cmd_ill and fence_w_ip is; fip, bit 1,
--- where fie is and fqmf or fqof is. Nothing but a write clears them
+-- "Interrupt pending status": cip, bit 0, is set if cie is and one of cqmf, cmd_to, cmd_ill and fence_w_ip is; fip, bit 1, if
+-- fie is and fqmf or fqof is. Only a write clears them
 abbrev pub asks_command : ℕ → Bool
 asks_command control = bit_at control 1 == 1 && not (field_of control 8 4 == 0)
 
@@ -161,8 +161,8 @@ with_pending r = record r {
       pending_after r.ipsr 0 (asks_command r.cqcsr) + pending_after r.ipsr 1 (asks_fault r.fqcsr);
 }
 
--- an access: four or eight bytes at a multiple of as many, within the 4096 bytes of registers, and not eight bytes in which a
--- register of four stands
+-- an access: four or eight bytes at a multiple of their number, within the 4096 bytes of registers; eight bytes are refused if a
+-- register of four is among them
 abbrev pub is_legal : ℕ → ℕ → Bool
 is_legal off size =
     (size == 4 || size == 8) && off % size == 0 && nat_le (off + size) 4096
@@ -188,14 +188,14 @@ abbrev pub read : Registers → ℕ → ℕ → Option ℕ
 read r off size =
     if is_legal off size then Some (if size == 4 then shown_at r (slot_at off) else shown_wide r off) else None
 
--- four bytes: half of a register is written as the whole with the other half as it reads
+-- a write of four bytes: half of a register is written as the whole, with the other half as it reads
 abbrev pub written_at : Slot → ℕ → Registers → Registers
 written_at (Whole name) value r = written name value r
 written_at (Low name) value r = written name (value + 2 ^ 32 * (shown r name / 2 ^ 32)) r
 written_at (High name) value r = written name (shown r name % 2 ^ 32 + 2 ^ 32 * value) r
 written_at Free value r = r
 
--- eight bytes
+-- a write of eight bytes
 abbrev pub written_wide : Slot → ℕ → Registers → Registers
 written_wide (Whole name) value r = r
 written_wide (Low name) value r = written name value r

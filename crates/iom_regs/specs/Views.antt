@@ -1,4 +1,4 @@
--- What the registers say to the rest of the IOMMU.
+-- The registers as the rest of the IOMMU sees them.
 use Rattle.std.specs.Prelude.{ℕ, ◌-◌, ◌==◌, if◌then◌else◌}
 use Rattle.iom_bits.specs.Bits.{field_of, has_bit}
 use Rattle.iom_regs.specs.Table.{Registers, entries_of, is_on}

@@ -4,7 +4,7 @@ ghost use Rattle.iom_regs.specs.Table.{flag_after, turns_on, cqcsr_of, fqcsr_of,
 
 use iom_bits::field;
 
-// A bit of a word, at its place.
+// Bit `bit` of a word, left at its place.
 #[tactic(auto, using(crate::proofs::Shifts::bit_placed))]
 fn bit_in_place(word: u64, bit: u32) -> u64
     requires { bit < 64 }
@@ -13,7 +13,7 @@ fn bit_in_place(word: u64, bit: u32) -> u64
     field(word, bit, 1) << bit
 }
 
-// A flag that a written 1 clears.
+// Flag `bit` of a register after a write, at its place: a written 1 clears it.
 fn flag_after(old: u64, value: u64, bit: u32) -> u64
     requires { bit < 64 }
     ensures { result ≡ flag_after old value bit }
@@ -25,16 +25,16 @@ fn flag_after(old: u64, value: u64, bit: u32) -> u64
     }
 }
 
-/// Whether a number that is written to cqcsr or fqcsr turns the queue on: bit 0 (cqen, fqen) is 1 in it and 0 in `control`.
+/// Whether writing `value` to cqcsr or fqcsr turns the queue on: bit 0 (cqen, fqen) is 1 in `value` and 0 in `control`.
 pub fn turns_on(control: u64, value: u64) -> bool
     ensures { result ≡ turns_on control value }
 {
     field(value, 0, 1) == 1 && field(control, 0, 1) == 0
 }
 
-/// What a written number makes of cqcsr, the command queue's control and status: bits 0 and 1 are taken over, a 1 clears each of
-/// the bits 8 to 11, and cqon (bit 16) is as cqen (bit 0) ("Command-queue CSR (cqcsr)").
-pub fn commands_control(old: u64, value: u64) -> u64
+/// cqcsr, the command queue's control and status, after a write of `value`: bits 0 and 1 are taken over, a 1 clears each of the
+/// bits 8 to 11, turning the queue on clears them all, and cqon (bit 16) is as cqen (bit 0) ("Command-queue CSR (cqcsr)").
+pub fn cqcsr_after_write(old: u64, value: u64) -> u64
     ensures { result ≡ cqcsr_of old value }
 {
     let low = if turns_on(old, value) {
@@ -49,9 +49,9 @@ pub fn commands_control(old: u64, value: u64) -> u64
     low + (field(value, 0, 1) << 16)
 }
 
-/// What a written number makes of fqcsr, the fault queue's control and status: bits 0 and 1 are taken over, a 1 clears each of the
-/// bits 8 and 9, and fqon (bit 16) is as fqen (bit 0) ("Fault queue CSR (fqcsr)").
-pub fn faults_control(old: u64, value: u64) -> u64
+/// fqcsr, the fault queue's control and status, after a write of `value`: bits 0 and 1 are taken over, a 1 clears each of the bits
+/// 8 and 9, turning the queue on clears both, and fqon (bit 16) is as fqen (bit 0) ("Fault queue CSR (fqcsr)").
+pub fn fqcsr_after_write(old: u64, value: u64) -> u64
     ensures { result ≡ fqcsr_of old value }
 {
     let low = if turns_on(old, value) {
@@ -62,14 +62,14 @@ pub fn faults_control(old: u64, value: u64) -> u64
     low + (field(value, 0, 1) << 16)
 }
 
-/// What a written number makes of ipsr: a 1 clears each of the bits 0 (cip) and 1 (fip).
-pub fn pending_cleared(old: u64, value: u64) -> u64
+/// ipsr after a write of `value`: a 1 clears each of the bits 0 (cip) and 1 (fip).
+pub fn ipsr_after_write(old: u64, value: u64) -> u64
     ensures { result ≡ flag_after old value 0 + flag_after old value 1 }
 {
     flag_after(old, value, 0) + flag_after(old, value, 1)
 }
 
-/// Bit `bit` of ipsr, 0 (cip) or 1 (fip), at its place: set where its cause stands, else as it was.
+/// Bit `bit` of ipsr, 0 (cip) or 1 (fip), at its place: set if its cause asks for it, else as it was.
 pub fn pending_after(ipsr: u64, bit: u32, asked: bool) -> u64
     requires { bit < 2 }
     ensures { result ≡ pending_after ipsr bit asked }

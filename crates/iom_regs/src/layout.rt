@@ -1,4 +1,4 @@
-//! Where the registers stand, in bytes from the first on ("Register layout"), and bits of the control and status registers.
+//! The offsets of the registers, in bytes from the first one ("Register layout"), and bits of the control and status registers.
 
 ghost use Rattle.std.specs.Prelude.{◌≡◌};
 ghost use Rattle.iom_regs.specs.Table.{slot_at, Whole, Low, Capabilities, Fctl, Ddtp, Cqb, Cqh, Cqt, Fqb, Fqh, Fqt, Cqcsr, Fqcsr, Ipsr, Icvec};
@@ -56,7 +56,7 @@ pub const FQB_HIGH: u64 = 44;
 /// The upper half of icvec.
 pub const ICVEC_HIGH: u64 = 764;
 
-/// The four bytes before ipsr, where no register stands.
+/// The four bytes before ipsr, which are no register.
 pub const BEFORE_IPSR: u64 = 80;
 
 // Bits of cqcsr ("Command-queue CSR (cqcsr)").
@@ -78,7 +78,7 @@ pub const FQMF: u32 = 8;
 /// fqof, a fault-queue overflow.
 pub const FQOF: u32 = 9;
 
-/// The law of the offsets that this crate gives on: the register table has each register at its own.
+/// A law: the register table has each register at the offset that this crate exports.
 pub fn register_layout()
     ensures capabilities { slot_at CAPABILITIES ≡ Low Capabilities }
     ensures fctl { slot_at FCTL ≡ Whole Fctl }

@@ -3,25 +3,26 @@ ghost use Rattle.iom_bits.specs.Bits.{with_bit};
 ghost use Rattle.iom_regs.specs.Table.{is_legal, entries_of};
 
 use crate::flags::{
-    commands_control, faults_control, pending_after, pending_cleared, turns_on, with_high, with_low,
+    cqcsr_after_write, fqcsr_after_write, ipsr_after_write, pending_after, turns_on, with_high,
+    with_low,
 };
 use crate::layout::{
     BEFORE_IPSR, CAPABILITIES, CMD_ILL, CQB, CQB_HIGH, CQCSR, CQH, CQMF, CQT, DDTP, DDTP_HIGH,
     FCTL, FENCE_W_IP, FQB, FQB_HIGH, FQCSR, FQH, FQMF, FQOF, ICVEC, ICVEC_HIGH, IPSR,
 };
-use crate::offers::{capabilities, vectors_kept};
+use crate::offers::{capabilities, icvec_after_write};
 use crate::ring::{Ring, entries};
 use crate::views::{CommandErrors, FaultErrors, Mode, Queue, Which};
 use iom_bits::{Features, field, has_bit, with_field};
 use std::marker::Model;
 
-// fctl: interrupts by wire.
+// fctl: WSI, interrupts by wire.
 const BY_WIRE: u64 = 2;
 
 // The highest iommu_mode that ddtp takes: a device directory of three levels.
 const HIGHEST_MODE: u64 = 4;
 
-/// The register file before the rule of pending interrupts: `settle` follows each change.
+/// The register file without the rule of pending interrupts: `settle` follows each change.
 #[derive(Clone, Copy)]
 pub struct MappedRegisters {
     features: Features,
@@ -99,14 +100,14 @@ impl MappedRegisters {
         }
     }
 
-    /// What the IOMMU offers.
+    /// The features of the IOMMU.
     pub fn features(&self) -> Features
         ensures { result ≡ self.now.features }
     {
         self.features
     }
 
-    /// What stands between a device and memory: ddtp.iommu_mode ("Device-directory-table pointer (ddtp)").
+    /// How devices reach memory: ddtp.iommu_mode ("Device-directory-table pointer (ddtp)").
     pub fn mode(&self) -> Mode
         ensures mode { result ≡ mode_of self.now }
         ensures sound { IsSound self.now }
@@ -126,7 +127,7 @@ impl MappedRegisters {
         field(self.ddtp, 10, 44)
     }
 
-    /// One of the two queues as its registers tell it: its base, its size, its head and tail, and whether it is on.
+    /// One of the two queues, by its registers: its base, its size, its head and tail, and whether it is on.
     pub fn queue(&self, which: Which) -> Queue
         ensures queue { result ≡ queue_of self.now which }
         ensures entries { result.entries ≤ 2 ^ 32 }
@@ -154,7 +155,7 @@ impl MappedRegisters {
             || has_bit(self.ipsr, 1) && field(self.icvec, 4, 4) == vector
     }
 
-    /// What stops the command queue: two bits of cqcsr.
+    /// The errors that stop the command queue: two bits of cqcsr.
     pub fn command_errors(&self) -> CommandErrors
         ensures { result ≡ command_errors_of self.now }
     {
@@ -164,7 +165,7 @@ impl MappedRegisters {
         }
     }
 
-    /// What stops the fault queue: two bits of fqcsr.
+    /// The errors that stop the fault queue: two bits of fqcsr.
     pub fn fault_errors(&self) -> FaultErrors
         ensures { result ≡ fault_errors_of self.now }
     {
@@ -174,7 +175,7 @@ impl MappedRegisters {
         }
     }
 
-    /// The eight bytes at offset `off`, a multiple of 8, as a number; 0 where there is no register of this model.
+    /// The eight bytes at offset `off`, a multiple of 8, as a number. A place without a register reads 0.
     pub fn wide(&self, off: u64) -> u64
         requires { off % 8 ≡ 0 }
         ensures low { result % 2 ^ 32 ≡ shown_at self.now (slot_at off) }
@@ -195,7 +196,7 @@ impl MappedRegisters {
         }
     }
 
-    // ddtp by a written number: one with a mode above 4 changes nothing, and of any other the reserved bits are left out.
+    // Writes ddtp. A mode above 4 changes nothing; reserved bits stay 0.
     fn set_ddtp(&mut self, value: u64)
         ensures { self.new ≡ written Ddtp value self.old }
     {
@@ -204,15 +205,14 @@ impl MappedRegisters {
         }
     }
 
-    // icvec by a written number.
+    // Writes icvec.
     fn set_icvec(&mut self, value: u64)
         ensures { self.new ≡ written Icvec value self.old }
     {
-        self.icvec = vectors_kept(self.features.vectors, value);
+        self.icvec = icvec_after_write(self.features.vectors, value);
     }
 
-    /// Writes eight bytes at offset `off`, where a write of eight bytes is legal: a whole register, or nothing where none stands
-    /// there.
+    /// Writes eight bytes at offset `off`, at which such a write is legal: a whole register, or nothing if there is none.
     pub fn set_wide(&mut self, off: u64, value: u64)
         requires { IsTrue (is_legal off 8) }
         ensures { self.new ≡ written_wide (slot_at off) value self.old }
@@ -226,8 +226,8 @@ impl MappedRegisters {
         }
     }
 
-    /// Writes four bytes at offset `off`, where a write of four bytes is legal: a whole register, a half of one, or nothing.
-    /// `value` is below 2^32.
+    /// Writes four bytes at offset `off`, at which such a write is legal: a whole register, a half of one, or nothing. `value` is
+    /// below 2^32.
     pub fn set_four(&mut self, off: u64, value: u64)
         requires legal { IsTrue (is_legal off 4) }
         requires fits { value < 2 ^ 32 }
@@ -244,34 +244,34 @@ impl MappedRegisters {
             FQH => self.faults.set_head(value),
             CQCSR => self.control_commands(value),
             FQCSR => self.control_faults(value),
-            IPSR => self.ipsr = pending_cleared(self.ipsr, value),
+            IPSR => self.ipsr = ipsr_after_write(self.ipsr, value),
             ICVEC => self.set_icvec(with_low(self.icvec, value)),
             ICVEC_HIGH => self.set_icvec(with_high(self.icvec, value)),
             _ => {}
         }
     }
 
-    // cqcsr by a written number. Where it turns the queue on, cqh is 0 from then on.
+    // Writes cqcsr. Turning the queue on sets cqh to 0.
     fn control_commands(&mut self, value: u64)
         ensures { self.new ≡ written Cqcsr value self.old }
     {
         if turns_on(self.commands.control, value) {
             self.commands.head = 0;
         }
-        self.commands.control = commands_control(self.commands.control, value);
+        self.commands.control = cqcsr_after_write(self.commands.control, value);
     }
 
-    // fqcsr by a written number. Where it turns the queue on, fqt is 0 from then on.
+    // Writes fqcsr. Turning the queue on sets fqt to 0.
     fn control_faults(&mut self, value: u64)
         ensures { self.new ≡ written Fqcsr value self.old }
     {
         if turns_on(self.faults.control, value) {
             self.faults.tail = 0;
         }
-        self.faults.control = faults_control(self.faults.control, value);
+        self.faults.control = fqcsr_after_write(self.faults.control, value);
     }
 
-    /// The command queue's head, cqh, goes on by one entry, from the last to the first.
+    /// Advances the command queue's head, cqh, by one entry, from the last to the first.
     pub fn pass_command(&mut self)
         ensures { self.new ≡ record self.old { cqh = (self.old.cqh + 1) % entries_of self.old.cqb } }
     {
@@ -279,7 +279,7 @@ impl MappedRegisters {
         self.commands.set_head(next);
     }
 
-    /// The fault queue's tail, fqt, goes on by one entry, from the last to the first, and fip is set where fie is.
+    /// Advances the fault queue's tail, fqt, by one entry, from the last to the first, and sets fip if fie is set.
     pub fn pass_record(&mut self)
         ensures { self.new ≡ tail_passed self.old }
     {
@@ -325,7 +325,7 @@ impl MappedRegisters {
         self.faults.raise(FQOF);
     }
 
-    /// The rule of pending interrupts: cip and fip of ipsr are each set where a cause of theirs stands and its interrupt is enabled
+    /// The rule of pending interrupts: sets each of cip and fip of ipsr if one of its causes is set and its interrupt is enabled
     /// ("Interrupt pending status register (ipsr)").
     pub fn settle(&mut self)
         ensures value { self.new ≡ with_pending self.old }

@@ -3,7 +3,7 @@ ghost use Rattle.iom_regs.specs.Offers.{capabilities_of, icvec_of};
 
 use iom_bits::{Features, Vectors, field, flag};
 
-// capabilities ("IOMMU capabilities"): the version, 1.0, and the bits of paging modes and extensions.
+// The fields of capabilities ("IOMMU capabilities"): the version, 1.0, and the bit of each paging mode and extension.
 const VERSION: u64 = 0x10;
 
 const SV39: u32 = 9;
@@ -24,13 +24,13 @@ const NL: u32 = 42;
 
 const S: u32 = 43;
 
-// IGS: interrupts by wire alone.
+// IGS: interrupts only by wire (WSI).
 const IGS_BY_WIRE: u64 = 1 << 28;
 
 // PAS: physical addresses of 56 bits.
 const PAS_OF_56: u64 = 56 << 32;
 
-// What each IOMMU here has.
+// The fields that every IOMMU here has.
 const EACH: u64 = VERSION
     + (1 << SV39)
     + (1 << SV48)
@@ -39,7 +39,7 @@ const EACH: u64 = VERSION
     + IGS_BY_WIRE
     + PAS_OF_56;
 
-/// What capabilities reads with these features ("IOMMU capabilities"). Svnapot has no bit there.
+/// The value of capabilities with these features ("IOMMU capabilities"). Svnapot has no bit there.
 pub fn capabilities(features: Features) -> u64
     ensures { result ≡ capabilities_of features }
 {
@@ -50,9 +50,9 @@ pub fn capabilities(features: Features) -> u64
         + (flag(features.s) << S)
 }
 
-/// What icvec keeps of a written number ("Interrupt-cause-to-vector register"): of civ (bits 3:0) and of fiv (bits 7:4) as many of
-/// the lowest bits as number a vector.
-pub fn vectors_kept(vectors: Vectors, value: u64) -> u64
+/// icvec after a write of `value` ("Interrupt-cause-to-vector register"): civ (bits 3:0) and fiv (bits 7:4), of each only the
+/// lowest bits that number a vector: 0, 1 or 2 of them.
+pub fn icvec_after_write(vectors: Vectors, value: u64) -> u64
     ensures value { result ≡ icvec_of vectors value }
     ensures whole { icvec_of vectors result ≡ result }
 {

@@ -8,8 +8,8 @@ use crate::views::{CommandErrors, FaultErrors, Mode, Queue, Which};
 use iom_bits::{Features, field};
 use std::marker::Model;
 
-/// The IOMMU's register file (RISC-V IOMMU Architecture 1.0, "Memory-mapped register interface"). In every state interrupts are
-/// pending where their causes stand.
+/// The IOMMU's register file (RISC-V IOMMU Architecture 1.0, "Memory-mapped register interface"). In every state an enabled
+/// interrupt is pending while one of its causes is set.
 #[derive(Clone, Copy)]
 pub struct Regs {
     mapped: MappedRegisters,
@@ -45,7 +45,7 @@ impl Regs {
         Regs::with_features(Features::none())
     }
 
-    /// As `reset`, of an IOMMU with these features.
+    /// The registers of an IOMMU with these features, at reset.
     pub fn with_features(features: Features) -> Self
         ensures { result ≡ reset features }
     {
@@ -54,18 +54,18 @@ impl Regs {
         }
     }
 
-    /// What the IOMMU offers: what the registers were made with, since nothing changes it.
+    /// The features of the IOMMU, as the registers were made; nothing changes them.
     pub fn features(&self) -> Features
         ensures { result ≡ self.now.features }
     {
         self.mapped.features()
     }
 
-    /// The number of the `size` bytes of the registers from offset `off` on, the lowest byte first; None where the access isn't
-    /// legal. `off` counts bytes from the first register on.
+    /// Reads `size` bytes at offset `off`, in bytes from the first register, as a number, the lowest byte first; None if the
+    /// access isn't legal.
     ///
-    /// An access is legal where `size` is 4 or 8, `off` is a multiple of `size`, and its last byte is below 4096; but eight bytes
-    /// aren't at 8, 32, 48, 72 and 80, where registers of four bytes stand. A place with no register of this model reads 0
+    /// An access is legal if `size` is 4 or 8, `off` is a multiple of `size`, and its last byte is below 4096; but eight bytes
+    /// aren't legal at 8, 32, 48, 72 and 80, which have registers of four bytes. A place with no register of this model reads 0
     /// ("Memory-mapped register interface").
     pub fn read(&self, off: u64, size: u64) -> Option<u64>
         ensures { result ≡ read self.now off size }
@@ -81,13 +81,13 @@ impl Regs {
         })
     }
 
-    /// Writes the `size` bytes of `value` at offset `off`, and answers true; false where the access isn't legal, and then nothing
-    /// is changed. What is legal `read` says. Of four bytes `value` is below 2^32.
+    /// Writes the `size` bytes of `value` at offset `off`. Returns whether the access is legal, by the rule of `read`; if it isn't,
+    /// nothing is changed. With size 4, `value` is below 2^32.
     ///
     /// Reserved bits stay 0, and read-only registers and places with no register stay as they are. ddtp doesn't take a mode above
-    /// 4; cqb and fqb change while their queue is off alone; cqt and fqh are taken modulo the queue's entries; icvec takes a
-    /// vector modulo the number of vectors; flags that a 1 clears are those of cqcsr, fqcsr and ipsr. The rule of pending interrupts
-    /// follows.
+    /// 4; cqb and fqb change only while their queue is off; cqt and fqh are taken modulo the queue's entries; icvec takes a vector
+    /// modulo the number of vectors; a written 1 clears a flag of cqcsr, fqcsr or ipsr. Then the rule of pending interrupts is
+    /// applied.
     pub fn write(&mut self, off: u64, size: u64, value: u64) -> bool
         requires { size ≡ 4 → value < 2 ^ 32 }
         ensures legal { result ≡ is_legal off size }
@@ -113,7 +113,7 @@ impl Regs {
         true
     }
 
-    /// What stands between a device and memory: ddtp.iommu_mode ("Device-directory-table pointer (ddtp)").
+    /// How devices reach memory: ddtp.iommu_mode ("Device-directory-table pointer (ddtp)").
     pub fn mode(&self) -> Mode
         ensures mode { result ≡ mode_of self.now }
         ensures sound { IsSound self.now }
@@ -131,8 +131,8 @@ impl Regs {
         self.mapped.root()
     }
 
-    /// One of the two queues as its registers tell it: its base, its size, its head and tail, and whether it is on ("In-memory
-    /// queue interface").
+    /// One of the two queues, by its registers: its base, its size, its head and tail, and whether it is on ("In-memory queue
+    /// interface").
     pub fn queue(&self, which: Which) -> Queue
         ensures queue { result ≡ queue_of self.now which }
         ensures entries { result.entries ≤ 2 ^ 32 }
@@ -144,8 +144,9 @@ impl Regs {
         self.mapped.queue(which)
     }
 
-    /// Whether the interrupt line of a vector is high: the command queue's cause is pending (cip) and civ is that vector, or the
-    /// fault queue's is (fip) and fiv is ("Interrupt-cause-to-vector register"). A line that isn't there is low.
+    /// Whether the interrupt line of a vector is high: the command queue's interrupt is pending (cip) and civ is that vector, or the
+    /// fault queue's is pending (fip) and fiv is that vector ("Interrupt-cause-to-vector register"). A line that doesn't exist is
+    /// low.
     #[tactic(auto, using(crate::proofs::Vectors::low_beyond))]
     pub fn is_high(&self, vector: u64) -> bool
         ensures value { result ≡ is_high self.now vector }
@@ -154,7 +155,7 @@ impl Regs {
         self.mapped.is_high(vector)
     }
 
-    /// What stops the command queue: two bits of cqcsr ("Command-queue CSR (cqcsr)").
+    /// The errors that stop the command queue: two bits of cqcsr ("Command-queue CSR (cqcsr)").
     pub fn command_errors(&self) -> CommandErrors
         ensures errors { result ≡ command_errors_of self.now }
         ensures settled { with_pending self.now ≡ self.now }
@@ -162,7 +163,7 @@ impl Regs {
         self.mapped.command_errors()
     }
 
-    /// What stops the fault queue: two bits of fqcsr ("Fault queue CSR (fqcsr)").
+    /// The errors that stop the fault queue: two bits of fqcsr ("Fault queue CSR (fqcsr)").
     pub fn fault_errors(&self) -> FaultErrors
         ensures errors { result ≡ fault_errors_of self.now }
         ensures settled { with_pending self.now ≡ self.now }
@@ -170,7 +171,7 @@ impl Regs {
         self.mapped.fault_errors()
     }
 
-    /// The command at the head is done: cqh goes on by one entry, from the last to the first.
+    /// Ends the command at the head: advances cqh by one entry, from the last to the first.
     pub fn pass_command(&mut self)
         ensures { self.new ≡ command_passed self.old }
     {
@@ -178,7 +179,7 @@ impl Regs {
         self.mapped.settle();
     }
 
-    /// The command queue could not be read, or a fence's store not be done: sets cqmf ("Command-queue CSR (cqcsr)").
+    /// Sets cqmf: the command queue couldn't be read, or a fence couldn't store ("Command-queue CSR (cqcsr)").
     pub fn set_cqmf(&mut self)
         ensures { self.new ≡ with_cqmf self.old }
     {
@@ -186,7 +187,7 @@ impl Regs {
         self.mapped.settle();
     }
 
-    /// The command at the head is illegal: sets cmd_ill ("Command-queue CSR (cqcsr)").
+    /// Sets cmd_ill: the command at the head is illegal ("Command-queue CSR (cqcsr)").
     pub fn set_cmd_ill(&mut self)
         ensures { self.new ≡ with_cmd_ill self.old }
     {
@@ -194,7 +195,7 @@ impl Regs {
         self.mapped.settle();
     }
 
-    /// A fence asked for an interrupt: sets fence_w_ip ("Command-queue CSR (cqcsr)").
+    /// Sets fence_w_ip: a fence asks for an interrupt ("Command-queue CSR (cqcsr)").
     pub fn set_fence(&mut self)
         ensures { self.new ≡ with_fence self.old }
     {
@@ -202,7 +203,7 @@ impl Regs {
         self.mapped.settle();
     }
 
-    /// A fault record is stored: fqt goes on by one entry, from the last to the first, and fip is set where fie is.
+    /// Counts a stored fault record: advances fqt by one entry, from the last to the first, and sets fip if fie is set.
     pub fn pass_record(&mut self)
         ensures { self.new ≡ record_passed self.old }
     {
@@ -210,7 +211,7 @@ impl Regs {
         self.mapped.settle();
     }
 
-    /// The fault queue is full: sets fqof ("Fault queue CSR (fqcsr)").
+    /// Sets fqof: a record met a full fault queue ("Fault queue CSR (fqcsr)").
     pub fn set_fqof(&mut self)
         ensures { self.new ≡ with_fqof self.old }
     {
@@ -218,7 +219,7 @@ impl Regs {
         self.mapped.settle();
     }
 
-    /// The fault queue could not be written: sets fqmf ("Fault queue CSR (fqcsr)").
+    /// Sets fqmf: the fault queue couldn't be written ("Fault queue CSR (fqcsr)").
     pub fn set_fqmf(&mut self)
         ensures { self.new ≡ with_fqmf self.old }
     {
@@ -227,7 +228,7 @@ impl Regs {
     }
 }
 
-// Whether the registers take an access of `size` bytes at offset `off`. Eight bytes aren't at registers of four.
+// Whether an access of `size` bytes at offset `off` is legal. Eight bytes aren't, if a register of four is among them.
 fn is_legal(off: u64, size: u64) -> bool
     ensures { result ≡ is_legal off size }
 {

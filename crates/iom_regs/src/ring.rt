@@ -50,8 +50,8 @@ impl Ring {
         field(self.control, 16, 1) == 1
     }
 
-    /// Writes cqb or fqb. A queue that is on keeps its base; else the reserved bits are left out, and head and tail are taken
-    /// modulo the new number of entries.
+    /// Writes cqb or fqb. A queue that is on keeps its base; else the reserved bits stay 0, and head and tail are taken modulo the
+    /// new number of entries.
     pub fn set_base(&mut self, value: u64)
         ensures { self.new ≡ with_base value self.old }
     {

@@ -1,11 +1,11 @@
-/// What stands between a device and memory: ddtp.iommu_mode ("Device-directory-table pointer (ddtp)").
+/// How devices reach memory: ddtp.iommu_mode ("Device-directory-table pointer (ddtp)").
 #[derive(Clone, Copy, PartialEq)]
 pub enum Mode {
     /// Off, 0: all inbound transactions are disallowed.
     Off,
-    /// Bare, 1: all accesses pass as they are, and their IOVA is the physical address.
+    /// Bare, 1: no access is translated; its IOVA is the physical address.
     Bare,
-    /// 1LVL, 2LVL or 3LVL, 2 to 4: a device directory (DDT) of so many levels, 1 to 3.
+    /// 1LVL, 2LVL or 3LVL, 2 to 4: a device directory (DDT) with this number of levels, 1 to 3.
     Levels(u8),
 }
 
@@ -18,7 +18,7 @@ pub enum Which {
     Faults,
 }
 
-/// A queue as its registers tell it ("In-memory queue interface").
+/// A queue, by its registers ("In-memory queue interface").
 #[derive(Clone, Copy, PartialEq)]
 pub struct Queue {
     /// Whether it is on: cqon or fqon.
@@ -33,20 +33,20 @@ pub struct Queue {
     pub tail: u64,
 }
 
-/// What stops the command queue ("Command-queue CSR (cqcsr)").
+/// The errors that stop the command queue ("Command-queue CSR (cqcsr)").
 #[derive(Clone, Copy)]
 pub struct CommandErrors {
-    /// cqmf: a command could not be read, or a fence's store not be done.
+    /// cqmf: a command couldn't be read, or a fence couldn't store.
     pub memory_fault: bool,
     /// cmd_ill: the command at the head is illegal or unsupported.
     pub illegal: bool,
 }
 
-/// What stops the fault queue ("Fault queue CSR (fqcsr)").
+/// The errors that stop the fault queue ("Fault queue CSR (fqcsr)").
 #[derive(Clone, Copy)]
 pub struct FaultErrors {
-    /// fqmf: a record could not be stored.
+    /// fqmf: a record couldn't be stored.
     pub memory_fault: bool,
-    /// fqof: a record was lost, since the queue was full.
+    /// fqof: a record was lost because the queue was full.
     pub overflow: bool,
 }
