@@ -5,12 +5,12 @@ use Rattle.iom_blk.specs.declared.broken.Broken.{Broken}
 use Rattle.iom_blk.specs.declared.phase.Phase.{Phase}
 use Rattle.iom_blk.specs.declared.phase.Phase.TheVariants.{Index}
 
--- A device between two steps. Addresses are IOVAs. Of a request that is not under way `head` to `used_length` are what was left.
+-- A device between two steps. Addresses are IOVAs. If no request is under way, `head` to `used_length` are those of the last one.
 pub record Device : Type 0 where
   pub disk : List ℕ
-  -- whether the disk may only be read
+  -- whether the disk is read-only
   pub read_only : Bool
-  -- what the driver wrote: DeviceFeaturesSel, DriverFeaturesSel, the features that it accepts, QueueSel
+  -- written by the driver: DeviceFeaturesSel, DriverFeaturesSel, the features that it accepts, QueueSel
   pub features_sel : ℕ
   pub driver_sel : ℕ
   pub features : ℕ
@@ -24,14 +24,14 @@ pub record Device : Type 0 where
   -- InterruptStatus and Status
   pub interrupts : ℕ
   pub status : ℕ
-  -- what broke it since it was reset
+  -- why it broke since it was reset
   pub broken : Option Broken
   -- whether the driver notified; how many requests were taken up and how many given back, modulo 2^16
   pub pending : Bool
   pub seen : ℕ
   pub used : ℕ
-  -- the request: what its next access is for, its first descriptor, its parts, its header so far, its status byte, and the
-  -- length that the used ring will tell
+  -- the request: the purpose of its next access, its first descriptor, its parts, its header so far, its status byte, and the
+  -- length for the used ring
   pub phase : Phase
   pub head : ℕ
   pub chain : DescriptorChain
@@ -43,7 +43,7 @@ pub record Device : Type 0 where
 abbrev pub sectors : List ℕ → ℕ
 sectors disk = length disk / 512
 
--- a device with this disk that was not touched yet
+-- a device with this disk at reset
 unfoldable pub at_reset : List ℕ → Bool → Device
 at_reset disk read_only = record {
   disk = disk;

@@ -1,5 +1,5 @@
--- Where the registers stand, in bytes from the first on: VIRTIO 1.2, "MMIO Device Register Layout". Each has four bytes, but for the
--- configuration, which begins at its offset.
+-- The offsets of the registers, in bytes from the first one: VIRTIO 1.2, "MMIO Device Register Layout". Each has four bytes, except
+-- the configuration, which begins at its offset.
 use Rattle.std.specs.Prelude.{ℕ}
 
 pub data Register : Type 0 where

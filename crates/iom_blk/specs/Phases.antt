@@ -19,8 +19,8 @@ use Rattle.iom_blk.specs.declared.want.Moved.TheVariants as moved
 use Rattle.iom_blk.specs.Device.{Device, sectors}
 use Rattle.iom_blk.specs.Requests.{number_at, is_in, readable, writable, data_length, moves_data, status_of, used_length, header_address, header_count, data_address, data_count, status_address, place}
 
--- A device steps where Status has DRIVER_OK, bit 2, and FEATURES_OK, bit 3, and not DEVICE_NEEDS_RESET, bit 6, the queue is ready and
--- the driver notified.
+-- A device steps if Status has DRIVER_OK, bit 2, and FEATURES_OK, bit 3, and not DEVICE_NEEDS_RESET, bit 6, the queue is ready, and
+-- the driver notified it.
 unfoldable pub is_active : Device → Bool
 is_active d = has_bit d.status 2 && has_bit d.status 3 && not (has_bit d.status 6) && d.ready && d.pending
 
@@ -28,11 +28,11 @@ is_active d = has_bit d.status 2 && has_bit d.status 3 && not (has_bit d.status 
 abbrev pub is_broken : Device → Bool
 is_broken d = has_bit d.status 6
 
--- the entry of the used ring that is written next
+-- the next entry of the used ring to write
 abbrev pub used_entry : Device → ℕ
 used_entry d = d.used_ring + 4 + 8 * (d.used % d.size)
 
--- what a phase asks the bus for
+-- the access that a phase asks the bus for
 unfoldable pub ask_of : Device → Phase → Ask
 ask_of d phase.Index = Read (d.avail + 2) 2
 ask_of d phase.Ring = Read (d.avail + 4 + 2 * (d.seen % d.size)) 2
@@ -48,11 +48,11 @@ ask_of d phase.UsedId = Write (used_entry d) (bytes_of_number 4 d.head)
 ask_of d phase.UsedLen = Write (used_entry d + 4) (bytes_of_number 4 d.used_length)
 ask_of d phase.UsedIdx = Write (d.used_ring + 2) (bytes_of_number 2 ((d.used + 1) % 2 ^ 16))
 
--- what a step asks the bus for; None: the step is idle
+-- the access that a step asks the bus for; None: the step is idle
 unfoldable pub asks : Device → Option Ask
 asks d = if is_active d then Some (ask_of d d.phase) else None
 
--- A device that breaks: DEVICE_NEEDS_RESET is set, and bit 1 of InterruptStatus, a configuration change; and what broke it is kept.
+-- A device that breaks: DEVICE_NEEDS_RESET is set, and bit 1 of InterruptStatus, a configuration change; the reason is kept.
 unfoldable pub broken : Device → Broken → Device
 broken d reason = record d {
   status = with_bit d.status 6;
@@ -61,18 +61,18 @@ broken d reason = record d {
   broken = Some reason;
 }
 
--- whether an available index is ahead of the requests that were taken by more than the queue size
+-- whether an available index is more than the queue size ahead of the requests taken
 abbrev pub is_ahead : Device → ℕ → Bool
 is_ahead d idx = nat_lt d.size ((idx + 2 ^ 16 - d.seen) % 2 ^ 16)
 
--- the available index: nothing new, more than there can be, or a request to take up
+-- after the available index: it has nothing new, is too far ahead, or has a request to take
 unfoldable pub after_index : Device → ℕ → Device
 after_index d idx =
     if idx == d.seen then record d { pending = false }
     else if is_ahead d idx then broken d broke.IndexAhead
     else record d { phase = phase.Ring }
 
--- the head of the request
+-- after the head of a request
 unfoldable pub after_ring : Device → ℕ → Device
 after_ring d head =
     if nat_le d.size head then broken d broke.BadHead
@@ -85,7 +85,7 @@ after_ring d head =
       used_length = 0;
     }
 
--- a descriptor, and behind the last one what the chain must have: a header, and a status byte
+-- after a descriptor; after the last one the chain must have a header and a status byte
 abbrev pub with_descriptor : Device → ℕ → ℕ → ℕ → Device
 with_descriptor d addr len flags = record d { chain = with_part d.chain addr len flags }
 
@@ -103,7 +103,7 @@ after_add d addr len flags (Ok Complete) = completed (with_descriptor d addr len
 unfoldable pub after_descriptor : Device → ℕ → ℕ → ℕ → ℕ → Device
 after_descriptor d addr len flags next = after_add d addr len flags (add_result d.chain addr len flags next)
 
--- a request whose header is whole is judged, once
+-- a request is judged once, when its header is complete
 unfoldable pub judged : Device → Device
 judged d =
     let answer = status_of d.header d.chain (sectors d.disk) d.read_only d.features in
@@ -118,7 +118,7 @@ after_header d bytes =
     if length (d.header ++ bytes) == 16 then judged (record d { header = d.header ++ bytes })
     else record d { header = d.header ++ bytes }
 
--- bytes of an OUT stand on the disk
+-- the disk with the bytes of an OUT
 abbrev pub put : List ℕ → ℕ → List ℕ → List ℕ
 put disk at bytes = take at disk ++ (bytes ++ drop (at + length bytes) disk)
 
@@ -133,7 +133,7 @@ unfoldable pub after_data : Device → ℕ → List ℕ → Device
 after_data d position bytes =
     record (with_data d position bytes) { phase = data_phase d (position + data_count d.header d.chain position) }
 
--- the request is given back, and bit 0 of InterruptStatus says so
+-- the request is given back, and bit 0 of InterruptStatus is set
 unfoldable pub after_used : Device → Device
 after_used d = record d {
   used = (d.used + 1) % 2 ^ 16;
@@ -142,7 +142,7 @@ after_used d = record d {
   phase = phase.Index;
 }
 
--- the device after a phase whose access was granted; `bytes` are those read
+-- the device after a phase whose access was granted; `bytes` are the bytes read
 unfoldable pub after : Device → Phase → List ℕ → Device
 after d phase.Index bytes = after_index d (number_at bytes 0 2)
 after d phase.Ring bytes = after_ring d (number_at bytes 0 2)
@@ -155,7 +155,7 @@ after d phase.UsedId bytes = record d { phase = phase.UsedLen }
 after d phase.UsedLen bytes = record d { phase = phase.UsedIdx }
 after d phase.UsedIdx bytes = after_used d
 
--- the device after a reply: one that is refused breaks it
+-- the device after a reply: a refusal breaks it
 abbrev pub replied : Device → Access → List ℕ → Device
 replied d access.Ok bytes = after d d.phase bytes
 replied d (access.Denied cause) bytes = broken d (broke.Denied cause)
@@ -164,7 +164,7 @@ replied d access.Outside bytes = broken d broke.Outside
 unfoldable pub took : Device → Reply → Device
 took d reply = replied d reply.access reply.bytes
 
--- how a step is told from outside
+-- the outcome of a step
 abbrev pub moved_of : Access → Moved
 moved_of access.Ok = moved.Did
 moved_of (access.Denied cause) = moved.Denied cause

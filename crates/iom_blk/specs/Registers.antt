@@ -16,7 +16,7 @@ is_accepted read_only features =
     field_of features 0 5 == 0 && (read_only || not (has_bit features 5)) && field_of features 6 3 == 0
     && field_of features 10 22 == 0 && field_of features 32 32 == 3
 
--- what a read of four bytes below 0x100 shows
+-- the value of four bytes below 0x100
 unfoldable pub shown : Device → ℕ → ℕ
 shown d off =
     if off == 0x00 then 0x74726976  -- MagicValue
@@ -52,7 +52,7 @@ read d off size =
 abbrev pub is_free : Device → Bool
 is_free d = d.queue_sel == 0 && not d.ready
 
--- "The Virtqueue Descriptor Table" and the rings: a power of two up to 64, and where the three areas may stand
+-- "The Virtqueue Descriptor Table" and the rings: a size that is a power of two up to 64, and three aligned areas below 2^64
 unfoldable pub is_power : ℕ → Bool
 is_power size = size == 1 || size == 2 || size == 4 || size == 8 || size == 16 || size == 32 || size == 64
 
@@ -61,12 +61,12 @@ is_queue d =
     is_power d.size && d.desc % 16 == 0 && d.avail % 2 == 0 && d.used_ring % 4 == 0 && nat_le (d.desc + 16 * d.size) (2 ^ 64)
     && nat_le (d.avail + (4 + 2 * d.size)) (2 ^ 64) && nat_le (d.used_ring + (4 + 8 * d.size)) (2 ^ 64)
 
--- QueueReady: bit 0 makes the queue ready where it may be; without it a request that is under way is abandoned
+-- QueueReady: bit 0 makes the queue ready if it may be; without it a request that is under way is abandoned
 unfoldable pub with_ready : Device → Bool → Device
 with_ready d true = if is_queue d then record d { ready = true } else d
 with_ready d false = record d { ready = false; phase = phase.Index; seen = 0; used = 0 }
 
--- DriverFeatures: a half of them, while FEATURES_OK is not set
+-- DriverFeatures: sets a half of the features, while FEATURES_OK is not set
 unfoldable pub accepting : Device → ℕ → Device
 accepting d value =
     if has_bit d.status 3 then d
@@ -74,8 +74,8 @@ accepting d value =
     else if d.driver_sel == 1 then record d { features = with_field_of d.features 32 32 value }
     else d
 
--- "Device Status Field": ACKNOWLEDGE, DRIVER and DRIVER_OK, bits 2:0, and FAILED, bit 7, as written; FEATURES_OK, bit 3, where
--- the features are accepted; DEVICE_NEEDS_RESET, bit 6, stays
+-- "Device Status Field": ACKNOWLEDGE, DRIVER and DRIVER_OK, bits 2:0, and FAILED, bit 7, are as written; FEATURES_OK, bit 3, only
+-- if the features are accepted; DEVICE_NEEDS_RESET, bit 6, stays
 unfoldable pub status_after : Bool → ℕ → ℕ → ℕ → ℕ
 status_after read_only status features value =
     field_of value 0 3 + (if has_bit value 3 && is_accepted read_only features then 8 else 0) + 64 * field_of status 6 1
@@ -87,7 +87,7 @@ with_status d value =
     if value == 0 then at_reset d.disk d.read_only
     else record d { status = status_after d.read_only d.status d.features value }
 
--- InterruptACK: a written 1 clears a bit of the two that there are
+-- InterruptACK: a written 1 clears each of the two bits of InterruptStatus
 unfoldable pub acknowledged : ℕ → ℕ → ℕ
 acknowledged interrupts value =
     (if has_bit value 0 then 0 else field_of interrupts 0 1) + 2 * (if has_bit value 1 then 0 else field_of interrupts 1 1)
@@ -105,7 +105,7 @@ with_queue d off value =
     else if off == 0xa4 then record d { used_ring = with_field_of d.used_ring 32 32 value }
     else d
 
--- what a written number makes of the device
+-- the device after a write of four bytes
 unfoldable pub written : Device → ℕ → ℕ → Device
 written d off value =
     if nat_le 0x100 off then d  -- the configuration

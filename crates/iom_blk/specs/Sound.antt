@@ -1,4 +1,4 @@
--- What every access and every step keeps.
+-- The facts that every access and every step keeps.
 use Rattle.std.specs.Prelude.{ℕ, ◌≡◌, ◌+◌, ◌*◌, ◌%◌, ◌^◌, ◌<◌, ◌≤◌, Bool, true, List, length, is_some}
 use Rattle.iom_virtq.specs.Chains.{DescriptorChain}
 use Rattle.iom_blk.specs.declared.phase.Phase.{Phase}
@@ -7,7 +7,7 @@ use Rattle.iom_blk.specs.Device.{Device, sectors}
 use Rattle.iom_blk.specs.Phases.{is_broken}
 use Rattle.iom_blk.specs.Requests.{readable, writable, data_length, moves_data}
 
--- a queue that may be ready: 1 to 64 descriptors, and no area of it ends above 2^64
+-- a queue that may be ready: 1 to 64 descriptors, and three aligned areas that end at 2^64 or below
 pub record IsGoodQueue (size desc avail used_ring : ℕ) : Type 0 where
   pub some : 1 ≤ size
   pub most : size ≤ 64
@@ -18,7 +18,7 @@ pub record IsGoodQueue (size desc avail used_ring : ℕ) : Type 0 where
   pub avail_fits : avail + (4 + 2 * size) ≤ 2 ^ 64
   pub used_fits : used_ring + (4 + 8 * size) ≤ 2 ^ 64
 
--- what is so where a request stands in a phase
+-- the facts that hold in each phase of a request
 abbrev pub HoldsIn : Bool → ℕ → DescriptorChain → List ℕ → ℕ → Bool → Phase → Type 0
 HoldsIn ready size chain header sectors read_only Index = Unit {0}
 HoldsIn ready size chain header sectors read_only Ring = ready ≡ true

@@ -6,7 +6,7 @@ ghost use Rattle.iom_blk.specs.Requests.{number_at};
 
 use iom_bits::{le_u16, le_u32, le_u64};
 
-/// The number of the two bytes from place `at` on, which are there.
+/// The two bytes from index `at` on as a number. They must exist.
 #[tactic(auto, unfolding(crate::specs::Requests::number_at))]
 pub fn u16_at(bytes: &[u8], at: usize) -> u16
     requires { at + 2 ≤ length bytes.now }
@@ -17,7 +17,7 @@ pub fn u16_at(bytes: &[u8], at: usize) -> u16
     le_u16(word)
 }
 
-/// The number of the four bytes from place `at` on, which are there.
+/// The four bytes from index `at` on as a number. They must exist.
 #[tactic(auto, unfolding(crate::specs::Requests::number_at))]
 pub fn u32_at(bytes: &[u8], at: usize) -> u32
     requires { at + 4 ≤ length bytes.now }
@@ -28,7 +28,7 @@ pub fn u32_at(bytes: &[u8], at: usize) -> u32
     le_u32(word)
 }
 
-/// The number of the eight bytes from place `at` on, which are there.
+/// The eight bytes from index `at` on as a number. They must exist.
 #[tactic(auto, unfolding(crate::specs::Requests::number_at))]
 pub fn u64_at(bytes: &[u8], at: usize) -> u64
     requires { at + 8 ≤ length bytes.now }

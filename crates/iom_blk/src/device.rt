@@ -14,12 +14,12 @@ use iom_virtq::Bus;
 use std::alloc::{AllocError, Global};
 use std::marker::Model;
 
-/// A virtio block device with one queue (VIRTIO 1.2, "Block Device"). Its every address is an IOVA, in bytes.
+/// A virtio block device with one queue (VIRTIO 1.2, "Block Device"). Each of its addresses is an IOVA, in bytes.
 #[derive(Drop)]
 pub struct Blk {
     /// The bytes of its disk: 1 to 65,536 whole sectors of 512 bytes.
     pub(crate) disk: Vec<u8>,
-    /// Whether the disk may only be read: then VIRTIO_BLK_F_RO is offered.
+    /// Whether the disk is read-only: then VIRTIO_BLK_F_RO is offered.
     pub(crate) read_only: bool,
     /// DeviceFeaturesSel, 32 bits: which half of the offered features DeviceFeatures shows.
     pub(crate) features_sel: u64,
@@ -27,7 +27,7 @@ pub struct Blk {
     pub(crate) driver_sel: u64,
     /// The features that the driver accepts, 64 bits: what it wrote to DriverFeatures.
     pub(crate) features: u64,
-    /// QueueSel, 32 bits. Only queue 0 is there.
+    /// QueueSel, 32 bits. Only queue 0 exists.
     pub(crate) queue_sel: u64,
     /// QueueNum, 32 bits: how many descriptors the queue has; of a ready queue a power of two from 1 to 64.
     pub(crate) size: u64,
@@ -39,21 +39,21 @@ pub struct Blk {
     pub(crate) used_ring: u64,
     /// QueueReady. Of a ready queue each of the three parts ends at IOVA 2^64 or below.
     pub(crate) ready: bool,
-    /// InterruptStatus: bit 0 where a buffer was used, bit 1 where the device broke.
+    /// InterruptStatus: bit 0 is set if a buffer was used, bit 1 if the device broke.
     pub(crate) interrupts: u64,
     /// Status, 8 bits ("Device Status Field").
     pub(crate) status: u64,
-    /// What broke it: Some exactly where Status has DEVICE_NEEDS_RESET.
+    /// Why it broke: Some exactly if Status has DEVICE_NEEDS_RESET.
     pub(crate) broken: Option<Broken>,
-    /// Whether the queue was notified (QueueNotify), and the available ring wasn't found empty since.
+    /// Whether the queue was notified (QueueNotify) and the available ring wasn't found empty since then.
     pub(crate) pending: bool,
-    /// How many requests were taken from the available ring, modulo 2^16: the index that its idx is compared with.
+    /// How many requests were taken from the available ring, modulo 2^16; its idx is compared with this.
     pub(crate) seen: u16,
     /// How many requests were given back, modulo 2^16: the idx of the used ring.
     pub(crate) used: u16,
-    /// What the next access is for.
+    /// The purpose of the next access.
     pub(crate) phase: Phase,
-    /// The request that is under way; where none is, that of before.
+    /// The request that is under way; if there is none, the one before.
     pub(crate) request: Request,
 }
 
@@ -145,7 +145,8 @@ impl Blk {
         Blk::at_reset(disk, false)
     }
 
-    /// The same with a disk that may only be read: it offers VIRTIO_BLK_F_RO, and answers each OUT with VIRTIO_BLK_S_IOERR.
+    /// A device at reset, with this read-only disk of 1 to 65,536 whole sectors of 512 bytes: it offers VIRTIO_BLK_F_RO, and answers
+    /// each OUT with VIRTIO_BLK_S_IOERR.
     pub fn new_read_only(disk: Vec<u8>) -> Blk
         requires { IsDisk disk.items }
         ensures { result ≡ at_reset disk.items true }
@@ -153,7 +154,7 @@ impl Blk {
         Blk::at_reset(disk, true)
     }
 
-    // A device that was not touched yet, with a disk that is read-only or not.
+    // A device at reset, with a disk that is read-only or not.
     #[tactic(auto, unfolding(crate::specs::Device::at_reset), using(crate::proofs::Breaks::no_bit_is_set))]
     fn at_reset(disk: Vec<u8>, read_only: bool) -> Blk
         requires { IsDisk disk.items }
@@ -190,14 +191,14 @@ impl Blk {
         &self.disk
     }
 
-    /// What its next access is for, where it makes one.
+    /// The purpose of its next access, if it makes one.
     pub fn phase(&self) -> Phase
         ensures { result ≡ self.now.phase }
     {
         self.phase
     }
 
-    /// The head of the request that is under way, the index of its first descriptor; where none is, that of the one before.
+    /// The head of the request that is under way, the index of its first descriptor; if there is none, that of the one before.
     pub fn head(&self) -> u16
         ensures { result ≡ self.now.head }
     {
@@ -227,7 +228,7 @@ impl Blk {
         self.broken
     }
 
-    /// What the next step asks the bus for: nothing, or one access of 1 to 64 bytes within one page, at an IOVA.
+    /// The access that the next step asks the bus for: none, or one of 1 to 64 bytes within one page, at an IOVA.
     #[tactic(auto, unfolding(crate::specs::Phases::asks), using(crate::proofs::Breaks::broken_asks_nothing))]
     pub fn want(&self) -> Want
         ensures asks { wanted result ≡ asks self.now }
@@ -241,9 +242,9 @@ impl Blk {
         }
     }
 
-    /// One step: at most one access of `bus`. It asks what `want` says, and goes on as `take` with the answer; a granted read brings
-    /// as many bytes as were asked. An access that isn't granted breaks the device: DEVICE_NEEDS_RESET is set, and it asks for
-    /// nothing until it is reset (VIRTIO 1.2, "Device Status Field").
+    /// One step: at most one access of `bus`. It makes the access that `want` returns, and takes the answer as `take` does. An
+    /// access that isn't granted breaks the device: DEVICE_NEEDS_RESET is set, and it asks for nothing until it is reset (VIRTIO 1.2,
+    /// "Device Status Field").
     pub fn step<B: Bus>(&mut self, bus: &mut B) -> Moved
         ensures idle { IfNone (asks self.old)
             ((result ≡ moved.Idle) × (self.new ≡ self.old) × (bus.new ≡ bus.old)) }
@@ -269,7 +270,7 @@ impl Blk {
         }
     }
 
-    /// The same device once more, with a disk of its own. After a refused allocation, the fault, this one stands unchanged.
+    /// A copy of the device, with a disk of its own. If memory is refused, returns the fault; this device is never changed.
     pub fn try_clone(&self, alloc: Global) -> Result<Blk, AllocError>
         ensures { IfOk result (λ copy. copy ≡ self.now) }
     {
@@ -296,7 +297,7 @@ impl Blk {
         })
     }
 
-    // Whether the next step has something to do.
+    // Whether the next step makes an access.
     #[tactic(auto, unfolding(crate::specs::Phases::is_active))]
     fn is_active(&self) -> bool
         ensures active { result ≡ is_active self.now }
@@ -309,7 +310,7 @@ impl Blk {
             && self.pending
     }
 
-    // What its phase asks the bus for.
+    // The access that its phase asks the bus for.
     #[tactic(auto, unfolding(crate::specs::Phases::ask_of), using(crate::proofs::Served::place_within))]
     fn access(&self) -> Want
         requires { self.now.ready ≡ true }
@@ -350,7 +351,7 @@ impl Blk {
         }
     }
 
-    // Its phase Data: the data are written of an IN, and read of an OUT.
+    // The access of its phase Data: an IN writes data to memory, an OUT reads them.
     #[tactic(auto, unfolding(crate::specs::Phases::ask_of))]
     fn data_access(&self, position: u64) -> Want
         requires { self.now.phase ≡ Phase.Data position }
@@ -365,7 +366,7 @@ impl Blk {
         }
     }
 
-    /// The piece of the data that is to be moved next, after `position` bytes, in memory and on the disk.
+    /// The next piece of the data to move, after `position` bytes, in memory and on the disk.
     #[tactic(auto, using(crate::proofs::Served::place_within, crate::proofs::Served::data_count_within))]
     pub(crate) fn data_piece(&self, position: u64) -> Piece
         requires { self.now.phase ≡ Phase.Data position }
@@ -381,7 +382,7 @@ impl Blk {
         Piece { iova, len, at }
     }
 
-    /// How many sectors of 512 bytes the disk has: at most 65,536, which the configuration field `capacity` shows.
+    /// How many sectors of 512 bytes the disk has, at most 65,536: the configuration field `capacity`.
     pub(crate) fn sectors(&self) -> u64
         ensures value { result ≡ sectors self.now.disk }
         ensures most { result ≤ 65536 }
@@ -389,7 +390,7 @@ impl Blk {
         self.disk.len() as u64 / SECTOR
     }
 
-    // The IOVA of the entry of the used ring that is written next.
+    // The IOVA of the next entry of the used ring to write.
     fn used_entry(&self) -> u64
         requires { self.now.ready ≡ true }
         ensures entry { result ≡ used_entry self.now }

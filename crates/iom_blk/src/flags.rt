@@ -3,7 +3,7 @@
 /// Status: DRIVER_OK, the driver is ready.
 pub const DRIVER_OK: u32 = 2;
 
-/// Status: FEATURES_OK, the features are agreed on.
+/// Status: FEATURES_OK, the device agrees to the features.
 pub const FEATURES_OK: u32 = 3;
 
 /// Status: DEVICE_NEEDS_RESET, the device broke.

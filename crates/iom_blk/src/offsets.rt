@@ -1,4 +1,4 @@
-//! Where the registers stand, in bytes from the first on (VIRTIO 1.2, "MMIO Device Register Layout").
+//! The offsets of the registers, in bytes from the first one (VIRTIO 1.2, "MMIO Device Register Layout").
 
 ghost use Rattle.std.specs.Prelude.{◌≡◌};
 ghost use Rattle.iom_blk.specs.Layout.{offset_of, MagicValue, Version, DeviceID, VendorID, DeviceFeatures, DeviceFeaturesSel, DriverFeatures, DriverFeaturesSel, QueueSel, QueueNumMax, QueueNum, QueueReady, QueueNotify, InterruptStatus, InterruptACK, Status, QueueDescLow, QueueDescHigh, QueueDriverLow, QueueDriverHigh, QueueDeviceLow, QueueDeviceHigh, SHMLenLow, SHMLenHigh, SHMBaseLow, SHMBaseHigh, ConfigGeneration, Configuration};
@@ -84,10 +84,10 @@ pub const SHM_BASE_HIGH: u64 = 0x0bc;
 /// ConfigGeneration.
 pub const CONFIG_GENERATION: u64 = 0x0fc;
 
-/// Where the configuration begins.
+/// The beginning of the configuration.
 pub const CONFIG: u64 = 0x100;
 
-/// The law of the offsets: each is its register's in the standard's table.
+/// A law: each offset is that of its register in the standard's table.
 pub fn register_layout()
     ensures magic_value { MAGIC_VALUE ≡ offset_of MagicValue }
     ensures version { VERSION ≡ offset_of Version }

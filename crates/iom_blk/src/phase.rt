@@ -1,24 +1,24 @@
-//! What the next access of a request is for.
+//! The phases of a request.
 
-/// What the next access of a request is for (VIRTIO 1.2, "Split Virtqueues", "Block Device").
+/// The purpose of a device's next access (VIRTIO 1.2, "Split Virtqueues", "Block Device").
 #[derive(Clone, Copy)]
 pub enum Phase {
-    /// The index of the available ring is read: no request is under way.
+    /// Reads the index of the available ring: no request is under way.
     Index,
-    /// The entry of the available ring is read: the head of the request.
+    /// Reads the entry of the available ring: the head of the request.
     Ring,
-    /// The descriptor at this index, below the queue's size, is read.
+    /// Reads the descriptor at this index, below the queue's size.
     Descriptor(u16),
-    /// A piece of the header, 16 bytes, is read.
+    /// Reads a piece of the header, which has 16 bytes.
     Header,
-    /// A piece of the data is moved; so many bytes were moved before.
+    /// Moves a piece of the data, after this number of bytes.
     Data(u64),
-    /// The status byte is written.
+    /// Writes the status byte.
     Status,
-    /// The head is written into the entry of the used ring.
+    /// Writes the head into the entry of the used ring.
     UsedId,
-    /// The length is written into it.
+    /// Writes the length into that entry.
     UsedLen,
-    /// The index of the used ring is written.
+    /// Writes the index of the used ring.
     UsedIdx,
 }

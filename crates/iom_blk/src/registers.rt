@@ -22,9 +22,9 @@ impl Blk {
     ghost use Rattle.iom_blk.specs.Phases.{is_broken};
     ghost use Rattle.iom_blk.specs.Sound.{IsGoodQueue};
 
-    /// The number of the `size` bytes at offset `off`, in bytes; None where the registers don't take the access. They take 4 bytes
-    /// at a multiple of 4 below 0x1000, and from 0x100 on, where the configuration is, 1 or 2 bytes at a multiple of as many. A
-    /// place with no register reads 0 ("MMIO Device Register Layout").
+    /// Reads `size` bytes at offset `off`, in bytes, as a number; None if the access isn't legal. Legal are 4 bytes at a multiple of
+    /// 4 below 0x1000; from 0x100 on, in the configuration, also 1 byte, or 2 at a multiple of 2. A place without a register reads 0
+    /// ("MMIO Device Register Layout").
     #[tactic(auto, unfolding(crate::specs::Registers::read))]
     pub fn reg_read(&self, off: u64, size: u64) -> Option<u64>
         ensures { result ≡ read self.now off size }
@@ -33,15 +33,15 @@ impl Blk {
             return None;
         }
         Some(if off < CONFIG {
-            self.shown(off)
+            self.read_register(off)
         } else {
-            self.configured(off, size)
+            self.read_configuration(off, size)
         })
     }
 
-    /// Writes the `size` bytes of `value` at offset `off`, in bytes, and answers true; false where the registers don't take the
-    /// access, and then nothing is changed. Of 4 bytes `value` is below 2^32. What is taken `reg_read` says; read-only registers
-    /// and the configuration stay as they are.
+    /// Writes the `size` bytes of `value` at offset `off`, in bytes. Returns whether the access is legal, by the rule of `reg_read`;
+    /// if it isn't, nothing is changed. With size 4, `value` is below 2^32. Read-only registers and the configuration stay as they
+    /// are.
     #[tactic(auto, unfolding(crate::specs::Registers::written), using(crate::proofs::Breaks::written_stays, crate::proofs::Breaks::written_reason))]
     pub fn reg_write(&mut self, off: u64, size: u64, value: u64) -> bool
         requires { size ≡ 4 → value < 2 ^ 32 }
@@ -58,15 +58,15 @@ impl Blk {
         legal
     }
 
-    // What a register below 0x100 shows.
+    // The value of the register at an offset below 0x100.
     #[tactic(auto, unfolding(crate::specs::Registers::shown))]
-    fn shown(&self, off: u64) -> u64
+    fn read_register(&self, off: u64) -> u64
         ensures { result ≡ shown self.now off }
     {
         match off {
             MAGIC_VALUE => 0x7472_6976,
             VERSION | DEVICE_ID => 2,
-            DEVICE_FEATURES => offered(self.read_only, self.features_sel),
+            DEVICE_FEATURES => offered_features(self.read_only, self.features_sel),
             QUEUE_NUM_MAX if self.queue_sel == 0 => LARGEST_QUEUE,
             QUEUE_READY if self.queue_sel == 0 && self.ready => 1,
             INTERRUPT_STATUS => self.interrupts,
@@ -76,9 +76,9 @@ impl Blk {
         }
     }
 
-    // The configuration from `off` on.
+    // `size` bytes of the configuration at offset `off`.
     #[tactic(auto, unfolding(crate::specs::Registers::configured))]
-    fn configured(&self, off: u64, size: u64) -> u64
+    fn read_configuration(&self, off: u64, size: u64) -> u64
         requires from { CONFIG ≤ off }
         requires some { 1 ≤ size }
         requires most { size ≤ 4 }
@@ -118,14 +118,14 @@ impl Blk {
                     self.pending = true;
                 }
             }
-            INTERRUPT_ACK => self.interrupts = acknowledged(self.interrupts, value),
+            INTERRUPT_ACK => self.interrupts = interrupts_after_ack(self.interrupts, value),
             STATUS => self.set_status(value),
             _ if self.queue_sel == 0 && !self.ready => self.set_queue(off, value),
             _ => {}
         }
     }
 
-    // DriverFeatures.
+    // Writes DriverFeatures.
     #[tactic(auto, unfolding(crate::specs::Registers::accepting))]
     fn accept(&mut self, value: u64)
         requires { value < 2 ^ 32 }
@@ -141,7 +141,7 @@ impl Blk {
         }
     }
 
-    // QueueNum and the addresses of the queue, which isn't ready.
+    // Writes QueueNum or an address of the queue, which isn't ready.
     #[tactic(auto, unfolding(crate::specs::Registers::with_queue))]
     fn set_queue(&mut self, off: u64, value: u64)
         requires free { self.old.ready ≡ false }
@@ -160,7 +160,7 @@ impl Blk {
         }
     }
 
-    // QueueReady.
+    // Writes QueueReady.
     #[tactic(auto, unfolding(crate::specs::Registers::with_ready))]
     fn set_ready(&mut self, ready: bool)
         ensures { self.new ≡ with_ready self.old ready }
@@ -192,7 +192,7 @@ impl Blk {
             && fits(self.used_ring, 4 + 8 * self.size)
     }
 
-    // Status.
+    // Writes Status.
     #[tactic(auto, unfolding(crate::specs::Registers::with_status, crate::specs::Device::at_reset), using(crate::proofs::Breaks::status_keeps, crate::proofs::Breaks::no_bit_is_set))]
     fn set_status(&mut self, value: u64)
         ensures { self.new ≡ with_status self.old value }
@@ -221,7 +221,7 @@ impl Blk {
     }
 }
 
-// Whether the registers take an access of `size` bytes at offset `off`.
+// Whether an access of `size` bytes at offset `off` is legal.
 #[tactic(auto, unfolding(crate::specs::Registers::is_legal))]
 fn is_legal(off: u64, size: u64) -> bool
     ensures legal { result ≡ is_legal off size }
@@ -231,8 +231,8 @@ fn is_legal(off: u64, size: u64) -> bool
     (size == 4 || ((size == 1 || size == 2) && off >= CONFIG)) && off % size == 0 && off < 0x1000
 }
 
-// The half of the features that is offered under a selector, with a disk that is read-only or not.
-fn offered(read_only: bool, sel: u64) -> u64
+// The half of the offered features that a selector chooses.
+fn offered_features(read_only: bool, sel: u64) -> u64
     ensures { result ≡ offered read_only sel }
 {
     match sel {
@@ -243,7 +243,7 @@ fn offered(read_only: bool, sel: u64) -> u64
     }
 }
 
-// Whether features that a driver accepts are enough, and were offered.
+// Whether the features that a driver accepts include the required ones, and all were offered.
 #[tactic(auto, unfolding(crate::specs::Registers::is_accepted))]
 fn is_accepted(read_only: bool, features: u64) -> bool
     ensures { result ≡ is_accepted read_only features }
@@ -255,7 +255,7 @@ fn is_accepted(read_only: bool, features: u64) -> bool
         && field(features, 32, 32) == 3
 }
 
-// What a written number, not 0, makes of Status.
+// Status after a write of `value`, which isn't 0.
 #[tactic(auto, unfolding(crate::specs::Registers::status_after))]
 fn status_after(read_only: bool, status: u64, features: u64, value: u64) -> u64
     ensures { result ≡ status_after read_only status features value }
@@ -268,9 +268,9 @@ fn status_after(read_only: bool, status: u64, features: u64, value: u64) -> u64
     field(value, 0, 3) + accepted + 64 * field(status, NEEDS_RESET, 1) + 128 * field(value, 7, 1)
 }
 
-// InterruptStatus without the bits that a written number clears.
+// InterruptStatus after a write of `value` to InterruptACK: a 1 clears each bit.
 #[tactic(auto, unfolding(crate::specs::Registers::acknowledged))]
-fn acknowledged(interrupts: u64, value: u64) -> u64
+fn interrupts_after_ack(interrupts: u64, value: u64) -> u64
     ensures value { result ≡ acknowledged interrupts value }
     ensures small { result < 4 }
 {
@@ -297,7 +297,7 @@ fn is_power(size: u64) -> bool
     matches!(size, 1 | 2 | 4 | 8 | 16 | 32 | 64)
 }
 
-// Whether `size` bytes from an address on end at 2^64 or below.
+// Whether the last of `size` bytes at an address is below 2^64.
 fn fits(addr: u64, size: u64) -> bool
     ensures { result ≡ nat_le (addr + size) (2 ^ 64) }
 {

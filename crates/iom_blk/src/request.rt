@@ -1,4 +1,4 @@
-//! A request, and what it means.
+//! A request and its meaning.
 
 ghost use Rattle.std.specs.Prelude.{◌≡◌, ◌+◌, ◌*◌, ◌<◌, ◌≤◌, [], length, true, if◌then◌else◌};
 ghost use Rattle.iom_virtq.specs.Bus.{IsShort};
@@ -10,10 +10,10 @@ use arrayvec::ArrayVec;
 use iom_bits::has_bit;
 use iom_virtq::{Chain, Side};
 
-/// How many bytes the header of a request has.
+/// The header of a request, in bytes.
 pub const HEADER: u64 = 16;
 
-/// How many bytes a sector has.
+/// A sector, in bytes.
 pub const SECTOR: u64 = 512;
 
 // The types of requests: VIRTIO_BLK_T_IN, VIRTIO_BLK_T_OUT, VIRTIO_BLK_T_FLUSH.
@@ -33,18 +33,18 @@ const FAILED: u8 = 1;
 
 const UNSUPPORTED: u8 = 2;
 
-/// A request: what was read of it, and what came of it.
+/// A request as far as it was read, and its result.
 #[derive(Drop)]
 pub struct Request {
     /// The index of its first descriptor, below the queue's size.
     pub head: u16,
     /// The chain of the descriptors that were read; its parts' addresses are IOVAs.
     pub chain: Chain,
-    /// What was read of its first 16 bytes: type, a reserved word, and sector.
+    /// As many of its first 16 bytes as were read: type, a reserved word, and sector.
     pub header: ArrayVec<u8, 16>,
     /// The status byte, once the header is whole: VIRTIO_BLK_S_OK (0), VIRTIO_BLK_S_IOERR (1) or VIRTIO_BLK_S_UNSUPP (2).
     pub answer: u8,
-    /// The length that the used ring will tell: `len` of its entry, in bytes.
+    /// The length for the used ring: `len` of its entry, in bytes.
     pub used_length: u32,
 }
 
@@ -68,7 +68,7 @@ impl Request {
         }
     }
 
-    /// The same request once more.
+    /// A copy of the request.
     pub fn copy(&self) -> Request
         ensures head { result.head ≡ self.now.head }
         ensures chain { result.chain ≡ self.now.chain }
@@ -103,7 +103,7 @@ impl Request {
         u64_at(&self.header, 8)
     }
 
-    /// Whether its data are written by the device: its type is VIRTIO_BLK_T_IN.
+    /// Whether the device writes its data: its type is VIRTIO_BLK_T_IN.
     pub fn is_in(&self) -> bool
         requires { length self.now.header.items ≡ 16 }
         ensures { result ≡ is_in self.now.header.items }
@@ -111,7 +111,7 @@ impl Request {
         self.kind() == IN
     }
 
-    // Whether its data are read by the device.
+    // Whether the device reads its data: its type is VIRTIO_BLK_T_OUT.
     fn is_out(&self) -> bool
         requires { length self.now.header.items ≡ 16 }
         ensures { result ≡ is_out self.now.header.items }
@@ -119,7 +119,7 @@ impl Request {
         self.kind() == OUT
     }
 
-    // Whether it is of a type that has data.
+    // Whether its type has data.
     fn moves(&self) -> bool
         requires { length self.now.header.items ≡ 16 }
         ensures { result ≡ moves self.now.header.items }
@@ -145,7 +145,7 @@ impl Request {
         self.chain.total(Side::Writable)
     }
 
-    /// How many data bytes there are: between header and status byte, and 0 of a type that has none.
+    /// How many data bytes there are between header and status byte; 0 if its type has no data.
     #[tactic(auto, unfolding(crate::specs::Requests::data_length))]
     pub fn data_length(&self) -> u64
         requires whole { length self.now.header.items ≡ 16 }
@@ -163,7 +163,7 @@ impl Request {
         }
     }
 
-    // Whether its data may be moved, on a disk of so many sectors that is read-only or not.
+    // Whether its data may be moved, on a disk of `sectors` sectors.
     #[tactic(auto, unfolding(crate::specs::Requests::is_served))]
     fn is_served(&self, sectors: u64, read_only: bool) -> bool
         requires whole { length self.now.header.items ≡ 16 }
@@ -177,7 +177,7 @@ impl Request {
             && !(read_only && self.is_out())
     }
 
-    /// Whether there are data to move, on a disk of so many sectors that is read-only or not.
+    /// Whether there are data to move, on a disk of `sectors` sectors.
     #[tactic(auto, unfolding(crate::specs::Requests::moves_data))]
     fn moves_data(&self, sectors: u64, read_only: bool) -> bool
         requires whole { length self.now.header.items ≡ 16 }
@@ -188,7 +188,7 @@ impl Request {
         self.moves() && self.is_served(sectors, read_only) && self.data_length() > 0
     }
 
-    /// The status that it is answered, on a disk of so many sectors that is read-only or not, and with these features accepted.
+    /// Its status byte, on a disk of `sectors` sectors and with these features accepted.
     #[tactic(auto, unfolding(crate::specs::Requests::status_of))]
     fn status(&self, sectors: u64, read_only: bool, features: u64) -> u8
         requires whole { length self.now.header.items ≡ 16 }
@@ -210,9 +210,9 @@ impl Request {
         }
     }
 
-    /// Judges the request, whose header is whole, on a disk of so many sectors of 512 bytes that is read-only or not, and with
-    /// these features accepted: its status byte, the length for the used ring, and the phase that comes next (VIRTIO 1.2, "Block
-    /// Device", "Device Operation").
+    /// Judges the request once its header is complete: sets its status byte and the length for the used ring, and returns the next
+    /// phase (VIRTIO 1.2, "Block Device", "Device Operation"). The disk has `sectors` sectors of 512 bytes, and these features are
+    /// accepted.
     pub fn judge(&mut self, sectors: u64, read_only: bool, features: u64) -> Phase
         requires whole { length self.old.header.items ≡ 16 }
         requires header { HEADER ≤ readable self.old.chain }
@@ -229,7 +229,7 @@ impl Request {
             ≡ (if moves_data self.old.header.items self.old.chain sectors read_only then Phase.Data 0 else Phase.Status) }
     {
         self.answer = self.status(sectors, read_only, features);
-        self.used_length = self.told_length(self.answer, sectors, read_only, features);
+        self.used_length = self.written_length(self.answer, sectors, read_only, features);
         if self.moves_data(sectors, read_only) {
             Phase::Data(0)
         } else {
@@ -237,10 +237,10 @@ impl Request {
         }
     }
 
-    /// The length that the used ring tells of a request that was answered `answer`, on a disk of so many sectors that is
-    /// read-only or not, and with these features accepted.
+    /// The length for the used ring of a request with status `answer`, on a disk of `sectors` sectors and with these features
+    /// accepted: the device-writable bytes, if all were written, else 0.
     #[tactic(auto, unfolding(crate::specs::Requests::used_length), using(crate::proofs::Served::written_fits))]
-    fn told_length(&self, answer: u8, sectors: u64, read_only: bool, features: u64) -> u32
+    fn written_length(&self, answer: u8, sectors: u64, read_only: bool, features: u64) -> u32
         requires whole { length self.now.header.items ≡ 16 }
         requires status { 1 ≤ writable self.now.chain }
         requires disk { sectors ≤ 65536 }
@@ -255,7 +255,7 @@ impl Request {
         }
     }
 
-    /// The piece of the header that is to be read next: its IOVA, and how many bytes it has, 1 to 16.
+    /// The next piece of the header to read: its IOVA, and its length, 1 to 16 bytes.
     #[tactic(auto, unfolding(crate::specs::Requests::readable, crate::specs::Requests::header_address, crate::specs::Requests::header_count))]
     pub fn header_piece(&self) -> (u64, u64)
         requires part { length self.now.header.items < 16 }
@@ -269,7 +269,7 @@ impl Request {
         (iova, count.min(HEADER - at))
     }
 
-    /// The piece of the data that is to be moved next, after `position` bytes: its IOVA, and how many bytes it has, 1 to 64.
+    /// The next piece of the data to move, after `position` bytes: its IOVA, and its length, 1 to 64 bytes.
     #[tactic(auto, unfolding(crate::specs::Requests::readable, crate::specs::Requests::writable, crate::specs::Requests::data_length, crate::specs::Requests::data_address, crate::specs::Requests::data_count))]
     pub fn data_piece(&self, position: u64) -> (u64, u64)
         requires whole { length self.now.header.items ≡ 16 }
@@ -290,7 +290,7 @@ impl Request {
         }
     }
 
-    /// The IOVA that the status byte is to be written at: that of the last byte that the device writes.
+    /// The IOVA for the status byte: that of the last device-writable byte.
     #[tactic(auto, unfolding(crate::specs::Requests::writable, crate::specs::Requests::status_address))]
     pub fn status_address(&self) -> u64
         requires { 1 ≤ writable self.now.chain }
@@ -301,8 +301,7 @@ impl Request {
         iova
     }
 
-    /// Where on a disk of so many sectors, read-only or not, the data behind `position` bytes stand: how many bytes of the disk
-    /// come before them.
+    /// The place on the disk of the data after `position` bytes, in bytes from its first one. The disk has `sectors` sectors.
     #[tactic(auto, using(crate::proofs::Served::moved_within, crate::proofs::Served::place_within))]
     pub fn place(&self, position: u64, sectors: u64, read_only: bool) -> u64
         requires whole { length self.now.header.items ≡ 16 }

@@ -1,4 +1,4 @@
-//! What a device makes of an answer, phase by phase.
+//! A device after an answer of its bus, phase by phase.
 
 ghost use Rattle.std.specs.Prelude.{◌≡◌, ◌+◌, ◌<◌, ◌≤◌, true, false, length, IsSome, IfSome};
 ghost use Rattle.std.specs.Bool.{OnTrue, OnFalse};
@@ -20,9 +20,9 @@ impl Blk {
     ghost use Rattle.iom_blk.specs.Requests.{readable, writable, is_in, data_length, data_count, header_count};
     ghost use Rattle.iom_blk.specs.Wants.{Answers};
 
-    /// Goes on with the bus's answer to what `want` said, which isn't Nothing. `bytes` are those of a read that was granted, as
-    /// many as were asked for; else they aren't looked at. An answer that isn't Ok breaks the device, and so do bytes that can't be:
-    /// DEVICE_NEEDS_RESET is set, and `broken` tells why.
+    /// Takes the bus's answer to the access that `want` asked for, which isn't Nothing. After a granted read, `bytes` are the bytes
+    /// read, of the length that was asked for; else they are ignored. An answer other than Ok breaks the device, and so do bytes
+    /// that are no legal index or descriptor: DEVICE_NEEDS_RESET is set, and `broken` gives the reason.
     #[tactic(auto, unfolding(crate::specs::Phases::asks, crate::specs::Phases::took, crate::specs::Breaking::broken_by), using(crate::proofs::Asking::asked_is_ready, crate::proofs::Breaks::broken_is_broken, crate::proofs::Kept::broken_keeps, crate::proofs::Reasons::broken_tells))]
     pub fn take(&mut self, answer: Access, bytes: &[u8]) -> Moved
         requires asked { IsSome (asks self.old) }
@@ -50,7 +50,7 @@ impl Blk {
         }
     }
 
-    // Its access was refused, or what it read can't be.
+    // Breaks the device: its access was refused, or it read bytes that aren't legal.
     #[tactic(auto, unfolding(crate::specs::Phases::broken), using(crate::proofs::Breaks::bit_is_set))]
     fn break_down(&mut self, reason: Broken)
         ensures { self.new ≡ broken self.old reason }
@@ -61,7 +61,7 @@ impl Blk {
         self.phase = Phase::Index;
     }
 
-    // Its access was granted.
+    // Goes on after a granted access.
     #[tactic(auto, unfolding(crate::specs::Phases::ask_of, crate::specs::Phases::after))]
     fn go_on(&mut self, bytes: &[u8])
         requires ready { self.old.ready ≡ true }
@@ -86,7 +86,7 @@ impl Blk {
         }
     }
 
-    // The index of the available ring.
+    // Takes the index of the available ring.
     #[tactic(auto, unfolding(crate::specs::Phases::after_index))]
     fn take_index(&mut self, idx: u16)
         requires { self.old.ready ≡ true }
@@ -101,7 +101,7 @@ impl Blk {
         }
     }
 
-    // The head of a request.
+    // Takes the head of a request.
     #[tactic(auto, unfolding(crate::specs::Phases::after_ring))]
     fn take_ring(&mut self, head: u16)
         requires { self.old.ready ≡ true }
@@ -115,7 +115,7 @@ impl Blk {
         }
     }
 
-    // A descriptor.
+    // Takes a descriptor.
     #[tactic(auto, unfolding(crate::specs::Phases::after_descriptor, crate::specs::Phases::completed, crate::specs::Phases::broken))]
     fn take_descriptor(&mut self, addr: u64, len: u32, flags: u16, next: u16)
         requires ready { self.old.ready ≡ true }
@@ -131,7 +131,7 @@ impl Blk {
         }
     }
 
-    // The last descriptor was read.
+    // Completes the chain after its last descriptor.
     #[tactic(auto, unfolding(crate::specs::Phases::completed))]
     fn complete(&mut self)
         requires ready { self.old.ready ≡ true }
@@ -147,7 +147,7 @@ impl Blk {
         }
     }
 
-    // A piece of the header.
+    // Takes a piece of the header.
     #[tactic(auto, unfolding(crate::specs::Phases::after_header, crate::specs::Phases::judged), using(crate::proofs::Served::header_count_within))]
     fn take_header(&mut self, bytes: &[u8])
         requires phase { self.old.phase ≡ Phase.Header }
@@ -162,7 +162,7 @@ impl Blk {
         self.phase = self.request.judge(sectors, self.read_only, self.features);
     }
 
-    // A piece of the data.
+    // Takes a piece of the data.
     #[tactic(auto, unfolding(crate::specs::Phases::after_data))]
     fn take_data(&mut self, position: u64, bytes: &[u8])
         requires phase { self.old.phase ≡ Phase.Data position }
@@ -178,7 +178,7 @@ impl Blk {
         self.pass_data(position, len);
     }
 
-    // So many bytes behind `position` were moved.
+    // Goes on after `count` bytes of data were moved at `position`.
     fn pass_data(&mut self, position: u64, count: u64)
         requires phase { self.old.phase ≡ Phase.Data position }
         requires within { position + count ≤ data_length self.old.header self.old.chain }
@@ -193,7 +193,7 @@ impl Blk {
         }
     }
 
-    // The request was given back.
+    // Counts the request as given back.
     #[tactic(auto, unfolding(crate::specs::Phases::after_used))]
     fn take_used(&mut self)
         ensures { self.new ≡ after_used self.old }

@@ -1,4 +1,4 @@
-//! What a device asks for, and how its step is told.
+//! The access that a device asks for, and the outcome of its step.
 
 ghost use Rattle.std.specs.Prelude.{◌≡◌, ◌≤◌, length, Some};
 ghost use Rattle.iom_virtq.specs.Bus.{Write};
@@ -7,7 +7,7 @@ ghost use Rattle.iom_blk.specs.Wants.{wanted};
 use arrayvec::ArrayVec;
 use iom_bits::Cause;
 
-/// What a device asks the bus for, within one page of 4096 bytes. Addresses are IOVAs, in bytes.
+/// The access that a device asks the bus for, within one page of 4096 bytes. Addresses are IOVAs, in bytes.
 #[derive(Drop)]
 pub enum Want {
     /// Nothing: its step is idle.
@@ -30,12 +30,12 @@ impl Want {
     }
 }
 
-/// What a step of a device was.
+/// The outcome of a step of a device.
 #[derive(Clone, Copy, PartialEq)]
 pub enum Moved {
-    /// There was nothing to do.
+    /// The device had nothing to do.
     Idle,
-    /// Its access was granted; also where the device then broke.
+    /// Its access was granted, even if the device then broke.
     Did,
     /// Its access was denied by the IOMMU, for this cause.
     Denied(Cause),

@@ -1,5 +1,5 @@
--- What becomes of a descriptor that is to be a chain's next part: VIRTIO 1.2, "The Virtqueue Descriptor Table", "Message Framing"
--- and "Indirect Descriptors".
+-- How a descriptor becomes a chain's next part, or is refused: VIRTIO 1.2, "The Virtqueue Descriptor Table", "Message Framing" and
+-- "Indirect Descriptors".
 use Rattle.std.specs.Prelude.{ℕ, ◌+◌, ◌^◌, ◌<◌, ◌&&◌, Bool, not, List, [], ◌∷◌, ◌++◌, length, Option, Some, None, Result, Ok, Err, nat_le, nat_lt, if◌then◌else◌}
 use Rattle.std.specs.List.{list_any}
 use Rattle.iom_bits.specs.Bits.{has_bit}
@@ -25,7 +25,7 @@ is_indirect flags = has_bit flags 2
 abbrev pub is_on : Side → Part → Bool
 is_on side part = same_side part.side side
 
--- whether a part before is written by the device
+-- whether a part is device-writable
 abbrev pub has_written : List Part → Bool
 has_written parts = list_any (is_on Writable) parts
 
@@ -46,7 +46,7 @@ part_of addr len flags = record { side = if is_written flags then Writable else 
 abbrev pub with_part : DescriptorChain → ℕ → ℕ → ℕ → DescriptorChain
 with_part chain addr len flags = record chain { parts = chain.parts ++ part_of addr len flags ∷ [] }
 
--- what comes after the descriptor
+-- the step after this descriptor: a next one, or none
 abbrev pub more_of : ℕ → ℕ → More
 more_of flags next = if names_next flags then Next next else Complete
 

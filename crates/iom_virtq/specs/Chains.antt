@@ -1,5 +1,5 @@
--- Chains of descriptors: VIRTIO 1.2, "The Virtqueue Descriptor Table". A part is what one descriptor lends a device; its address
--- is an IOVA.
+-- Chains of descriptors: VIRTIO 1.2, "The Virtqueue Descriptor Table". A part is the buffer of one descriptor; its address is an
+-- IOVA.
 use Rattle.std.specs.Prelude.{ℕ, zero, suc, ◌≡◌, ◌+◌, ◌/◌, ◌^◌, ◌<◌, ◌≤◌, ◌==◌, ◌&&◌, Bool, true, false, IsTrue, List, [], ◌∷◌, ◌++◌, length, take, get_or, nat_le, if◌then◌else◌}
 use Rattle.std.specs.List.{prefix_len}
 use Rattle.iom_virtq.specs.declared.parts.Side.{Side}
@@ -40,7 +40,7 @@ items_from side number (part ∷ parts) = bytes_of number part.addr (len_on part
 abbrev pub bytes_on : DescriptorChain → Side → List Item
 bytes_on chain side = items_from side 0 chain.parts
 
--- where the first of some bytes is
+-- the address of the first of some bytes
 abbrev pub address_of : List Item → ℕ
 address_of [] = 0
 address_of (first ∷ others) = first.address
@@ -59,7 +59,7 @@ abbrev pub IsRun : List Item → Type 0
 IsRun items =
     (i j : ℕ) (none : Item) → i < length items → j < length items → IsTrue (is_together (get_or items i none) (get_or items j none))
 
--- the longest run again, without a function: a piece of some bytes begins at the first of them, is a run, and no longer one is
+-- a piece, said without a function: it begins at the first of some bytes, is a run, and no longer run begins there
 pub record IsPiece (items : List Item) (address count : ℕ) : Type 0 where
   pub first : address ≡ address_of items
   pub some : 1 ≤ count
@@ -68,6 +68,6 @@ pub record IsPiece (items : List Item) (address count : ℕ) : Type 0 where
   pub run : IsRun (take count items)
   pub longest : (n : ℕ) → n ≤ 64 → n ≤ length items → IsRun (take n items) → n ≤ count
 
--- the bytes of a part end at 2^64 or below
+-- the last byte of a part is below 2^64
 abbrev pub fits : Part → Bool
 fits part = nat_le (part.addr + part.len) (2 ^ 64)

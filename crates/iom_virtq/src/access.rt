@@ -1,8 +1,8 @@
-//! How a bus answers.
+//! The answers of a bus.
 
 use iom_bits::Cause;
 
-/// How a bus answers a device's access.
+/// The answer of a bus to an access of a device.
 #[derive(Clone, Copy)]
 pub enum Access {
     /// All bytes were read, or written.

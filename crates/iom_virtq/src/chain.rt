@@ -16,10 +16,10 @@ const WRITE: u32 = 1;
 
 const INDIRECT: u32 = 2;
 
-/// The most parts that a chain has.
+/// The most parts of a chain.
 const MOST_PARTS: usize = 64;
 
-/// What stands where there is no part.
+/// Fills the places that hold no part.
 const NO_PART: Part = Part {
     side: Side::Readable,
     addr: 0,
@@ -53,7 +53,7 @@ impl Chain {
     ghost use Rattle.iom_virtq.specs.Chains.{bytes_on, address_of, run_length, IsPiece, fits};
     ghost use Rattle.iom_virtq.specs.Adding.{add_result, with_part, refusal_of, is_on, IsBelow};
 
-    /// A chain with no part yet, in a queue of `limit` descriptors, the queue size: 1 to 64.
+    /// A chain without parts, in a queue of `limit` descriptors, the queue size: 1 to 64.
     pub fn new(limit: u16) -> Chain
         requires some { 1 ≤ limit }
         requires most { limit ≤ 64 }
@@ -66,12 +66,12 @@ impl Chain {
         }
     }
 
-    /// Adds a descriptor as the chain's last part, and answers what comes next: the index of a further descriptor, below the
+    /// Adds a descriptor as the chain's last part, and returns what comes next: the index of a further descriptor, below the
     /// chain's limit, or that the chain is complete (VIRTIO 1.2, "The Virtqueue Descriptor Table").
     ///
-    /// `addr` is the IOVA of the part's first byte, any of 64 bits, and `len` its bytes, from 0 to 2^32 - 1; a part of length 0 has
-    /// no byte. Of `flags`, 16 bits, only NEXT (bit 0), WRITE (bit 1) and INDIRECT (bit 2) count. `next` is an index into the
-    /// descriptor table, and counts where NEXT is set.
+    /// `addr` is the IOVA of the part's first byte, any of 64 bits, and `len` its length in bytes, from 0 to 2^32 - 1. Of `flags`,
+    /// 16 bits, only NEXT (bit 0), WRITE (bit 1) and INDIRECT (bit 2) are used. `next` is an index into the descriptor table, used
+    /// only if NEXT is set.
     ///
     /// The refusals, in the order in which they are tested: `Indirect`, `ReadAfterWrite`, `TooLong`, `BadNext`, `Wraps` (`addr +
     /// len` above 2^64). After a refusal the chain is unchanged.
@@ -97,8 +97,8 @@ impl Chain {
         total_of(&self.parts[..self.count], side)
     }
 
-    /// The IOVA of the byte at `position` of a side, which is below the side's total, and how many bytes, itself the
-    /// first, stand from it on in the same part and the same page of 4096 bytes, at most 64.
+    /// The IOVA of the byte at `position` of a side, which is below the side's total, and the length of the piece that begins
+    /// there: 1 to 64 bytes of the same part and the same page of 4096 bytes.
     pub fn piece(&self, side: Side, position: u64) -> (u64, u64)
         requires { position < length (bytes_on self.now side) }
         ensures address { result.0 ≡ address_of (drop position (bytes_on self.now side)) }
@@ -109,7 +109,7 @@ impl Chain {
         piece_of(&self.parts[..self.count], side, position)
     }
 
-    /// The same chain once more.
+    /// A copy of the chain.
     pub fn copy(&self) -> Chain
         ensures { result ≡ self.now }
     {
@@ -143,7 +143,7 @@ impl Chain {
         }
     }
 
-    // Whether the device writes a part.
+    // Whether a part is device-writable.
     fn has_written(&self) -> bool
         ensures { result ≡ list_any (is_on Side.Writable) self.now.parts }
     {
@@ -152,7 +152,7 @@ impl Chain {
             .any(|part| matches!(part.side, Side::Writable))
     }
 
-    // Puts a part behind the others; there is room for it.
+    // Adds a part after the others; there is room for it.
     #[tactic(auto, using(std::proofs::lemmas::List::take_more_set))]
     fn push(&mut self, part: Part)
         requires room { length self.old.parts < self.old.limit }
@@ -172,7 +172,7 @@ fn has(flags: u16, flag: u32) -> bool
     has_bit(flags as u64, flag)
 }
 
-// The part that a descriptor lends.
+// The part that a descriptor describes.
 fn part_of(addr: u64, len: u32, flags: u16) -> Part
     ensures { result ≡ part_of addr len flags }
 {

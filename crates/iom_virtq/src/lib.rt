@@ -1,5 +1,5 @@
-//! What a device with a split queue stands on (VIRTIO 1.2, "Split Virtqueues"): the bus that it reads and
-//! writes by, and chains of descriptors.
+//! The base of a device with a split queue (VIRTIO 1.2, "Split Virtqueues"): the bus by which it reads and writes, and chains of
+//! descriptors.
 #![tactic(auto)]
 
 pub use access::Access;

@@ -1,9 +1,9 @@
-//! One part of a chain, and what becomes of it.
+//! One part of a chain, and the reasons to refuse one.
 
 ghost use Rattle.std.specs.Prelude.{◌≡◌, ◌<◌, ◌^◌};
 ghost use Rattle.iom_virtq.specs.Chains.{same_side, len_on};
 
-/// What a device does with a buffer: it is device-readable or device-writable (VIRTIO 1.2, "The Virtqueue Descriptor Table").
+/// Whether a buffer is device-readable or device-writable (VIRTIO 1.2, "The Virtqueue Descriptor Table").
 #[derive(Clone, Copy)]
 pub enum Side {
     /// The device reads it: VIRTQ_DESC_F_WRITE is 0.
@@ -24,31 +24,31 @@ pub enum More {
 /// Why a descriptor can't be a chain's next part (VIRTIO 1.2, "The Virtqueue Descriptor Table").
 #[derive(Clone, Copy, PartialEq)]
 pub enum ChainFault {
-    /// It is an indirect one, VIRTQ_DESC_F_INDIRECT, which was never offered.
+    /// It is indirect (VIRTQ_DESC_F_INDIRECT), which no device here offers.
     Indirect,
-    /// It is device-readable, and a part before is device-writable.
+    /// It is device-readable, and an earlier part is device-writable.
     ReadAfterWrite,
-    /// The chain has as many parts as its limit already, so it comes back to itself.
+    /// The chain has reached its limit of parts already, so it is a loop.
     TooLong,
-    /// It names a next one at or above the chain's limit.
+    /// The index of its next descriptor is at or above the chain's limit.
     BadNext,
     /// Its bytes end above IOVA 2^64.
     Wraps,
 }
 
-/// One buffer of a chain: bytes that stand one after the other, and what the device does with them.
+/// One buffer of a chain: a range of bytes, and whether the device reads or writes them.
 #[derive(Clone, Copy)]
 pub struct Part {
     /// Whether the device reads it or writes it.
     pub side: Side,
     /// The IOVA of the first byte.
     pub addr: u64,
-    /// How many bytes there are, from 0 to 2^32 - 1.
+    /// Its length in bytes, from 0 to 2^32 - 1.
     pub len: u32,
 }
 
 impl Part {
-    /// How many bytes it has on a side: all or none, below 2^32.
+    /// Its length in bytes, below 2^32, if it is on this side, else 0.
     pub fn len_on(&self, side: Side) -> u64
         ensures len { result ≡ len_on self.now side }
         ensures fits { result < 2 ^ 32 }
@@ -61,7 +61,7 @@ impl Part {
     }
 }
 
-// Whether two sides are one.
+// Whether two sides are equal.
 fn is_same(side: Side, other: Side) -> bool
     ensures { result ≡ same_side side other }
 {

@@ -7,13 +7,13 @@ ghost use Rattle.iom_virtq.specs.Chains.{items_from, address_of, run_length, IsP
 
 use crate::parts::{Part, Side};
 
-/// How many bytes the longest access has.
+/// The longest access, in bytes.
 const LONGEST_PIECE: u64 = 64;
 
-/// How many bytes a page has.
+/// A page, in bytes.
 const PAGE: u64 = 4096;
 
-/// How many bytes at most 64 parts have on a side: at most 64 * (2^32 - 1).
+/// How many bytes these parts, at most 64 of them, have on a side: at most 64 * (2^32 - 1).
 pub fn total_of(parts: &[Part], side: Side) -> u64
     requires { length parts.now ≤ 64 }
     ensures total { result ≡ length (items_from side 0 parts.now) }
@@ -26,8 +26,8 @@ pub fn total_of(parts: &[Part], side: Side) -> u64
     total
 }
 
-/// The IOVA of the byte at `position` of a side, counted from 0, and how many bytes stand from it on in one part and one page of
-/// 4096 bytes: 1 to 64.
+/// The IOVA of the byte at `position` of a side, counted from 0, and the length of the piece that begins there: 1 to 64 bytes of
+/// one part and one page of 4096 bytes.
 pub fn piece_of(parts: &[Part], side: Side, position: u64) -> (u64, u64)
     requires within { position < length (items_from side 0 parts.now) }
     requires fit { list_all fits parts.now ≡ true }
