@@ -219,8 +219,8 @@ impl Blk {
         self.used
     }
 
-    /// What broke it since it was reset; None exactly where it isn't broken, so that bit 6 of Status, DEVICE_NEEDS_RESET, is 0 (VIRTIO
-    /// 1.2, "Device Status Field"). It stands until the device is reset.
+    /// Why it broke since it was reset; None exactly if bit 6 of Status, DEVICE_NEEDS_RESET, is 0 (VIRTIO 1.2, "Device Status Field").
+    /// A device stays broken until it is reset.
     pub fn broken(&self) -> Option<Broken>
         ensures reason { result ≡ self.now.broken }
         ensures exact { is_some result ≡ is_broken self.now }

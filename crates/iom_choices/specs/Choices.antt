@@ -1,31 +1,32 @@
--- A machine that keeps what it likes of what it reads. What it does is a function of its steps and of a choice for each, and each list of
--- choices is allowed: a choice names things by their number, and a number beyond the end is that of nothing. Steps stand newest first.
+-- A machine that chooses freely which of the entries it reads it keeps. Its run is a function of its steps and of a choice for each, and
+-- every list of choices is allowed: a choice names things by their number, and a number beyond the end names nothing. Steps are listed
+-- newest first.
 use Rattle.std.specs.Prelude.{ℕ, ◌++◌, not, List, [], ◌∷◌, filter, filter_map, flat_map, map, slice_get, Option, None}
 use Rattle.std.specs.Option.{option_map}
 use Rattle.iom_choices.specs.Systems.{System, led_of, reads_of, aimed}
 
--- a state, and the entries that are held, any list of them
+-- a state, and the list of the entries that are held
 pub record Holder (S E : Type 0) : Type 0 where
   pub state : S
   pub holds : List E
 
--- a walk: of the step's own request (None) or of another; each look-up that uses what is held, with the number of what it uses
+-- a walk of the step's own request (None) or of another; each look-up that uses a held entry, with the number of that entry
 pub record Walk (R K : Type 0) : Type 0 where
   pub target : Option R
   pub uses : List (K × ℕ)
 
--- What is chosen in a step: what its access uses of what is held; further walks, which may each use other things, and of which nothing but
--- what they read remains; and what is kept of what was held or read. All else is forgotten.
+-- The choice for a step: which held entries its access uses; further walks, each of which may use other entries, and whose reads are their
+-- only effect; and which entries are kept of those that were held or read. All others are forgotten.
 pub record Choice (R K : Type 0) : Type 0 where
   pub uses : List (K × ℕ)
   pub again : List (Walk R K)
   pub keeps : List ℕ
 
--- those with these numbers
+-- the elements with these numbers
 abbrev pub numbered : {X : Type 0} → List X → List ℕ → List X
 numbered xs numbers = filter_map (slice_get xs) numbers
 
--- the look-ups with what they use
+-- the look-ups with the entries that they use
 abbrev pub looked : {K E : Type 0} → List E → List (K × ℕ) → List (K × E)
 looked {K} {E} held uses = filter_map (λ (used : K × ℕ). option_map (λ (entry : E). (used.0, entry)) (slice_get held used.1)) uses
 
@@ -35,12 +36,12 @@ led_as sys i step choice = led_of sys i.state (looked i.holds choice.uses) (sys.
 abbrev pub read_by : {S T R K E L A : Type 0} → System S T R K E L A → Holder S E → T → Walk R K → List E
 read_by sys i step walk = reads_of sys i.state (looked i.holds walk.uses) (aimed sys i.state step walk.target)
 
--- all that was held, or read by a walk
+-- all entries that were held, or read by a walk
 abbrev pub gained : {S T R K E L A : Type 0} → System S T R K E L A → Holder S E → T → Choice R K → List E
 gained sys i step choice =
     i.holds ++ flat_map (read_by sys i step) (record { target = None; uses = choice.uses } ∷ choice.again)
 
--- what a step doesn't drop of some entries
+-- the entries that a step doesn't drop
 abbrev pub undropped : {S T R K E L A : Type 0} → System S T R K E L A → S → T → List E → List E
 undropped sys state step entries = filter (λ entry. not (sys.drops state step entry)) entries
 

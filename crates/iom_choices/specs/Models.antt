@@ -1,4 +1,5 @@
--- A model of such a machine, with caches of its own: its states M have a view as the machine's, and its caches are some uses of entries.
+-- A model of such a machine, with caches of its own: each of its states M has a view as a state of the machine, and its caches are uses of
+-- entries.
 use Rattle.std.specs.Prelude.{◌≡◌, ◌⊎◌, false, List, [], ◌∷◌, map}
 use Rattle.iom_choices.specs.Systems.{System, led_of, reads_of, IsAmong}
 
@@ -6,7 +7,7 @@ pub record Model (M S T K E A : Type 0) : Type 0 where
   pub next : M → T → M
   pub answer : M → T → A
   pub view : M → S
-  -- what its next access would use, at each look-up
+  -- the entries that its next access would use, each with its look-up
   pub uses : M → List (K × E)
 
 -- the entries of some uses
@@ -26,8 +27,8 @@ replies model start (last ∷ steps) = model.answer (end_of model start steps) l
 abbrev pub view_at : {M S T K E A : Type 0} → Model M S T K E A → M → List T → S
 view_at model start steps = model.view (end_of model start steps)
 
--- The model is such a machine: an access is led by what it caches, and what it caches was cached before or read by that access, and isn't
--- dropped. Nothing else is asked of it.
+-- The model is such a machine: its cached entries lead an access, and each entry that it caches was cached before or read by that access, and
+-- isn't dropped. The laws ask nothing else of it.
 pub record IsCaching {M S T R K E L A : Type 0} (sys : System S T R K E L A) (model : Model M S T K E A) : Type 0 where
   pub state : (m : M) (step : T) →
       model.view (model.next m step) ≡ sys.after (model.view m) step (led_of sys (model.view m) (model.uses m) (sys.asked (model.view m) step))

@@ -5,10 +5,10 @@ ghost use Rattle.iom_choices.specs.Models.{IsCaching, Model, end_of, entries_in,
 ghost use Rattle.iom_choices.specs.Laws.{CanUse, DoesAlike};
 ghost use Rattle.iom_choices.specs.Settled.{AreSettled, EachUse, IsOwed, IsSaying, IsSettled, MayHold};
 
-/// Where the access of each step is settled, a machine is left as the model and answers as the model, whatever it keeps, uses, forgets and
-/// walks again. M is the model's state, S the machine's, T a step, R a request, K a look-up of a walk, E an entry, L where a request is led,
-/// A an answer. The model starts with empty caches, and the machine with nothing held.
-pub fn settled<M, S, T, R, K, E, L, A>()
+/// If the access of each step is settled, a machine ends in the model's state and gives the model's answers, whatever it keeps, uses,
+/// forgets and walks again. M is the model's state, S the machine's, T a step, R a request, K a look-up of a walk, E an entry, L the
+/// result of a walk, A an answer. The model starts with empty caches, and the machine with nothing held.
+pub fn settled_runs_agree<M, S, T, R, K, E, L, A>()
     ensures state { (sys : System S T R K E L A) (model : Model M S T K E A) → IsCaching sys model →
         (start : M) → model.uses start ≡ [] → (chosen : List (T × Choice R K)) → AreSettled sys (view_at model start) (steps_of chosen) →
         (end_as sys (model.view start) chosen).state ≡ view_at model start (steps_of chosen) }
@@ -17,9 +17,9 @@ pub fn settled<M, S, T, R, K, E, L, A>()
         replies_as sys (model.view start) chosen ≡ replies model start (steps_of chosen) }
 {}
 
-/// The model is one of these machines: some choices make the machine do as it, and hold what it caches and nothing else. No access need be
-/// settled. So where a request is settled, the model's caches lead it where memory does.
-pub fn own<M, S, T, R, K, E, L, A>()
+/// The model is one of these machines: with some choices the machine does as the model, and holds exactly the entries that the model caches.
+/// No access need be settled. So the model's caches lead a settled request where memory does.
+pub fn model_is_one<M, S, T, R, K, E, L, A>()
     ensures does { (sys : System S T R K E L A) (model : Model M S T K E A) → IsCaching sys model →
         (start : M) → model.uses start ≡ [] → (steps : List T) →
         DoesAlike sys model start steps (entries_in (model.uses (end_of model start steps))) }
@@ -29,22 +29,23 @@ pub fn own<M, S, T, R, K, E, L, A>()
         led_of sys (view_at model start steps) (model.uses (end_of model start steps)) request ≡ led_of sys (view_at model start steps) [] request }
 {}
 
-/// Each way that is allowed is the way of some machine: it has done as the model until then, and leads each request by just this source.
-pub fn taken<M, S, T, R, K, E, L, A>()
+/// Each source of entries that may be held is used by some machine: it did as the model until then, and leads each request by exactly this
+/// source.
+pub fn sources_are_used<M, S, T, R, K, E, L, A>()
     ensures { (sys : System S T R K E L A) (model : Model M S T K E A) → IsCaching sys model →
         (start : M) → model.uses start ≡ [] → (steps : List T) (source : List (K × E)) →
         EachUse (MayHold sys (view_at model start) steps) source → CanUse sys model start steps source }
 {}
 
-/// Where nothing is owed at a request, it is settled.
-pub fn unowed<S, T, R, K, E, L, A>()
+/// A request at which nothing is owed is settled.
+pub fn unowed_requests_are_settled<S, T, R, K, E, L, A>()
     ensures { (sys : System S T R K E L A) (says : S → R → K × E → Bool) → IsSaying sys says →
         (at : List T → S) (steps : List T) (request : R) → ((used : K × E) → IsOwed sys says at steps request used → ⊥) →
         IsSettled sys (MayHold sys at steps) (at steps) (Some request) }
 {}
 
-/// A step's walks are of its own request, and of others where reading ahead is allowed, and nowhere else.
-pub fn aims<S, T, R, K, E, L, A>()
+/// A step walks its own request, and other requests only if reading ahead is allowed.
+pub fn walks_are_allowed<S, T, R, K, E, L, A>()
     ensures own { (sys : System S T R K E L A) (state : S) (step : T) → aimed sys state step None ≡ sys.asked state step }
     ensures none { (sys : System S T R K E L A) (state : S) (step : T) (request : R) → sys.ahead ≡ false →
         aimed sys state step (Some request) ≡ None }

@@ -1,8 +1,11 @@
-//! Machines that keep what they like of what they read, and laws that hold of all of them. A machine is given by its steps, its walks and
-//! what a step drops at least; a model of one has caches of its own. Nothing of memory, tables or commands stands here: `iom_every` has the
-//! machine that an IOMMU is.
+//! Machines that choose freely which of the entries they read they keep, and laws that hold of all of them. A machine is given by its steps,
+//! its walks and the entries that a step drops at least; a model of one has caches of its own. This crate knows no memory, tables or
+//! commands: `iom_every` has the machine that is an IOMMU.
 #![tactic(auto)]
 
-pub use laws::{aims, own, settled, taken, unowed};
+pub use laws::{
+    model_is_one, settled_runs_agree, sources_are_used, unowed_requests_are_settled,
+    walks_are_allowed,
+};
 
 mod laws;

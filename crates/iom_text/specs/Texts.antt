@@ -3,7 +3,7 @@ use Rattle.std.specs.Prelude.{ℕ, ◌==◌, ◌++◌, false, List, codes, map, 
 use Rattle.std.specs.Fmt.{digit_glyph}
 use Rattle.std.specs.Int.Digits.{digits_of}
 
--- the digits of a number with no zero before them, letters in lower case
+-- the digits of a number without leading zeros, letters in lower case
 abbrev pub digits_in : ℕ → ℕ → List ℕ
 digits_in radix number = map (digit_glyph false) (digits_of radix number)
 

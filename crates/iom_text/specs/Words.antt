@@ -1,4 +1,4 @@
--- The words of a line, and what a word says.
+-- The words of a line, and the number that a word writes.
 use Rattle.std.specs.Prelude.{ℕ, ◌^◌, ◌==◌, ◌&&◌, ◌||◌, Bool, nat_lt, List, [], ◌∷◌, length, take, drop, codes, bytes_eq, Option, Some, None, filter, if◌then◌else◌}
 use Rattle.std.specs.List.{slice_split, before_first, list_all}
 use Rattle.std.specs.Char.{is_digit}
@@ -8,15 +8,15 @@ use Rattle.std.specs.Str.Parse.{digits_value}
 abbrev pub is_blank : ℕ → Bool
 is_blank c = c == 32 || c == 9 || c == 13
 
--- what stands before the first `#`
+-- the text before the first `#`
 abbrev pub before_comment : List ℕ → List ℕ
 before_comment text = before_first (λ c. c == 35) text
 
--- what a word ends before
+-- a byte that ends a word
 abbrev pub is_end : ℕ → Bool
 is_end c = is_blank c || c == 35
 
--- what stands between blanks before the comment
+-- the words: the texts between blanks, before the comment
 unfoldable pub words_of : List ℕ → List (List ℕ)
 words_of text = filter (λ word. nat_lt 0 (length word)) (slice_split is_blank (before_comment text))
 

@@ -1,4 +1,4 @@
-//! The words of a line, what a word says, and the texts of numbers: of scripts, of assembler texts and of answers.
+//! The words of a line, the numbers that words write, and the texts of numbers: for scripts, assembler texts and answers.
 #![tactic(auto)]
 
 pub use lines::line_end;

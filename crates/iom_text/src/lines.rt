@@ -3,7 +3,7 @@
 ghost use Rattle.std.specs.Prelude.{◌≡◌, ◌==◌};
 ghost use Rattle.std.specs.List.{position};
 
-/// Where the first line end of a text stands, a line feed; None where there is none.
+/// The index of the first line end of a text, a line feed; None if there is none.
 #[tactic(auto, using(crate::proofs::Searches::first_is))]
 pub fn line_end(text: &[u8]) -> Option<usize>
     ensures { result ≡ position (λ c. c == 10) text.now }

@@ -7,13 +7,13 @@ ghost use Rattle.iom_text.specs.Words.{is_blank, is_end, words_of, number_in, nu
 use crate::values::digit_value;
 use arrayvec::ArrayVec;
 
-/// One word more than any line has, of a script or of an assembler text.
+/// One word more than the longest line of a script or of an assembler text has.
 pub const MOST_WORDS: usize = 11;
 
 /// The first words of a line, at most eleven: a line with more is refused.
 pub type Words<'a> = ArrayVec<&'a [u8], 11>;
 
-// Whether a byte parts words: a space, a tab or a CR.
+// Whether a byte separates words: a space, a tab or a CR.
 #[inline(always)]
 fn is_blank(c: u8) -> bool
     ensures { result ≡ is_blank c }
@@ -29,7 +29,7 @@ fn is_end(c: u8) -> bool
     matches!(c, b' ' | b'\t' | b'\r' | b'#')
 }
 
-// Where the first byte stands that isn't a blank.
+// The index of the first byte that isn't a blank.
 #[inline(always)]
 fn word_at(text: &[u8]) -> Option<usize>
     ensures { result ≡ position (λ c. not (is_blank c)) text.now }
@@ -37,7 +37,7 @@ fn word_at(text: &[u8]) -> Option<usize>
     text.iter().position(|c| !is_blank(*c))
 }
 
-// Where the first byte stands that ends a word.
+// The index of the first byte that ends a word.
 #[inline(always)]
 fn end_at(text: &[u8]) -> Option<usize>
     ensures { result ≡ position is_end text.now }
@@ -45,7 +45,7 @@ fn end_at(text: &[u8]) -> Option<usize>
     text.iter().position(|c| is_end(*c))
 }
 
-/// What follows the blanks that a text begins with.
+/// A text without the blanks at its beginning.
 #[inline(always)]
 pub fn past_blanks(text: &[u8]) -> &[u8]
     ensures { result.now ≡ drop (position_or_len (λ c. not (is_blank c)) text.now) text.now }
@@ -56,7 +56,7 @@ pub fn past_blanks(text: &[u8]) -> &[u8]
     }
 }
 
-// What stands before the first end of a word, and what follows.
+// A text, cut before the first byte that ends a word.
 #[inline(always)]
 fn at_end(text: &[u8]) -> (&[u8], &[u8])
     ensures before { result.0.now ≡ take (position_or_len is_end text.now) text.now }
@@ -68,7 +68,7 @@ fn at_end(text: &[u8]) -> (&[u8], &[u8])
     }
 }
 
-// The first word of a text, or nothing where there is none, and what follows it.
+// The first word of a text, empty if there is none, and the rest after it.
 #[inline(always)]
 #[tactic(auto, using(crate::proofs::Cuts::none_of, crate::proofs::Cuts::some_of))]
 fn first_word(text: &[u8]) -> (&[u8], &[u8])
@@ -78,8 +78,7 @@ fn first_word(text: &[u8]) -> (&[u8], &[u8])
     at_end(past_blanks(text))
 }
 
-/// The first word of a line, and what follows it; None where the line has none. A `#` begins a comment, in the middle of
-/// a word too.
+/// The first word of a line and the rest after it; None if there is no word. A `#` begins a comment, even in the middle of a word.
 #[inline(always)]
 pub fn take_word(text: &[u8]) -> Option<(&[u8], &[u8])>
     ensures { MatchOption result (words_of text.now ≡ [])
@@ -100,7 +99,7 @@ pub fn is_over(text: &[u8]) -> bool
     take_word(text).is_none()
 }
 
-/// The first words of a line, at most eleven; none of a blank line.
+/// The first words of a line, at most eleven.
 pub fn words(text: &[u8]) -> Words<'_>
     ensures { map (λ word. word.now) result.items ≡ take 11 (words_of text.now) }
 {
@@ -117,7 +116,7 @@ pub fn words(text: &[u8]) -> Words<'_>
     words
 }
 
-// The value of a digit of this radix.
+// The value of a digit in this radix; None if it is none.
 #[inline(always)]
 fn digit_in(radix: u64, c: u8) -> Option<u64>
     requires { radix ≤ 16 }
@@ -127,11 +126,11 @@ fn digit_in(radix: u64, c: u8) -> Option<u64>
     if value < radix { Some(value) } else { None }
 }
 
-// So many digits of a radix up to 16 write a number below 2^64.
+// With at most this number of digits, in a radix up to 16, a number is below 2^64.
 const SURE_DIGITS: usize = 16;
 
-// The number that digits of a radix write up to the end of their word, and what follows that. Up to `SURE_DIGITS` digits
-// need no test that it is below 2^64.
+// The number that the first word of a text writes in digits of this radix, and the rest after it. With at most `SURE_DIGITS` digits
+// it isn't tested against 2^64.
 #[inline(always)]
 fn take_digits(radix: u64, text: &[u8]) -> Option<(u64, &[u8])>
     requires least { 2 ≤ radix }
@@ -159,7 +158,7 @@ fn take_digits(radix: u64, text: &[u8]) -> Option<(u64, &[u8])>
     cut_at(radix, text, value, text.len())
 }
 
-// A number whose word ends at a place, and what follows that; `value` is the number where it has at most 16 digits.
+// The number of a word that ends at index `at`, and the rest after it. `value` is that number if the word has at most 16 digits.
 #[inline(always)]
 fn cut_at(radix: u64, text: &[u8], value: u64, at: usize) -> Option<(u64, &[u8])>
     requires least { 2 ≤ radix }
@@ -177,7 +176,7 @@ fn cut_at(radix: u64, text: &[u8], value: u64, at: usize) -> Option<(u64, &[u8])
     Some((value, &text[at..]))
 }
 
-// The number that any number of digits write up to the end of their word.
+// As `take_many_digits`, without the rest.
 #[cold]
 #[inline(never)]
 fn long_number(radix: u64, text: &[u8]) -> Option<u64>
@@ -189,7 +188,7 @@ fn long_number(radix: u64, text: &[u8]) -> Option<u64>
     Some(value)
 }
 
-// The same, and what follows that.
+// As `take_digits`, with a test against 2^64 at each digit.
 fn take_many_digits(radix: u64, text: &[u8]) -> Option<(u64, &[u8])>
     requires least { 2 ≤ radix }
     requires most { radix ≤ 16 }
@@ -216,7 +215,7 @@ fn take_many_digits(radix: u64, text: &[u8]) -> Option<(u64, &[u8])>
     Some((value, &[]))
 }
 
-// The number that digits of a radix write, below 2^64.
+// The number that a word writes in digits of this radix; None if it writes none below 2^64.
 #[inline(always)]
 fn number_in(radix: u64, word: &[u8]) -> Option<u64>
     requires least { 2 ≤ radix }
@@ -227,7 +226,7 @@ fn number_in(radix: u64, word: &[u8]) -> Option<u64>
     if rest.is_empty() { Some(value) } else { None }
 }
 
-/// The number that a word writes: decimal digits, or hex digits of either case after `0x`, below 2^64; None where it writes none.
+/// The number that a word writes: decimal digits, or hex digits of either case after `0x`; None if it writes none below 2^64.
 #[tactic(auto, unfolding(crate::specs::Words::number))]
 pub fn number(word: &[u8]) -> Option<u64>
     ensures { result ≡ number word.now }
@@ -240,21 +239,21 @@ pub fn number(word: &[u8]) -> Option<u64>
 
 // Whether a text begins with `0x`.
 #[inline(always)]
-fn is_hexed(text: &[u8]) -> bool
+fn has_hex_prefix(text: &[u8]) -> bool
     ensures { result ≡ bytes_eq (take 2 text.now) (codes "0x") }
 {
     matches!(text, [b'0', b'x', ..])
 }
 
-/// The number that the first word of a line writes, and what follows that word; None where it writes none, or there is no
-/// word.
+/// The number that the first word of a line writes, as `number` reads it, and the rest after that word; None if it writes none, or
+/// there is no word.
 #[inline(always)]
 pub fn take_number(text: &[u8]) -> Option<(u64, &[u8])>
     ensures number { option_map (λ cut. cut.0) result ≡ first_number (words_of text.now) }
     ensures rest { IfSome result (λ cut. words_of cut.1.now ≡ drop 1 (words_of text.now)) }
 {
     let word = past_blanks(text);
-    if is_hexed(word) {
+    if has_hex_prefix(word) {
         take_digits(16, &word[2..])
     } else {
         take_digits(10, word)

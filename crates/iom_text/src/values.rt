@@ -4,8 +4,7 @@ ghost use Rattle.std.specs.Prelude.{◌≡◌, ◌/◌, ◌%◌, ◌<◌, [], �
 ghost use Rattle.std.specs.Char.{digit_value};
 ghost use Rattle.std.specs.Fmt.{digit_glyph};
 
-// The value of each byte as a digit: 0 to 35, and 36 where it is no digit. A table has no branch, and digits and letters follow
-// each other by chance.
+// The value of each byte as a digit: 0 to 35, or 36 if it is none. A table has no branch for the processor to mispredict.
 #[rattlefmt::skip]
 static DIGITS: [u8; 256] = [
     36, 36, 36, 36, 36, 36, 36, 36, 36, 36, 36, 36, 36, 36, 36, 36,
@@ -26,7 +25,7 @@ static DIGITS: [u8; 256] = [
     36, 36, 36, 36, 36, 36, 36, 36, 36, 36, 36, 36, 36, 36, 36, 36,
 ];
 
-/// The value of a byte as a digit, of either case: 0 to 35, and 36 where it is none.
+/// The value of a byte as a digit, of either case: 0 to 35, or 36 if it is none.
 #[inline(always)]
 pub fn digit_value(c: u8) -> u8
     ensures { result ≡ digit_value c }
@@ -54,7 +53,7 @@ static PAIRS: [u8; 512] = *b"\
     e0e1e2e3e4e5e6e7e8e9eaebecedeeef\
     f0f1f2f3f4f5f6f7f8f9fafbfcfdfeff";
 
-// What stands at a place of that table: one of the two digits of a byte.
+// An entry of that table: one of the two digits of a byte.
 #[inline(always)]
 fn digit_at(place: usize) -> u8
     requires { place < 512 }

@@ -18,7 +18,7 @@ fn glyph(digit: u64) -> u8
     b'0' + digit as u8
 }
 
-// Puts the digit of 0 at the front of some places, and answers how many it takes.
+// Writes the digit 0 at the front of `places`, and returns how many digits that is.
 #[inline(always)]
 fn put_zero(places: &mut [u8]) -> usize
     requires { 0 < length places.old }
@@ -29,7 +29,7 @@ fn put_zero(places: &mut [u8]) -> usize
     1
 }
 
-// How many decimal digits a number has that isn't 0.
+// How many decimal digits a number above 0 has.
 #[inline(always)]
 #[tactic(auto, using(crate::proofs::Digits::counted_decimal))]
 fn decimal_count(number: u64) -> usize
@@ -40,7 +40,7 @@ fn decimal_count(number: u64) -> usize
     number.ilog10() as usize + 1
 }
 
-// Puts the decimal digits of a number that has as many as there are places, from its last one on.
+// Fills `places` with the decimal digits of a number, from its last digit to its first.
 #[inline(always)]
 fn put_digits(places: &mut [u8], number: u64)
     requires { length (digits_of 10 number) ≡ length places.old }
@@ -53,7 +53,7 @@ fn put_digits(places: &mut [u8], number: u64)
     }
 }
 
-/// Puts a number as decimal digits at the front of 20 places, and answers how many it takes, 1 to 20.
+/// Writes a number as decimal digits at the front of 20 places, and returns how many digits there are, 1 to 20.
 #[inline(always)]
 pub fn put_decimal(places: &mut [u8], number: u64) -> usize
     requires { length places.old ≡ 20 }
@@ -80,7 +80,7 @@ pub fn decimal(number: u64) -> Numeral
     text
 }
 
-// How many hex digits a number has that isn't 0.
+// How many hex digits a number above 0 has.
 #[inline(always)]
 #[tactic(auto, using(crate::proofs::Digits::counted))]
 fn hex_count(number: u64) -> usize
@@ -92,9 +92,9 @@ fn hex_count(number: u64) -> usize
     number.ilog2() as usize / 4 + 1
 }
 
-// A number with one hex digit more, a 0 behind them, where it has an odd count of them.
+// A number with `count` hex digits; if that is odd, with a 0 after them.
 #[inline(always)]
-fn evened(number: u64, count: usize) -> u64
+fn with_even_digits(number: u64, count: usize) -> u64
     requires some { 0 < number }
     requires count { count ≡ length (digits_of 16 number) }
     requires below { number < 16 ^ count }
@@ -105,7 +105,7 @@ fn evened(number: u64, count: usize) -> u64
     if count % 2 == 0 { number } else { number * 16 }
 }
 
-// Puts the hex digits of a number that has as many as there are places, two at a time, from its last ones on.
+// Fills `places` with the hex digits of a number, two at a time, from its last digits to its first.
 #[inline(always)]
 fn put_pairs(places: &mut [u8], number: u64)
     requires even { length places.old ≡ 2 * (length places.old / 2) }
@@ -121,7 +121,7 @@ fn put_pairs(places: &mut [u8], number: u64)
     }
 }
 
-/// Puts a number as hex digits in lower case at the front of 16 places, and answers how many it takes, 1 to 16.
+/// Writes a number as hex digits in lower case at the front of 16 places, and returns how many digits there are, 1 to 16.
 #[inline(always)]
 pub fn put_hex(places: &mut [u8], number: u64) -> usize
     requires { length places.old ≡ 16 }
@@ -132,7 +132,7 @@ pub fn put_hex(places: &mut [u8], number: u64) -> usize
         return put_zero(places);
     }
     let count = hex_count(number);
-    let even = evened(number, count);
+    let even = with_even_digits(number, count);
     put_pairs(&mut places[..count + count % 2], even);
     count
 }

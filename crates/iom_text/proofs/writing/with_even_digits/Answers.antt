@@ -1,6 +1,6 @@
 use Rattle.std.proofs.Common.{arith}
 use Rattle.iom_text.proofs.Digits.{front_all, has_room, one_more_counted, one_more_left}
-use Rattle.iom_text.proofs.writing.evened.Goals as goal
+use Rattle.iom_text.proofs.writing.with_even_digits.Goals as goal
 
 pub overflow_mul-result : goal.overflow_mul-result
 overflow_mul-result c =
