@@ -1,4 +1,4 @@
--- A bus of bytes that takes so many accesses, and then refuses each.
+-- A bus of bytes that takes a number of accesses, and refuses all later ones.
 use Rattle.std.specs.Prelude.{ℕ, zero, suc, List, [], length, Option, Some, None}
 use Rattle.iom_mem.specs.Memory.{Memory, bytes_at, put}
 use Rattle.iom_virtq.specs.Bus.{Ask, Read, Write, Reply}
@@ -28,7 +28,7 @@ write_of t (Some before) iova bytes left =
     record { reply = record { access = Ok; bytes = [] }; tape = tape (put t.memory iova bytes) left }
 write_of t None iova bytes left = refused t
 
--- the answer to an access; `left` is one more than is left afterwards
+-- the answer to an access; `left` is one more than the accesses left after it
 abbrev pub taped_with : Tape → ℕ → Ask → Taped
 taped_with t zero ask = refused t
 taped_with t (suc left) (Read iova count) = read_of t (bytes_at t.memory iova count) left

@@ -19,7 +19,7 @@ at 0x80050010
 bytes ff
 ";
 
-// A text, and why it is refused.
+// A text, and why it is refused; None if it isn't.
 type Text<'a> = (&'a [u8], Option<AsmFault>);
 
 const TEXTS: &[Text<'static>] = &[
@@ -66,7 +66,7 @@ fn refusal(alloc: Global, text: &[u8]) -> Option<AsmFault> {
     assemble(alloc, text).err()
 }
 
-// The number of the first text that is refused otherwise.
+// The index of the first text with another verdict.
 fn otherwise(alloc: Global, texts: &[Text<'_>]) -> Option<usize> {
     for (i, (text, want)) in texts.iter().enumerate() {
         if refusal(alloc, text) != *want {
@@ -81,7 +81,7 @@ fn texts_are_refused_at_the_first_line(rt: HostRuntime) {
     assert_eq!(rt; otherwise(rt.alloc(), TEXTS), None);
 }
 
-// Statements, and whether they are good.
+// Statements, and whether they are accepted.
 const STATEMENTS: &[(&[u8], bool)] = &[
     (b"u64 1 2 3 4 5 6 7 8", true),
     (b"u64 1 2 3 4 5 6 7 8 9", false),
@@ -134,7 +134,7 @@ const STATEMENTS: &[(&[u8], bool)] = &[
     (b"at 1 2", false),
 ];
 
-// Disks after other disks.
+// Statements of disks after other disks.
 const DISKS: &[Text<'static>] = &[
     (
         b"ram 0x80000000 0x1000\ndisk 5 1\nrodisk 5 1",
@@ -151,7 +151,7 @@ disk 1 1\ndisk 2 1\ndisk 3 1\ndisk 4 1\ndisk 5 1\ndisk 6 1\ndisk 7 1\ndisk 8 1\n
     ),
 ];
 
-// The text that has a statement on its second line.
+// A text with the statement on its second line.
 fn second_line(alloc: Global, statement: &[u8]) -> Result<Vec<u8>, AllocError> {
     let mut text = Vec::from_slice(alloc, MEMORY)?;
     text.push(b'\n')?;
@@ -159,7 +159,7 @@ fn second_line(alloc: Global, statement: &[u8]) -> Result<Vec<u8>, AllocError> {
     Ok(text)
 }
 
-// Whether a statement is refused, and that at its line, where it isn't good.
+// Whether a statement is accepted as expected, or refused at its line.
 fn is_judged(alloc: Global, statement: &[u8], good: bool) -> Result<bool, AllocError> {
     let text = second_line(alloc, statement)?;
     Ok(match refusal(alloc, &text) {
@@ -168,7 +168,7 @@ fn is_judged(alloc: Global, statement: &[u8], good: bool) -> Result<bool, AllocE
     })
 }
 
-// The number of the first statement that is refused where it should not be, or not where it should.
+// The index of the first statement with another verdict.
 fn misjudged(alloc: Global, statements: &[(&[u8], bool)]) -> Result<Option<usize>, AllocError> {
     for (i, (statement, good)) in statements.iter().enumerate() {
         if !is_judged(alloc, statement, *good)? {
@@ -189,12 +189,12 @@ fn disks_follow_other_disks(rt: HostRuntime) {
     assert_eq!(rt; otherwise(rt.alloc(), DISKS), None);
 }
 
-// Why an image is refused.
+// Why an image is refused; None if it isn't.
 fn refused(image: &[u8]) -> Option<LoadFault> {
     judge(image).err()
 }
 
-/// The length of the first proper front of an image that isn't told to be cut.
+/// The length of the first proper prefix of an image that isn't refused as cut off.
 pub fn not_cut(image: &[u8]) -> Option<usize> {
     for count in 0..image.len() {
         if refused(&image[..count]) != CUT {
@@ -204,7 +204,7 @@ pub fn not_cut(image: &[u8]) -> Option<usize> {
     None
 }
 
-/// An image with another byte at a place.
+/// An image with another byte at an index.
 pub fn with_byte(alloc: Global, image: &[u8], at: usize, byte: u8) -> Result<Vec<u8>, AllocError> {
     let mut other = Vec::from_slice(alloc, image)?;
     if let Some(place) = other.get_mut(at) {
@@ -213,7 +213,7 @@ pub fn with_byte(alloc: Global, image: &[u8], at: usize, byte: u8) -> Result<Vec
     Ok(other)
 }
 
-// Why it is refused.
+// Why an image with another byte at an index is refused.
 fn changed(
     alloc: Global,
     image: &[u8],
@@ -224,10 +224,10 @@ fn changed(
     Ok(refused(&other))
 }
 
-/// An image, a place and another byte there, and why that is refused.
+/// An image, an index, another byte for it, and why the result is refused.
 pub type Changed<'a> = (&'a [u8], usize, u8, Option<LoadFault>);
 
-/// The number of the first change that is refused otherwise.
+/// The index of the first change with another verdict.
 pub fn otherwise_changed(
     alloc: Global,
     changes: &[Changed<'_>],
@@ -240,10 +240,10 @@ pub fn otherwise_changed(
     Ok(None)
 }
 
-/// An image, and why it is refused.
+/// An image, and why it is refused; None if it isn't.
 pub type Judged<'a> = (&'a [u8], Option<LoadFault>);
 
-/// The number of the first image that is refused otherwise.
+/// The index of the first image with another verdict.
 pub fn otherwise_judged(images: &[Judged<'_>]) -> Option<usize> {
     for (i, (image, want)) in images.iter().enumerate() {
         if refused(image) != *want {
@@ -253,7 +253,7 @@ pub fn otherwise_judged(images: &[Judged<'_>]) -> Option<usize> {
     None
 }
 
-/// Whether a text is assembled to an image.
+/// Whether a text is assembled into an image.
 pub fn is_assembled(alloc: Global, text: &[u8], image: &[u8]) -> bool {
     match assemble(alloc, text) {
         Ok(bytes) => bytes.as_slice() == image,
@@ -261,10 +261,10 @@ pub fn is_assembled(alloc: Global, text: &[u8], image: &[u8]) -> bool {
     }
 }
 
-// The image of memory alone.
+// An image with only memory.
 const ALONE: &[u8] = b"RVIOMMU1\0\0\0\x80\0\0\0\0\0\0\x10\0\0\0\0\0\0\0\0\0\0\0\0\0";
 
-// The same with a byte behind it, and with a chunk of no bytes.
+// The same image with a byte after it, and with a chunk of no bytes.
 const LONGER: &[u8] = b"RVIOMMU1\0\0\0\x80\0\0\0\0\0\0\x10\0\0\0\0\0\0\0\0\0\0\0\0\0\0";
 
 const EMPTY_CHUNK: &[u8] =
@@ -291,10 +291,10 @@ fn image_of_memory_alone(rt: HostRuntime) -> Result<(), Fail> {
     Ok(())
 }
 
-// How many places follow each other at which 0xff gives the same verdict.
+// A run of places at which 0xff gives the same verdict: their number, and that verdict.
 type Places = (usize, Option<LoadFault>);
 
-// Why a front of `at` bytes is refused.
+// The verdict at place `at`.
 fn verdict_at(places: &[Places], at: usize) -> Option<LoadFault> {
     let mut left = at;
     for (count, verdict) in places {
@@ -306,7 +306,7 @@ fn verdict_at(places: &[Places], at: usize) -> Option<LoadFault> {
     Some(LoadFault::OutOfMemory)
 }
 
-// The first place at which 0xff gives another verdict.
+// The first place at which 0xff gives another verdict than expected.
 fn first_other_verdict(
     alloc: Global,
     image: &[u8],
@@ -330,7 +330,7 @@ const CHUNK: Option<LoadFault> = Some(LoadFault::BadChunk);
 
 const DEVICE: Option<LoadFault> = Some(LoadFault::BadDevice);
 
-// The places of the image of the request: its head, its chunks and its disk.
+// The runs of places in the image of the request: its head, its chunks and its disk.
 const PLACES: &[Places] = &[
     (8, MAGIC),
     (2, RAM),
@@ -392,7 +392,7 @@ fn is_line(ram: &Ram, item: Item, addr: u64, want: &[u8]) -> bool {
     }
 }
 
-// The number of the first item whose line is otherwise.
+// The index of the first item with another line.
 fn otherwise_told(ram: &Ram, lines: &[Line<'_>]) -> Option<usize> {
     for (i, (item, addr, want)) in lines.iter().enumerate() {
         if !is_line(ram, *item, *addr, want) {
@@ -402,10 +402,10 @@ fn otherwise_told(ram: &Ram, lines: &[Line<'_>]) -> Option<usize> {
     None
 }
 
-// So many items from an address on, and their lines; None where the listing is refused.
+// A kind of item, an address, a number of items, and their lines; None if the listing is refused.
 type Listing<'a> = (Item, u64, u64, Option<&'a str>);
 
-// Whether a listing is as wanted.
+// Whether a listing is the expected one.
 fn is_listed(alloc: Global, ram: &Ram, listing: &Listing<'_>) -> bool {
     let (item, addr, count, want) = listing;
     match list(alloc, ram, *item, *addr, *count) {
@@ -414,7 +414,7 @@ fn is_listed(alloc: Global, ram: &Ram, listing: &Listing<'_>) -> bool {
     }
 }
 
-// The number of the first listing of a text's platform that is otherwise.
+// The index of the first listing of a text's platform that isn't the expected one.
 fn otherwise_listed(
     alloc: Global,
     text: &[u8],
@@ -535,7 +535,7 @@ const FOLLOWING_LISTED: &[Listing<'static>] = &[
     (Item::Dir, 0x8009_0030, 2, Some("u64 0x400\ndir ppn=0x2\n")),
 ];
 
-// Several numbers on a line, blank lines and comments between, and items of one kind that the text states in another order.
+// Several numbers on a line, blank lines and comments between, and items of one kind that the text has in another order.
 #[test]
 fn items_that_follow_each_other_are_listed(rt: HostRuntime) -> Result<(), Fail> {
     assert_eq!(rt;

@@ -4,7 +4,7 @@ use iom_bits::{Cause, Kind, field, has_bit, le_u16, le_u32, le_u64, with_field};
 // A directory pointer: three levels, the root at page 0x80005.
 const POINTER: u64 = 0x2000_1404;
 
-// Single bits, fields and what replaces them, at both ends of a word.
+// Single bits, fields and replaced fields, at both ends of a word.
 #[test]
 fn takes_and_replaces_bits(rt: HostRuntime) {
     let facts = [
@@ -26,7 +26,7 @@ fn takes_and_replaces_bits(rt: HostRuntime) {
     assert_eq!(rt; first_wrong(&facts), None);
 }
 
-// The number of the first cause that has another number.
+// The index of the first cause with another number.
 fn otherwise(causes: &[(Cause, u16)]) -> Option<usize> {
     for (i, (cause, number)) in causes.iter().enumerate() {
         if cause.number() != *number {
@@ -36,7 +36,7 @@ fn otherwise(causes: &[(Cause, u16)]) -> Option<usize> {
     None
 }
 
-// Each cause with the number that the standard gives it.
+// Each cause with its number in the standard.
 #[test]
 fn numbers_causes(rt: HostRuntime) {
     let causes = [

@@ -8,7 +8,7 @@ use std::test::Fail;
 
 const BASE: u64 = 0x8000_0000;
 
-// The descriptors stand at BASE, the rings at 0x100 and 0x200 behind it, a header at 0x300 and a status byte at 0x310.
+// The descriptors are at BASE, the rings at 0x100 and 0x200 after it, a header at 0x300 and a status byte at 0x310.
 const AVAIL: u64 = 0x8000_0100;
 
 const RING: u64 = 0x8000_0200;
@@ -19,7 +19,7 @@ const STATUS: u64 = 0x8000_0310;
 
 const PLENTY: u64 = 1000;
 
-// What a driver writes: VERSION_1, ACCESS_PLATFORM and FLUSH accepted, queue 0 of 8 descriptors ready, and a notification.
+// A driver's writes: VERSION_1, ACCESS_PLATFORM and FLUSH accepted, queue 0 of 8 descriptors ready, and a notification.
 const SETUP: &[(u64, u32)] = &[
     (0x70, 3),
     (0x24, 1),
@@ -55,7 +55,7 @@ const IN: &[(u64, u64)] = &[
     (STATUS, u64::MAX),
 ];
 
-// The same as an OUT, with data that tell where they are from.
+// The same request as an OUT, with data that show their origin.
 const OUT: &[(u64, u64)] = &[
     (BASE + 0x18, 0x2_0001_0000_0040),
     (BASE + 0x28, 0x3_0001_0000_00c0),
@@ -67,12 +67,12 @@ const OUT: &[(u64, u64)] = &[
     (0x8000_28f8, 0x4444_4444_4444_4444),
 ];
 
-// How many accesses it takes: the index, the head, five descriptors, the header, nine pieces of data, the status and three
+// How many accesses the request takes: the index, the head, five descriptors, the header, nine pieces of data, the status and three
 // for the used ring.
 const ACCESSES: u64 = 21;
 
-// The same IN with its header in two descriptors and its data in one, at the start of a page: what the platform's worked row
-// asks of sector 0.
+// The same IN with its header in two descriptors and its data in one, at the start of a page: the request of the platform's worked
+// example, of sector 0.
 const WORKED: &[(u64, u64)] = &[
     (BASE + 0x08, 0x1_0001_0000_0008),
     (BASE + 0x10, HEADER + 8),
@@ -97,7 +97,7 @@ fn disk(alloc: Global) -> Result<Vec<u8>, AllocError> {
     Ok(disk)
 }
 
-/// A device with a disk of 1024 bytes; None of any other size.
+/// A device with a disk of 1024 bytes; None for any other size.
 pub fn with_disk(disk: Vec<u8>) -> Option<Blk> {
     if disk.len() == 1024 {
         Some(Blk::new(disk))
@@ -113,7 +113,7 @@ struct Bench {
     tape: Tape,
 }
 
-// A bus of these words that takes so many accesses.
+// A bus of these words that takes `left` accesses.
 fn tape(alloc: Global, words: &[&[(u64, u64)]], left: u64) -> Result<Tape, Fail> {
     let mut ram = Ram::new(alloc, BASE, 0x3000)?;
     for part in words {
@@ -124,7 +124,7 @@ fn tape(alloc: Global, words: &[&[(u64, u64)]], left: u64) -> Result<Tape, Fail>
     Ok(Tape { ram, left })
 }
 
-// A device that was not touched yet.
+// A device at reset.
 fn untouched(alloc: Global, words: &[&[(u64, u64)]], left: u64) -> Result<Bench, Fail> {
     let blk = with_disk(disk(alloc)?).ok_or("a disk of two sectors")?;
     Ok(Bench {
@@ -164,7 +164,7 @@ fn word(bench: &Bench, addr: u64) -> Option<u64> {
     bench.tape.ram.word(addr)
 }
 
-// The number of the first word that is otherwise.
+// The index of the first word with another value.
 fn otherwise_at(bench: &Bench, words: &[(u64, u64)]) -> Option<usize> {
     for (i, (addr, want)) in words.iter().enumerate() {
         if word(bench, *addr) != Some(*want) {
@@ -174,7 +174,7 @@ fn otherwise_at(bench: &Bench, words: &[(u64, u64)]) -> Option<usize> {
     None
 }
 
-// Whether two benches have the same words.
+// Whether two benches have the same value at each word.
 fn same_memory(one: &Bench, other: &Bench) -> bool {
     for i in 0..0x600 {
         if word(one, BASE + 8 * i) != word(other, BASE + 8 * i) {
@@ -192,7 +192,7 @@ fn shows(bench: &Bench, status: u64, interrupts: u64) -> bool {
     register(bench, 0x70) == Some(status) && register(bench, 0x60) == Some(interrupts)
 }
 
-// Memory before the last access.
+// The words in memory before the last access.
 const READ: &[(u64, u64)] = &[
     (RING, 0),
     (STATUS, 0xffff_ffff_ffff_ff00),
@@ -205,7 +205,7 @@ const READ: &[(u64, u64)] = &[
     (RING + 8, 513),
 ];
 
-// The last access tells the driver. Then the index shows nothing new, and the notification is spent.
+// The last access reports the request to the driver. Then the index shows nothing new, and the notification is gone.
 fn is_last(bench: &mut Bench) -> bool {
     step(bench) == Moved::Did
         && word(bench, RING) == Some(0x1_0000)
@@ -233,7 +233,7 @@ fn breaks(bench: &mut Bench) -> bool {
 // Writes to registers, and the status and the interrupts after each.
 type Shown = (u64, u32, u64, u64);
 
-// Whether the device shows these after each of the writes.
+// Whether the device shows the status and the interrupts after each of the writes.
 fn shows_after(bench: &mut Bench, writes: &[Shown]) -> bool {
     for (off, value, status, interrupts) in writes {
         if !wrote(bench, *off, *value) || !shows(bench, *status, *interrupts) {
@@ -243,11 +243,11 @@ fn shows_after(bench: &mut Bench, writes: &[Shown]) -> bool {
     true
 }
 
-// A broken device is reset by 0 alone.
+// Only a write of 0 resets a broken device.
 const RESET: &[Shown] = &[(0x70, 0xf, 0x4f, 2), (0x70, 0, 0, 0)];
 
-// Whether a device whose next access is refused after so many is broken, and leaves on the bus what the accesses before left.
-// Afterwards a reset and a new set-up lead to the whole request, which takes so many accesses in all.
+// Whether a device whose bus refuses its next access after `accesses` breaks, and leaves on the bus only what those accesses wrote.
+// A reset and a new set-up then lead through the whole request, which takes `all` accesses.
 fn is_refused(
     alloc: Global,
     words: &[&[(u64, u64)]],
@@ -269,7 +269,7 @@ fn is_refused(
     Ok(is_open && word(&short, RING) == Some(0x1_0000))
 }
 
-// How many accesses come before the first that is refused otherwise.
+// The first number of accesses before a refusal for which that fails.
 fn otherwise_refused(
     alloc: Global,
     words: &[&[(u64, u64)]],
@@ -302,7 +302,7 @@ fn steps_alike(one: &mut Bench, other: &mut Bench) -> bool {
     step(one) == step(other)
 }
 
-// Whether two devices take the same steps from step n on until the request has ended.
+// Whether two devices take the same steps from step n on until the request ends.
 fn go_together(one: &mut Bench, other: &mut Bench, n: u64) -> bool {
     for _ in n..ACCESSES + 2 {
         if !steps_alike(one, other) {
@@ -326,7 +326,7 @@ fn is_copied(alloc: Global, words: &[&[(u64, u64)]], n: u64) -> Result<bool, Fai
     )
 }
 
-// The first step of a request after which a copy of the device goes on otherwise than its original.
+// The first step of a request after which a copy of the device differs from its original.
 fn otherwise_copied(alloc: Global, words: &[&[(u64, u64)]]) -> Result<Option<u64>, Fail> {
     for n in 0..ACCESSES {
         if !is_copied(alloc, words, n)? {
@@ -343,7 +343,7 @@ fn copies_go_on_as_their_originals(rt: HostRuntime) -> Result<(), Fail> {
     Ok(())
 }
 
-// What the disk has, and from where on.
+// Bytes of the disk after the request, each with its index.
 const WRITTEN: &[(usize, &[u8])] = &[
     (511, &[15, 0]),
     (568, &[0x11; 8]),
@@ -359,7 +359,7 @@ fn holds(bench: &Bench, at: usize, bytes: &[u8]) -> bool {
     }
 }
 
-// The number of the first bytes that are otherwise.
+// The index of the first bytes that differ.
 fn otherwise_on(bench: &Bench, parts: &[(usize, &[u8])]) -> Option<usize> {
     for (i, (at, bytes)) in parts.iter().enumerate() {
         if !holds(bench, *at, bytes) {
@@ -375,7 +375,7 @@ const TOLD: &[(u64, u64)] = &[
     (STATUS, 0xffff_ffff_ffff_ff00),
 ];
 
-// A request that writes the disk, and what is told of it.
+// A request that writes the disk, and its status.
 #[test]
 fn out_moves_its_data(rt: HostRuntime) -> Result<(), Fail> {
     let mut bench = ready(rt.alloc(), &[IN, OUT], PLENTY)?;
@@ -386,10 +386,10 @@ fn out_moves_its_data(rt: HostRuntime) -> Result<(), Fail> {
     Ok(())
 }
 
-// A type, a sector, how many data bytes; the features of the lower half; the status and the length that come back.
+// A type, a sector, a number of data bytes; the features of the lower half; the status and the length that come back.
 type Case = (u64, u64, u64, u32, u64, u64);
 
-// The words of a request; the data of an OUT are read, of all other types written.
+// The words of a request: an OUT reads data, every other type writes them.
 fn asked(kind: u64, sector: u64, len: u64) -> [(u64, u64); 3] {
     let flags: u64 = if kind == 1 { 1 } else { 3 };
     [
@@ -406,7 +406,7 @@ fn is_answered(bench: &Bench, status: u64, told: u64) -> bool {
         && shows(bench, 0xf, 1)
 }
 
-// The number of the first request that is answered otherwise.
+// The index of the first request with another answer.
 fn otherwise_answered(alloc: Global, cases: &[Case]) -> Result<Option<usize>, Fail> {
     for (i, (kind, sector, len, features, status, told)) in cases.iter().enumerate() {
         let words = asked(*kind, *sector, *len);
@@ -455,7 +455,7 @@ const CASES: &[Case] = &[
     (4, 0, 0, 0, 2, 1),
     (8, 0, 20, 0x200, 2, 0),
     (0x100, 1, 512, 0, 2, 0),
-    // the four bytes behind the type don't count
+    // the four bytes after the type are ignored
     (0xffff_ffff_0000_0000, 1, 512, 0, 0, 513),
 ];
 
@@ -474,7 +474,7 @@ const BROKEN: &[(u64, u64)] = &[
     (BASE + 0x08, 0x8_0001_0000_0010),
     (BASE + 0x08, 0x1_0005_0000_0010),
     (BASE + 0x10, u64::MAX),
-    // a readable part behind a writable one, a header of 15 bytes, no status byte
+    // a readable part after a writable one, a header of 15 bytes, no status byte
     (BASE + 0x28, 0x3_0001_0000_00c0),
     (BASE + 0x08, 0x1_0001_0000_000f),
     (BASE + 0x08, 0x10),
@@ -482,7 +482,7 @@ const BROKEN: &[(u64, u64)] = &[
     (BASE + 0x10, 0x9000_0000),
 ];
 
-// The second interrupt is taken back by its own bit alone.
+// Each interrupt is acknowledged only by its own bit.
 const TAKEN_BACK: &[Shown] = &[(0x64, 1, 0x4f, 2), (0x64, 2, 0x4f, 0)];
 
 fn is_broken(bench: &mut Bench) -> bool {
@@ -492,7 +492,7 @@ fn is_broken(bench: &mut Bench) -> bool {
         && shows_after(bench, TAKEN_BACK)
 }
 
-// The first word that doesn't break the device.
+// The index of the first words that don't break the device.
 fn otherwise_broken(alloc: Global, words: &[(u64, u64)]) -> Result<Option<usize>, Fail> {
     for (i, word) in words.iter().enumerate() {
         let mut bench = ready(alloc, &[IN, &[*word]], PLENTY)?;
@@ -510,7 +510,7 @@ fn breaks_at_broken_rings_and_chains(rt: HostRuntime) -> Result<(), Fail> {
     Ok(())
 }
 
-// The driver takes the queue away, and gives it back: the request is carried out from its beginning.
+// The driver takes the queue back, and makes it ready again: the request is carried out from its beginning.
 fn begins_again(bench: &mut Bench) -> bool {
     if !wrote(bench, 0x44, 0) || step(bench) != Moved::Idle || !wrote(bench, 0x44, 1) {
         return false;
@@ -519,7 +519,7 @@ fn begins_again(bench: &mut Bench) -> bool {
     word(bench, RING) == Some(0) && step(bench) == Moved::Did && word(bench, RING) == Some(0x1_0000)
 }
 
-// The first number of steps after which it isn't so.
+// The first number of steps after which that fails.
 fn otherwise_abandoned(alloc: Global) -> Result<Option<u64>, Fail> {
     for n in 0..ACCESSES {
         let mut bench = ready(alloc, &[IN], PLENTY)?;
@@ -537,7 +537,7 @@ fn abandons_a_request_with_its_queue(rt: HostRuntime) -> Result<(), Fail> {
     Ok(())
 }
 
-// How a device that asks for something tells of a denial.
+// The outcome of a denial for a device that asks for an access.
 fn denied(bench: &mut Bench, cause: Cause) -> Option<Moved> {
     match bench.blk.want() {
         Want::Nothing => None,

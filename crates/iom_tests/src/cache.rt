@@ -20,7 +20,7 @@ const GLOBAL: Hit = Hit {
     napot: false,
 };
 
-// Of a leaf that maps 64 KiB.
+// A leaf that maps 64 KiB.
 const NAPOT: Hit = Hit {
     frame: 0x80010,
     level: 0,
@@ -78,7 +78,7 @@ fn guest_key(page: u64) -> Key {
     }
 }
 
-// An IOTINVAL.VMA of process 3, of no guest.
+// An IOTINVAL.VMA for process 3, of no guest.
 fn vma(av: bool, page: u64, pscv: bool) -> Command {
     Command::Vma {
         av,
@@ -92,7 +92,7 @@ fn vma(av: bool, page: u64, pscv: bool) -> Command {
     }
 }
 
-// An IOTINVAL.VMA of a range, that asks for entries that aren't leaves too.
+// An IOTINVAL.VMA for a range, with NL: for non-leaf entries too.
 fn vma_range(page: u64) -> Command {
     Command::Vma {
         av: true,
@@ -119,7 +119,7 @@ fn gvma(gv: bool, gscid: u16) -> Command {
     }
 }
 
-// Fills where no live place has the key.
+// Fills the cache, if no live place has the key.
 fn fill(cache: &mut TransCache, key: Key, hit: Hit) {
     if cache.find(&key).is_none() {
         cache.fill(key, hit);
@@ -135,7 +135,7 @@ fn filled(alloc: Global, end: u64) -> Result<TransCache, AllocError> {
     Ok(cache)
 }
 
-// Whether a cache that has only this entry is empty after the command.
+// Whether a cache with only this entry is empty after the command.
 fn is_dropped(alloc: Global, command: Command, key: Key, hit: Hit) -> Result<bool, AllocError> {
     let mut cache = TransCache::new(alloc)?;
     fill(&mut cache, key, hit);
@@ -154,10 +154,10 @@ fn filled_contexts(alloc: Global, end: u32) -> Result<ContextCache, AllocError> 
     Ok(cache)
 }
 
-// What stands at some places.
+// The expected entries of some places.
 type Stands<K, V> = (u64, Place<K, V>);
 
-// The number of the first place of a translation cache that is otherwise.
+// The index of the first place of a translation cache that differs.
 fn otherwise_at(cache: &TransCache, places: &[Stands<Key, Hit>]) -> Option<usize> {
     for (i, (number, want)) in places.iter().enumerate() {
         if cache.place(*number) != *want {
@@ -167,7 +167,7 @@ fn otherwise_at(cache: &TransCache, places: &[Stands<Key, Hit>]) -> Option<usize
     None
 }
 
-// The number of the first place of a context cache that is otherwise.
+// The index of the first place of a context cache that differs.
 fn otherwise_in(cache: &ContextCache, places: &[Stands<u32, Context>]) -> Option<usize> {
     for (i, (number, want)) in places.iter().enumerate() {
         if cache.place(*number) != *want {
@@ -177,7 +177,7 @@ fn otherwise_in(cache: &ContextCache, places: &[Stands<u32, Context>]) -> Option
     None
 }
 
-// The first place that is otherwise in a cache with so many fills.
+// The first place that differs in a cache with this number of fills.
 fn otherwise_filled(
     alloc: Global,
     end: u64,
@@ -187,7 +187,7 @@ fn otherwise_filled(
     Ok(otherwise_at(&cache, places))
 }
 
-// Of 65 fills the first has left, and no place is beyond the 64th.
+// After 65 fills the first entry has left, and there is no place beyond the 64th.
 #[test]
 fn oldest_leaves(rt: HostRuntime) -> Result<(), Fail> {
     let of_none = otherwise_filled(rt.alloc(), 0, &[(0, Place::Beyond)])?;
@@ -202,7 +202,7 @@ fn oldest_leaves(rt: HostRuntime) -> Result<(), Fail> {
     Ok(())
 }
 
-// The place stands empty, and the others stay where they were.
+// The dropped place is empty, and the others stay.
 #[test]
 fn drop_leaves_an_empty_place(rt: HostRuntime) -> Result<(), Fail> {
     let mut cache = filled(rt.alloc(), 3)?;
@@ -217,10 +217,10 @@ fn drop_leaves_an_empty_place(rt: HostRuntime) -> Result<(), Fail> {
     Ok(())
 }
 
-// A command, an entry that is alone in the cache, and whether it is dropped.
+// A command, the only entry of a cache, and whether it is dropped.
 type Case = (Command, Key, Hit, bool);
 
-// The number of the first case that is otherwise.
+// The index of the first case that fails.
 fn otherwise(alloc: Global, cases: &[Case]) -> Result<Option<usize>, AllocError> {
     for (i, (command, key, hit, want)) in cases.iter().enumerate() {
         if is_dropped(alloc, *command, *key, *hit)? != *want {
@@ -230,18 +230,18 @@ fn otherwise(alloc: Global, cases: &[Case]) -> Result<Option<usize>, AllocError>
     Ok(None)
 }
 
-// Rows of the table of invalidations, each with an entry that stands alone.
+// Rows of the table of invalidations, each for a cache with one entry.
 #[test]
 fn drops_by_the_table(rt: HostRuntime) -> Result<(), Fail> {
     let host = process_key(0x40201);
     let guest = guest_key(0x40201);
     let cases = [
         (vma(false, 0, false), host, GLOBAL, true),
-        // PSCV leaves global entries, GV 0 leaves those of guests.
+        // PSCV keeps global entries, GV 0 keeps those of guests.
         (vma(false, 0, true), host, GLOBAL, false),
         (vma(false, 0, true), host, HIT, true),
         (vma(false, 0, false), guest, HIT, false),
-        // AV goes by the superpage of 512 pages.
+        // With AV the superpage of 512 pages counts.
         (vma(true, 0x403ff, false), host, SUPERPAGE, true),
         (vma(true, 0x403ff, false), host, HIT, false),
         (vma(true, 0x40400, false), host, SUPERPAGE, false),
@@ -280,7 +280,7 @@ fn drop_each(cache: &mut ContextCache, commands: &[Command]) {
     }
 }
 
-// Of 17 fills the first has left; IODIR drops one context, or all.
+// After 17 fills the first entry has left; IODIR drops one context, or all.
 #[test]
 fn keeps_sixteen_contexts(rt: HostRuntime) -> Result<(), Fail> {
     let mut cache = filled_contexts(rt.alloc(), 17)?;

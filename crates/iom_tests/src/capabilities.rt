@@ -5,7 +5,7 @@ use iom_asm::{AsmFault, LoadFault, assemble};
 use std::alloc::Global;
 use std::test::Fail;
 
-// A page of memory, on a machine with Svnapot alone, with each capability, and without any.
+// Images with a page of memory: with only Svnapot, with each capability, and without any.
 const ALONE: &[u8] =
     b"RVIOMMU3\0\0\0\0\0\0\0\0\0\0\0\x80\0\0\0\0\0\x10\0\0\0\0\0\0\0\0\0\0\0\0\0\0";
 
@@ -15,7 +15,7 @@ const ALL: &[u8] =
 const WITHOUT: &[u8] =
     b"RVIOMMU3\0\0\0\0\0\0\0\x01\0\0\0\x80\0\0\0\0\0\x10\0\0\0\0\0\0\0\0\0\0\0\0\0\0";
 
-// With a read-only disk, which the flags before its length tell.
+// An image with a read-only disk, which the flags before its length state.
 const WITH_DISK: &[u8] =
     b"RVIOMMU3\0\0\0\0\0\x04\0\0\0\0\0\x80\0\0\0\0\0\x10\0\0\0\0\0\0\0\0\0\0\x01\0\0\0\x05\0\0\0\x01\0\0\0\x01\0\0\0\x01\0\0\0\xaa";
 
@@ -26,12 +26,12 @@ const JUDGED: &[Judged<'static>] = &[
     (ALL, None),
     (WITHOUT, None),
     (WITH_DISK, None),
-    // The word is judged once it is whole, before the memory.
+    // The word is judged once it is complete, before the memory.
     (b"RVIOMMU3\0\0\0\0\0\0\0\xff", BAD),
     (b"RVIOMMU3\0\0\0\0\0\0\xff", Some(LoadFault::Truncated)),
 ];
 
-// Each byte of the word with its highest bit that states nothing, and 3 as the power of the vectors.
+// Each byte of the word with its highest bit that states nothing, and 3 as the exponent of the vectors.
 const CHANGED: &[Changed<'static>] = &[
     (ALONE, 8, 0x80, BAD),
     (ALONE, 9, 0x40, BAD),
@@ -76,7 +76,7 @@ const TEXTS: &[(&[u8], &[u8])] = &[
     ),
 ];
 
-// The number of the first text with another image.
+// The index of the first text with another image.
 fn otherwise_stated(alloc: Global, texts: &[(&[u8], &[u8])]) -> Option<usize> {
     for (i, (text, image)) in texts.iter().enumerate() {
         if !is_assembled(alloc, text, image) {
@@ -86,7 +86,7 @@ fn otherwise_stated(alloc: Global, texts: &[(&[u8], &[u8])]) -> Option<usize> {
     None
 }
 
-// Texts whose second line is bad, and one whose third is.
+// Texts whose second line is bad, and one whose third line is.
 const BAD_TEXTS: &[(&[u8], u64)] = &[
     (b"ram 0x80000000 0x1000\ncapabilities svnapot=1", 2),
     (b"ram 0x80000000 0x1000\ncapabilities nl=2", 2),
@@ -103,7 +103,7 @@ fn is_bad(alloc: Global, text: &[u8], line: u64) -> bool {
     assemble(alloc, text).err() == Some(AsmFault::BadLine(line))
 }
 
-// The number of the first text that isn't bad so.
+// The index of the first text with another verdict.
 fn otherwise_bad(alloc: Global, texts: &[(&[u8], u64)]) -> Option<usize> {
     for (i, (text, line)) in texts.iter().enumerate() {
         if !is_bad(alloc, text, *line) {

@@ -11,11 +11,11 @@ const END: u64 = u64::MAX;
 // Address, length, flags and next.
 type Words = (u64, u32, u16, u16);
 
-// The limit of a chain, how many parts it has that are read and then that are written, the descriptor that comes next, and
-// what is answered.
+// The limit of a chain, its numbers of device-readable and then device-writable parts, the next descriptor, and the answer
+// to it.
 type Case = (u16, u16, u16, Words, Result<More, ChainFault>);
 
-// A chain with so many parts of no bytes.
+// A chain with these numbers of parts without bytes.
 fn chain(limit: u16, read: u16, written: u16) -> Option<Chain> {
     if limit == 0 || limit > 64 {
         return None;
@@ -30,7 +30,7 @@ fn chain(limit: u16, read: u16, written: u16) -> Option<Chain> {
     Some(chain)
 }
 
-// The number of the first descriptor that is answered otherwise.
+// The index of the first descriptor with another answer.
 fn otherwise(cases: &[Case]) -> Option<usize> {
     for (i, (limit, read, written, (addr, len, flags, next), want)) in cases.iter().enumerate() {
         let Some(mut chain) = chain(*limit, *read, *written) else {
@@ -67,16 +67,16 @@ const CASES: &[Case] = &[
     (1, 0, 0, (END, 0, NEXT, 0), Ok(More::Next(0))),
 ];
 
-// Each refusal alone, then each beside all that are tested after it; corners that are no refusal.
+// Each refusal by itself, then each together with all that are tested after it; limits at which nothing is refused.
 #[test]
 fn refuses_in_order(rt: HostRuntime) {
     assert_eq!(rt; otherwise(CASES), None);
 }
 
-// A side, a position below its total, and the piece there.
+// A side, a position below its total, and the piece at it.
 type Piece = (Side, u64, (u64, u64));
 
-// The number of the first piece that is otherwise.
+// The index of the first piece that differs.
 fn otherwise_in(chain: &Chain, pieces: &[Piece]) -> Option<usize> {
     for (i, (side, position, want)) in pieces.iter().enumerate() {
         if *position >= chain.total(*side) || chain.piece(*side, *position) != *want {

@@ -8,7 +8,7 @@ use iom_regs::{DDTP, Mode, Regs};
 use std::alloc::Global;
 use std::test::Fail;
 
-// Every field set: both stages, a guest and a process.
+// A context with every field set: both stages, a guest and a process.
 const FULL: ContextFields = ContextFields {
     dtf: true,
     custom: 0xa5,
@@ -28,7 +28,7 @@ const FULL_WORDS: [u64; 4] = [
     0x8000_0000_0000_0030,
 ];
 
-// The same with four levels in both stages.
+// The same fields with four levels in both stages.
 const FOUR_LEVELS: ContextFields = ContextFields {
     gmode: 9,
     mode: 9,
@@ -42,7 +42,7 @@ const FOUR_LEVELS_WORDS: [u64; 4] = [
     0x9000_0000_0000_0030,
 ];
 
-// Whether these fields are a context's, and these its words.
+// Whether these fields are those of a context, and these its words.
 fn is_encoding(fields: ContextFields, words: [u64; 4]) -> bool {
     match (Context::new(fields), context_of(words)) {
         (Some(context), Ok(found)) => encode_context(&context) == words && found == context,
@@ -60,7 +60,7 @@ fn encodes_and_decodes(rt: HostRuntime) {
     assert_eq!(rt; first_wrong(&facts), None);
 }
 
-// Words, and the cause that they are refused for.
+// Words, and the cause for which they are refused.
 type Case = ([u64; 4], Option<Cause>);
 
 const CASES: &[Case] = &[
@@ -70,7 +70,7 @@ const CASES: &[Case] = &[
     ([0x21, 0, 0, 0], Some(Cause::DirBad)),
     ([1, 0, 2, 0], Some(Cause::DirBad)),
     ([1, 0, 0, 1 << 44], Some(Cause::DirBad)),
-    // A mode that there is not.
+    // A mode that doesn't exist.
     ([1, 0, 0, 11 << 60], Some(Cause::DirBad)),
     ([1, 11 << 60, 0, 0], Some(Cause::DirBad)),
     ([1, 0, 0, 10 << 60], None),
@@ -83,7 +83,7 @@ const CASES: &[Case] = &[
     ([1, 2, 0, 0], None),
 ];
 
-// The number of the first words that are refused otherwise.
+// The index of the first words with another verdict.
 fn otherwise(cases: &[Case]) -> Option<usize> {
     for (i, (words, want)) in cases.iter().enumerate() {
         if context_of(*words).err() != *want {
@@ -116,7 +116,7 @@ fn refusal(
     }
 }
 
-// Mode 10 of either stage is misconfigured, but where the IOMMU offers it for that stage.
+// Mode 10 of either stage is misconfigured, unless the IOMMU offers it for that stage.
 #[test]
 fn five_levels_are_offered_by_stage(rt: HostRuntime) -> Result<(), Fail> {
     let alloc = rt.alloc();

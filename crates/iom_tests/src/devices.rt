@@ -1,4 +1,4 @@
-//! Block devices behind the IOMMU: copies amid a request, its warrants, and what an unmapped page does to it.
+//! Block devices behind the IOMMU: copies in mid-request, the warrants of a request, and the effect of an unmapped page.
 
 ghost use Rattle.std.specs.Prelude.{IfOk};
 ghost use Rattle.iom_core.specs.State.{AreDevices};
@@ -67,7 +67,7 @@ const BEHIND_BOTH: [(u64, u64); 18] = [
     (0x8009_0000, 0x7002_0000_0001),
 ];
 
-// What a driver writes to the registers until the queue is ready and notified, but for the queue's addresses.
+// A driver's register writes until the queue is ready and notified, except the queue's addresses.
 const BEFORE_QUEUE: [(u64, u64); 6] = [
     (0x70, 3),
     (0x24, 1),
@@ -79,7 +79,7 @@ const BEFORE_QUEUE: [(u64, u64); 6] = [
 
 const AFTER_QUEUE: [(u64, u64); 3] = [(0x44, 1), (0x70, 0xf), (0x50, 0)];
 
-/// Device 5, with a disk of so many bytes of which the first are given. Of another size than 512, 1024 or 12288 there is none.
+/// Device 5 with a disk of this size that begins with these bytes; None for sizes other than 512, 1024 and 12288.
 pub fn devices(alloc: Global, size: usize, start: &[u8]) -> Result<Vec<(u32, Blk)>, Fail>
     ensures { IfOk result (λ devices. AreDevices devices.items) }
 {
@@ -115,7 +115,7 @@ pub fn notified(platform: &mut Platform, desc: u64, avail: u64, used: u64) {
     }
 }
 
-/// How many of so many steps of the device are done before one that is answered otherwise.
+/// How many of `count` steps of the device are done before another answer.
 pub fn moved(platform: &mut Platform, count: usize) -> usize {
     for n in 0..count {
         if platform.step(&Step::Device { dev: 0 }) != Answer::Done {
@@ -134,7 +134,7 @@ fn reading(alloc: Global) -> Result<Platform, Fail> {
     Ok(platform)
 }
 
-// The number of the first step with another warrant.
+// The index of the first step with another warrant.
 fn otherwise(alloc: Global, steps: &[Step], cases: &[Case]) -> Result<Option<usize>, Fail> {
     for case in cases {
         if !is_warranted(alloc, &WALKED_WRITE, 512, steps, *case)? {
@@ -185,7 +185,7 @@ fn first_byte(platform: &Platform) -> Option<u8> {
     }
 }
 
-// The piece before the page that isn't mapped was written to the disk.
+// The piece before the unmapped page was written to the disk.
 #[test]
 fn denied_write_leaves_its_first_pieces(rt: HostRuntime) -> Result<(), Fail> {
     let ram = memory(rt.alloc(), &WALKED_WRITE)?;
@@ -196,7 +196,7 @@ fn denied_write_leaves_its_first_pieces(rt: HostRuntime) -> Result<(), Fail> {
     Ok(())
 }
 
-// The same request of a read-only disk: its bytes stay, and the driver reads that the request failed.
+// The same request to a read-only disk: its bytes stay, and the driver reads that the request failed.
 #[test]
 fn read_only_disk_stays_behind_page_tables(rt: HostRuntime) -> Result<(), Fail> {
     let ram = memory(rt.alloc(), &WALKED_WRITE)?;
@@ -230,7 +230,7 @@ const EXPLAINED: &[Case] = &[
     (24, None),
 ];
 
-// All ten accesses used the page that the first one walked; the eleventh was denied, and the device is idle then.
+// All ten accesses used the page that the first one walked; the eleventh was denied, after which the device is idle.
 #[test]
 fn device_steps_are_explained(rt: HostRuntime) -> Result<(), Fail> {
     let steps = requesting(rt.alloc())?;
@@ -238,7 +238,7 @@ fn device_steps_are_explained(rt: HostRuntime) -> Result<(), Fail> {
     Ok(())
 }
 
-// Whether two platforms have the same bytes where the request writes, and on the disk.
+// Whether two platforms have the same bytes at the addresses that the request writes, and on the disk.
 fn are_alike(one: &Platform, other: &Platform) -> bool {
     for addr in [
         0x8004_2000,
@@ -254,7 +254,7 @@ fn are_alike(one: &Platform, other: &Platform) -> bool {
     one.disk(0) == other.disk(0)
 }
 
-// Whether a copy made after so many steps of a request goes on as its original, and neither moves the other.
+// Whether a copy made after some steps of a request goes on as its original, and neither changes the other.
 fn is_copied_after(alloc: Global, steps: usize) -> Result<bool, Fail> {
     let mut platform = reading(alloc)?;
     let before = moved(&mut platform, steps);
@@ -275,8 +275,8 @@ fn copy_amid_a_request(rt: HostRuntime) -> Result<(), Fail> {
     Ok(())
 }
 
-// A request of one or three pages behind both stages; the hart unmaps the second page of its data after so many steps, and
-// invalidates what is cached of it or not; so many steps are done before one that is answered so.
+// A request of one or three pages behind both stages; the number of steps after which the hart unmaps the second page of its data;
+// whether it then invalidates what is cached of it; how many steps are done, and the answer to the next.
 #[derive(Clone, Copy)]
 struct Request {
     pages: u64,
@@ -289,7 +289,7 @@ struct Request {
 
 const NEVER: usize = 1000;
 
-// A request, and what becomes of it.
+// A request, and its outcome.
 fn told(
     pages: u64,
     is_write: bool,
@@ -362,7 +362,7 @@ fn requested(alloc: Global, request: Request) -> Result<Platform, Fail> {
     Ok(platform)
 }
 
-// The hart takes the page at 0x40203000 away, and what is cached of the guest where that is wanted.
+// The hart unmaps the page at 0x40203000, and invalidates what is cached of the guest if `invalidated` is set.
 fn unmap(platform: &mut Platform, invalidated: bool) {
     take(platform, &[stored(0x8003_2018, 0)]);
     if invalidated {
@@ -388,7 +388,7 @@ fn are_moved(platform: &Platform, request: Request, pieces: usize) -> bool {
     true
 }
 
-// Whether a request goes as it is told. Its first six steps and the five last ones move no data.
+// Whether a request goes as its case says. Its first six steps and its last five move no data.
 fn goes(alloc: Global, request: Request) -> Result<bool, Fail> {
     let mut platform = requested(alloc, request)?;
     let mut done = moved(&mut platform, request.unmapped.min(NEVER));
@@ -419,12 +419,12 @@ fn requests_behind_both_stages(rt: HostRuntime) -> Result<(), Fail> {
         told(1, true, NEVER, false, 75, 0),
         told(3, false, NEVER, false, 203, 0),
         told(3, true, NEVER, false, 203, 0),
-        // The translation that is cached serves on, until it is invalidated.
+        // The cached translation serves on, until it is invalidated.
         told(3, false, 78, false, 203, 0),
         told(3, true, 78, false, 203, 0),
         told(3, false, 78, true, 78, 15),
         told(3, true, 78, true, 78, 13),
-        // The page was not read yet.
+        // The page wasn't read yet.
         told(3, false, 40, false, 70, 15),
     ];
     for (i, request) in requests.iter().enumerate() {

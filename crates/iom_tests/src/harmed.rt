@@ -1,4 +1,4 @@
-//! Queues laid over tables and over each other: what then was let through, and what was changed.
+//! Queues that overlap tables and each other: which accesses were granted then, and which bytes changed.
 
 use crate::warrants::{MAPPED, otherwise, read, started, stored, take, walked, written};
 use iom_core::{Platform, Step};
@@ -6,7 +6,7 @@ use iom_mem::Ram;
 use std::alloc::Global;
 use std::test::Fail;
 
-// The first word of memory that differs and doesn't begin between two addresses.
+// The first word of memory that differs, apart from those between two addresses.
 fn other_word(one: &Ram, other: &Ram, from: u64, to: u64) -> Option<u64> {
     for i in 0..0x2_0000 {
         let addr = 0x8000_0000 + 8 * i;
@@ -28,7 +28,7 @@ fn changes(before: &Ram, after: &Ram, from: u64, to: u64) -> bool {
     before.word(from) != after.word(from) && other_word(before, after, from, to).is_none()
 }
 
-// Whether the last of some steps changes the first word between two addresses, and no word that isn't there.
+// Whether the last of some steps changes the first word between two addresses, and no word outside them.
 fn last_changes(
     alloc: Global,
     words: &[(u64, u64)],
@@ -42,8 +42,8 @@ fn last_changes(
     Ok(changes(before.ram(), after.ram(), from, to))
 }
 
-// The fault queue lies on the leaf table. A page that was read before serves on by its place; the record of a denied access
-// takes the entry's place, and no other byte.
+// The fault queue overlaps the leaf table. A page that was read before serves on from its place; the record of a denied access
+// overwrites the entry, and no other byte.
 #[test]
 fn record_on_a_table(rt: HostRuntime) -> Result<(), Fail> {
     let steps = [
@@ -60,7 +60,7 @@ fn record_on_a_table(rt: HostRuntime) -> Result<(), Fail> {
     Ok(())
 }
 
-// The record of a denied read falls on a table whose page was read before; the translation that is cached serves on.
+// The record of a denied read overwrites a table whose page was read before; the cached translation serves on.
 #[test]
 fn page_read_before_its_table_was_hit(rt: HostRuntime) -> Result<(), Fail> {
     let steps = [
@@ -76,7 +76,7 @@ fn page_read_before_its_table_was_hit(rt: HostRuntime) -> Result<(), Fail> {
     Ok(())
 }
 
-// A fence stores over the command behind it: these four bytes change, and no step has a warrant.
+// A fence stores over the next command: these four bytes change, and no step has a warrant.
 #[test]
 fn fence_over_a_command(rt: HostRuntime) -> Result<(), Fail> {
     let steps = [

@@ -1,4 +1,4 @@
-//! The tests of all crates below, a file each: tables of cases as data, and the number of the first case that is otherwise.
+//! The tests of all crates below, a file each. Cases are tables of data, and a function returns the index of the first case that fails.
 #![tactic(auto)]
 
 #[cfg(test)]
@@ -48,7 +48,7 @@ mod walk;
 #[cfg(test)]
 mod warrants;
 
-// The number of the first fact that isn't so.
+// The index of the first fact that doesn't hold.
 #[cfg(test)]
 fn first_wrong(facts: &[bool]) -> Option<usize> {
     for (i, fact) in facts.iter().enumerate() {

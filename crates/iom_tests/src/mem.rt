@@ -6,10 +6,10 @@ const BASE: u64 = 0x8000_0000;
 
 const PHYSICAL_END: u64 = 1 << 56;
 
-// A base and a size, and why there is no such memory.
+// A base and a size, and why there is no such memory; None if there is.
 type Case = (u64, u64, Option<MemFault>);
 
-// The number of the first memory that is refused otherwise.
+// The index of the first memory with another verdict.
 fn otherwise(alloc: Global, cases: &[Case]) -> Option<usize> {
     for (i, (base, size, want)) in cases.iter().enumerate() {
         if Ram::new(alloc, *base, *size).err() != *want {
@@ -38,18 +38,18 @@ fn refuses_in_order(rt: HostRuntime) {
     assert_eq!(rt; otherwise(rt.alloc(), CASES), None);
 }
 
-// What is done at an address, and what it gives.
+// An access at an address, and its result.
 enum Access<'a> {
-    // The bytes, and whether they are taken.
+    // A write of these bytes, and whether it is done.
     Write(u64, &'a [u8], bool),
-    // The bytes that are there.
+    // A read that gives these bytes.
     Read(u64, &'a [u8]),
-    // Four bytes are refused, and left as they were.
+    // A read of four bytes that is refused, and leaves its buffer.
     NoRead(u64),
     Word(u64, Option<u64>),
-    // The words that are there.
+    // A read that gives these words.
     Words(u64, &'a [u64]),
-    // Two words are refused, and left as they were.
+    // A read of two words that is refused, and leaves its buffer.
     NoWords(u64),
 }
 
@@ -81,7 +81,7 @@ fn refuses_words(ram: &Ram, addr: u64) -> bool {
     !ram.words(addr, &mut out) && out == [7; 2]
 }
 
-// Whether an access goes as it should.
+// Whether an access has its result.
 fn goes(ram: &mut Ram, access: &Access<'_>) -> bool {
     match access {
         Access::Write(addr, bytes, is_taken) => ram.write(*addr, bytes) == *is_taken,
@@ -93,7 +93,7 @@ fn goes(ram: &mut Ram, access: &Access<'_>) -> bool {
     }
 }
 
-// The number of the first access that goes otherwise.
+// The index of the first access with another result.
 fn otherwise_done(ram: &mut Ram, accesses: &[Access<'_>]) -> Option<usize> {
     for (i, access) in accesses.iter().enumerate() {
         if !goes(ram, access) {
@@ -135,7 +135,7 @@ fn same(ram: &Ram, list: &[u8]) -> bool {
     true
 }
 
-// Whether a write changes the memory as it changes a list, and a read gives the bytes back.
+// Whether a write changes the memory as it changes a list, and a read returns the bytes.
 fn agrees(ram: &mut Ram, list: &mut [u8], at: usize, bytes: &[u8]) -> bool {
     let addr = BASE.wrapping_add(at as u64);
     let mut out = [0; 20];
@@ -151,8 +151,8 @@ fn agrees(ram: &mut Ram, list: &mut [u8], at: usize, bytes: &[u8]) -> bool {
     *out == *bytes && same(ram, list)
 }
 
-// Whether each write of 1 to 20 bytes does so whose first byte is that many bytes from the start of memory, and whose
-// last byte is that many from its end.
+// Whether that holds of each write of 1 to 20 bytes whose first byte is this number of bytes after the start of memory, and of
+// each whose last byte is this number before its end.
 fn agree_at(ram: &mut Ram, list: &mut [u8], offset: u8) -> bool {
     let bytes: [u8; 20] = [
         1, 2, 3, 4, 5, 6, 7, 8, 9, 10, 11, 12, 13, 14, 15, 16, 17, 18, 19, 20,
@@ -203,7 +203,7 @@ const BY_WORDS: &[Access<'static>] = &[
     Access::Words(0, &[]),
 ];
 
-// All of memory as words, the first and the last of which were written.
+// All of memory as words, after writes to the first and the last.
 fn has_ends(words: &[u64]) -> bool {
     words.len() == 0x200
         && words.first() == Some(&0x0807_0605_0403_0201)

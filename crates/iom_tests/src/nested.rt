@@ -35,10 +35,10 @@ const TABLES: &[(u64, u64)] = &[
 // The second stage as one page of 1 GiB, whose first byte is that of memory.
 const SECOND_WHOLE: (u64, u64) = (0x8002_0000, 0x2000_00d7);
 
-// The same without W and D.
+// The same page without W and D.
 const SECOND_READ_ONLY: (u64, u64) = (0x8002_0000, 0x2000_0053);
 
-// The second stage of small pages: the guest's pages 0x30 and 0x31 are the frames 0x80030 and 0x80031.
+// The second stage with small pages: the guest's pages 0x30 and 0x31 are the frames 0x80030 and 0x80031.
 const SECOND_SMALL: &[(u64, u64)] = &[
     (0x8002_0000, 0x80024 << 10 | 1),
     (0x8002_4000, 0x80025 << 10 | 1),
@@ -71,7 +71,7 @@ type Found = (ContextFields, u64, Kind, u64, u8, bool);
 // An IOVA under a context; the cause and iotval2 of the fault.
 type Failure = (ContextFields, u64, Kind, Cause, u64);
 
-// What an IOVA leads to under a context; None where the context has no stage or isn't well formed.
+// The hit or the fault of an IOVA under a context; None if the context has no stage or isn't well formed.
 fn led(ram: &Ram, fields: &ContextFields, iova: u64, kind: Kind) -> Option<Result<Hit, Fault>> {
     let context = Context::new(*fields)?;
     if context.is_bare() {
@@ -80,7 +80,7 @@ fn led(ram: &Ram, fields: &ContextFields, iova: u64, kind: Kind) -> Option<Resul
     Some(translate(ram, Features::none(), &context, iova, kind))
 }
 
-// The number of the first that is otherwise.
+// The index of the first translation with another hit.
 fn found_otherwise(ram: &Ram, cases: &[Found]) -> Option<usize> {
     for (i, (context, iova, kind, frame, level, global)) in cases.iter().enumerate() {
         match led(ram, context, *iova, *kind) {
@@ -91,7 +91,7 @@ fn found_otherwise(ram: &Ram, cases: &[Found]) -> Option<usize> {
     None
 }
 
-// The number of the first translation that fails otherwise.
+// The index of the first translation with another fault.
 fn failing_otherwise(ram: &Ram, cases: &[Failure]) -> Option<usize> {
     for (i, (context, iova, kind, cause, iotval2)) in cases.iter().enumerate() {
         let fault = Fault {
@@ -105,7 +105,7 @@ fn failing_otherwise(ram: &Ram, cases: &[Failure]) -> Option<usize> {
     None
 }
 
-// The first hit and the first fault that are otherwise, in a memory that has these words.
+// The indexes of the first hit and the first fault that differ, in a memory with these words.
 fn otherwise(
     alloc: Global,
     words: &[(u64, u64)],
@@ -124,21 +124,21 @@ const BARE_SECOND: ContextFields = ContextFields { gmode: 0, ..BOTH };
 
 const BARE_FIRST: ContextFields = ContextFields { mode: 0, ..BOTH };
 
-// The first stage alone, with its root in memory.
+// Only the first stage, with its root in memory.
 const FIRST: ContextFields = ContextFields {
     gmode: 0,
     ppn: 0x80030,
     ..BOTH
 };
 
-// The second stage's root outside memory.
+// The root of the second stage is outside memory.
 const OUTSIDE: ContextFields = ContextFields {
     gppn: 0x4000,
     ..BOTH
 };
 
 const OF_EMPTY: &[Failure] = &[
-    // An entry of the first stage, and one of the second while an entry of the first is read.
+    // An entry of the first stage, and one of the second stage for an entry of the first.
     (
         BARE_SECOND,
         0x1000,
@@ -210,7 +210,7 @@ const OF_WHOLE: &[Failure] = &[
     ),
 ];
 
-// Faults of both stages, where no table is in memory and where all are.
+// Faults of both stages, with no table in memory and with all of them.
 #[test]
 fn each_failure(rt: HostRuntime) -> Result<(), Fail> {
     let nowhere = (0x8003_0000, 0);
@@ -231,7 +231,7 @@ const HITS: &[Found] = &[
     (BOTH, 0x4045_6abc, Kind::Read, 0x80256, 1, false),
 ];
 
-// Under a second stage for reads alone entries are read, and the write is refused.
+// Under a read-only second stage entries are read, and the write is refused.
 const READ: &[Found] = &[(BOTH, 0x4020_1abc, Kind::Read, 0x80040, 0, false)];
 
 const WRITTEN: &[Failure] = &[(
@@ -253,7 +253,7 @@ const BEYOND_SMALL: &[Failure] = &[(
     0x25_7abc,
 )];
 
-// Pages and superpages, under a second stage that is whole, for reads alone or of small pages.
+// Pages and superpages, under a second stage that is whole, read-only, or of small pages.
 #[test]
 fn hits(rt: HostRuntime) -> Result<(), Fail> {
     let alloc = rt.alloc();
@@ -391,7 +391,7 @@ fn stages_of_five_levels(rt: HostRuntime) -> Result<(), Fail> {
     Ok(())
 }
 
-// Where an IOVA leads on an IOMMU with Svnapot: the frame, and whether the first stage's leaf is one of 64 KiB.
+// The result of an IOVA on an IOMMU with Svnapot: the frame, and whether the first stage's leaf maps 64 KiB.
 fn with_svnapot(ram: &Ram, iova: u64) -> Option<(u64, bool)> {
     let features = Features {
         svnapot: true,
@@ -407,7 +407,7 @@ fn with_svnapot(ram: &Ram, iova: u64) -> Option<(u64, bool)> {
     }
 }
 
-// Leaves of 64 KiB: one of the first stage, whose hits say so, and one of the second.
+// Leaves of 64 KiB: one of the first stage, whose hits show it, and one of the second.
 #[test]
 fn leaves_of_64_kib(rt: HostRuntime) -> Result<(), Fail> {
     let mut whole = memory(rt.alloc(), TABLES, SECOND_WHOLE)?;
@@ -423,7 +423,7 @@ fn leaves_of_64_kib(rt: HostRuntime) -> Result<(), Fail> {
     Ok(())
 }
 
-// What the guest has at an address, under a context that has a second stage.
+// The guest's word at an address, under a context with a second stage.
 fn guest_word(ram: &Ram, addr: u64) -> Option<Got> {
     let context = Context::new(BOTH)?;
     if second_shape(&context).is_none() {
@@ -432,7 +432,7 @@ fn guest_word(ram: &Ram, addr: u64) -> Option<Got> {
     Some(Second::new(ram, Features::none(), &context).word(addr))
 }
 
-// A word of the guest's memory, one outside memory and one that the second stage doesn't map.
+// A word of the guest's memory, one outside memory, and one that the second stage doesn't map.
 #[test]
 fn guest_memory(rt: HostRuntime) -> Result<(), Fail> {
     let whole = memory(rt.alloc(), TABLES, SECOND_WHOLE)?;

@@ -1,4 +1,4 @@
-//! What a platform's features change of a device's access.
+//! The effect of a platform's features on a device's access.
 
 use crate::first_wrong;
 use crate::warrants::{MAPPED, memory, read, stored, take, written};
@@ -7,7 +7,7 @@ use iom_core::{Answer, Platform};
 use std::alloc::Global;
 use std::test::Fail;
 
-// What device 5 reads at IOVA 0x40201abc on an IOMMU with these features, after this store.
+// The answer to device 5's read at IOVA 0x40201abc on an IOMMU with these features, after this store.
 fn answer(alloc: Global, features: Features, addr: u64, word: u64) -> Result<Answer, Fail> {
     let ram = memory(alloc, &MAPPED)?;
     let mut platform = Platform::with_features(alloc, ram, Vec::new(alloc), features)?;

@@ -1,4 +1,4 @@
-//! Scripts from an image on.
+//! Scripts that are played from an image.
 
 use iom_asm::{Item, LoadFault, assemble, built_in};
 use iom_core::Platform;
@@ -9,7 +9,7 @@ use std::cell::RefCell;
 use std::io::{self, BufWriter, Error, ErrorKind, Read, Write};
 use std::test::Fail;
 
-// Device 5 with a first stage whose page tables lead page 0x40201 to page 0x80010, where bytes stand.
+// Device 5 with a first stage whose page tables map page 0x40201 to page 0x80010, which holds some bytes.
 const MAPPED: &[u8] = b"ram 0x80000000 0x100000
 at 0x800010a0
 context mode=8 ppn=0x80002
@@ -37,7 +37,7 @@ fn is_cached(platform: &Platform) -> bool {
     platform.ram().word(0x8000_4008) == Some(0) && platform.contexts().find(5).is_some()
 }
 
-/// What a reader's script leaves on an image, its answers written to a writer.
+/// The end of a reader's script on an image, its answers written to a writer.
 pub fn played<R: Read, W: Write>(
     alloc: Global,
     image: &[u8],
@@ -49,7 +49,7 @@ pub fn played<R: Read, W: Write>(
     play(alloc, image, &mut reader, &mut writer)
 }
 
-// Whether the script is answered on this image, and its context cached at the end.
+// Whether the script has these answers on this image, and its context is cached at the end.
 fn is_played(alloc: Global, image: &[u8]) -> Result<bool, Fail> {
     let mut script = SCRIPT;
     let mut answers = Vec::new(alloc);
@@ -58,7 +58,7 @@ fn is_played(alloc: Global, image: &[u8]) -> Result<bool, Fail> {
     Ok(answers.as_slice() == ANSWERS && is_cached(&played.platform))
 }
 
-// The same by the buffer of the programs, which holds no answer at the end.
+// As `is_played`, through the buffer of the programs, which holds no answer at the end.
 fn is_played_by_blocks(alloc: Global, image: &[u8]) -> Result<bool, Fail> {
     let mut script = SCRIPT;
     let mut answers = BufWriter::with_capacity(alloc, WRITE_BLOCK, Vec::new(alloc))?;
@@ -84,12 +84,12 @@ const ASKED: &[(&[u8], &[u8])] = &[
     (b"dma read 5 0x40201abc 2\n", b"1122\n"),
 ];
 
-// That script: a part is given where all answers to those before are seen. Else it ends; behind the last part a read fails.
+// That script: a part is given once all answers to those before are seen, else the script ends; after the last part a read fails.
 #[derive(Drop)]
 struct Asking<'a> {
-    // how many parts are given
+    // how many parts were given
     given: usize,
-    // how many bytes of answers are to be seen
+    // how many bytes of answers have to be seen
     wanted: usize,
     seen: &'a RefCell<Vec<u8>>,
 }
@@ -113,7 +113,7 @@ impl Read for Asking<'_> {
     }
 }
 
-// What is seen of the answers.
+// The answers as they are seen.
 #[derive(Drop)]
 struct Seeing<'a> {
     seen: &'a RefCell<Vec<u8>>,
@@ -132,7 +132,7 @@ impl Write for Seeing<'_> {
     }
 }
 
-// How a script ends through the buffer of the programs that is given by what is seen of its answers.
+// The end of a script through the buffer of the programs, with parts given as their answers are seen.
 fn asked(alloc: Global, image: &[u8]) -> Result<Result<(), RunFault>, Fail> {
     let seen = RefCell::new(Vec::new(alloc));
     let seen = &seen;
@@ -145,7 +145,7 @@ fn asked(alloc: Global, image: &[u8]) -> Result<Result<(), RunFault>, Fail> {
     Ok(played(alloc, image, &mut script, &mut answers)?.ended)
 }
 
-// Each part is given, and so is the read that fails.
+// Each part is given, and then the read fails.
 #[test]
 fn each_answer_is_seen_before_more_is_read(rt: HostRuntime) -> Result<(), Fail> {
     let image = assemble(rt.alloc(), MAPPED)?;
@@ -186,7 +186,7 @@ const NAMES: &[(&[u8], Option<Item>)] = &[
     (b"", None),
 ];
 
-// The number of the first name that names another item.
+// The index of the first name that names another item.
 fn named_otherwise(names: &[(&[u8], Option<Item>)]) -> Option<usize> {
     for (i, (name, item)) in names.iter().enumerate() {
         if Item::named(name) != *item {

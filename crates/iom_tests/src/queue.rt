@@ -74,7 +74,7 @@ const ORDERED: Command = Command::Fence {
 
 const IODIR: Command = Command::Iodir { dv: true, did: 5 };
 
-// The words of these commands, put together by hand.
+// The words of these commands, encoded by hand.
 const VMA_WORDS: [u64; 2] = [0x0fff_f003_ffff_f401, 0x1008_0400];
 
 const GVMA_WORDS: [u64; 2] = [0x0000_7006_0000_1081, 0x3fff_ffff_ffff_fe00];
@@ -89,7 +89,7 @@ const ORDERED_WORDS: [u64; 2] = [0x1802, 0x3fff_ffff_ffff_ffff];
 
 const IODIR_WORDS: [u64; 2] = [0x502_0000_0003, 0];
 
-// The number of the first words that stand for another command.
+// The index of the first words that decode to another command.
 fn otherwise(encodings: &[(Command, [u64; 2])]) -> Option<usize> {
     for (i, (command, words)) in encodings.iter().enumerate() {
         if decode_command(*words) != Some(*command) {
@@ -99,7 +99,7 @@ fn otherwise(encodings: &[(Command, [u64; 2])]) -> Option<usize> {
     None
 }
 
-// The first words that are a command.
+// The index of the first words that are a command.
 fn decoded(words: &[[u64; 2]]) -> Option<usize> {
     for (i, pair) in words.iter().enumerate() {
         if decode_command(*pair).is_some() {
@@ -188,7 +188,7 @@ fn denial(kind: Kind) -> Record {
     Record::of_denial(Cause::TooWide, kind, 0x80, 0x1000, 0)
 }
 
-// Causes, and whether they are recorded with DTF set; without it all are.
+// Causes, and whether they are reported with DTF set; without it all are.
 fn otherwise_reported(causes: &[(Cause, bool)]) -> Option<usize> {
     for (i, (cause, always)) in causes.iter().enumerate() {
         if !is_reported(*cause, false) || is_reported(*cause, true) != *always {
@@ -239,7 +239,7 @@ enum Event {
     Deliver,
 }
 
-// What fqt and fqcsr show after each event.
+// fqt and fqcsr after each event.
 fn otherwise_shown(
     registers: &mut Regs,
     ram: &mut Ram,
@@ -257,7 +257,7 @@ fn otherwise_shown(
     None
 }
 
-// The first number that isn't in memory, from its base on.
+// The index of the first number that isn't in memory, from its base on.
 fn otherwise_stored(ram: &Ram, words: &[u64]) -> Option<usize> {
     for (i, word) in words.iter().enumerate() {
         if ram.word(BASE + 8 * i as u64) != Some(*word) {
@@ -279,7 +279,7 @@ const EVENTS: &[(Event, u64, u64)] = &[
     (Event::Deliver, 1, 0x1_0201),
     (Event::Write(76, 0x201), 1, 0x1_0001),
     (Event::Deliver, 0, 0x1_0001),
-    // the same beyond memory: full comes first
+    // the same beyond memory: the full queue is found first
     (Event::Write(76, 0), 0, 0),
     (Event::Write(40, 0x2000_0400), 0, 0),
     (Event::Write(76, 1), 0, 0x1_0001),
@@ -313,9 +313,9 @@ fn records_are_delivered(rt: HostRuntime) -> Result<(), Fail> {
 
 #[derive(Clone, Copy)]
 enum Change {
-    // Four bytes at an offset.
+    // Writes four bytes at an offset.
     Write(u64, u64),
-    // So many commands are passed.
+    // Passes this number of commands.
     Pass(u32),
     Fence,
     Illegal,
@@ -337,7 +337,7 @@ fn make(registers: &mut Regs, change: Change) {
     }
 }
 
-// What is fetched after each change.
+// The fetch after each change.
 fn otherwise_fetched(
     registers: &mut Regs,
     ram: &Ram,
@@ -367,7 +367,7 @@ const CHANGES: &[(Change, Fetch)] = &[
     (Change::Pass(1), Fetch::Fault),
 ];
 
-// What the command unit finds after each change of the registers.
+// The state of the command unit after each change of the registers.
 #[test]
 fn commands_are_fetched(rt: HostRuntime) -> Result<(), Fail> {
     let mut ram = Ram::new(rt.alloc(), BASE, 0x1000)?;
@@ -380,7 +380,7 @@ fn commands_are_fetched(rt: HostRuntime) -> Result<(), Fail> {
     Ok(())
 }
 
-// What an IOMMU with these features finds in two words at the head.
+// The fetch of two words at the head by an IOMMU with these features.
 fn fetched(alloc: Global, features: Features, words: [u64; 2]) -> Result<Fetch, Fail> {
     let mut ram = Ram::new(alloc, BASE, 0x1000)?;
     for (i, word) in words.iter().enumerate() {
@@ -401,7 +401,7 @@ fn offering(nl: bool, s: bool) -> Features {
     features
 }
 
-// NL and S are operands with their capability, and reserved without.
+// NL and S are operands with their capability, and reserved without it.
 #[test]
 fn operands_by_capability(rt: HostRuntime) -> Result<(), Fail> {
     let cases = [

@@ -1,6 +1,6 @@
-//! Each call that takes memory, with ample memory and, by tests/refused_memory.sh, with one allocation refused: that call then
-//! answers its own fault, in which the test ends. Each test takes so many allocations before that those of its calls are the
-//! thirteenth to the fifteenth.
+//! Each call that takes memory, with ample memory and, by tests/refused_memory.sh, with one allocation refused: that call then returns
+//! its own fault, with which the test ends. Each test first makes so many allocations that those of its calls are the thirteenth to the
+//! fifteenth.
 
 use crate::blk_requests::with_disk;
 use crate::devices::devices;
@@ -15,7 +15,7 @@ use iom_tool::Trace;
 use std::alloc::{AllocError, Global};
 use std::test::Fail;
 
-// Takes so many allocations.
+// Makes `count` allocations.
 fn spend(alloc: Global, count: usize) -> Result<(), AllocError> {
     for _ in 0..count {
         let _spare = Vec::from_slice(alloc, &[0_u8])?;
@@ -25,7 +25,7 @@ fn spend(alloc: Global, count: usize) -> Result<(), AllocError> {
 
 const BASE: u64 = 0x8000_0000;
 
-// Whether the answers are those of a read of what was stored.
+// Whether the answers are those of a read of stored bytes.
 fn are_expected(answers: &[Answer]) -> bool {
     match answers {
         [Answer::Done, Answer::Done, Answer::Bytes(bytes)] => {
@@ -84,7 +84,7 @@ fn caches_and_a_trace_are_made(rt: HostRuntime) -> Result<(), Fail> {
     Ok(())
 }
 
-// To explain a step takes one copy of the platform, of three allocations.
+// `explain` of a step takes one copy of the platform, of three allocations.
 #[test]
 fn copy_for_the_steps(rt: HostRuntime) -> Result<(), Fail> {
     spend(rt.alloc(), 9)?;
@@ -94,7 +94,7 @@ fn copy_for_the_steps(rt: HostRuntime) -> Result<(), Fail> {
     Ok(())
 }
 
-// Device 5 reads through its tables, and its page is mapped no more.
+// Device 5 reads through its tables, and then its page is unmapped.
 fn read_and_unmap(platform: &mut Platform) {
     let steps = [
         written(16, 8, 0x2000_0402),
@@ -116,7 +116,7 @@ fn is_done(platform: &mut Platform, step: Step) -> bool {
     platform.step(&step) == Answer::Done
 }
 
-// The byte that the device reads; None where it reads none.
+// The byte that the device reads; None if it reads none.
 fn byte_read(platform: &mut Platform) -> Option<u8> {
     match platform.step(&read(0x4020_1abc)) {
         Answer::Bytes(bytes) => bytes.as_slice().first().copied(),
@@ -124,7 +124,7 @@ fn byte_read(platform: &mut Platform) -> Option<u8> {
     }
 }
 
-// Both read by what was cached when the copy was made; then each goes its own way.
+// Both read through the entries that were cached when the copy was made; then each changes by itself.
 fn go_apart(original: &mut Platform, copy: &mut Platform) -> Option<usize> {
     let facts = [
         byte_read(copy) == Some(0x11),
@@ -190,7 +190,7 @@ fn platform_with_a_device_is_copied(rt: HostRuntime) -> Result<(), Fail> {
 const IMAGE: &[u8] =
     b"RVIOMMU1\x00\x00\x00\x80\x00\x00\x00\x00\x00\x00\x10\x00\x00\x00\x00\x00\x00\x00\x00\x00\x01\x00\x00\x00\x05\x00\x00\x00\x02\x00\x00\x00\x03\x00\x00\x00\xc0\xff\xee";
 
-// The same in version 3.
+// The same image in version 3.
 const UPGRADED: &[u8] =
     b"RVIOMMU3\x00\x00\x00\x00\x00\x00\x00\x01\x00\x00\x00\x80\x00\x00\x00\x00\x00\x00\x10\x00\x00\x00\x00\x00\x00\x00\x00\x00\x01\x00\x00\x00\x05\x00\x00\x00\x02\x00\x00\x00\x00\x00\x00\x00\x03\x00\x00\x00\xc0\xff\xee";
 
@@ -213,7 +213,7 @@ fn caches_are_made_for_an_image(rt: HostRuntime) -> Result<(), Fail> {
     Ok(())
 }
 
-// Whether an empty script is played after so many allocations.
+// Whether an empty script is played after this number of allocations.
 fn is_played_after(alloc: Global, spent: usize) -> Result<bool, Fail> {
     spend(alloc, spent)?;
     let mut script: &[u8] = b"";
@@ -222,7 +222,7 @@ fn is_played_after(alloc: Global, spent: usize) -> Result<bool, Fail> {
     Ok(played.ended.is_ok())
 }
 
-// Playing takes what loading takes, and the trace.
+// Playing takes those of loading, and one for the trace.
 #[test]
 fn image_is_played(rt: HostRuntime) -> Result<(), Fail> {
     assert!(rt; is_played_after(rt.alloc(), 12)?);
@@ -254,7 +254,7 @@ fn image_is_written(rt: HostRuntime) -> Result<(), Fail> {
     Ok(())
 }
 
-// An upgrade takes one, for all of the new image.
+// An upgrade takes one, for the whole new image.
 #[test]
 fn image_is_upgraded(rt: HostRuntime) -> Result<(), Fail> {
     spend(rt.alloc(), 12)?;
@@ -263,7 +263,7 @@ fn image_is_upgraded(rt: HostRuntime) -> Result<(), Fail> {
     Ok(())
 }
 
-// A listing grows as its lines come.
+// A listing grows with its lines.
 #[test]
 fn items_are_listed(rt: HostRuntime) -> Result<(), Fail> {
     spend(rt.alloc(), 11)?;
@@ -273,7 +273,7 @@ fn items_are_listed(rt: HostRuntime) -> Result<(), Fail> {
     Ok(())
 }
 
-// Whether a copy of the memory is the same.
+// Whether a copy of the memory is equal to it.
 fn is_memory_copied(alloc: Global, platform: &Platform) -> Result<bool, AllocError> {
     let copy = platform.ram().try_clone(alloc)?;
     Ok(
@@ -301,7 +301,7 @@ fn are_contexts_copied(alloc: Global, platform: &Platform) -> Result<bool, Alloc
     Ok(same_contexts(&copy, platform.contexts()))
 }
 
-// Whether copies of memory and caches are the same.
+// Whether copies of memory and caches are equal to them.
 fn are_parts_copied(alloc: Global) -> Result<bool, Fail> {
     let platform = read_once(alloc)?;
     Ok(

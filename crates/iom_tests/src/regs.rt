@@ -1,7 +1,7 @@
 use iom_bits::{Features, Vectors};
 use iom_regs::{Mode, Queue, Regs, Which};
 
-// A read's number; 0 for a write that is taken; None for what is refused.
+// The number that a read gives; 0 for a write that is legal; None for an access that is refused.
 fn access(regs: &mut Regs, is_write: bool, off: u64, size: u64, value: u64) -> Option<u64> {
     if !is_write {
         return regs.read(off, size);
@@ -16,10 +16,10 @@ fn access(regs: &mut Regs, is_write: bool, off: u64, size: u64, value: u64) -> O
     }
 }
 
-// An offset, a size, what is written there, and what is read there then.
+// An offset, a size, the value to write there, and the value read there afterwards.
 type Written = (u64, u64, u64, u64);
 
-// The number of the first write after which something else is read.
+// The index of the first write after which another value is read.
 fn otherwise_written(regs: &mut Regs, writes: &[Written]) -> Option<usize> {
     for (i, (off, size, value, want)) in writes.iter().enumerate() {
         access(regs, true, *off, *size, *value);
@@ -30,7 +30,7 @@ fn otherwise_written(regs: &mut Regs, writes: &[Written]) -> Option<usize> {
     None
 }
 
-// The first offset and size that are taken.
+// The first offset and size that are legal.
 fn taken(regs: &mut Regs, accesses: &[(u64, u64)]) -> Option<usize> {
     for (i, (off, size)) in accesses.iter().enumerate() {
         if access(regs, false, *off, *size, 0).is_some() {
@@ -45,7 +45,7 @@ fn taken(regs: &mut Regs, accesses: &[(u64, u64)]) -> Option<usize> {
 
 #[derive(Clone, Copy)]
 enum Event {
-    // Four bytes at an offset.
+    // Writes four bytes at an offset.
     Write(u64, u64),
     Command,
     Cqmf,
@@ -72,7 +72,7 @@ fn happen(regs: &mut Regs, event: Event) {
     }
 }
 
-// Whether cqcsr, fqcsr, ipsr, cqh and fqt show these.
+// Whether cqcsr, fqcsr, ipsr, cqh and fqt have these values.
 fn shows(regs: &Regs, [cqcsr, fqcsr, ipsr, cqh, fqt]: [u64; 5]) -> bool {
     regs.read(72, 4) == Some(cqcsr)
         && regs.read(76, 4) == Some(fqcsr)
@@ -81,7 +81,7 @@ fn shows(regs: &Regs, [cqcsr, fqcsr, ipsr, cqh, fqt]: [u64; 5]) -> bool {
         && regs.read(52, 4) == Some(fqt)
 }
 
-// The number of the first event after which the registers show something else.
+// The index of the first event after which the registers have other values.
 fn otherwise_shown(regs: &mut Regs, events: &[(Event, [u64; 5])]) -> Option<usize> {
     for (i, (event, want)) in events.iter().enumerate() {
         happen(regs, *event);
@@ -118,7 +118,7 @@ const WRITES: &[Written] = &[
     (44, 4, 5, 0),
 ];
 
-// What is of no row.
+// Accesses outside every row.
 const REFUSED: &[(u64, u64)] = &[(0, 2), (2, 4), (4, 8), (8, 8), (72, 8), (80, 8), (4096, 4)];
 
 const EVENTS: &[(Event, [u64; 5])] = &[
@@ -154,7 +154,7 @@ const FAULTS: Queue = Queue {
     tail: 1,
 };
 
-// The directory and both queues after these.
+// The directory and both queues after these writes.
 fn is_seen_so(regs: &Regs) -> bool {
     regs.mode() == Mode::Levels(3)
         && regs.root() == 0x8_0001

@@ -1,4 +1,4 @@
-//! Images with one byte replaced by 0xff: each that is accepted is loaded, and its device driven to the end of its request.
+//! Images with one byte replaced by 0xff: each one that is accepted is loaded, and its device is driven to the end of its request.
 
 use crate::asm::{REQUEST, with_byte};
 use crate::devices::moved;
@@ -8,13 +8,13 @@ use iom_core::{Answer, Platform, Step};
 use std::alloc::Global;
 use std::test::Fail;
 
-// More steps than any of the requests takes.
+// More steps than any of the requests needs.
 const MANY: usize = 100;
 
-// How many steps are done before one that is answered otherwise, and then the device's status and that of the request.
+// How many steps are done before another answer, and then the device's status and that of the request.
 type Ending = (usize, Option<u64>, Option<u64>);
 
-// How many accepted images follow each other that end so.
+// The number of consecutive accepted images with the same end, and that end.
 type Driven = (usize, Ending);
 
 const DRIVEN: &[Driven] = &[
@@ -51,7 +51,7 @@ const DRIVEN: &[Driven] = &[
     (13, (21, Some(0xf), Some(0))),
 ];
 
-// How the accepted image that comes behind so many others is to end.
+// The expected end of the accepted image with this index.
 fn ending_of(driven: &[Driven], accepted: usize) -> Option<Ending> {
     let mut left = accepted;
     for (count, ending) in driven {
@@ -70,7 +70,7 @@ fn value(platform: &mut Platform, step: Step) -> Option<u64> {
     }
 }
 
-// Drives the device of an image through its request.
+// Drives the device of an image to the end of its request.
 fn ending(alloc: Global, image: &[u8]) -> Result<Ending, Fail> {
     let mut platform = notified_on(alloc, image)?;
     let steps = moved(&mut platform, MANY);
@@ -87,7 +87,7 @@ fn ending(alloc: Global, image: &[u8]) -> Result<Ending, Fail> {
     Ok((steps, shown, value(&mut platform, answered)))
 }
 
-// How many images are accepted, where each ends as it is told; None where one doesn't.
+// How many images are accepted; None if one of them has another end than expected.
 fn accepted(alloc: Global, image: &[u8], driven: &[Driven]) -> Result<Option<usize>, Fail> {
     let mut accepted: usize = 0;
     for at in 0..image.len() {

@@ -1,11 +1,11 @@
-//! A script in pieces.
+//! Scripts in pieces.
 
 use crate::tool::{ANSWERS, Limits, MANY, SCRIPT, Sink, WELL, is_read_once, is_whole, small};
 use iom_tool::{Feeder, RunFault, Trace};
 use std::alloc::{AllocError, Global};
 use std::test::Fail;
 
-// How a script given in pieces ended, and what it wrote.
+// The end of a script given in pieces, and its output.
 #[derive(Drop)]
 struct Fed {
     ended: Result<(), RunFault>,
@@ -19,7 +19,7 @@ fn feed_all(feeder: &mut Feeder, pieces: &[&[u8]], writer: &mut Sink) -> Result<
     Ok(())
 }
 
-// How a script ends that is given in these pieces, and what it wrote.
+// The end of a script given in these pieces, and its output.
 fn feed_pieces(alloc: Global, pieces: &[&[u8]]) -> Result<Fed, Fail> {
     let mut platform = small(alloc)?;
     let mut trace = Trace::new(alloc)?;
@@ -45,7 +45,7 @@ fn is_fed(alloc: Global, pieces: &[&[u8]], answers: &[u8]) -> Result<bool, Fail>
     Ok(all.ended.is_ok() && all.written.as_slice() == answers)
 }
 
-// A script in two pieces is answered as it is whole.
+// A script in two pieces has the answers of the whole script.
 #[test]
 fn cut_in_two_at_every_byte(rt: HostRuntime) -> Result<(), Fail> {
     for at in 0..=SCRIPT.len() {
@@ -58,7 +58,7 @@ fn cut_in_two_at_every_byte(rt: HostRuntime) -> Result<(), Fail> {
     Ok(())
 }
 
-// A script byte by byte is answered as it is whole.
+// A script given byte by byte has the answers of the whole script.
 #[test]
 fn cut_into_single_bytes(rt: HostRuntime) -> Result<(), Fail> {
     let mut pieces = Vec::new(rt.alloc());
@@ -76,7 +76,7 @@ fn long_line(alloc: Global) -> Result<Vec<u8>, AllocError> {
     Ok(line)
 }
 
-// Whether the line is answered where it is cut after so many bytes, and is too long with one byte more.
+// Whether the line is answered if it is cut after this number of bytes, and is too long with one byte more.
 fn is_long_fed(alloc: Global, line: &[u8], at: usize) -> Result<bool, Fail> {
     let (first, second) = line.split_at_checked(at).ok_or("a shorter line")?;
     Ok(
@@ -95,7 +95,7 @@ fn line_over_two_pieces(rt: HostRuntime) -> Result<(), Fail> {
     Ok(())
 }
 
-// A reader that gives all that it is asked for is asked twice: for the script, and for what follows.
+// A reader that fills each buffer is asked twice: for the script, and for its end.
 #[test]
 fn two_reads(rt: HostRuntime) -> Result<(), Fail> {
     assert!(rt; is_whole(rt.alloc(), Limits { reads: 2, ..WELL })?);
@@ -107,7 +107,7 @@ fn is_write_fault(ended: Result<(), RunFault>) -> bool {
     ended == Err(RunFault::Write)
 }
 
-// A write that fails is told from then on, and nothing more is written.
+// A failed write is reported from then on, and nothing more is written.
 fn stays_failed(mut feeder: Feeder<'_>, writer: &mut Sink) -> bool {
     writer.calls = 0;
     let first = is_write_fault(feeder.feed(b"cmd\n", writer));

@@ -1,4 +1,4 @@
-//! A bus of bytes that takes so many accesses, and then refuses each.
+//! A bus of bytes that takes a number of accesses, and refuses all later ones.
 
 use iom_mem::Ram;
 use iom_virtq::{Access, Bus};

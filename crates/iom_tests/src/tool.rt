@@ -7,14 +7,14 @@ use std::alloc::Global;
 use std::io::{self, Error, ErrorKind, Read, Write};
 use std::test::Fail;
 
-/// A reader that gives some bytes and then many of one, so many a call, and fails once so many calls are done.
+/// A reader that gives some bytes and then many equal ones, a limited number in each call, and fails after a number of calls.
 #[derive(Drop)]
 pub struct Source<'a> {
-    /// The bytes that are given first and are left.
+    /// The first bytes, as far as they aren't given yet.
     pub left: &'a [u8],
-    /// The byte that is given after them.
+    /// The byte that follows them.
     pub fill: u8,
-    /// How many of it are left.
+    /// How many of these are left.
     pub filled: usize,
     /// How many calls are done before one fails.
     pub calls: usize,
@@ -39,7 +39,7 @@ impl Read for Source<'_> {
     }
 }
 
-/// A writer into memory of which a call fails once so many are done, and which takes at most so many bytes a call.
+/// A writer into memory that takes a limited number of bytes in each call, and of which a call fails after a number of them.
 #[derive(Drop)]
 pub struct Sink {
     /// The bytes that were written.
@@ -72,13 +72,13 @@ impl Write for Sink {
     }
 }
 
-/// More calls than any script makes.
+/// More calls than any script needs.
 pub const MANY: usize = 100_000_000;
 
 // How many bytes a read gives.
 const PIECES: [usize; 6] = [1, 2, 3, 4, 5, 0x8000];
 
-/// Ten lines, of which each has an answer.
+/// Ten lines, each of which has an answer.
 pub const SCRIPT: &[u8] =
     b"reg write 16 8 1\nstore 0x80000000 8 0x0807060504030201\ndma read 5 0x80000000 8\ndma write 5 0x80001ffc aabbccdd\nload 0x80001ffc 4\ndma read 5 0x80002000 8\ndma read 5 0x80000ffc 8\ndma read 5 0xffffffffffffffff 1\ndma read 0x1000000 0x80000000 1\njump\n";
 
@@ -92,13 +92,13 @@ pub fn small(alloc: Global) -> Result<Platform, Fail> {
     Ok(Platform::new(alloc, ram, Vec::new(alloc))?)
 }
 
-/// How a run ended, what it wrote, and the words at two addresses afterwards: the one that the script's second line stores,
-/// and the one in which its fourth writes.
+/// The end of a run, its output, and the words at two addresses afterwards: the one that the script's second line stores, and the
+/// one that its fourth line writes.
 #[derive(Drop)]
 pub struct Outcome {
-    /// How the run ended.
+    /// The end of the run.
     pub ended: Result<(), RunFault>,
-    /// What it wrote.
+    /// Its output.
     pub written: Vec<u8>,
     stored: Option<u64>,
     moved: Option<u64>,
@@ -113,27 +113,27 @@ pub const WELL: Limits = Limits {
     most: MANY,
 };
 
-/// How many reads, writes and flushes are done before one fails, how many bytes a read gives, and how many a write takes.
+/// The limits of a reader and a writer.
 #[derive(Clone, Copy)]
 pub struct Limits {
     /// How many reads are done before one fails.
     pub reads: usize,
-    /// How many bytes a read gives.
+    /// How many bytes a read gives at most.
     pub piece: usize,
     /// How many writes are done before one fails.
     pub writes: usize,
     /// How many flushes are done before one fails.
     pub flushes: usize,
-    /// How many bytes a write takes.
+    /// How many bytes a write takes at most.
     pub most: usize,
 }
 
-/// The outcome of a script within limits.
+/// The outcome of a script within these limits.
 pub fn run(alloc: Global, script: &[u8], limits: Limits) -> Result<Outcome, Fail> {
     run_filled(alloc, script, b'\n', 0, limits)
 }
 
-// The same of a script that goes on with so many equal bytes.
+// The outcome of a script that goes on with many equal bytes.
 fn run_filled(
     alloc: Global,
     script: &[u8],
@@ -165,7 +165,7 @@ fn run_filled(
     })
 }
 
-// Whether a script is answered so, and to its end.
+// Whether a script has this output, and is read to its end.
 fn is_answered(alloc: Global, script: &[u8], answers: &[u8]) -> Result<bool, Fail> {
     let all = run(alloc, script, WELL)?;
     Ok(all.ended.is_ok() && all.written.as_slice() == answers)
@@ -176,7 +176,7 @@ fn lines(text: &[u8]) -> usize {
     text.iter().filter(|c| **c == b'\n').count()
 }
 
-// The front of a text with so many lines.
+// The beginning of a text, with this number of lines.
 fn front(text: &[u8], lines: usize) -> &[u8] {
     let mut left = lines;
     for (i, c) in text.iter().enumerate() {
@@ -190,7 +190,7 @@ fn front(text: &[u8], lines: usize) -> &[u8] {
     text
 }
 
-// Whether a run ended in a fault, with so many lines answered and the steps of so many done.
+// Whether a run ended in a fault, with this number of lines answered and the steps of that number done.
 fn is_cut(part: &Outcome, fault: RunFault, answered: usize, done: usize) -> bool {
     let stored = if done >= 2 { 0x0807_0605_0403_0201 } else { 0 };
     let moved = if done >= 4 { 0xddcc_bbaa_0000_0000 } else { 0 };
@@ -200,7 +200,7 @@ fn is_cut(part: &Outcome, fault: RunFault, answered: usize, done: usize) -> bool
         && part.moved == Some(moved)
 }
 
-// With a read failing, the lines read whole before are answered and done, and no other.
+// If a read fails, the lines that were read completely before it are answered and done, and no others.
 fn is_cut_at_read(alloc: Global, reads: usize, piece: usize) -> Result<bool, Fail> {
     let limits = Limits {
         reads,
@@ -212,7 +212,7 @@ fn is_cut_at_read(alloc: Global, reads: usize, piece: usize) -> Result<bool, Fai
     Ok(is_cut(&part, RunFault::Read, whole, whole))
 }
 
-// A run of which each read in turn fails, by pieces of each size.
+// Runs of which each read in turn fails, with pieces of each size.
 #[test]
 fn each_read_fails(rt: HostRuntime) -> Result<(), Fail> {
     for piece in PIECES {
@@ -226,7 +226,7 @@ fn each_read_fails(rt: HostRuntime) -> Result<(), Fail> {
     Ok(())
 }
 
-// With a write failing, one call a line, the lines before are answered, and their steps and that of the line itself are done.
+// If a write fails, with one write for each line, the lines before are answered, and their steps and that of the line itself are done.
 fn is_cut_at_write(alloc: Global, writes: usize, piece: usize) -> Result<bool, Fail> {
     let limits = Limits {
         writes,
@@ -237,7 +237,7 @@ fn is_cut_at_write(alloc: Global, writes: usize, piece: usize) -> Result<bool, F
     Ok(is_cut(&part, RunFault::Write, writes, writes.saturating_add(1)))
 }
 
-// A run of which each write in turn fails, by pieces of each size.
+// Runs of which each write in turn fails, with pieces of each size.
 #[test]
 fn each_write_fails(rt: HostRuntime) -> Result<(), Fail> {
     for piece in PIECES {
@@ -251,8 +251,8 @@ fn each_write_fails(rt: HostRuntime) -> Result<(), Fail> {
     Ok(())
 }
 
-// How many lines are answered before flush number `flush`, the first 0, with so many bytes a read; None where there is no such flush.
-// What was written is flushed before more is read.
+// How many lines are answered before flush number `flush`, the first 0, with reads of this size; None if there is no such flush.
+// Output is flushed before more is read.
 fn answered_before(flush: usize, piece: usize) -> Option<usize> {
     let mut left = flush;
     let mut answered = 0;
@@ -283,7 +283,7 @@ fn is_cut_at_flush(alloc: Global, flushes: usize, piece: usize) -> Result<bool, 
     }
 }
 
-// A run of which each flush in turn fails, by pieces of each size.
+// Runs of which each flush in turn fails, with pieces of each size.
 #[test]
 fn each_flush_fails(rt: HostRuntime) -> Result<(), Fail> {
     for piece in PIECES {
@@ -297,17 +297,17 @@ fn each_flush_fails(rt: HostRuntime) -> Result<(), Fail> {
     Ok(())
 }
 
-// A script that starts so and goes on with equal bytes, and what it writes where it is just short enough.
+// The beginning of a script that goes on with equal bytes, and its output if it is just short enough.
 type Longest<'a> = (&'a [u8], u8, usize, &'a [u8]);
 
-// Whether the script is read.
+// Whether the script is accepted.
 fn fits(alloc: Global, script: &Longest<'_>) -> Result<bool, Fail> {
     let (start, fill, filled, answers) = script;
     let all = run_filled(alloc, start, *fill, *filled, WELL)?;
     Ok(all.ended.is_ok() && all.written.as_slice() == *answers)
 }
 
-// Whether with one byte more it is too long, and the lines before are answered.
+// Whether it is too long with one byte more, and the lines before are answered.
 fn is_over(
     alloc: Global,
     script: &Longest<'_>,
@@ -320,12 +320,12 @@ fn is_over(
     Ok(over.ended == Err(RunFault::TooLong) && over.written.as_slice() == answers)
 }
 
-// So many lines, and so many bytes.
+// A number of lines, and a number of bytes.
 const MOST_LINES: Longest<'static> = (b"reg read 8 4\n", b'\n', (1 << 20) - 1, b"0x2\n");
 
 const MOST_BYTES: Longest<'static> = (b"reg read 8 4#", b'x', (1 << 26) - 13, b"bad\n");
 
-// Scripts of the most lines and of the most bytes, and with one more.
+// Scripts with the most lines and with the most bytes, and with one more.
 #[test]
 fn each_limit(rt: HostRuntime) -> Result<(), Fail> {
     assert!(rt; fits(rt.alloc(), &MOST_LINES)?);
@@ -343,7 +343,7 @@ fn each_limit(rt: HostRuntime) -> Result<(), Fail> {
     Ok(())
 }
 
-// Whether a writer that takes a byte a call, and fails after so many, holds that front of the answers.
+// Whether a writer that takes one byte in each call, and fails after `count`, holds that much of the answers.
 fn is_front(alloc: Global, writes: usize) -> Result<bool, Fail> {
     let bytes = Limits { most: 1, ..WELL };
     let part = run(alloc, SCRIPT, Limits { writes, ..bytes })?;
@@ -357,7 +357,7 @@ pub fn is_whole(alloc: Global, limits: Limits) -> Result<bool, Fail> {
     Ok(all.ended.is_ok() && all.written.as_slice() == ANSWERS)
 }
 
-// A run of which the write of each byte in turn fails.
+// Runs of which the write of each byte in turn fails.
 #[test]
 fn each_byte_fails(rt: HostRuntime) -> Result<(), Fail> {
     for writes in 0..ANSWERS.len() {
@@ -382,7 +382,7 @@ fn answers_before_it_reads_on(rt: HostRuntime) -> Result<(), Fail> {
     Ok(())
 }
 
-// Whether a line of so many bytes is answered so: it begins with some and is filled up with one, and has a line end or not.
+// Whether a line of this length has this answer: it begins with some bytes and is filled up with one, with or without a line end.
 fn is_long_answered(
     alloc: Global,
     (start, fill, end): (&[u8], u8, &[u8]),
@@ -395,7 +395,7 @@ fn is_long_answered(
     is_answered(alloc, line.as_slice(), want)
 }
 
-// How a line begins, what it is filled up with, and what is answered.
+// The beginning of a line, the byte that fills it up, and the answer to it.
 const LONG: &[(&[u8], u8, &[u8])] = &[
     (b"reg read 8 4", b' ', b"0x2\n"),
     (b"reg read 8 4 #", b'x', b"0x2\n"),
@@ -403,7 +403,7 @@ const LONG: &[(&[u8], u8, &[u8])] = &[
     (b"#", b'#', b""),
 ];
 
-// The number of the first line that is answered otherwise, of those with this end.
+// The index of the first line with another answer, of those with this end.
 fn otherwise_long(alloc: Global, end: &[u8]) -> Result<Option<usize>, Fail> {
     for (i, (start, fill, want)) in LONG.iter().enumerate() {
         let line: (&[u8], u8, &[u8]) = (start, *fill, end);
@@ -427,7 +427,7 @@ fn is_replied(session: &mut Session, line: &[u8], want: &[u8]) -> bool {
     session.line(line).as_slice() == want
 }
 
-// The number of the first line that a session answers otherwise.
+// The index of the first line to which a session gives another answer.
 fn otherwise(
     platform: &mut Platform,
     trace: &mut Trace,

@@ -1,4 +1,4 @@
-//! Images of version 2, read-only disks, and images of version 1 and 2 as ones of version 3.
+//! Images of version 2, read-only disks, and upgrades of images of versions 1 and 2 to version 3.
 
 use crate::asm::{
     Changed, Judged, REQUEST, is_assembled, not_cut, otherwise_changed, otherwise_judged, with_byte,
@@ -13,7 +13,7 @@ use std::test::Fail;
 const READ_ONLY: &[u8] =
     b"RVIOMMU2\0\0\0\x80\0\0\0\0\0\x10\0\0\0\0\0\0\0\0\0\0\x01\0\0\0\x05\0\0\0\x01\0\0\0\x01\0\0\0\x01\0\0\0\xaa";
 
-// The same with a writable disk, in version 1 and in version 2.
+// The same image with a writable disk, in version 1 and in version 2.
 const WRITABLE: &[u8] =
     b"RVIOMMU1\0\0\0\x80\0\0\0\0\0\x10\0\0\0\0\0\0\0\0\0\0\x01\0\0\0\x05\0\0\0\x01\0\0\0\x01\0\0\0\xaa";
 
@@ -32,7 +32,7 @@ const JUDGED: &[Judged<'static>] = &[
     (FLAGGED, None),
     (READ_ONLY_UPGRADED, None),
     (UPGRADED, None),
-    // The flags 3 are judged once they are whole, before the length.
+    // The flags 3 are judged once they are complete, before the length.
     (
         b"RVIOMMU2\0\0\0\x80\0\0\0\0\0\x10\0\0\0\0\0\0\0\0\0\0\x01\0\0\0\x05\0\0\0\x01\0\0\0\x03\0\0",
         Some(LoadFault::Truncated),
@@ -70,7 +70,7 @@ fn flags_are_judged(rt: HostRuntime) -> Result<(), Fail> {
     Ok(())
 }
 
-// Images, and what they are as ones of version 3.
+// Images, and their upgrades to version 3.
 const UPGRADES: &[(&[u8], &[u8])] = &[
     (READ_ONLY, READ_ONLY_UPGRADED),
     (WRITABLE, UPGRADED),
@@ -79,7 +79,7 @@ const UPGRADES: &[(&[u8], &[u8])] = &[
     (READ_ONLY_UPGRADED, READ_ONLY_UPGRADED),
 ];
 
-// Without a disk the upgraded image differs in its first bytes alone.
+// An upgraded image without a disk differs only in its first bytes.
 const BUILT_IN: &[u8] =
     b"RVIOMMU3\0\0\0\0\0\0\0\x01\0\0\0\x80\0\0\0\0\0\0\x10\0\0\0\0\0\0\0\0\0\0\0\0\0";
 
@@ -90,7 +90,7 @@ fn is_upgraded(alloc: Global, image: &[u8], want: &[u8]) -> bool {
     }
 }
 
-// The number of the first image that is upgraded otherwise.
+// The index of the first image with another upgrade.
 fn otherwise(alloc: Global, upgrades: &[(&[u8], &[u8])]) -> Option<usize> {
     for (i, (image, want)) in upgrades.iter().enumerate() {
         if !is_upgraded(alloc, image, want) {
@@ -124,7 +124,7 @@ fn image_of_version_3_stays(rt: HostRuntime) -> Result<(), Fail> {
     Ok(())
 }
 
-// The parts of a request that writes the first sector of a disk, of the kind that is stated before them.
+// The parts of a request that writes the first sector of a disk, whose kind is stated before them.
 const WRITE: &[u8] = b"
 at 0x80040000
 u64 0x80050000 0x0001000100000010 0x80051000 0x0002000100000200 0x80050010 0x0000000200000001
@@ -154,7 +154,7 @@ fn image_with(alloc: Global, disk: &[u8], upgraded: bool) -> Result<Vec<u8>, Fai
     Ok(image)
 }
 
-// Lets accesses pass as they are, and notifies the device.
+// Sets the mode Bare, and notifies the device.
 fn notify(platform: &mut Platform) {
     platform.step(&Step::RegWrite {
         off: 16,
@@ -164,18 +164,18 @@ fn notify(platform: &mut Platform) {
     notified(platform, 0x8004_0000, 0x8004_1000, 0x8004_2000);
 }
 
-/// The platform of an image, notified of its request.
+/// The platform of an image, with its request notified.
 pub fn notified_on(alloc: Global, image: &[u8]) -> Result<Platform, Fail> {
     let mut platform = load(alloc, image)?;
     notify(&mut platform);
     Ok(platform)
 }
 
-// How many steps are done, of which the last finds that there is no other request, and then: what features are offered, the
-// status byte, and the disk's first byte.
+// How many steps are done, the last of which finds no other request, and then: the offered features, the status byte, and the
+// disk's first byte.
 type Ending = (usize, u64, u64, u8);
 
-// Whether so many steps end so.
+// Whether these steps have this end.
 fn ends(platform: &mut Platform, (steps, offered, status, first): Ending) -> bool {
     let features = Step::DevRead {
         dev: 0,
@@ -192,10 +192,10 @@ fn ends(platform: &mut Platform, (steps, offered, status, first): Ending) -> boo
         && matches!(platform.disk(0), Some([byte, ..]) if *byte == first)
 }
 
-// A disk, whether its image is upgraded, whether its platform is copied, and how the request ends.
+// A disk, whether its image is upgraded, whether its platform is copied, and the end of the request.
 type Written<'a> = (&'a [u8], bool, bool, Ending);
 
-// Whether an image ends as a case says.
+// Whether an image has the end of its case.
 fn is_written(alloc: Global, case: &Written<'_>) -> Result<bool, Fail> {
     let (disk, upgraded, copied, ending) = case;
     let image = image_with(alloc, disk, *upgraded)?;
@@ -206,7 +206,7 @@ fn is_written(alloc: Global, case: &Written<'_>) -> Result<bool, Fail> {
     Ok(ends(&mut platform, *ending))
 }
 
-// The number of the first case that is otherwise.
+// The index of the first case that fails.
 fn otherwise_written(alloc: Global, cases: &[Written<'_>]) -> Result<Option<usize>, Fail> {
     for (i, case) in cases.iter().enumerate() {
         if !is_written(alloc, case)? {
@@ -216,7 +216,7 @@ fn otherwise_written(alloc: Global, cases: &[Written<'_>]) -> Result<Option<usiz
     Ok(None)
 }
 
-// Of a read-only disk eleven steps without the eight pieces of the data.
+// For a read-only disk, eleven steps, without the eight pieces of data.
 const WRITES: &[Written<'static>] = &[
     (b"rodisk 5 1 aa", false, false, (11, 0x220, 1, 0xaa)),
     (b"rodisk 5 1 aa", false, true, (11, 0x220, 1, 0xaa)),
@@ -238,7 +238,7 @@ fn read_only_request(alloc: Global) -> Result<Vec<u8>, Fail> {
     Ok(with_byte(alloc, &new, new.len().saturating_sub(11), 1)?)
 }
 
-// A read-only disk is read as any other.
+// A read-only disk is read like any other.
 #[test]
 fn read_only_disk_is_read(rt: HostRuntime) -> Result<(), Fail> {
     let image = read_only_request(rt.alloc())?;

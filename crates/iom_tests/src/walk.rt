@@ -8,7 +8,7 @@ struct Entry {
     word: u64,
 }
 
-// Four entries, and an address that can't be read; all else is outside memory.
+// Four entries, and an address that can't be read; all other addresses are outside memory.
 #[derive(Clone, Copy)]
 struct Tables {
     first: Entry,
@@ -62,7 +62,7 @@ fn holding(first: Entry, second: Entry, third: Entry) -> Tables {
     }
 }
 
-// The same below an entry of the root of four levels.
+// The same tables below an entry of the root of four levels.
 fn below(fourth: Entry, tables: Tables) -> Tables {
     Tables { fourth, ..tables }
 }
@@ -114,7 +114,7 @@ const SVPBMT: Features = Features {
     ..NO_FEATURES
 };
 
-// An address that no walk asks for.
+// An address that no walk reads.
 const NOWHERE: u64 = 1;
 
 // Its indexes are 3, 5 and 7.
@@ -141,7 +141,7 @@ const LAST: Entry = Entry {
     word: 0x2000_40d7,
 };
 
-// How a walk from the table at 0x80000000 ends.
+// The end of a walk from the table at 0x80000000.
 #[derive(Clone, Copy)]
 struct Case {
     tables: Tables,
@@ -152,7 +152,7 @@ struct Case {
     want: Outcome,
 }
 
-// The number of the first walk that ends otherwise.
+// The index of the first walk with another end.
 fn otherwise(cases: &[Case]) -> Option<usize> {
     for (i, case) in cases.iter().enumerate() {
         let format = Format {
@@ -166,7 +166,7 @@ fn otherwise(cases: &[Case]) -> Option<usize> {
     None
 }
 
-// A read of an address, and how its walk ends.
+// A read of an address, and the end of its walk.
 fn read_at(shape: Shape, addr: u64, tables: Tables, want: Outcome) -> Case {
     Case {
         tables,
@@ -182,7 +182,7 @@ fn read(tables: Tables, want: Outcome) -> Case {
     read_at(Shape::Sv39, ADDR, tables, want)
 }
 
-// A read on an IOMMU that has these features.
+// A read on an IOMMU with these features.
 fn read_with(features: Features, tables: Tables, want: Outcome) -> Case {
     Case {
         features,
@@ -221,7 +221,7 @@ fn finds_leaves(rt: HostRuntime) {
             holding(word_at(0x8000_0018, 0x2000_0421), MIDDLE, LAST),
             global,
         ),
-        // leaves of 512 and of 2^18 pages, with the bits of the address below, and misaligned ones
+        // leaves of 512 and of 2^18 pages, with the address's bits below their size, and misaligned ones
         write(holding(ROOT, aligned, NONE), leaf(0x80207, 1, false)),
         write(holding(ROOT, misaligned, NONE), Outcome::Fault),
         write(holding(root_aligned, NONE, NONE), leaf(0xc0a07, 2, false)),
@@ -233,7 +233,7 @@ fn finds_leaves(rt: HostRuntime) {
     assert_eq!(rt; otherwise(&cases), None);
 }
 
-// An entry of each level that is outside memory, or that the guest's memory refuses.
+// For each level an entry that is outside memory, or that the guest's memory refuses.
 #[test]
 fn ends_at_entries_that_cannot_be_read(rt: HostRuntime) {
     let cases = [
@@ -254,7 +254,7 @@ fn divides_addresses_by_shape(rt: HostRuntime) {
     let wide = holding(word_at(0x8000_2018, 0x2000_0401), MIDDLE, LAST);
     // an entry that points to its own table is met three times
     let circle = holding(word_at(0x8000_0000, 0x2000_0001), NONE, NONE);
-    // with no table at all, an address that is too wide is told by its fault
+    // with no table at all, an address that is too wide still has its fault
     let none = holding(NONE, NONE, NONE);
     let found = leaf(0x80010, 0, false);
     let cases = [
@@ -363,27 +363,27 @@ fn ending_in(word: u64) -> Tables {
     holding(ROOT, MIDDLE, word_at(0x8000_2038, word))
 }
 
-// The same with bits of a leaf's word set in the pointer before the last entry.
+// The same tables with bits of a leaf's word set in the pointer before the last entry.
 fn pointing_with(bits: u64) -> Tables {
     holding(ROOT, word_at(0x8000_1028, 0x2000_0801 | bits), LAST)
 }
 
-// The same ending in a leaf of this frame with N.
+// The same tables with a last leaf of this frame with N.
 fn napot_of(ppn: u64) -> Tables {
     ending_in(1 << 63 | ppn << 10 | 0xd7)
 }
 
-// The same ending in a leaf with these bits set above its PPN.
+// The same tables with a last leaf with these bits set above its PPN.
 fn typed(bits: u64) -> Tables {
     ending_in(bits | 0x2000_40d7)
 }
 
-// The same ending in a leaf of level 1 with N.
+// The same tables with a last leaf of level 1 with N.
 fn napot_at_level_1() -> Tables {
     holding(ROOT, word_at(0x8000_1028, 1 << 63 | 0x2008_00d7), NONE)
 }
 
-// N, bit 63: in a leaf of level 0 with PPN[3:0] = 8 it maps 64 KiB, where Svnapot is offered; elsewhere it is reserved.
+// N, bit 63: in a leaf of level 0 with PPN[3:0] = 8 it maps 64 KiB if Svnapot is offered; else it is reserved.
 #[test]
 fn takes_napot_leaves(rt: HostRuntime) {
     let cases = [
@@ -403,7 +403,7 @@ fn takes_napot_leaves(rt: HostRuntime) {
     assert_eq!(rt; otherwise(&cases), None);
 }
 
-// PBMT, bits 62:61: 1 and 2 may be in a leaf, where Svpbmt is offered; elsewhere it is 0. Bits 60:54 are 0 always.
+// PBMT, bits 62:61: 1 and 2 may be in a leaf if Svpbmt is offered; else it is 0. Bits 60:54 are always 0.
 #[test]
 fn takes_memory_types(rt: HostRuntime) {
     let found = leaf(0x80010, 0, false);

@@ -1,4 +1,4 @@
-//! Which moments warrant what a read used.
+//! The warrants of what a read used.
 
 use crate::devices::devices;
 use iom_account::{History, Origin, explain};
@@ -19,7 +19,7 @@ pub const MAPPED: [(u64, u64); 6] = [
     (0x8001_0ab8, 0x11_0000_0000),
 ];
 
-// A context of device 5 both of whose stages are Bare.
+// A context of device 5 with both stages Bare.
 const BARE: [(u64, u64); 1] = [(0x8000_10a0, 1)];
 
 /// A memory with these words at these addresses.
@@ -54,13 +54,13 @@ pub fn read(iova: u64) -> Step {
     }
 }
 
-/// A platform with such a memory, on which nothing happened yet.
+/// A platform with such a memory, before its first step.
 pub fn started(alloc: Global, words: &[(u64, u64)]) -> Result<Platform, Fail> {
     let ram = memory(alloc, words)?;
     Ok(Platform::new(alloc, ram, Vec::new(alloc))?)
 }
 
-/// Carries out steps, and leaves their answers aside.
+/// Carries out steps, and ignores their answers.
 pub fn take(platform: &mut Platform, steps: &[Step]) {
     for step in steps {
         platform.step(step);
@@ -70,12 +70,12 @@ pub fn take(platform: &mut Platform, steps: &[Step]) {
 /// A step, and the warrant of its access.
 pub type Case = (usize, Option<Warrant>);
 
-// The number by which a history is given step k.
+// The number that a history gets for step k.
 fn numbered(k: usize) -> u64 {
     (k as u64).wrapping_mul(3).wrapping_add(10)
 }
 
-// Where a history says that the translation comes from that step n used, if it goes along with the steps up to it.
+// The warrant of the translation that step n used, by a history that followed the steps up to it.
 fn origin(mut platform: Platform, steps: &[Step], n: usize) -> Option<Origin> {
     let mut history = History::new(&platform);
     let mut answer = Answer::Done;
@@ -90,8 +90,8 @@ fn origin(mut platform: Platform, steps: &[Step], n: usize) -> Option<Origin> {
     last
 }
 
-/// Whether step n has this warrant, by `explain` and by a history beside the platform, of steps carried out from a memory with
-/// these words on. Of a disk of no bytes there is no device.
+/// Whether step n has this warrant, by `explain` and by a history beside the platform, for steps from a memory with these words
+/// on. With a disk of no bytes there is no device.
 pub fn is_warranted(
     alloc: Global,
     words: &[(u64, u64)],
@@ -115,7 +115,7 @@ pub fn is_warranted(
     Ok(origin(start, steps, n) == told)
 }
 
-/// The number of the first case that is otherwise, of steps carried out from a memory with these words on.
+/// The index of the first case that fails, for steps from a memory with these words on.
 pub fn otherwise(
     alloc: Global,
     words: &[(u64, u64)],
@@ -130,7 +130,7 @@ pub fn otherwise(
     Ok(None)
 }
 
-/// The warrant of an access that page tables led, by the numbers of three steps.
+/// The warrant of an access by page tables, by the numbers of three steps.
 pub fn walked(context: usize, walk: usize, current: usize) -> Option<Warrant> {
     Some(Warrant::Walked {
         context,
@@ -140,7 +140,7 @@ pub fn walked(context: usize, walk: usize, current: usize) -> Option<Warrant> {
 }
 
 // The context changes at step 6. Both IOTINVAL come before the IODIR: the read at 13 walks under the old context, which is still
-// cached, and the read at 15 uses that walk under the new one. The same commands in the right order leave nothing, and the
+// cached, and the read at 15 uses that walk under the new one. The same commands in the right order leave nothing cached, and the
 // read at 23 is denied.
 #[test]
 fn stale_translation(rt: HostRuntime) -> Result<(), Fail> {
@@ -194,7 +194,7 @@ fn by_the_register(rt: HostRuntime) -> Result<(), Fail> {
     Ok(())
 }
 
-// An IODIR between two reads, of another device and of this one, and the origin of the context that the second read is led by.
+// An IODIR between two reads, for another device and for this one, and the origin of the context of the second read.
 #[test]
 fn by_a_context(rt: HostRuntime) -> Result<(), Fail> {
     for (iodir, origin) in [(0x602_0000_0003, 3), (0x502_0000_0003, 7)] {
@@ -220,7 +220,7 @@ fn by_a_context(rt: HostRuntime) -> Result<(), Fail> {
 // The page of a key of device 5, whether a look-up finds it, and how many keys that compares.
 type Compared = (u64, bool, u32);
 
-// The number of the first look-up that is otherwise.
+// The index of the first look-up that differs.
 fn compared_otherwise(platform: &Platform, cases: &[Compared]) -> Option<usize> {
     for (i, (page, is_there, count)) in cases.iter().enumerate() {
         let key = Key {
@@ -250,7 +250,7 @@ const COMPARED: &[Compared] = &[
     (0x4_0200, false, 2),
 ];
 
-// Of 65 pages read the first has left the cache. A look-up compares the keys of one bucket, the newest first: those of every
+// After 65 page reads the first page has left the cache. A look-up compares the keys of one bucket, the newest first: those of every
 // 32nd page.
 #[test]
 fn look_ups_compare_one_bucket(rt: HostRuntime) -> Result<(), Fail> {
