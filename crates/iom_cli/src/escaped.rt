@@ -1,6 +1,6 @@
 use std::fmt::{self, Display, Formatter, Write};
 
-/// A word of the command line, its control characters escaped, so that what tells it is one line.
+/// A word of the command line with its control characters escaped, so that a message with it is one line.
 #[derive(Clone, Copy)]
 pub struct Escaped<'a>(pub &'a str);
 

@@ -3,13 +3,13 @@ use clap::error::ErrorKind;
 use std::alloc::AllocError;
 use thiserror::Error;
 
-/// Why the words ask for nothing that the program does.
+/// Why the words of the command line ask for no task.
 #[derive(Debug, Drop, Error)]
 pub enum WordsFault<'a> {
-    /// The word of the operand `name` is no number below 2^64.
+    /// The word for the operand `name` is no number below 2^64.
     #[error("{}: {name} is decimal, or hex after 0x, below 2^64", Escaped(*.word))]
     BadNumber { name: &'a str, word: &'a str },
-    /// Help or version that was asked for, or what clap finds wrong.
+    /// A request for help or for the version, or an error that clap found.
     #[error("{0}")]
     Clap(clap::Error),
     /// An allocation was refused.
@@ -18,7 +18,7 @@ pub enum WordsFault<'a> {
 }
 
 impl WordsFault<'_> {
-    /// The status to end with: 0 where help or version was asked for, 1 where an allocation was refused, else 2.
+    /// The exit status: 0 if help or the version was asked for, 1 if an allocation was refused, else 2.
     pub fn status(&self) -> u8 {
         match self {
             WordsFault::BadNumber { .. } => 2,
@@ -27,8 +27,8 @@ impl WordsFault<'_> {
         }
     }
 
-    /// Writes help and version to standard output, and what is wrong to standard error. False where help or version can't be
-    /// written; what is wrong may go unseen.
+    /// Writes help or the version to standard output, an error to standard error. Returns false if help or the version couldn't be
+    /// written; a failure to write an error is ignored.
     pub fn show(&self, rt: &(impl Print + Eprint)) -> bool {
         match self {
             WordsFault::Clap(error) => error.print(rt).is_ok() || error.use_stderr(),

@@ -1,4 +1,4 @@
-/// What stands at the end of the help: the lines of a script, and one script.
+/// The end of the help without a subcommand: the lines of a script, and an example.
 pub const SCRIPT: &str = "\
 Each line of a script is a step or a question; '#' starts a comment.
 Numbers are decimal, or hex after 0x; DATA is 2 to 128 hex digits.
@@ -36,7 +36,7 @@ Without a word, memory is 1 MiB at 0x80000000, all 0. An example:
   done
   0xbbaa";
 
-/// What stands at the end of the help of `asm`.
+/// The end of the help of `asm`.
 pub const ASM: &str = "\
 Each line of the text is one statement; '#' starts a comment. Numbers are
 decimal, or hex after 0x.
@@ -62,14 +62,14 @@ An example:
   $ rviommu list seven.image u64 0x80000000 1
   u64 0x7";
 
-/// What stands at the end of the help of `run`.
+/// The end of the help of `run`.
 pub const RUN: &str = "\
 The script has the lines of `rviommu --help`. An example:
 
   $ echo 'load 0x80000000 8' | rviommu run seven.image
   0x7";
 
-/// What stands at the end of the help of `check`.
+/// The end of the help of `check`.
 pub const CHECK: &str = "\
 A line may end with its expected answer, in a comment '# => ANSWER'. Prints
 each line with another answer, each unexpected bad, and at the end how many
@@ -86,7 +86,7 @@ An example:
   line 1: load 0x80000000 8 -> 0x7, wanted 0x8
   0 passed, 1 failed";
 
-/// What stands at the end of the help of `debug`.
+/// The end of the help of `debug`.
 pub const DEBUG: &str = "\
 The script has the lines of `rviommu --help` and these:
 
@@ -119,7 +119,7 @@ An example:
   $ echo 'dump 0x80000000 4' | rviommu debug seven.image
   07000000";
 
-/// What stands at the end of the help of `explain`.
+/// The end of the help of `explain`.
 pub const EXPLAIN: &str = "\
 The script has the lines of `rviommu debug --help`. Each line is printed with
 its number and its answer; if it makes several steps, each step comes first.
@@ -147,7 +147,7 @@ An example:
   from the caches: 0
   stale: 0";
 
-/// What stands at the end of the help of `list`.
+/// The end of the help of `list`.
 pub const LIST: &str = "\
 ADDR and COUNT are decimal, or hex after 0x. Words that are not an item of this
 kind are listed as u64. An example:
@@ -156,7 +156,7 @@ kind are listed as u64. An example:
   u64 0x7
   u64 0x0";
 
-/// What stands at the end of the help of `upgrade`.
+/// The end of the help of `upgrade`.
 pub const UPGRADE: &str = "\
 The new image starts the same platform. An image of version 3 stays as it is.
 An example:

@@ -1,4 +1,4 @@
-//! The words of the command line: what they ask for, the help, and what is told where they are wrong.
+//! The words of the command line: the task that they ask for, the help, and the errors in them.
 #![tactic(auto)]
 
 pub use escaped::Escaped;

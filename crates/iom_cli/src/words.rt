@@ -1,34 +1,34 @@
-//! What the words of the command line ask for.
+//! The tasks that the words of the command line ask for.
 
 use crate::fault::WordsFault;
 use crate::help;
 use clap::{Arg, ArgAction, ArgMatches, Command};
 use std::alloc::{AllocError, Global};
 
-/// The operand that says what is listed.
+/// The operand for the kind of the listed items.
 const KIND: &str = "KIND";
 
-/// The option of a check that tells accesses that are stale.
+/// The option of `check` by which stale accesses fail.
 const STALE: &str = "stale";
 
 /// The names of the items that can be listed.
 const KINDS: [&str; 6] = ["cmd", "fault", "context", "dir", "pte", "u64"];
 
-/// What becomes of a script's lines.
+/// How a script is played.
 #[derive(Clone, Copy)]
 pub enum How {
-    /// Each is answered.
+    /// Each line is answered.
     Run,
-    /// Each is answered, and may be one of `debug`.
+    /// Each line is answered, and may be one of `debug`.
     Debug,
-    /// Those that fail are told, and where it is asked for those whose accesses are stale.
+    /// Each line that fails is printed. If `is_stale_told`, a line with a stale access fails.
     Check { is_stale_told: bool },
-    /// Each is told with its answer and the reasons of its accesses.
+    /// Each line is printed with its answer and the reasons of its accesses.
     Explain,
 }
 
 impl How {
-    /// The word of the command line that asks for it.
+    /// The subcommand that asks for it.
     pub fn word(self) -> &'static str {
         match self {
             How::Run => "run",
@@ -39,24 +39,24 @@ impl How {
     }
 }
 
-/// What the program is asked to do.
+/// The task that the command line asks for.
 pub enum Task<'a> {
-    /// A script on the image in a file, or on the built-in one.
+    /// Plays a script on the image in a file, or on the built-in one.
     Play {
         how: How,
         image: Option<&'a str>,
     },
-    /// A file assembled into a file.
+    /// Assembles a text file into an image file.
     Assemble {
         source: &'a str,
         image: &'a str,
     },
-    /// The image in a file written to a file in version 3.
+    /// Writes the image in a file to another file, in version 3.
     Upgrade {
         image: &'a str,
         new: &'a str,
     },
-    /// `count` items in the memory that the image in a file starts, from physical address `addr` on. `kind` is the name of such an item.
+    /// Lists `count` items of the kind named `kind` in the memory of the image in a file, from physical address `addr` on.
     List {
         image: &'a str,
         kind: &'a str,
@@ -65,7 +65,7 @@ pub enum Task<'a> {
     },
 }
 
-/// A subcommand, with its operands in turn.
+/// A subcommand, with its operands in their order.
 struct Verb {
     name: &'static str,
     about: &'static str,
@@ -80,12 +80,12 @@ struct Operand {
     need: Need,
 }
 
-/// Whether an operand has to be there.
+/// Whether an operand has to be given.
 #[derive(Clone, Copy)]
 enum Need {
     Required,
     Optional,
-    /// It is an option of this name, without a value.
+    /// It is an option with this name, without a value.
     Flag,
 }
 
@@ -200,7 +200,7 @@ const VERBS: [Verb; 7] = [
     },
 ];
 
-// An operand, as clap takes it.
+// An operand, for clap.
 fn arg<'a>(alloc: Global, operand: &Operand) -> Arg<'a> {
     let arg = Arg::new(alloc, operand.name).help(operand.help);
     match operand.need {
@@ -211,7 +211,7 @@ fn arg<'a>(alloc: Global, operand: &Operand) -> Arg<'a> {
     }
 }
 
-// A subcommand, as clap takes it.
+// A subcommand, for clap.
 fn subcommand<'a>(alloc: Global, verb: &Verb) -> Result<Command<'a>, AllocError> {
     let mut command = Command::new(alloc, verb.name)
         .about(verb.about)
@@ -222,7 +222,7 @@ fn subcommand<'a>(alloc: Global, verb: &Verb) -> Result<Command<'a>, AllocError>
     Ok(command)
 }
 
-// The command line, as clap takes it.
+// The command line, for clap.
 fn command<'a>(alloc: Global) -> Result<Command<'a>, AllocError> {
     let mut command = Command::new(alloc, "rviommu")
         .version("0.4.0")
@@ -234,18 +234,18 @@ fn command<'a>(alloc: Global) -> Result<Command<'a>, AllocError> {
     Ok(command)
 }
 
-// The value of an operand that has to be there.
+// The value of a required operand.
 fn value<'a>(found: &ArgMatches<'a>, name: &str) -> &'a str {
     found.get_str(name).unwrap_or("")
 }
 
-// The number of an operand that has to be there.
+// The number of a required operand.
 fn number<'a>(found: &ArgMatches<'a>, name: &'a str) -> Result<u64, WordsFault<'a>> {
     let word = value(found, name);
     iom_text::number(word.as_bytes()).ok_or(WordsFault::BadNumber { name, word })
 }
 
-// What the operands of `list` ask for.
+// The task of `list`, by its operands.
 fn listing<'a>(found: &ArgMatches<'a>) -> Result<Task<'a>, WordsFault<'a>> {
     Ok(Task::List {
         image: value(found, "IMAGE"),
@@ -255,7 +255,7 @@ fn listing<'a>(found: &ArgMatches<'a>) -> Result<Task<'a>, WordsFault<'a>> {
     })
 }
 
-// A script on the image that the operands name, if they do.
+// The task to play a script, on the image that the operands name or else the built-in one.
 fn script<'a>(how: How, found: &ArgMatches<'a>) -> Task<'a> {
     Task::Play {
         how,
@@ -263,7 +263,7 @@ fn script<'a>(how: How, found: &ArgMatches<'a>) -> Task<'a> {
     }
 }
 
-// What words that clap accepts ask for.
+// The task of words that clap accepts.
 fn task_in<'a>(matches: &ArgMatches<'a>) -> Result<Task<'a>, WordsFault<'a>> {
     match matches.subcommand() {
         Some(("asm", found)) => Ok(Task::Assemble {
@@ -289,7 +289,7 @@ fn task_in<'a>(matches: &ArgMatches<'a>) -> Result<Task<'a>, WordsFault<'a>> {
     }
 }
 
-/// What the words ask for. Help and version that were asked for, and what clap finds wrong, are the fault `Clap`.
+/// The task that the words ask for. A request for help or the version, and an error that clap found, are the fault `Clap`.
 pub fn task_of<'a>(alloc: Global, words: &'a [String]) -> Result<Task<'a>, WordsFault<'a>> {
     let command = command(alloc)?;
     let matches = command.try_get_matches_from(words)?;

@@ -1,4 +1,4 @@
--- Every IOMMU that the standard allows, as a machine that keeps what it likes; and this model as one of them.
+-- Every IOMMU that the standard allows, as a machine that chooses freely which entries it keeps; and this model as one of them.
 use Rattle.std.specs.Prelude.{ℕ, ◌++◌, Bool, List, [], ◌∷◌, Option, Some, None, Ok}
 use Rattle.iom_ddt.specs.declared.context.Context.{Context}
 use Rattle.iom_nested.specs.declared.translation.Hit.{Hit}
@@ -18,7 +18,7 @@ use Rattle.iom_every.specs.Uses.{Look, ForDevice, ForPage}
 use Rattle.iom_every.specs.Ways.{way_of}
 use Rattle.iom_every.specs.Rows.{bare, row}
 
--- `ahead`: whether it also walks requests that no device makes
+-- the machine of every IOMMU; `ahead`: whether it also walks requests that no device makes
 abbrev pub iommu : Bool → System State Step Request Look Entry Led Answer
 iommu ahead = record {
   asked = request_of_step;
@@ -29,13 +29,13 @@ iommu ahead = record {
   ahead = ahead;
 }
 
--- what stands in the live places, as uses
+-- the live places of a cache, as uses
 abbrev pub uses_in : {K V : Type 0} → (K → V → Look × Entry) → List (Option (K × V)) → List (Look × Entry)
 uses_in as_use [] = []
 uses_in as_use (None ∷ places) = uses_in as_use places
 uses_in as_use (Some entry ∷ places) = as_use entry.0 entry.1 ∷ uses_in as_use places
 
--- a cached context answers the look-up of its device, and a cached translation that of its key
+-- a cached context answers the look-up of its device, a cached translation the look-up of its key
 abbrev pub context_use : ℕ → Context → Look × Entry
 context_use did context = (ForDevice, OfDevice did (Ok context))
 
@@ -48,7 +48,7 @@ context_uses places = uses_in context_use places
 abbrev pub page_uses : List (Option (Key × Hit)) → List (Look × Entry)
 page_uses places = uses_in hit_use places
 
--- what this model's next access would use
+-- all entries that this model caches, as uses for its next access
 abbrev pub cached : State → List (Look × Entry)
 cached state = context_uses state.machine.contexts ++ page_uses state.machine.pages
 
@@ -60,6 +60,6 @@ platform = record {
   uses = cached;
 }
 
--- what may be held after steps of this model's run, newest first
+-- the entries that may be held after steps of this model's run, newest first
 abbrev pub May : Bool → State → List Step → Entry → Type 0
 May ahead start steps = MayHold (iommu ahead) (λ steps. bare (end_of platform start steps)) steps

@@ -1,4 +1,4 @@
--- What the laws say of the entries themselves: none is kept whose V is 0, and what a walk meets it has read.
+-- Facts about the entries themselves: none with V = 0 is kept, and a walk has read each entry that it meets.
 use Rattle.std.specs.Prelude.{ℕ, ◌≡◌, ◌/◌, ◌^◌, true, List, get_or, Some, None}
 use Rattle.iom_bits.specs.Bits.{has_bit}
 use Rattle.iom_bits.specs.declared.features.Features.{Features}
@@ -12,7 +12,7 @@ use Rattle.iom_every.specs.Entries.{Entry, Held, OfDirectory, OfDevice, OfFirst,
 use Rattle.iom_every.specs.Uses.{Entered, ForDevice, device_use}
 use Rattle.iom_every.specs.Ways.{depth_of, located_by}
 
--- V is set; of a device in the first of the words that say what its context is
+-- V is set; for a device, in the first word of its context
 abbrev pub IsValid : Entry → Type 0
 IsValid (OfDirectory level part word) = has_bit word 0 ≡ true
 IsValid (OfDevice did said) = (features : Features) × (words : List ℕ) × (has_bit (get_or words 0 0) 0 ≡ true) × (said ≡ with_modes features (context_in words))
@@ -20,8 +20,8 @@ IsValid (OfFirst gscid pscid held) = is_valid held.word ≡ true
 IsValid (OfSecond gscid held) = is_valid held.word ≡ true
 IsValid (OfPage key hit) = Unit {0}
 
--- An entry of a path, met for an address, is among the entries that are read: with its tags, level and word, as one for the address, and global
--- where it is.
+-- An entry of a path, met for an address, is among the entries that are read: with its tags, level and word, as an entry for this address, and
+-- global if it is.
 pub record IsReadAs (features : Features) (tagged : Held → Entry) (address : ℕ) (entry : Met) (reads : List Entry) : Type 0 where
   pub held : Held
   pub among : IsAmong reads (tagged held)
@@ -31,7 +31,7 @@ pub record IsReadAs (features : Features) (tagged : Held → Entry) (address : �
   pub word : held.word ≡ word_of entry.got
   pub global : is_global (word_of entry.got) ≡ true → held.global ≡ true
 
--- The directory is entered at this entry, and gives what it gives from the root on.
+-- A search of the directory may enter at this entry, and finds the same as from the root.
 pub record IsEnteredAlike (m : Machine) (did : ℕ) (entry : Entry) : Type 0 where
   pub at : Entered
   pub fits : device_use (depth_of m) did ForDevice entry ≡ Some at

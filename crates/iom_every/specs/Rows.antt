@@ -1,4 +1,4 @@
--- The rows of the step table for an access that is led some way. A step that makes no access has its row as it stands.
+-- The rows of the step table for an access with a given way. A step that makes no access has the row of the step table.
 use Rattle.std.specs.Prelude.{ℕ, slice_get, Option, Some, None}
 use Rattle.iom_blk.specs.Device.{Device}
 use Rattle.iom_blk.specs.Phases.{moved_of, took}
@@ -14,7 +14,7 @@ use Rattle.iom_core.specs.declared.way.Way.{Way as Led}
 abbrev pub bare : State → State
 bare state = with_machine state (uncached state.machine)
 
--- how the bus answers an access that is led so, and the machine that it leaves
+-- the bus's answer to an access with this way, and the machine after it
 abbrev pub effect_by : Machine → Asking → Led → Effect
 effect_by m asking led =
     effect_at m (request_of asking.did asking.ask) asking.ask (address_on led (request_of asking.did asking.ask).iova)
@@ -22,7 +22,7 @@ effect_by m asking led =
 abbrev pub machine_by : Machine → Effect → Machine
 machine_by m effect = record m { memory = effect.memory; registers = effect.registers }
 
--- the row of an access of the script, and of a block device's own
+-- the row of an access of a script, and that of a block device's own access
 abbrev pub dma_row : State → Asking → Effect → Outcome
 dma_row state asking effect = record {
   answer = answer_by_reply asking.ask effect.reply;

@@ -1,5 +1,5 @@
--- The translation by both stages of a context over a source: RISC-V IOMMU Architecture 1.0, "Process to translate an IOVA". It is the one that
--- stands, with an entry that may be used for each walk.
+-- The translation by both stages of a context over a source: RISC-V IOMMU Architecture 1.0, "Process to translate an IOVA". It is `translation` of
+-- `iom_nested`, but each walk may enter at an entry of the source.
 use Rattle.std.specs.Prelude.{ℕ, ◌++◌, List, [], map, flat_map, Option, Some, None, Result, Ok, Err}
 use Rattle.iom_bits.specs.declared.causes.Kind.{Kind}
 use Rattle.iom_bits.specs.declared.causes.Kind.TheVariants.{Read}
@@ -21,14 +21,14 @@ use Rattle.iom_every.specs.Entries.{Entry, Held, OfFirst, OfSecond}
 use Rattle.iom_every.specs.Uses.{Look, access_use, entry_use, first_use, used_by}
 use Rattle.iom_every.specs.Walks.{held_in, is_global_use, met, outcome_by}
 
--- second-stage tables stand in memory itself, at every level
+-- the tables of the second stage are in memory itself, at every level
 abbrev pub in_memory : Memory → ℕ → ℕ → Got
 in_memory memory level = ram_got memory
 
 abbrev pub second_outcome : Memory → Features → Context → Shape → ℕ → Kind → Option Held → Outcome
 second_outcome memory features context shape address kind used = outcome_by (in_memory memory) (format_of features shape) context.gppn address kind used
 
--- where the first stage's tables stand: in memory itself, or behind the second stage, whose look-up is one for each level
+-- the tables of the first stage: in memory itself, or read through the second stage, with one look-up for each level
 abbrev pub table_by : Memory → Features → List (Look × Entry) → Context → Option Shape → ℕ → ℕ → Got
 table_by memory features source context None level = ram_got memory
 table_by memory features source context (Some shape) level = λ addr.
@@ -52,12 +52,12 @@ unfoldable pub translation_by : Memory → Features → List (Look × Entry) →
 translation_by memory features source context iova kind =
     told_of kind (behind_by memory features source context kind (first_by memory features source context iova kind (first_shape_of context)))
 
--- the entries of the second stage that are read for a guest-physical address
+-- the second stage's entries that are read for a guest-physical address
 abbrev pub second_reads : Memory → Features → Context → Shape → ℕ → Option Held → List Entry
 second_reads memory features context shape address used =
     map (OfSecond context.gscid) (held_in features (is_global_use used) address (met (in_memory memory) (format_of features shape) context.gppn address used))
 
--- those that are read for an entry of the first stage, and for the access itself
+-- the second stage's entries that are read for an entry of the first stage, and for the access itself
 abbrev pub reads_for_entry : Memory → Features → List (Look × Entry) → Context → Option Shape → Met → List Entry
 reads_for_entry memory features source context None entry = []
 reads_for_entry memory features source context (Some shape) entry =
@@ -69,7 +69,7 @@ reads_for_access memory features source context (Some shape) (Err failure) = []
 reads_for_access memory features source context (Some shape) (Ok reached) =
     second_reads memory features context shape reached.addr (used_by (access_use context shape reached.addr) source)
 
--- the entries of the first stage that are read, and those of the second for each of them
+-- the first stage's entries that are met; and those that are read, with the second stage's entries for each of them
 abbrev pub first_met : Memory → Features → List (Look × Entry) → Context → ℕ → Shape → List Met
 first_met memory features source context iova shape =
     met (table_by memory features source context (second_shape_of context)) (format_of features shape) context.ppn iova (used_by (first_use context shape iova) source)

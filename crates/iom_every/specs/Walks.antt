@@ -1,5 +1,5 @@
--- A walk that enters at an entry that is held, and goes on in memory: RISC-V Privileged Architecture 1.12, "Virtual Address Translation
--- Process". What stands at an address is asked level by level.
+-- A walk that enters at a held entry and goes on in memory: RISC-V Privileged Architecture 1.12, "Virtual Address Translation Process". Each
+-- level may read addresses in its own way.
 use Rattle.std.specs.Prelude.{ℕ, zero, suc, ◌/◌, ◌^◌, ◌||◌, Bool, true, false, List, [], ◌∷◌, Option, Some, None, if◌then◌else◌}
 use Rattle.iom_bits.specs.declared.causes.Kind.{Kind}
 use Rattle.iom_bits.specs.declared.causes.Kind.TheVariants.{Read}
@@ -15,18 +15,18 @@ use Rattle.iom_walk.specs.declared.source.Got.{Got}
 use Rattle.iom_walk.specs.declared.source.Got.TheVariants as got
 use Rattle.iom_every.specs.Entries.{Held, width_at}
 
--- the longest path from a table on, where `at` says what stands at an address for each level
+-- the longest path from a table on; `at` gives the word at an address, for each level
 unfoldable pub path_by : (ℕ → ℕ → Got) → Format → ℕ → ℕ → ℕ → List Entry
 path_by at format address table zero = []
 path_by at format address table (suc count) =
     let entry : Entry = entry_at (at count) format address table count in
     entry ∷ (if is_pointer (verdict_on format.features Read entry) then path_by at format address (next_table entry) count else [])
 
--- what is held, as an entry of a path; no address is told of it
+-- a held entry, as an entry of a path; its address isn't known
 abbrev pub entry_of : Held → Entry
 entry_of held = record { level = held.level; place = 0; got = got.Word held.word }
 
--- what is met in memory: all from the root on, or what comes behind the entry that is used
+-- the entries that are met in memory: all from the root on, or those after the entry that is used
 abbrev pub met_by : (ℕ → ℕ → Got) → Format → ℕ → ℕ → Option Held → List Entry
 met_by at format root address None = path_by at format address root (levels format.shape)
 met_by at format root address (Some held) =
@@ -44,7 +44,7 @@ abbrev pub is_global_use : Option Held → Bool
 is_global_use None = false
 is_global_use (Some held) = held.global
 
--- a mapping is global too where the entry that was used says so of what is above it
+-- a mapping is global, too, if the entry that was used is
 abbrev pub made_global : Outcome → Outcome
 made_global (outcome.Leaf leaf) = outcome.Leaf (record leaf { global = true })
 made_global outcome.Outside = outcome.Outside
@@ -55,7 +55,7 @@ abbrev pub global_by : Bool → Outcome → Outcome
 global_by false end = end
 global_by true end = made_global end
 
--- how the walk ends: by the table of entries, as every walk
+-- the end of the walk: by the table of entries, as for every walk
 unfoldable pub outcome_by : (ℕ → ℕ → Got) → Format → ℕ → ℕ → Kind → Option Held → Outcome
 outcome_by at format root address kind used =
     if is_in_width format.shape address
@@ -72,7 +72,7 @@ kept_of features global address entry = record {
   global = global;
 }
 
--- Of the entries that are met each that is valid may be kept, also one that is misconfigured, with whether it or one above it is global.
+-- Each valid entry that is met may be kept, even a misconfigured one, with whether it or one above it is global.
 unfoldable pub held_in : Features → Bool → ℕ → List Entry → List Held
 held_in features global address [] = []
 held_in features global address (entry ∷ path) =

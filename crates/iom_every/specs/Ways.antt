@@ -1,5 +1,5 @@
--- The way of a request over a source: RISC-V IOMMU Architecture 1.0, "Process to translate an IOVA". The rows are those of `led`; a look-up may be
--- answered by an entry of the source, behind all checks that come before it.
+-- The way of a request over a source: RISC-V IOMMU Architecture 1.0, "Process to translate an IOVA". The rows are those of `led`; an entry of the source
+-- may answer a look-up, after all checks that come before that look-up.
 use Rattle.std.specs.Prelude.{ℕ, ◌++◌, ◌-◌, List, [], ◌∷◌, get_or, Option, Some, None, Result, Ok, Err, if◌then◌else◌}
 use Rattle.iom_bits.specs.Bits.{has_bit}
 use Rattle.iom_bits.specs.declared.features.Features.{Features}
@@ -27,16 +27,16 @@ use Rattle.iom_every.specs.Entries.{Entry, OfDirectory, OfDevice, OfPage, id_par
 use Rattle.iom_every.specs.Uses.{AtLeaf, Below, Entered, Look, device_use, page_use, used_by}
 use Rattle.iom_every.specs.Stages.{stage_reads, translation_by}
 
--- how deep the directory is
+-- the number of levels of the directory
 abbrev pub depth_of : Machine → ℕ
 depth_of m = levels_of (mode_of m.registers)
 
--- the use that enters the directory; an id that is too wide for it has none
+-- the use at which a search of the directory begins; a device id that is too wide for the directory has none
 abbrev pub entered : Machine → List (Look × Entry) → ℕ → Option Entered
 entered m source did =
     if is_too_wide (depth_of m) did then None else used_by (device_use (depth_of m) did) source
 
--- what is met in the tables below a non-leaf entry
+-- the entries that are met in the tables below a non-leaf entry
 abbrev pub below : Machine → ℕ → ℕ → ℕ → List Met
 below m did level word = behind (pointed_by (Some word)) (path_from m.memory did (level - 1))
 
@@ -45,7 +45,7 @@ located_by m did None = located m.memory m.registers did
 located_by m did (Some (AtLeaf said)) = said
 located_by m did (Some (Below level word)) = verdict_on m.registers.features (listed.Entry 0 (Some word) ∷ below m did level word)
 
--- The entries of the directory that are met, from a level on; each that is valid may be kept.
+-- The entries of the directory that are met, from a level on; each valid one may be kept.
 abbrev pub directory_in : Features → ℕ → ℕ → List Met → List Entry
 directory_in features did level [] = []
 directory_in features did level (listed.Entry place None ∷ more) = []
@@ -60,7 +60,7 @@ directory_reads m did None = directory_in m.registers.features did (depth_of m -
 directory_reads m did (Some (AtLeaf said)) = []
 directory_reads m did (Some (Below level word)) = directory_in m.registers.features did (level - 1) (below m did level word)
 
--- by a whole translation, or by the stages, whose hit may be kept
+-- by a whole translation, or by the stages; a hit of these may be kept
 abbrev pub whole_of : Request → Context → Result Hit Fault → List Entry
 whole_of request context (Ok hit) = OfPage (request_key request context) hit ∷ []
 whole_of request context (Err fault) = []
@@ -81,7 +81,7 @@ under memory features source request context =
     if is_bare context then record { led = ByContext context; reads = [] }
     else record { led = way_to context (page_way memory features source request context).led; reads = (page_way memory features source request context).reads }
 
--- by the context; what was read of the directory stays read whatever comes of it
+-- by the context; the entries that were read of the directory count as read, even if the request is denied
 abbrev pub by_context : Memory → Features → List (Look × Entry) → Request → List Entry → Result Context Cause → Way Entry Led
 by_context memory features source request reads (Err why) = record { led = Denied (plain why); reads = reads }
 by_context memory features source request reads (Ok context) = record {

@@ -16,9 +16,9 @@ ghost use Rattle.iom_every.specs.Rows.{bare};
 ghost use Rattle.iom_every.specs.Uses.{Look};
 ghost use Rattle.iom_every.specs.Ways.{way_of};
 
-/// For every list of steps from an uncached start: if each access of a device in it is settled, every IOMMU that the standard allows
-/// leaves the memory, registers, devices and disks of this model's run, and gives its answers. Steps stand newest first, each with what
-/// the IOMMU chooses in it. `ahead` is whether it also reads ahead for requests that no device makes.
+/// For every list of steps from an uncached start: if each access of a device in it is settled, every IOMMU that the standard allows gives
+/// the answers of this model's run, and leaves its memory, registers, devices and disks. Steps are listed newest first, each with the
+/// choice of the IOMMU in it. `ahead` is whether it also reads ahead for requests that no device makes.
 pub fn answers_are_settled()
     ensures state { (ahead : Bool) (start : State) (chosen : List (Step × Choice Request Look)) → IsUncached start →
         AreSettled (iommu ahead) (λ steps. bare (end_of platform start steps)) (steps_of chosen) →
@@ -28,8 +28,8 @@ pub fn answers_are_settled()
         replies_as (iommu ahead) (bare start) chosen ≡ replies platform start (steps_of chosen) }
 {}
 
-/// This model is one of these IOMMUs, whose caches hold what it caches and nothing else; no access need be settled. So a request that is
-/// stale isn't settled: where one is settled, this model leads it as the tables say.
+/// This model is one of these IOMMUs, one that holds exactly the entries that this model caches; no access need be settled. So this model
+/// leads a settled request as the tables do, and a stale request isn't settled.
 pub fn model_is_one()
     ensures does { (ahead : Bool) (start : State) (steps : List Step) → IsUncached start →
         DoesAlike (iommu ahead) platform start steps (entries_in (cached (end_of platform start steps))) }
@@ -38,20 +38,20 @@ pub fn model_is_one()
         (led (end_of platform start steps).machine request).way ≡ by_tables (end_of platform start steps).machine request }
 {}
 
-/// Where a request isn't settled, some such IOMMU leads it elsewhere: each source of entries that may be held is used by one that has done
-/// as this model until then.
+/// Each source of entries that may be held is used by some such IOMMU, which did as this model until then. So if a request isn't settled,
+/// one of them leads it elsewhere than the tables.
 pub fn sources_are_used()
     ensures { (ahead : Bool) (start : State) (steps : List Step) (source : List (Look × Entry)) → IsUncached start →
         EachUse (May ahead start steps) source → CanUse (iommu ahead) platform start steps source }
 {}
 
-/// A walk with nothing held leads as the tables say, and one over what this model caches as it leads the request.
+/// A walk with nothing held leads as the tables do; a walk over the entries that this model caches leads as this model does.
 pub fn tables_lead()
     ensures uncached { (state : State) (request : Request) → (way_of (bare state) [] request).led ≡ by_tables state.machine request }
     ensures cached { (state : State) (request : Request) → (way_of (bare state) (cached state) request).led ≡ (led state.machine request).way }
 {}
 
-/// The runs of these laws, whose steps stand newest first, are those of the step table.
+/// The runs of these laws, whose steps are listed newest first, are those of the step table.
 pub fn runs_are_this_models()
     ensures state { (start : State) (steps : List Step) → end_of platform start steps ≡ run_of start (reverse steps) }
     ensures answers { (start : State) (steps : List Step) → replies platform start steps ≡ reverse (answers start (reverse steps)) }

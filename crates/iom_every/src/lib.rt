@@ -1,5 +1,5 @@
 //! Every IOMMU that the standard allows (RISC-V IOMMU Architecture 1.0, "Caching in-memory data structures"): the machines of
-//! `iom_choices`, with the walks, the commands and the steps of this model. It has definitions and laws, and no code.
+//! `iom_choices`, with the walks, the commands and the steps of this model. This crate has definitions and laws, but no code.
 #![tactic(auto)]
 
 pub use drops::{drops_of_directory_entries, drops_of_stage_entries, drops_of_this_models_entries};

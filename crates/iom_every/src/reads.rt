@@ -26,13 +26,13 @@ ghost use Rattle.iom_every.specs.Uses.{Look, access_use, entry_use, page_use, us
 ghost use Rattle.iom_every.specs.Walks.{met};
 ghost use Rattle.iom_every.specs.Ways.{directory_reads, entered, located_by, way_of};
 
-/// No entry may be held whose V is 0 ("Caching in-memory data structures").
+/// No entry with V = 0 may be held ("Caching in-memory data structures").
 pub fn valid_entries_alone()
     ensures { (ahead : Bool) (start : State) (steps : List Step) (entry : Entry) → May ahead start steps entry → IsValid entry }
 {}
 
-/// Each valid entry that a translation meets is among what it reads, with the ids of its context: those of the first stage, those of the
-/// second for each of them, and those of the second for the access.
+/// Each valid entry that a translation meets is among the entries that it reads, with the ids of its context: entries of the first stage,
+/// entries of the second stage for each of them, and entries of the second stage for the access itself.
 pub fn met_entries_are_read()
     ensures first { (memory : Memory) (features : Features) (source : List (Look × Entry)) (context : Context) (iova : ℕ) (kind : Kind) (shape : Shape) (entry : Met) →
         first_shape_of context ≡ Some shape → IsAmong (first_met memory features source context iova shape) entry → is_valid (word_of entry.got) ≡ true →
@@ -49,8 +49,8 @@ pub fn met_entries_are_read()
         IsReadAs features (OfSecond context.gscid) reached.addr entry (stage_reads memory features source context iova kind) }
 {}
 
-/// A request under a directory reads what is met of the directory; and below a context with a stage, where no whole translation is used,
-/// all that its translation reads, and the whole translation where it leads to a hit.
+/// A request under a directory reads the entries of the directory that it meets. Under a context with a stage, if it uses no whole
+/// translation, it also reads all that its translation reads, and the whole translation if there is a hit.
 pub fn requests_read()
     ensures directory { (state : State) (source : List (Look × Entry)) (request : Request) (levels : ℕ) → mode_of state.machine.registers ≡ Levels levels →
         (entry : Entry) → IsAmong (directory_reads state.machine request.did (entered state.machine source request.did)) entry →
