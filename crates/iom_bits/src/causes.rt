@@ -15,9 +15,9 @@ pub enum Kind {
 pub enum Cause {
     /// Read or write access fault, 5 or 7: an entry of a page table of either stage lies outside memory.
     Access(Kind),
-    /// Read or write page fault, 13 or 15: the first stage refuses the access.
+    /// Read or write page fault, 13 or 15: a fault of the first stage.
     Page(Kind),
-    /// Read or write guest page fault, 21 or 23: the second stage refuses the access.
+    /// Read or write guest page fault, 21 or 23: a fault of the second stage.
     Guest(Kind),
     /// All inbound transactions disallowed, 256: ddtp.iommu_mode is Off.
     Off,

@@ -1,6 +1,5 @@
--- A machine that chooses freely which of the entries it reads it keeps. Its run is a function of its steps and of a choice for each, and
--- every list of choices is allowed: a choice names things by their number, and a number beyond the end names nothing. Steps are listed
--- newest first.
+-- A machine that reads entries and keeps whichever it chooses. Its run is a function of its steps and of a choice for each, and every list
+-- of choices is allowed: a choice names things by their number, and a number beyond the end names nothing. Steps are listed newest first.
 use Rattle.std.specs.Prelude.{ℕ, ◌++◌, not, List, [], ◌∷◌, filter, filter_map, flat_map, map, slice_get, Option, None}
 use Rattle.std.specs.Option.{option_map}
 use Rattle.iom_choices.specs.Systems.{System, led_of, reads_of, aimed}

@@ -1,4 +1,5 @@
--- Which entries a machine may hold that chooses freely, and when they make no difference. `at` gives the state after some steps, newest first.
+-- The entries that a machine may hold, whatever it chooses, and when they make no difference. `at` gives the state after some steps, newest
+-- first.
 use Rattle.std.specs.Prelude.{◌≡◌, ◌⊎◌, Bool, false, true, List, [], ◌∷◌, Option}
 use Rattle.std.specs.List.{AllByRecursion}
 use Rattle.iom_choices.specs.Systems.{System, led_of, reads_of, aimed, IsAmong}

@@ -1,4 +1,4 @@
--- Every IOMMU that the standard allows, as a machine that chooses freely which entries it keeps; and this model as one of them.
+-- Every IOMMU that the standard allows, as a machine that keeps whichever entries it chooses; and this model as one of them.
 use Rattle.std.specs.Prelude.{ℕ, ◌++◌, Bool, List, [], ◌∷◌, Option, Some, None, Ok}
 use Rattle.iom_ddt.specs.declared.context.Context.{Context}
 use Rattle.iom_nested.specs.declared.translation.Hit.{Hit}
