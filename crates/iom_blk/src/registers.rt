@@ -22,9 +22,9 @@ impl Blk {
     ghost use Rattle.iom_blk.specs.Phases.{is_broken};
     ghost use Rattle.iom_blk.specs.Sound.{IsGoodQueue};
 
-    /// Reads `size` bytes at offset `off`, in bytes, as a number; None if the access isn't legal. Legal are 4 bytes at a multiple of
-    /// 4 below 0x1000; from 0x100 on, in the configuration, also 1 byte, or 2 at a multiple of 2. A place without a register reads 0
-    /// ("MMIO Device Register Layout").
+    /// Reads `size` bytes at offset `off`, in bytes, as a number; None if the access isn't legal. An access is legal if `size` is 4,
+    /// `off` is a multiple of it, and `off` is below 0x1000; from 0x100 on, in the configuration, `size` may also be 1 or 2. A place
+    /// without a register reads 0 ("MMIO Device Register Layout").
     #[tactic(auto, unfolding(crate::specs::Registers::read))]
     pub fn reg_read(&self, off: u64, size: u64) -> Option<u64>
         ensures { result ≡ read self.now off size }

@@ -40,7 +40,7 @@ pub struct Request {
     pub head: u16,
     /// The chain of the descriptors that were read; its parts' addresses are IOVAs.
     pub chain: Chain,
-    /// As many of its first 16 bytes as were read: type, a reserved word, and sector.
+    /// The bytes of its header that were read so far, at most 16: type, a reserved word, and sector.
     pub header: ArrayVec<u8, 16>,
     /// The status byte, once the header is whole: VIRTIO_BLK_S_OK (0), VIRTIO_BLK_S_IOERR (1) or VIRTIO_BLK_S_UNSUPP (2).
     pub answer: u8,
