@@ -6,7 +6,7 @@ ghost use Rattle.iom_ddt.specs.declared.listing.Met.TheVariants.{Leaf};
 
 use crate::{Context, context_of};
 use iom_bits::{Cause, field, has_bit};
-use iom_mem::Ram;
+use iom_mem::{Region, words_at};
 use iom_regs::{Mode, Regs};
 
 /// The context of a device id of at most 24 bits, under a mode that has a directory ("Process to locate the
@@ -16,10 +16,10 @@ use iom_regs::{Mode, Regs};
 /// and the context are judged in turn, and the first fault is the answer: `DirAccess` outside memory, `DirInvalid` where
 /// V = 0, `DirBad` where it is misconfigured.
 #[tactic(auto, unfolding(crate::specs::Directory::located))]
-pub fn locate(ram: &Ram, registers: &Regs, did: u32) -> Result<Context, Cause>
+pub fn locate<M: Region>(ram: &M, registers: &Regs, did: u32) -> Result<Context, Cause>
     requires directory { 1 ≤ levels_of (mode_of registers.now) }
-    ensures verdict { result ≡ located ram.now registers.now did }
-    ensures meaning { IsLocated ram.now registers.now did result }
+    ensures verdict { result ≡ located (M.memory ram.now) registers.now did }
+    ensures meaning { IsLocated (M.memory ram.now) registers.now did result }
 {
     if is_too_wide(registers, did) {
         return Err(Cause::TooWide);
@@ -69,8 +69,8 @@ pub(crate) fn ddi(did: u64, level: u8) -> u64
 /// The PPN, 44 bits, of the table that the entry at physical address `place` points to: that address divided by 4096. `DirAccess`
 /// where a byte of the entry is outside memory, `DirInvalid` where V = 0, `DirBad` where a reserved bit is set ("Process to locate
 /// the Device-context").
-pub(crate) fn pointed_by(ram: &Ram, place: u64) -> Result<u64, Cause>
-    ensures entry { result ≡ pointed_by (word ram.now place) }
+pub(crate) fn pointed_by<M: Region>(ram: &M, place: u64) -> Result<u64, Cause>
+    ensures entry { result ≡ pointed_by (word (M.memory ram.now) place) }
     ensures fits { IfOk result (λ table. table < 2 ^ 44) }
 {
     let entry = ram.word(place).ok_or(Cause::DirAccess)?;
@@ -84,11 +84,11 @@ pub(crate) fn pointed_by(ram: &Ram, place: u64) -> Result<u64, Cause>
 }
 
 // The context at this physical address.
-fn context_at(ram: &Ram, registers: &Regs, place: u64) -> Result<Context, Cause>
-    ensures verdict { decided_by registers.now.features (Leaf place (words_at ram.now place 4)) ≡ Some result }
-    ensures meaning { IsContextOf registers.now.features (words_at ram.now place 4) result }
+fn context_at<M: Region>(ram: &M, registers: &Regs, place: u64) -> Result<Context, Cause>
+    ensures verdict { decided_by registers.now.features (Leaf place (words_at (M.memory ram.now) place 4)) ≡ Some result }
+    ensures meaning { IsContextOf registers.now.features (words_at (M.memory ram.now) place 4) result }
 {
-    let Some(words) = ram.words_at(place) else {
+    let Some(words) = words_at(ram, place) else {
         return Err(Cause::DirAccess);
     };
     match context_of(words) {

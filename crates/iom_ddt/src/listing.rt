@@ -7,7 +7,7 @@ ghost use Rattle.iom_ddt.specs.Directory.{levels_of, path_of};
 
 use crate::directory::{ddi, is_too_wide, levels_of, pointed_by};
 use arrayvec::ArrayVec;
-use iom_mem::Ram;
+use iom_mem::{Region, words_at};
 use iom_regs::Regs;
 
 /// What is met from ddtp to a device's context. `place` is its physical address.
@@ -35,9 +35,9 @@ pub type DirectoryPath = ArrayVec<Met, 3>;
 /// What `locate` meets for a device id below 2^24, up to the context or to the first entry that is a fault; nothing where the id is
 /// too wide ("Process to locate the Device-context").
 #[tactic(auto, unfolding(crate::specs::Directory::path_of))]
-pub fn path(ram: &Ram, registers: &Regs, did: u32) -> DirectoryPath
+pub fn path<M: Region>(ram: &M, registers: &Regs, did: u32) -> DirectoryPath
     requires directory { 1 ≤ levels_of (mode_of registers.now) }
-    ensures path { result.items ≡ path_of ram.now registers.now did }
+    ensures path { result.items ≡ path_of (M.memory ram.now) registers.now did }
     ensures levels { array_vec_len result ≤ levels_of (mode_of registers.now) }
 {
     let mut met = DirectoryPath::new();
@@ -61,7 +61,7 @@ pub fn path(ram: &Ram, registers: &Regs, did: u32) -> DirectoryPath
     let place = table * 4096 + ddi(did, 0) * 32;
     met.push(Met::Leaf {
         place,
-        words: ram.words_at(place),
+        words: words_at(ram, place),
     });
     met
 }

@@ -1,3 +1,4 @@
 pub mod Memory
 pub mod Sizes
 pub mod Words
+pub mod Lent

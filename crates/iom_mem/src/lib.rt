@@ -6,11 +6,16 @@ ghost use Rattle.std.specs.Bool.{OnTrue, OnFalse};
 ghost use Rattle.std.specs.Option.{is_some};
 ghost use Rattle.iom_mem.specs.Sizes.{covers, is_good_size, is_paged};
 
+pub use lent::{LentRam, SharedRam, is_lendable};
+pub use region::{Region, WritableRegion, words_at};
 use std::alloc::{AllocError, Global};
 use std::marker::Model;
 use thiserror::Error;
-use word_bytes::{all_words, read_bytes, read_words, word_from, write_bytes};
+use word_bytes::all_words;
 
+mod lent;
+mod placed;
+mod region;
 mod word_bytes;
 
 /// Why there is no memory of the base and size that were asked for.
@@ -132,76 +137,54 @@ impl Ram {
     }
 
     /// How many bytes there are: a multiple of 4096 from 4096 to 2^26. `base + size` is at most 2^56.
-    #[tactic(auto, using(crate::proofs::WordBytes::words_hold))]
     pub fn size(&self) -> u64
         ensures value { result ≡ size_of self.now }
         ensures legal { IsLegal self.now }
     {
-        8 * self.words.len() as u64
+        placed::size(&self.words)
     }
 
     /// Reads the bytes from physical address `addr` on into `out`, and answers true; false where
     /// one of them is outside, and then `out` is unchanged. An empty `out` is read anywhere, outside
     /// memory too.
-    #[tactic(auto, using(crate::proofs::Bytes::empty_read, crate::proofs::WordBytes::words_hold))]
     pub fn read(&self, addr: u64, out: &mut [u8]) -> bool
         ensures read { OnTrue result (bytes_at self.now addr (length out.old) ≡ Some out.new) }
         ensures outside { OnFalse result (bytes_at self.now addr (length out.old) ≡ None) }
         ensures unchanged { OnFalse result (out.new ≡ out.old) }
     {
-        match self.place(addr, out.len()) {
-            Some(at) => {
-                read_bytes(&self.words, at, out);
-                true
-            }
-            None => out.is_empty(),
-        }
+        placed::read(self.base, &self.words, addr, out)
     }
 
     /// Writes `bytes` from physical address `addr` on, and answers true; false where one of the
     /// places is outside, and then nothing is changed. Empty `bytes` are written anywhere, outside
     /// memory too.
-    #[tactic(auto, using(crate::proofs::Bytes::empty_write, crate::proofs::WordBytes::words_hold))]
+    #[tactic(auto, using(crate::proofs::WordBytes::words_hold))]
     pub fn write(&mut self, addr: u64, bytes: &[u8]) -> bool
         ensures inside { result ≡ is_some (bytes_at self.old addr (length bytes.now)) }
         ensures written { OnTrue result (self.new ≡ put self.old addr bytes.now) }
         ensures replaces { OnTrue result (ReplacesBytes self.old addr bytes.now self.new) }
         ensures unchanged { OnFalse result (self.new ≡ self.old) }
     {
-        match self.place(addr, bytes.len()) {
-            Some(at) => {
-                write_bytes(&mut self.words, at, bytes);
-                true
-            }
-            None => bytes.is_empty(),
-        }
+        placed::write(self.base, &mut self.words, addr, bytes)
     }
 
     /// The number of the eight bytes from physical address `addr` on, the lowest byte first; None
     /// where one of them is outside. `addr` may be any address.
-    #[tactic(auto, using(crate::proofs::WordBytes::words_hold))]
     pub fn word(&self, addr: u64) -> Option<u64>
         ensures { result ≡ word self.now addr }
     {
-        let at = self.place(addr, 8)?;
-        // The base is a multiple of 8, so the address tells how far into a word this is.
-        Some(word_from(&self.words, at / 8, addr as usize % 8))
+        placed::word(self.base, &self.words, addr)
     }
 
     /// Reads the words from physical address `addr` on into `out`, word i from `addr + 8 * i`, and
     /// answers true; false where a byte of one is outside, and then `out` is unchanged. `addr` may be
     /// any address, and an empty `out` is read anywhere, outside memory too.
-    #[tactic(auto, using(crate::proofs::WordBytes::words_hold))]
     pub fn words(&self, addr: u64, out: &mut [u64]) -> bool
         ensures read { OnTrue result (words_at self.now addr (length out.old) ≡ Some out.new) }
         ensures outside { OnFalse result (words_at self.now addr (length out.old) ≡ None) }
         ensures unchanged { OnFalse result (out.new ≡ out.old) }
     {
-        let Some(at) = self.place(addr, 8 * out.len()) else {
-            return out.is_empty();
-        };
-        read_words(&self.words, at, out);
-        true
+        placed::words(self.base, &self.words, addr, out)
     }
 
     /// The `N` words from physical address `addr` on, of any alignment, word i from `addr + 8 * i`; None where a byte of one is
@@ -209,8 +192,7 @@ impl Ram {
     pub fn words_at<const N: usize>(&self, addr: u64) -> Option<[u64; N]>
         ensures { result ≡ words_at self.now addr N }
     {
-        let mut words = [0; N];
-        self.words(addr, &mut words).then_some(words)
+        words_at(self, addr)
     }
 
     /// All of memory as words: word i is the one at physical address `base + 8 * i`.
@@ -219,21 +201,36 @@ impl Ram {
     {
         all_words(&self.words)
     }
+}
 
-    // Where the `len` bytes from `addr` on stand; None where one is outside.
-    #[tactic(auto, using(crate::proofs::Bytes::bytes_at_inside, crate::proofs::Bytes::bytes_at_below, crate::proofs::Bytes::bytes_at_past))]
-    fn place(&self, addr: u64, len: usize) -> Option<usize>
-        ensures place { IfSome result
-            (λ at. (self.now.base + at ≡ addr) × (at + len ≤ size_of self.now)) }
-        ensures inside { IfSome result
-            (λ at. bytes_at self.now addr len ≡ Some (take len (drop at self.now.bytes))) }
-        ensures beyond { IfNone result
-            ((addr < self.now.base) ⊎ (self.now.base + size_of self.now < addr + len)) }
-        ensures outside { IfNone result (0 < len → bytes_at self.now addr len ≡ None) }
-    {
-        let at = addr.checked_sub(self.base)?;
-        // How many places so many bytes can begin at.
-        let places = (self.size() + 1).saturating_sub(len as u64);
-        if at < places { Some(at as usize) } else { None }
+impl Region for Ram {
+    ghost memory = { λ ram. ram };
+
+    fn base(&self) -> u64 {
+        Ram::base(self)
+    }
+
+    fn size(&self) -> u64 {
+        Ram::size(self)
+    }
+
+    fn read(&self, addr: u64, out: &mut [u8]) -> bool {
+        Ram::read(self, addr, out)
+    }
+
+    fn word(&self, addr: u64) -> Option<u64> {
+        Ram::word(self, addr)
+    }
+
+    fn words(&self, addr: u64, out: &mut [u64]) -> bool {
+        Ram::words(self, addr, out)
+    }
+}
+
+impl WritableRegion for Ram {
+    ghost name = { λ ram. 0 };
+
+    fn write(&mut self, addr: u64, bytes: &[u8]) -> bool {
+        Ram::write(self, addr, bytes)
     }
 }

@@ -1,17 +1,17 @@
 ghost use Rattle.iom_nested.specs.Stages.{ram_got};
 
-use iom_mem::Ram;
+use iom_mem::Region;
 use iom_walk::{Got, Words};
 
 /// Memory as a source of words, at physical addresses: where entries of tables are fetched that no stage translates.
-#[derive(Clone, Copy)]
-pub struct Physical<'a> {
+#[derive(Drop)]
+pub struct Physical<'a, M: Region> {
     /// The memory.
-    pub ram: &'a Ram,
+    pub ram: &'a M,
 }
 
-impl Words for Physical<'_> {
-    ghost at = { λ source. ram_got source.ram.now };
+impl<M: Region> Words for Physical<'_, M> {
+    ghost at = { λ source. ram_got (M.memory source.ram.now) };
 
     fn word(&self, addr: u64) -> Got {
         match self.ram.word(addr) {

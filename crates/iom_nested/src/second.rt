@@ -4,24 +4,24 @@ ghost use Rattle.iom_nested.specs.Stages.{guest_got, second_shape_of, table_got}
 use crate::physical::Physical;
 use iom_bits::{Features, Kind};
 use iom_ddt::Context;
-use iom_mem::Ram;
+use iom_mem::Region;
 use iom_walk::{Format, Got, Outcome, Shape, Words, walk};
 
 /// A guest's memory as a source of words: memory behind the second stage. Addresses are guest-physical, each translated for an
 /// implicit read, as of a first-stage table's entry ("Process to translate an IOVA").
 #[derive(Drop)]
-pub struct Second<'a> {
-    ram: &'a Ram,
+pub struct Second<'a, M: Region> {
+    ram: &'a M,
     format: Format,
     root: u64,
     ghost root_fits: { root < 2 ^ 44 },
 }
 
-impl<'a> Second<'a> {
+impl<'a, M: Region> Second<'a, M> {
     /// Lends memory through the second stage of a context that has one: whose iohgatp.MODE isn't Bare.
-    pub fn new(ram: &'a Ram, features: Features, context: &Context) -> Second<'a>
+    pub fn new(ram: &'a M, features: Features, context: &Context) -> Second<'a, M>
         requires staged { IsSome (second_shape_of context.now) }
-        ensures { ⟦<Second<'a> as Words>⟧.at result ≡ table_got ram.now features context.now }
+        ensures { ⟦<Second<'a, M> as Words>⟧.at result ≡ table_got (M.memory ram.now) features context.now }
     {
         Second {
             ram,
@@ -34,8 +34,8 @@ impl<'a> Second<'a> {
     }
 }
 
-impl Words for Second<'_> {
-    ghost at = { λ source. guest_got source.ram.now source.format source.root };
+impl<M: Region> Words for Second<'_, M> {
+    ghost at = { λ source. guest_got (M.memory source.ram.now) source.format source.root };
 
     fn word(&self, addr: u64) -> Got {
         match walk(

@@ -10,7 +10,7 @@ use crate::physical::Physical;
 use crate::second::{Second, second_shape};
 use iom_bits::{Cause, Features, Kind};
 use iom_ddt::Context;
-use iom_mem::Ram;
+use iom_mem::Region;
 use iom_walk::{Format, Outcome, PathEntries, Shape, walk, walk_listed};
 use std::marker::Model;
 
@@ -71,15 +71,15 @@ pub struct Reached {
 /// second, each for the access's own kind.
 #[inline(always)]
 #[tactic(auto, unfolding(crate::specs::Nested::translation))]
-pub fn translate(
-    ram: &Ram,
+pub fn translate<M: Region>(
+    ram: &M,
     features: Features,
     context: &Context,
     iova: u64,
     kind: Kind,
 ) -> Result<Hit, Fault>
     requires translated { is_bare context.now ≡ false }
-    ensures translation { result ≡ translation ram.now features context.now iova kind }
+    ensures translation { result ≡ translation (M.memory ram.now) features context.now iova kind }
 {
     let reached = first_stage(ram, features, context, iova, kind)?;
     second_stage(ram, features, context, reached, kind)
@@ -95,15 +95,15 @@ pub fn one_hit_a_page()
 /// Where the first stage of a context leads an IOVA, as `translate` does it, with the same faults; a Bare one leads to the IOVA
 /// itself.
 #[inline(always)]
-pub fn first_stage(
-    ram: &Ram,
+pub fn first_stage<M: Region>(
+    ram: &M,
     features: Features,
     context: &Context,
     iova: u64,
     kind: Kind,
 ) -> Result<Reached, Fault>
     ensures reached { result
-        ≡ told_of kind (first_stage ram.now features context.now iova kind (first_shape_of context.now)) }
+        ≡ told_of kind (first_stage (M.memory ram.now) features context.now iova kind (first_shape_of context.now)) }
     ensures fits { IfOk result
         (λ reached. (first_shape_of context.now ≢ None → reached.addr < 2 ^ 56) × (reached.level < 5)) }
 {
@@ -126,19 +126,19 @@ pub fn first_stage(
 
 /// Leads an IOVA by the first stage as `first_stage` does, and puts the entries that it meets into `met`, an empty list, each with the row
 /// that decides of it. There is none where that stage is Bare, nor of an IOVA that is too wide for it.
-pub fn first_stage_listed(
+pub fn first_stage_listed<M: Region>(
     met: &mut PathEntries,
-    ram: &Ram,
+    ram: &M,
     features: Features,
     context: &Context,
     iova: u64,
     kind: Kind,
 ) -> Result<Reached, Fault>
     requires empty { met.old.items ≡ [] }
-    ensures entries { met.new.items ≡ first_path ram.now features context.now iova kind (first_shape_of context.now) }
+    ensures entries { met.new.items ≡ first_path (M.memory ram.now) features context.now iova kind (first_shape_of context.now) }
     ensures few { array_vec_len met.new ≤ 5 }
     ensures reached { result
-        ≡ told_of kind (first_stage ram.now features context.now iova kind (first_shape_of context.now)) }
+        ≡ told_of kind (first_stage (M.memory ram.now) features context.now iova kind (first_shape_of context.now)) }
     ensures fits { IfOk result
         (λ reached. (first_shape_of context.now ≢ None → reached.addr < 2 ^ 56) × (reached.level < 5)) }
 {
@@ -202,8 +202,8 @@ fn reached_by(outcome: Outcome, iova: u64, kind: Kind) -> Result<Reached, Fault>
 
 /// Where the second stage of a context leads what its first one reached, as `translate` does it, with the same faults; a Bare one leads to
 /// the same address, which is below 2^56 then.
-pub fn second_stage(
-    ram: &Ram,
+pub fn second_stage<M: Region>(
+    ram: &M,
     features: Features,
     context: &Context,
     reached: Reached,
@@ -212,7 +212,7 @@ pub fn second_stage(
     requires level { reached.level < 5 }
     requires inside { second_shape_of context.now ≡ None → reached.addr < 2 ^ 56 }
     ensures hit { result
-        ≡ told_of kind (second_stage ram.now features context.now kind (second_shape_of context.now) reached) }
+        ≡ told_of kind (second_stage (M.memory ram.now) features context.now kind (second_shape_of context.now) reached) }
 {
     let frame = match second_shape(context) {
         None => reached.addr / 4096,

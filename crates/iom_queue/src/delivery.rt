@@ -7,7 +7,7 @@ ghost use Rattle.iom_queue.specs.Records.{RecordFits};
 ghost use Rattle.iom_queue.specs.Delivery.{is_stopped, is_full, record_addr, record_bytes, delivered, is_stored, KeepsOtherRegisters};
 
 use crate::record::{Record, encode_record};
-use iom_mem::Ram;
+use iom_mem::WritableRegion;
 use iom_regs::{Regs, Which};
 
 // How many bytes a record has.
@@ -17,17 +17,18 @@ const RECORD_SIZE: u64 = 32;
 /// address fqb.PPN * 4096 + fqt * 32. It is lost where the queue is off or stopped by fqmf or fqof, where the queue is full, which
 /// sets fqof, and where its place isn't in memory, which sets fqmf.
 #[tactic(auto, unfolding(crate::specs::Delivery::delivered, crate::specs::Delivery::is_stored))]
-pub fn deliver(registers: &mut Regs, ram: &mut Ram, fault: &Record)
+pub fn deliver<M: WritableRegion>(registers: &mut Regs, ram: &mut M, fault: &Record)
     requires { RecordFits fault.now }
-    ensures registers { registers.new ≡ (delivered registers.old ram.old fault.now).registers }
-    ensures memory { ram.new ≡ (delivered registers.old ram.old fault.now).memory }
+    ensures registers { registers.new ≡ (delivered registers.old (M.memory ram.old) fault.now).registers }
+    ensures memory { M.memory ram.new ≡ (delivered registers.old (M.memory ram.old) fault.now).memory }
 
     // What stays the same.
+    ensures borrow { M.name ram.new ≡ M.name ram.old }
     ensures stopped { OnTrue (is_stopped registers.old) (registers.new ≡ registers.old) }
     ensures other_registers { KeepsOtherRegisters registers.old registers.new }
-    ensures replaces { OnTrue (is_stored registers.old ram.old)
-        (ReplacesBytes ram.old (record_addr registers.old) (record_bytes fault.now) ram.new) }
-    ensures unchanged { OnFalse (is_stored registers.old ram.old) (ram.new ≡ ram.old) }
+    ensures replaces { OnTrue (is_stored registers.old (M.memory ram.old))
+        (ReplacesBytes (M.memory ram.old) (record_addr registers.old) (record_bytes fault.now) (M.memory ram.new)) }
+    ensures unchanged { OnFalse (is_stored registers.old (M.memory ram.old)) (M.memory ram.new ≡ M.memory ram.old) }
 {
     if is_stopped(registers) {
         return;

@@ -3,7 +3,7 @@ ghost use Rattle.iom_regs.specs.Table.{with_pending};
 ghost use Rattle.iom_queue.specs.Fetching.{is_idle, command_addr, fetch_of, IsFetch};
 
 use crate::command::{Command, decode_command, is_offered};
-use iom_mem::Ram;
+use iom_mem::{Region, words_at};
 use iom_regs::{Regs, Which};
 
 // How many bytes a command has.
@@ -25,15 +25,15 @@ pub enum Fetch {
 /// The command at the head of the command queue: the 16 bytes at physical address cqb.PPN * 4096 + cqh * 16. Nothing is changed: it
 /// stays at the head.
 #[tactic(auto, unfolding(crate::specs::Fetching::fetch_of))]
-pub fn next_command(registers: &Regs, ram: &Ram) -> Fetch
-    ensures value { result ≡ fetch_of registers.now ram.now }
-    ensures meaning { IsFetch registers.now ram.now result }
+pub fn next_command<M: Region>(registers: &Regs, ram: &M) -> Fetch
+    ensures value { result ≡ fetch_of registers.now (M.memory ram.now) }
+    ensures meaning { IsFetch registers.now (M.memory ram.now) result }
     ensures settled { with_pending registers.now ≡ registers.now }
 {
     if is_idle(registers) {
         return Fetch::Idle;
     }
-    let Some(words) = ram.words_at(command_addr(registers)) else {
+    let Some(words) = words_at(ram, command_addr(registers)) else {
         return Fetch::Fault;
     };
     match decode_command(words) {

@@ -7,9 +7,9 @@ use Rattle.iom_ddt.proofs.Modes.{without_modes}
 use Rattle.iom_ddt.proofs.directory.context_at.Goals as goal
 
 pub returns-in-Ok-clause-meaning : goal.returns-in-Ok-clause-meaning
-returns-in-Ok-clause-meaning c =
+returns-in-Ok-clause-meaning g c =
     let features = c.args.registers.now.features in
-    let there : words_at c.args.ram.now c.args.place 4 ≡ Some c.in-Some.words = search rules in
+    let there : words_at (g.M.Region.memory c.args.ram.now) c.args.place 4 ≡ Some c.in-Some.words = search rules in
     let lacks : has_modes features c.in-Ok.context ≡ false = search rules in
     subst (λ (words : Option (List ℕ)). IsContextOf features words (Err DirBad)) (sym there)
     (without_modes features c.in-Some.words c.in-Ok.context (Ok c.in-Ok.context) refl c.in-Ok.ensures.found c.in-Ok.ensures.only lacks)

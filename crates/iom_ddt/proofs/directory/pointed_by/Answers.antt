@@ -3,10 +3,10 @@ use Rattle.std.proofs.Common.{arith}
 use Rattle.iom_ddt.proofs.directory.pointed_by.Goals as goal
 
 pub returns-then-not-has_bit-clause-entry : goal.returns-then-not-has_bit-clause-entry
-returns-then-not-has_bit-clause-entry c = grind arith
+returns-then-not-has_bit-clause-entry g c = grind arith
 
 pub returns-then-field-ne0-2-clause-entry : goal.returns-then-field-ne0-2-clause-entry
-returns-then-field-ne0-2-clause-entry c = grind arith
+returns-then-field-ne0-2-clause-entry g c = grind arith
 
 pub returns-else-field-ne0-2-clause-entry : goal.returns-else-field-ne0-2-clause-entry
-returns-else-field-ne0-2-clause-entry c = grind arith
+returns-else-field-ne0-2-clause-entry g c = grind arith

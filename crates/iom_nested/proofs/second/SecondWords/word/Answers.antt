@@ -2,10 +2,10 @@ use Rattle.std.proofs.Common.{rules}
 use Rattle.iom_nested.proofs.second.SecondWords.word.Goals as goal
 
 pub returns-in-Leaf : goal.returns-in-Leaf
-returns-in-Leaf c = search rules
+returns-in-Leaf g c = search rules
 
 pub returns-in-Outside : goal.returns-in-Outside
-returns-in-Outside c = search rules
+returns-in-Outside g c = search rules
 
 pub returns-in-Guest : goal.returns-in-Guest
-returns-in-Guest c = search rules
+returns-in-Guest g c = search rules
