@@ -253,7 +253,7 @@ fn take(platform: &mut Platform, step: &Step, answer: &mut Answer) -> Seen
     ensures seen { result ≡ told_by_step noticed nothing_seen platform.old.machine (asked platform.old step.now) }
 {
     let mut seen = Seen::nothing();
-    platform.step_told(step, answer, &mut seen);
+    platform.step_into(step, answer, &mut seen);
     seen
 }
 

@@ -13,7 +13,7 @@ use crate::ways::{LocatedContext, RequestWay, located_of, way_of};
 use iom_bits::Kind;
 use iom_cache::Place;
 use iom_core::{Platform, Request};
-use iom_tables::{Standing, parts, stale, stale_context, stale_page};
+use iom_tables::{Parts, Standing, put_parts, stale, stale_context, stale_page};
 use std::alloc::Global;
 
 // What device `did` asks.
@@ -32,7 +32,8 @@ fn asking(did: u64, iova: u64, is_write: bool) -> Request
 fn put_part(platform: &Platform, request: &Request, i: u64, out: &mut WalkPart) -> u32
     ensures { PartTold request.now.did (slice_get (parts_of platform.now.machine request.now) i) result out.old out.new }
 {
-    let parts = parts(platform, request);
+    let mut parts = Parts::new();
+    put_parts(&mut parts, platform, request);
     match parts.as_slice().get(i as usize) {
         Some(part) => {
             *out = part_of(request.did, part);

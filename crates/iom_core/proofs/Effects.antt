@@ -14,13 +14,13 @@ use Rattle.iom_core.specs.Access.{Effect, effect_at, granted, outside, read_ther
 use Rattle.iom_core.specs.declared.access.Denial.{Denial}
 use Rattle.iom_core.specs.declared.access.Request.{Request}
 use Rattle.iom_core.specs.Table.{answer_by_reply}
-use Rattle.iom_core.specs.Reach.{ChangesOnly, Refuses, Span, TakesBy, nothing, span_to}
+use Rattle.iom_core.specs.Reach.{ChangesOnly, Refuses, Span, TakesBy, nothing, record_span, span_to}
 use Rattle.iom_core.proofs.Puts.{put_changes_only, same_memory}
 
 -- A delivery.
 pub record Delivers (registers : Registers) (memory : Memory) (left : Delivery) : Type 0 where
   pub others : KeepsOtherRegisters registers left.registers
-  pub bytes : ChangesOnly (record { addr = record_addr registers; count = 32 }) memory left.memory
+  pub bytes : ChangesOnly (record_span registers) memory left.memory
 
 record_length : (fault : Record) → length (record_bytes fault) ≡ 32
 unfolding record_bytes
@@ -29,7 +29,7 @@ record_length fault = refl
 delivers : (registers : Registers) (memory : Memory) (fault : Record) → Delivers registers memory (delivered registers memory fault)
 unfolding delivered
 delivers registers memory fault =
-    let same : ChangesOnly (record { addr = record_addr registers; count = 32 }) memory memory = same_memory memory _ in
+    let same : ChangesOnly (record_span registers) memory memory = same_memory memory _ in
     let Goal : Bool → Type 0 = λ there. is_in_memory registers memory ≡ there →
     Delivers registers memory (if not there then record { registers = with_fqmf registers; memory = memory }
     else record { registers = record_passed registers; memory = put memory (record_addr registers) (record_bytes fault) }) in
@@ -63,7 +63,7 @@ left_by_denial registers memory request denial =
       | true ↦ delivers registers memory (denial_record denial.cause request.kind request.did request.iova denial.iotval2)
       | false ↦ record {
         others = record { features = refl; ddtp = refl; cqb = refl; cqh = refl; cqt = refl; fqb = refl; fqh = refl; cqcsr = refl; icvec = refl };
-        bytes = same_memory memory (record { addr = record_addr registers; count = 32 });
+        bytes = same_memory memory (record_span registers);
       }
     ]
 
@@ -83,11 +83,11 @@ pub denied_refuses : (state : State) (request : Request) (denial : Denial) (left
     left.memory ≡ (record_left state.machine.registers state.machine.memory request denial).memory →
     left.registers ≡ (record_left state.machine.registers state.machine.memory request denial).registers →
     KeepsOtherRegisters state.machine.registers left.registers
-    × ChangesOnly (record { addr = record_addr state.machine.registers; count = 32 }) state.machine.memory left.memory
+    × ChangesOnly (record_span state.machine.registers) state.machine.memory left.memory
 denied_refuses state request denial left memory registers =
     let d = left_by_denial state.machine.registers state.machine.memory request denial in (
       subst (λ (r : Registers). KeepsOtherRegisters state.machine.registers r) (sym registers) d.others,
-      subst (λ (m : Memory). ChangesOnly (record { addr = record_addr state.machine.registers; count = 32 }) state.machine.memory m) (sym memory) d.bytes,
+      subst (λ (m : Memory). ChangesOnly (record_span state.machine.registers) state.machine.memory m) (sym memory) d.bytes,
     )
 
 pub effect_changes : (m : Machine) (request : Request) (ask : Ask) (led_to : Result ℕ Denial) →

@@ -1,17 +1,17 @@
 -- The devices in their places.
-use Rattle.std.proofs.Common.{◌≡◌, ◌∙◌, ◌^◌, ◌<◌, ℕ, zero, suc, List, [], ◌∷◌, Option, Some, refl, sym, ap, subst}
+use Rattle.std.proofs.Common.{◌≡◌, ◌∙◌, ◌<◌, ℕ, zero, suc, List, [], ◌∷◌, Option, Some, refl, sym, ap, subst}
 use Rattle.std.specs.Prelude.{slice_get, slice_set}
 use Rattle.std.specs.Option.{option_map}
 use Rattle.iom_blk.specs.Device.{Device}
-use Rattle.iom_core.specs.State.{EachFits}
+use Rattle.iom_core.specs.State.{EachFits, device_id_end}
 use Rattle.iom_core.specs.Reach.{ChangesDevice}
 
-pub fits_at : (devices : List (ℕ × Device)) (n : ℕ) (own : ℕ × Device) → EachFits devices → slice_get devices n ≡ Some own → own.0 < 2 ^ 24
+pub fits_at : (devices : List (ℕ × Device)) (n : ℕ) (own : ℕ × Device) → EachFits devices → slice_get devices n ≡ Some own → own.0 < device_id_end
 fits_at [] n own fits is = absurd (cc)
-fits_at (first ∷ more) zero own fits is = let same : first ≡ own = cc in subst (λ (o : ℕ × Device). o.0 < 2 ^ 24) same fits.0
+fits_at (first ∷ more) zero own fits is = let same : first ≡ own = cc in subst (λ (o : ℕ × Device). o.0 < device_id_end) same fits.0
 fits_at (first ∷ more) (suc n) own fits is = fits_at more n own fits.1 is
 
-pub fits_set : (devices : List (ℕ × Device)) (n : ℕ) (own : ℕ × Device) → EachFits devices → own.0 < 2 ^ 24 → EachFits (slice_set devices n own)
+pub fits_set : (devices : List (ℕ × Device)) (n : ℕ) (own : ℕ × Device) → EachFits devices → own.0 < device_id_end → EachFits (slice_set devices n own)
 fits_set [] n own fits small = tt
 fits_set (first ∷ more) zero own fits small = (small, fits.1)
 fits_set (first ∷ more) (suc n) own fits small = (fits.0, fits_set more n own fits.1 small)

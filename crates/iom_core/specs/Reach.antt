@@ -2,6 +2,7 @@
 use Rattle.std.specs.Prelude.{ℕ, ◌≡◌, ◌+◌, ◌<◌, ◌≤◌, true, false, List, length, slice_get, Option, Some, None, Result, Ok, Err, IfSome}
 use Rattle.std.specs.Option.{option_map}
 use Rattle.iom_mem.specs.Memory.{Memory, byte, bytes_at, size_of}
+use Rattle.iom_regs.specs.Table.{Registers}
 use Rattle.iom_queue.specs.Delivery.{KeepsOtherRegisters, record_addr}
 use Rattle.iom_queue.specs.declared.command.Command.{Command}
 use Rattle.iom_queue.specs.declared.command.Command.TheVariants.{Fence}
@@ -37,12 +38,16 @@ pub record ChangesOnly (span : Span) (old new : Memory) : Type 0 where
 abbrev pub address_in : State → Asking → Result ℕ Denial
 address_in state asking = address_on (led state.machine (request_in asking)).way (request_in asking).iova
 
+-- the fault queue's next record, of 32 bytes
+abbrev pub record_span : Registers → Span
+record_span registers = record { addr = record_addr registers; count = 32 }
+
 -- an access changes the bytes that it may write; where it is denied, those of the fault queue's next record
 abbrev pub span_to : Machine → Ask → Result ℕ Denial → Span
 span_to m (Read iova count) (Ok addr) = nothing
 span_to m (Write iova bytes) (Ok addr) = record { addr = addr; count = length bytes }
-span_to m (Read iova count) (Err denial) = record { addr = record_addr m.registers; count = 32 }
-span_to m (Write iova bytes) (Err denial) = record { addr = record_addr m.registers; count = 32 }
+span_to m (Read iova count) (Err denial) = record_span m.registers
+span_to m (Write iova bytes) (Err denial) = record_span m.registers
 
 abbrev pub span_of_access : State → Option Asking → Span
 span_of_access state None = nothing
@@ -135,7 +140,7 @@ abbrev pub Refuses : Answer → State → State → Type 0
 -- all but the fault queue's registers, ipsr, the bytes of one record, the caches and a device that breaks
 Refuses (answer.Denied cause) old new =
     KeepsOtherRegisters old.machine.registers new.machine.registers
-    × ChangesOnly (record { addr = record_addr old.machine.registers; count = 32 }) old.machine.memory new.machine.memory
+    × ChangesOnly (record_span old.machine.registers) old.machine.memory new.machine.memory
 -- all but the caches and a device that breaks
 Refuses answer.BusError old new =
     (new.machine.memory ≡ old.machine.memory) × (new.machine.registers ≡ old.machine.registers)

@@ -34,10 +34,14 @@ with_machine s machine = record s { machine = machine }
 abbrev pub with_device : State → ℕ → ℕ → Device → State
 with_device s n did device = record s { devices = slice_set s.devices n (did, device) }
 
--- each device's id has 24 bits
+-- a device id has 24 bits
+abbrev pub device_id_end : ℕ
+device_id_end = 2 ^ 24
+
+-- each device's id has no more
 abbrev pub EachFits : List (ℕ × Device) → Type 0
 EachFits [] = Unit {0}
-EachFits (own ∷ more) = (own.0 < 2 ^ 24) × EachFits more
+EachFits (own ∷ more) = (own.0 < device_id_end) × EachFits more
 
 -- whether an id is one of these
 abbrev pub is_id_among : List ℕ → ℕ → Bool
@@ -51,9 +55,13 @@ AreDistinct (id ∷ ids) = (is_id_among ids id ≡ false) × AreDistinct ids
 abbrev pub ids_of : List (ℕ × Device) → List ℕ
 ids_of devices = map (λ own. own.0) devices
 
+-- how many block devices a platform has at most
+abbrev pub most_devices : ℕ
+most_devices = 8
+
 -- the block devices that a platform may have
 pub record AreDevices (devices : List (ℕ × Device)) : Type 0 where
-  pub few : length devices ≤ 8
+  pub few : length devices ≤ most_devices
   pub fit : EachFits devices
   pub distinct : AreDistinct (ids_of devices)
 

@@ -14,7 +14,7 @@ use Rattle.iom_blk.specs.Phases.{asks, moved_of, took}
 use Rattle.iom_blk.specs.Registers.{is_legal as is_device_register, read as device_read, written as device_written}
 use Rattle.iom_blk.specs.declared.want.Moved.{Moved}
 use Rattle.iom_blk.specs.declared.want.Moved.TheVariants as moved
-use Rattle.iom_core.specs.State.{State, Machine, with_device, with_machine}
+use Rattle.iom_core.specs.State.{State, Machine, device_id_end, with_device, with_machine}
 use Rattle.iom_core.specs.Access.{request_of, served, told_of}
 use Rattle.iom_core.specs.declared.access.Request.{Request}
 use Rattle.iom_core.specs.Commands.{after_command, executed_by, fetched, is_taken}
@@ -45,9 +45,13 @@ fits value size = nat_lt value (2 ^ (8 * size))
 abbrev pub overflows : ℕ → ℕ → Bool
 overflows value size = is_size size && not (fits value size)
 
--- a device id of 24 bits, and 1 to 64 bytes within one page
+-- how many bytes a device's access has at most
+abbrev pub most_bytes : ℕ
+most_bytes = 64
+
+-- a device id that fits, and 1 to 64 bytes within one page
 abbrev pub is_device_access : ℕ → ℕ → ℕ → Bool
-is_device_access did iova len = nat_lt did (2 ^ 24) && nat_lt 0 len && nat_le len 64 && nat_le (iova % 4096 + len) 4096
+is_device_access did iova len = nat_lt did device_id_end && nat_lt 0 len && nat_le len most_bytes && nat_le (iova % 4096 + len) 4096
 
 -- what a device asks of the bus
 pub record Asking : Type 0 where

@@ -1,7 +1,7 @@
 //! A device's access: where it leads, and what it leaves in the caches (RISC-V IOMMU Architecture 1.0, "Process to translate
 //! an IOVA", "Caching in-memory data structures").
 
-ghost use Rattle.std.specs.Prelude.{◌≡◌, ◌<◌, ◌≤◌, ◌^◌, ◌+◌, ◌*◌, ◌%◌, [], false, length, None, Ok, Err};
+ghost use Rattle.std.specs.Prelude.{◌≡◌, ◌<◌, ◌≤◌, ◌+◌, ◌*◌, ◌%◌, [], false, length, None, Ok, Err};
 ghost use Rattle.std.specs.Bool.{OnFalse};
 ghost use Rattle.iom_regs.specs.Views.{mode_of};
 ghost use Rattle.iom_ddt.specs.Contexts.{is_bare};
@@ -10,7 +10,7 @@ ghost use Rattle.iom_cache.specs.Keys.{same_did, same_key};
 ghost use Rattle.iom_cache.specs.Places.{find, look};
 ghost use Rattle.iom_virtq.specs.Bus.{Read, Write, is_granted, reply_of};
 ghost use Rattle.iom_core.specs.Access.{address_on, context_look, filled_where, led, led_by_context, led_under, machine_of, page_told, plain, record_left, request_key, request_of, served, told, told_of, translating, under_told, with_delivery, with_fills};
-ghost use Rattle.iom_core.specs.State.{context_room, page_room};
+ghost use Rattle.iom_core.specs.State.{context_room, device_id_end, page_room};
 ghost use Rattle.iom_core.specs.declared.way.Way.TheVariants as way;
 ghost use Rattle.iom_core.specs.declared.witness.Event.TheVariants as event;
 
@@ -87,7 +87,7 @@ impl Machine {
         out: &mut [u8],
         witness: &mut W,
     ) -> Access
-        requires { did < 2 ^ 24 }
+        requires { did < device_id_end }
         ensures reply { reply_of result out.new ≡ (served self.old did (Read iova (length out.old))).reply }
         ensures left { self.new ≡ (served self.old did (Read iova (length out.old))).machine }
         ensures unchanged { OnFalse (is_granted result) (out.new ≡ out.old) }
@@ -115,7 +115,7 @@ impl Machine {
         bytes: &[u8],
         witness: &mut W,
     ) -> Access
-        requires { did < 2 ^ 24 }
+        requires { did < device_id_end }
         ensures reply { reply_of result [] ≡ (served self.old did (Write iova bytes.now)).reply }
         ensures left { self.new ≡ (served self.old did (Write iova bytes.now)).machine }
         ensures told { witness.new ≡ told_of W.next witness.old self.old (request_of did (Write iova bytes.now)) }
@@ -151,7 +151,7 @@ impl Machine {
     // Denies a request, and delivers its record where it makes one.
     #[tactic(auto, unfolding(crate::specs::Access::record_left))]
     fn deny(&mut self, request: &Request, denial: Denial) -> Access
-        requires { request.now.did < 2 ^ 24 }
+        requires { request.now.did < device_id_end }
         ensures answer { result ≡ Access.Denied denial.cause }
         ensures left { self.new ≡ with_delivery self.old (record_left self.old.registers self.old.memory request.now denial) }
     {

@@ -1,6 +1,7 @@
 //! What a step asks of the IOMMU.
 
-ghost use Rattle.std.specs.Prelude.{◌≡◌};
+ghost use Rattle.std.specs.Prelude.{◌≡◌, ◌<◌, IfSome};
+ghost use Rattle.iom_core.specs.State.{device_id_end};
 ghost use Rattle.iom_core.specs.Table.{request_of_step};
 ghost use Rattle.iom_core.specs.declared.step.Step.TheVariants as step;
 
@@ -11,10 +12,12 @@ use iom_bits::Kind;
 use iom_blk::Want;
 
 impl Platform {
-    /// What a step asks of the IOMMU, if it is the next one: a device's access, a block device's too. None where it makes none.
+    /// What a step asks of the IOMMU, if it is the next one: a device's access, a block device's too. Its device id is
+    /// below 2^24. None where it makes none.
     #[tactic(auto, unfolding(crate::specs::Table::asked))]
     pub fn request_of(&self, step: &Step) -> Option<Request>
-        ensures { result ≡ request_of_step self.now step.now }
+        ensures request { result ≡ request_of_step self.now step.now }
+        ensures fits { IfSome result (λ request. request.did < device_id_end) }
     {
         match step {
             Step::DmaRead { did, iova, len } => device_request(*did, *iova, *len, Kind::Read),
@@ -29,7 +32,8 @@ impl Platform {
     // What a block device asks of the IOMMU.
     #[tactic(auto, unfolding(crate::specs::Table::asked))]
     fn request_of_device(&self, dev: u64) -> Option<Request>
-        ensures { result ≡ request_of_step self.now (step.Device dev) }
+        ensures request { result ≡ request_of_step self.now (step.Device dev) }
+        ensures fits { IfSome result (λ request. request.did < device_id_end) }
     {
         let n = dev as usize;
         if n >= self.devices.len() {

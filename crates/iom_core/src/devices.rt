@@ -1,8 +1,9 @@
 //! The block devices, and what the hart and they themselves do with them.
 
-ghost use Rattle.std.specs.Prelude.{◌≡◌, ◌<◌, ◌^◌, slice_get, IfOk};
+ghost use Rattle.std.specs.Prelude.{◌≡◌, ◌<◌, slice_get, IfOk};
 ghost use Rattle.std.specs.Option.{option_map};
 ghost use Rattle.iom_blk.specs.Phases.{asks};
+ghost use Rattle.iom_core.specs.State.{device_id_end};
 ghost use Rattle.iom_core.specs.Table.{answer_of, asked_by, asking_for, dev_read, dev_write, dev_written, device_step, moving, told_by_step};
 
 use crate::Platform;
@@ -79,7 +80,7 @@ fn written(device: &mut Blk, off: u64, size: u64, value: u64) -> Answer
 // The machine, lent to one device for its step.
 #[tactic(auto, unfolding(crate::specs::Table::moving))]
 fn moved<W: Witness>(machine: &mut Machine, did: u32, device: &mut Blk, witness: &mut W) -> Answer
-    requires { did < 2 ^ 24 }
+    requires { did < device_id_end }
     ensures answer { result ≡ answer_of (moving machine.old did device.old (asks device.old)).told }
     ensures machine { machine.new ≡ (moving machine.old did device.old (asks device.old)).machine }
     ensures device { device.new ≡ (moving machine.old did device.old (asks device.old)).device }

@@ -142,32 +142,21 @@ impl Platform {
         ensures refused { Refuses result self.old self.new }
     {
         let mut answer = Answer::Done;
-        self.step_into(step, &mut answer);
+        self.step_into(step, &mut answer, &mut ());
         answer
     }
 
-    /// Carries out one step as `step` does, and puts its answer in place of what `answer` holds.
+    /// Carries out one step as `step` does, and puts its answer in place of what `answer` holds. A witness is told of the access that the
+    /// step makes, if it makes one: by which context and to which page it is led, where these come from, and the way.
     #[inline(always)]
-    pub fn step_into(&mut self, step: &Step, answer: &mut Answer)
-        ensures answer { answer.new ≡ (next self.old step.now).answer }
-        ensures state { self.new ≡ (next self.old step.now).state }
-        ensures reach { Reaches self.old step.now answer.new self.new }
-        ensures refused { Refuses answer.new self.old self.new }
-    {
-        self.step_told(step, answer, &mut ());
-    }
-
-    /// The same, and a witness is told of the access that the step makes, if it makes one: by which context and to which page it is
-    /// led, where these come from, and the way.
-    #[inline(always)]
-    pub fn step_told<W: Witness>(&mut self, step: &Step, answer: &mut Answer, witness: &mut W)
+    pub fn step_into<W: Witness>(&mut self, step: &Step, answer: &mut Answer, witness: &mut W)
         ensures answer { answer.new ≡ (next self.old step.now).answer }
         ensures state { self.new ≡ (next self.old step.now).state }
         ensures told { witness.new ≡ told_by_step W.next witness.old self.old.machine (asked self.old step.now) }
         ensures reach { Reaches self.old step.now answer.new self.new }
         ensures refused { Refuses answer.new self.old self.new }
     {
-        self.take(step, answer, witness);
+        self.by_row(step, answer, witness);
     }
 
     /// Carries out steps in their order, and puts the answer to each at its place in `out`.
@@ -199,14 +188,14 @@ impl Platform {
         ensures end { self.new ≡ end_of self.old steps.now }
     {
         for (i, step) in steps.iter().enumerate() {
-            self.take(step, &mut out[i], &mut ());
+            self.by_row(step, &mut out[i], &mut ());
         }
     }
 
     // A step by its row of the step table, its answer put in place. A device's read puts its own, so that no bytes are moved.
     #[inline(always)]
     #[tactic(auto, unfolding(crate::specs::Table::next, crate::specs::Table::asked))]
-    fn take<W: Witness>(&mut self, step: &Step, answer: &mut Answer, witness: &mut W)
+    fn by_row<W: Witness>(&mut self, step: &Step, answer: &mut Answer, witness: &mut W)
         ensures answer { answer.new ≡ (next self.old step.now).answer }
         ensures state { self.new ≡ (next self.old step.now).state }
         ensures told { witness.new ≡ told_by_step W.next witness.old self.old.machine (asked self.old step.now) }
@@ -304,6 +293,12 @@ impl Platform {
     }
 }
 
+// A device id has 24 bits.
+const DEVICE_ID_END: u64 = 1 << 24;
+
+// How many bytes a device's access has at most.
+const MOST_BYTES: u64 = 64;
+
 /// The request of device `did` for `len` bytes at IOVA `iova`; None where it may not ask so: its id is below 2^24, and the bytes are
 /// 1 to 64 within one page of 4096 bytes.
 pub(crate) fn device_request(did: u64, iova: u64, len: u64, kind: Kind) -> Option<Request>
@@ -324,5 +319,5 @@ pub(crate) fn device_request(did: u64, iova: u64, len: u64, kind: Kind) -> Optio
 fn is_device_access(did: u64, iova: u64, len: u64) -> bool
     ensures { result ≡ is_device_access did iova len }
 {
-    did < 1 << 24 && len > 0 && len <= 64 && iova % 4096 + len <= 4096
+    did < DEVICE_ID_END && len > 0 && len <= MOST_BYTES && iova % 4096 + len <= 4096
 }

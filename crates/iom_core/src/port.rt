@@ -1,4 +1,5 @@
-ghost use Rattle.std.specs.Prelude.{◌≡◌, ◌<◌, ◌^◌};
+ghost use Rattle.std.specs.Prelude.{◌≡◌, ◌<◌};
+ghost use Rattle.iom_core.specs.State.{device_id_end};
 
 use crate::machine::Machine;
 use crate::witness::Witness;
@@ -14,7 +15,7 @@ pub struct Port<'a, W: Witness> {
     /// Who is told of the accesses.
     pub(crate) witness: &'a mut W,
     /// The device's id is below 2^24.
-    pub ghost did_fits: { did < 2 ^ 24 },
+    pub ghost did_fits: { did < device_id_end },
 }
 
 impl<W: Witness> Bus for Port<'_, W> {

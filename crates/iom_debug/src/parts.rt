@@ -26,7 +26,7 @@ use iom_tool::Draft;
 use iom_walk::{Got, PathEntry, Ruling};
 
 /// Puts one part of the walk of a request as the tables stand now in place of what a draft holds: at most 320 bytes, without a line
-/// end. Its numbers are such as the tables may say, as those of each part of `parts`.
+/// end. Its numbers are such as the tables may say, as those of each part that `put_parts` puts.
 pub fn put_part(out: &mut Draft, platform: &Platform, request: &Request, part: &Part)
     requires { PartFits part.now }
     ensures text { out.new ≡ part_text platform.now.machine request.now part.now }

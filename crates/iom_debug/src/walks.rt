@@ -8,7 +8,7 @@ ghost use Rattle.iom_debug.specs.Walks.{part_text, walk_text};
 use crate::parts::put_part;
 use crate::text::said;
 use iom_core::{Platform, Request};
-use iom_tables::{Part, Parts, parts};
+use iom_tables::{Part, Parts, put_parts};
 use iom_tool::{Draft, Reply};
 
 /// Part `i` of the walk of a request as the tables stand now, the first 0; `none` past the last one.
@@ -16,7 +16,8 @@ use iom_tool::{Draft, Reply};
 pub fn walk_line(platform: &Platform, request: &Request, i: u64) -> Reply
     ensures { result.items ≡ walk_text platform.now.machine request.now i }
 {
-    let parts = parts(platform, request);
+    let mut parts = Parts::new();
+    put_parts(&mut parts, platform, request);
     match part_at(&parts, i as usize) {
         Some(part) => part_line(platform, request, part),
         None => said(b"none"),

@@ -3,6 +3,7 @@ use Rattle.std.proofs.Common.{◌≡◌, ◌≢◌, ◌+◌, ◌-◌, ◌*◌, �
 use Rattle.std.specs.Prelude.{All, IfOk, IfSome, find, flat_map}
 use Rattle.std.proofs.lemmas.Bool.{eqb-true, false_from_ne_true}
 use Rattle.std.proofs.lemmas.Nat.{mod_below, pow_pos, shr_below, shr_split}
+use Rattle.std.proofs.Math.Nat.{pow-le-pow_right}
 use Rattle.std.proofs.lemmas.List.Elements.{All-nil, All-cons, All-head, All-tail, All-append, All-map, All-weaker}
 use Rattle.iom_bits.specs.Bits.{field_of, has_bit}
 use Rattle.iom_bits.specs.declared.causes.Cause.{Cause}
@@ -24,24 +25,24 @@ use Rattle.iom_ddt.specs.declared.listing.Met.{Met}
 use Rattle.iom_ddt.specs.declared.listing.Met.TheVariants as met
 use Rattle.iom_walk.specs.Outcome.{conclude, conclude_at, outcome_of, verdict_on_path}
 use Rattle.iom_walk.specs.Path.{Entry, entry_at, next_table, path_from, path_of as walk_path_of, verdict_on}
-use Rattle.iom_walk.specs.Shape.{index_of, is_in_width, levels}
+use Rattle.iom_walk.specs.Shape.{are_all, index_of, index_width, is_in_width, levels, page_width, widening}
 use Rattle.iom_walk.specs.Told.{path_told, told}
-use Rattle.iom_walk.specs.Verdict.{is_pointer, verdict_of, word_of}
+use Rattle.iom_walk.specs.Verdict.{is_pointer, word_of}
 use Rattle.iom_walk.specs.declared.entry.Verdict.{Verdict}
 use Rattle.iom_walk.specs.declared.entry.Verdict.TheVariants as verdict
 use Rattle.iom_walk.specs.declared.listing.PathEntry.{PathEntry}
 use Rattle.iom_walk.specs.declared.outcome.Outcome.{Outcome}
 use Rattle.iom_walk.specs.declared.outcome.Outcome.TheVariants as outcome
 use Rattle.iom_walk.specs.declared.shape.Shape.{Shape}
-use Rattle.iom_walk.specs.declared.shape.Shape.TheVariants.{Sv39, Sv39x4, Sv48, Sv48x4, Sv57, Sv57x4}
+use Rattle.iom_walk.specs.declared.shape.Shape.TheVariants.{Sv39}
 use Rattle.iom_walk.specs.declared.source.Got.{Got}
 use Rattle.iom_walk.proofs.Frames.{frame_fits}
 use Rattle.iom_walk.specs.declared.shape.Format.{Format}
 use Rattle.iom_nested.specs.Faults.{Failure}
 use Rattle.iom_nested.specs.Nested.{first_stage, reached_by}
-use Rattle.iom_nested.specs.Stages.{first_shape_of, format_of, ram_got, second_shape_of, shape_by, table_got}
+use Rattle.iom_nested.specs.Stages.{first_shape_of, format_of, ram_got, second_shape_of, table_got}
 use Rattle.iom_nested.specs.declared.translation.Reached.{Reached}
-use Rattle.iom_core.specs.State.{Machine}
+use Rattle.iom_core.specs.State.{Machine, device_id_end}
 use Rattle.iom_core.specs.declared.access.Request.{Request}
 use Rattle.iom_tables.specs.Bounds.{EntryFits, MetFits, ModeFits, PartFits}
 use Rattle.iom_tables.specs.Parts.{access_parts, address_by, directory_parts, entry_parts, first_by, first_parts, parts_by, parts_of, read_at, read_by, second_by, second_parts, stage_parts}
@@ -120,13 +121,24 @@ behind_pointer : (pointer : Bool) (rest : List Entry) → All Within rest → Al
 behind_pointer true rest each = each
 behind_pointer false rest each = All-nil Within
 
+-- what holds of each shape: how many levels it has, and how wide its root is
 few_levels : (shape : Shape) → levels shape ≤ 5
 few_levels Sv39 = omega arith
-few_levels Sv39x4 = omega arith
-few_levels Sv48 = omega arith
-few_levels Sv48x4 = omega arith
-few_levels Sv57 = omega arith
-few_levels Sv57x4 = omega arith
+few_levels _ = omega arith
+
+pub some_level : (shape : Shape) → 0 < levels shape
+some_level Sv39 = omega arith
+some_level _ = omega arith
+
+root_width : (shape : Shape) → 2 ^ index_width shape (levels shape - 1) ≡ 2 ^ (9 + widening shape)
+root_width Sv39 = refl
+root_width _ = refl
+
+root_index : (shape : Shape) (address : ℕ) → index_of shape address (levels shape - 1) < 2 ^ (9 + widening shape)
+unfolding index_of
+root_index shape address =
+    subst (λ n. index_of shape address (levels shape - 1) < n) (root_width shape)
+    (field_below address (12 + 9 * (levels shape - 1)) (index_width shape (levels shape - 1)))
 
 -- an entry that stands within bounds, and those behind it
 entry_within : (at : ℕ → Got) (format : Format) (address table count : ℕ) → suc count ≤ levels format.shape →
@@ -219,26 +231,21 @@ outcome_fits at format root address kind rooted =
       | false ↦ tt
     ]
 
--- the shapes of the first stage
+-- the first stage
 abbrev FirstFits : Option Shape → ℕ → Type 0
 FirstFits None root = Unit {0}
 FirstFits (Some shape) root = RootFits shape root
 
-first_root : (mode root : ℕ) → root < 2 ^ 44 → FirstFits (shape_by mode Sv39 Sv48 Sv57) root
-unfolding index_of
-first_root mode root low =
-    elim (mode == 0) as (λ bare. FirstFits (if bare then None else if mode == 8 then Some Sv39 else if mode == 9 then Some Sv48 else Some Sv57) root) [
-      | true ↦ tt
-      | false ↦ elim (mode == 8) as (λ three. FirstFits (if three then Some Sv39 else if mode == 9 then Some Sv48 else Some Sv57) root) [
-        | true ↦ λ address. let index : index_of Sv39 address 2 < 512 = field_below address 30 9 in omega arith
-        | false ↦ elim (mode == 9) as (λ four. FirstFits (if four then Some Sv48 else Some Sv57) root) [
-          | true ↦ λ address. let index : index_of Sv48 address 3 < 512 = field_below address 39 9 in omega arith
-          | false ↦ λ address. let index : index_of Sv57 address 4 < 512 = field_below address 48 9 in omega arith
-        ]
-      ]
-    ]
+first_shape_plain : (context : Context) (shape : Shape) → first_shape_of context ≡ Some shape → widening shape ≡ 0
+first_shape_plain context shape is = grind arith
 
--- those of the second, whose root is aligned: and what it translates
+first_root : (context : Context) (found : Option Shape) → first_shape_of context ≡ found → context.ppn < 2 ^ 44 → FirstFits found context.ppn
+first_root context None is low = tt
+first_root context (Some shape) is low = λ address.
+    let index : index_of shape address (levels shape - 1) < 2 ^ (9 + 0) =
+    subst (λ n. index_of shape address (levels shape - 1) < 2 ^ (9 + n)) (first_shape_plain context shape is) (root_index shape address) in omega arith
+
+-- the second, whose root is aligned, and what it translates
 record SecondFits (shape : Shape) (root : ℕ) : Type 0 where
   stands : RootFits shape root
   guest : (address : ℕ) → address < 2 ^ 64 → is_in_width shape address ≡ true → address < 2 ^ 59
@@ -259,32 +266,32 @@ narrow address low width below none =
 aligned_stands : (root index : ℕ) → root < 2 ^ 44 → root % 4 ≡ 0 → index < 2048 → root * 4096 + index * 8 < 2 ^ 56
 aligned_stands root index low aligned below = omega (arith, shr_split root 2)
 
-second_root : (mode root : ℕ) → root < 2 ^ 44 → (mode ≢ 0 → root % 4 ≡ 0) → StageFits (shape_by mode Sv39x4 Sv48x4 Sv57x4) root
-unfolding index_of is_in_width
-second_root mode root low aligned =
-    let three : (root % 4 ≡ 0) → SecondFits Sv39x4 root = λ is. record {
-      stands = λ address. aligned_stands root (index_of Sv39x4 address 2) low is (field_below address 30 11);
-      guest = λ address below wide. let small : address < 2 ^ 41 = narrow address 41 23 below wide in omega arith;
-    } in
-    let four : (root % 4 ≡ 0) → SecondFits Sv48x4 root = λ is. record {
-      stands = λ address. aligned_stands root (index_of Sv48x4 address 3) low is (field_below address 39 11);
-      guest = λ address below wide. let small : address < 2 ^ 50 = narrow address 50 14 below wide in omega arith;
-    } in
-    let five : (root % 4 ≡ 0) → SecondFits Sv57x4 root = λ is. record {
-      stands = λ address. aligned_stands root (index_of Sv57x4 address 4) low is (field_below address 48 11);
-      guest = λ address below wide. narrow address 59 5 below wide;
-    } in
-    let Goal : Bool → Type 0 = λ bare. (mode == 0) ≡ bare →
-    StageFits (if bare then None else if mode == 8 then Some Sv39x4 else if mode == 9 then Some Sv48x4 else Some Sv57x4) root in
-    let by_mode : (bare : Bool) → Goal bare = λ bare. elim bare as Goal [
-      | true ↦ λ is. tt
-      | false ↦ λ is.
-          let at : root % 4 ≡ 0 = aligned (λ zero_mode. let bare_too : (mode == 0) ≡ true = rw zero_mode refl in cc) in
-          elim (mode == 8) as (λ eight. StageFits (if eight then Some Sv39x4 else if mode == 9 then Some Sv48x4 else Some Sv57x4) root) [
-            | true ↦ three at
-            | false ↦ elim (mode == 9) as (λ nine. StageFits (if nine then Some Sv48x4 else Some Sv57x4) root) [ true ↦ four at | false ↦ five at ]
-          ]
-    ] in by_mode (mode == 0) refl
+-- a guest-physical address that keeps the width rule
+guest_narrow : (shape : Shape) (address : ℕ) → widening shape ≡ 2 → address < 2 ^ 64 → is_in_width shape address ≡ true → address < 2 ^ 59
+unfolding is_in_width
+guest_narrow shape address wider below wide =
+    let low : ℕ = 12 + page_width shape in
+    let most : low ≤ 59 = omega (arith, few_levels shape, wider) in
+    let none : (field_of address low (64 - low) == 0) ≡ true =
+    subst (λ n. are_all (n == 0 && has_bit address (12 + (page_width shape - 1))) address low ≡ true) wider wide in
+    let all : 64 ≡ 64 - low + low = omega arith in
+    let small : address < 2 ^ low = narrow address low (64 - low) (subst (λ n. address < 2 ^ n) all below) none in
+    let power : 2 ^ low ≤ 2 ^ 59 = pow-le-pow_right (omega arith) most in
+    omega (arith, small, power)
+
+second_shape_wider : (context : Context) (shape : Shape) → second_shape_of context ≡ Some shape → widening shape ≡ 2
+second_shape_wider context shape is = grind arith
+
+second_root : (context : Context) (found : Option Shape) → second_shape_of context ≡ found → IsWellFormed context → StageFits found context.gppn
+second_root context None is well = tt
+second_root context (Some shape) is well =
+    let wider : widening shape ≡ 2 = second_shape_wider context shape is in
+    let staged : context.gmode ≢ 0 = λ bare. let none : second_shape_of context ≡ None = rw bare refl in cc in
+    record {
+      stands = λ address. aligned_stands context.gppn (index_of shape address (levels shape - 1)) well.second_root (well.second_root_aligned staged)
+          (subst (λ n. index_of shape address (levels shape - 1) < 2 ^ (9 + n)) wider (root_index shape address));
+      guest = λ address below wide. guest_narrow shape address wider below wide;
+    }
 
 -- the parts of the second stage
 second_by_fits : (memory : Memory) (features : Features) (root : ℕ) (kind : Kind) (guest : ℕ) (shape : Option Shape) → StageFits shape root → guest < 2 ^ 64 →
@@ -302,7 +309,7 @@ second_fits : (memory : Memory) (features : Features) (context : Context) (kind 
 unfolding second_parts
 second_fits memory features context kind guest well below =
     second_by_fits memory features context.gppn kind guest (second_shape_of context)
-    (second_root context.gmode context.gppn well.second_root well.second_root_aligned) below
+    (second_root context (second_shape_of context) refl well) below
 
 -- those of an entry of the first
 address_fits : (place : ℕ) (end : Outcome) → FrameFits end → IfSome (address_by place end) (λ addr. addr < 2 ^ 56)
@@ -322,7 +329,7 @@ read_fits : (memory : Memory) (features : Features) (context : Context) (place :
 unfolding read_at
 read_fits memory features context place well below =
     read_by_fits memory features context.gppn place (second_shape_of context)
-    (second_root context.gmode context.gppn well.second_root well.second_root_aligned) below
+    (second_root context (second_shape_of context) refl well) below
 
 entry_fits : (memory : Memory) (features : Features) (context : Context) (entry : PathEntry) → IsWellFormed context → EntryFits entry →
     All PartFits (entry_parts memory features context entry)
@@ -354,7 +361,7 @@ first_parts_fit : (memory : Memory) (features : Features) (context : Context) (i
     All PartFits (first_parts memory features context iova kind)
 unfolding first_parts
 first_parts_fit memory features context iova kind well below =
-    first_by_fits memory features context iova kind (first_shape_of context) well (first_root context.mode context.ppn well.first_root) below
+    first_by_fits memory features context iova kind (first_shape_of context) well (first_root context (first_shape_of context) refl well.first_root) below
 
 -- those of the access
 reached_fits : (iova : ℕ) (end : Outcome) → FrameFits end → IfOk (reached_by iova end) (λ reached. reached.addr < 2 ^ 64)
@@ -383,13 +390,13 @@ stages_fit memory features iova kind (Ok context) well below =
     All-append PartFits (first_parts memory features context iova kind) (access_parts memory features context kind reached)
     (first_parts_fit memory features context iova kind well below)
     (access_fits memory features context kind reached well
-    (first_stage_fits memory features context iova kind (first_shape_of context) (first_root context.mode context.ppn well.first_root) below))
+    (first_stage_fits memory features context iova kind (first_shape_of context) (first_root context (first_shape_of context) refl well.first_root) below))
 stages_fit memory features iova kind (Err why) well below = All-nil PartFits
 
 directory_parts_fit : (m : Machine) (did : ℕ) → All PartFits (directory_parts m did)
 directory_parts_fit m did =
     let items : List Met = path_of m.memory m.registers did in
-    each_by_width PartFits (not (is_too_wide (levels_of (mode_of m.registers)) did)) (wide.Directory did) (map part.Directory items) (λ is. tt)
+    each_by_width PartFits (not (is_too_wide (levels_of (mode_of m.registers)) did)) (wide.Directory (did % device_id_end)) (map part.Directory items) (λ is. mod_below did device_id_end (omega arith))
     (All-map PartFits part.Directory items (path_fits m.memory m.registers did))
 
 pub mode_fits : (own : Mode) (m : Machine) (request : Request) →

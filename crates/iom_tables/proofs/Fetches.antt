@@ -1,5 +1,5 @@
 -- What is told of memory is what memory has.
-use Rattle.std.proofs.Common.{◌≡◌, ◌-◌, ◌++◌, ℕ, zero, suc, Bool, true, false, not, List, [], ◌∷◌, map, Option, Some, None, Result, Ok, Err, if◌then◌else◌, refl, sym, subst}
+use Rattle.std.proofs.Common.{◌≡◌, ◌%◌, ◌-◌, ◌++◌, ℕ, zero, suc, Bool, true, false, not, List, [], ◌∷◌, map, Option, Some, None, Result, Ok, Err, if◌then◌else◌, refl, sym, subst}
 use Rattle.std.specs.Prelude.{All, flat_map}
 use Rattle.std.proofs.lemmas.List.Elements.{All-nil, All-cons, All-head, All-tail, All-append, All-map}
 use Rattle.iom_bits.specs.declared.causes.Cause.{Cause}
@@ -31,7 +31,7 @@ use Rattle.iom_nested.specs.Faults.{Failure}
 use Rattle.iom_nested.specs.Nested.{first_stage}
 use Rattle.iom_nested.specs.Stages.{first_shape_of, format_of, got_behind, ram_got, second_shape_of, table_got, table_got_by}
 use Rattle.iom_nested.specs.declared.translation.Reached.{Reached}
-use Rattle.iom_core.specs.State.{Machine}
+use Rattle.iom_core.specs.State.{Machine, device_id_end}
 use Rattle.iom_core.specs.declared.access.Request.{Request}
 use Rattle.iom_core.specs.Looking.{by_tables}
 use Rattle.iom_tables.specs.Parts.{access_parts, address_by, directory_parts, entry_parts, first_by, first_parts, parts_by, parts_of, read_at, read_by, second_by, second_parts, stage_parts}
@@ -169,7 +169,7 @@ stages_read memory features iova kind (Err why) = All-nil (IsRead memory)
 directory_parts_read : (m : Machine) (did : ℕ) → All (IsRead m.memory) (directory_parts m did)
 directory_parts_read m did =
     let items : List Met = path_of m.memory m.registers did in
-    each_by_width (IsRead m.memory) (not (is_too_wide (levels_of (mode_of m.registers)) did)) (wide.Directory did) (map part.Directory items) (λ is. tt)
+    each_by_width (IsRead m.memory) (not (is_too_wide (levels_of (mode_of m.registers)) did)) (wide.Directory (did % device_id_end)) (map part.Directory items) (λ is. tt)
     (All-map (IsRead m.memory) part.Directory items (path_read m.memory m.registers did))
 
 by_mode_read : (mode : Mode) (m : Machine) (request : Request) → All (IsRead m.memory) (parts_by mode m request)

@@ -40,7 +40,7 @@ use Rattle.iom_nested.specs.Stages.{first_shape_of, format_of, got_behind, ram_g
 use Rattle.iom_nested.specs.declared.translation.Fault.{Fault}
 use Rattle.iom_nested.specs.declared.translation.Hit.{Hit}
 use Rattle.iom_nested.specs.declared.translation.Reached.{Reached}
-use Rattle.iom_core.specs.State.{Machine}
+use Rattle.iom_core.specs.State.{Machine, device_id_end}
 use Rattle.iom_core.specs.Access.{Under, context_look, led, led_by_context, led_by_mode, led_under, page_look, request_key, way_to}
 use Rattle.iom_core.specs.declared.way.Way.TheVariants.{Context as ByContext}
 use Rattle.iom_core.specs.declared.access.Request.{Request}
@@ -197,7 +197,7 @@ found_in_width memory registers did context found wide =
 
 directory_passes : (m : Machine) (did : ℕ) (context : Context) → located m.memory m.registers did ≡ Ok context → All (Passes m.registers.features) (directory_parts m did)
 directory_passes m did context found =
-    each_by_width (Passes m.registers.features) (not (is_too_wide (levels_of (mode_of m.registers)) did)) (wide.Directory did)
+    each_by_width (Passes m.registers.features) (not (is_too_wide (levels_of (mode_of m.registers)) did)) (wide.Directory (did % device_id_end))
     (map part.Directory (path_of m.memory m.registers did)) (found_in_width m.memory m.registers did context found)
     (path_passes m.memory m.registers did context found)
 

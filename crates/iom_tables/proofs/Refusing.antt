@@ -1,5 +1,5 @@
 -- Where a request is denied, something that is looked at refuses it.
-use Rattle.std.proofs.Common.{◌≡◌, ◌≢◌, ◌-◌, ◌<◌, ◌⊎◌, ◌++◌, ℕ, zero, suc, Bool, true, false, not, List, [], ◌∷◌, map, length, Option, Some, None, Result, Ok, Err, if◌then◌else◌, refl, sym, ap, subst, inl, inr, arith}
+use Rattle.std.proofs.Common.{◌≡◌, ◌%◌, ◌≢◌, ◌-◌, ◌<◌, ◌⊎◌, ◌++◌, ℕ, zero, suc, Bool, true, false, not, List, [], ◌∷◌, map, length, Option, Some, None, Result, Ok, Err, if◌then◌else◌, refl, sym, ap, subst, inl, inr, arith}
 use Rattle.std.specs.Prelude.{All, Any, find, flat_map}
 use Rattle.std.proofs.lemmas.Grind.{common_steps}
 use Rattle.std.proofs.lemmas.List.Elements.{All-head, All-tail}
@@ -30,7 +30,6 @@ use Rattle.iom_walk.specs.declared.outcome.Leaf.{Leaf}
 use Rattle.iom_walk.specs.declared.outcome.Outcome.{Outcome}
 use Rattle.iom_walk.specs.declared.outcome.Outcome.TheVariants as outcome
 use Rattle.iom_walk.specs.declared.shape.Shape.{Shape}
-use Rattle.iom_walk.specs.declared.shape.Shape.TheVariants.{Sv39, Sv39x4, Sv48, Sv48x4, Sv57, Sv57x4}
 use Rattle.iom_walk.specs.declared.source.Got.{Got}
 use Rattle.iom_walk.proofs.Entries.{pointer_for_each}
 use Rattle.iom_walk.specs.declared.shape.Format.{Format}
@@ -40,7 +39,7 @@ use Rattle.iom_nested.specs.Stages.{first_shape_of, format_of, ram_got, second_s
 use Rattle.iom_nested.specs.declared.translation.Fault.{Fault}
 use Rattle.iom_nested.specs.declared.translation.Hit.{Hit}
 use Rattle.iom_nested.specs.declared.translation.Reached.{Reached}
-use Rattle.iom_core.specs.State.{Machine}
+use Rattle.iom_core.specs.State.{Machine, device_id_end}
 use Rattle.iom_core.specs.Access.{context_look, led, led_by_context, led_by_mode, led_under, page_look, request_key, way_to}
 use Rattle.iom_core.specs.declared.access.Request.{Request}
 use Rattle.iom_tables.specs.Parts.{access_parts, by_width, directory_parts, entry_parts, first_by, first_parts, parts_by, parts_of, read_at, second_by, second_parts, stage_parts}
@@ -51,6 +50,7 @@ use Rattle.iom_tables.specs.declared.part.Part.TheVariants as part
 use Rattle.iom_tables.specs.declared.part.Wide.{Wide}
 use Rattle.iom_tables.specs.declared.part.Wide.TheVariants as wide
 use Rattle.iom_core.proofs.Uncached.{looked_none, used_uncached}
+use Rattle.iom_tables.proofs.Bounds.{some_level}
 use Rattle.iom_tables.proofs.Passing.{under_where}
 use Rattle.iom_tables.proofs.Widths.{IsWide, each_is_wide}
 
@@ -146,7 +146,7 @@ path_refuses memory registers did cause =
 
 directory_refuses : (m : Machine) (did : ℕ) (cause : Cause) → located m.memory m.registers did ≡ Err cause → Occurs (Bars m.registers.features) (directory_parts m did)
 directory_refuses m did cause is =
-    refused_by_width m.registers.features (not (is_too_wide (levels_of (mode_of m.registers)) did)) (wide.Directory did)
+    refused_by_width m.registers.features (not (is_too_wide (levels_of (mode_of m.registers)) did)) (wide.Directory (did % device_id_end))
     (map part.Directory (path_of m.memory m.registers did)) (path_refuses m.memory m.registers did cause is)
 
 -- a walk that doesn't end at a leaf
@@ -203,14 +203,6 @@ root_stops : (at : ℕ → Got) (format : Format) (kind : Kind) (global : Bool) 
     NoLeaf (end_on format.features kind global address (path_from at format address root count)) → Occurs (Stops format.features kind) (path_from at format address root count)
 root_stops at format kind global address root zero some no_leaf = absurd (omega arith)
 root_stops at format kind global address root (suc count) some no_leaf = walk_stops at format kind global address root count no_leaf
-
-some_level : (shape : Shape) → 0 < levels shape
-some_level Sv39 = omega arith
-some_level Sv39x4 = omega arith
-some_level Sv48 = omega arith
-some_level Sv48x4 = omega arith
-some_level Sv57 = omega arith
-some_level Sv57x4 = omega arith
 
 abbrev IsStop : PathEntry → Type 0
 IsStop entry = ¬ Lets entry.ruling

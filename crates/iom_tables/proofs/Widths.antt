@@ -1,5 +1,5 @@
 -- What stands where a table has entries, or where an id or an address is too wide for it; and that it is too wide.
-use Rattle.std.proofs.Common.{◌≡◌, ◌++◌, ℕ, Bool, true, false, not, List, [], ◌∷◌, map, Option, Some, None, Result, Ok, Err, refl, sym, subst}
+use Rattle.std.proofs.Common.{◌≡◌, ◌%◌, ◌++◌, ℕ, Bool, true, false, not, List, [], ◌∷◌, map, Option, Some, None, Result, Ok, Err, refl, sym, subst}
 use Rattle.std.specs.Prelude.{All, flat_map}
 use Rattle.std.proofs.lemmas.List.Elements.{All-nil, All-cons, All-append}
 use Rattle.iom_bits.specs.declared.causes.Cause.{Cause}
@@ -19,7 +19,7 @@ use Rattle.iom_nested.specs.Faults.{Failure}
 use Rattle.iom_nested.specs.Nested.{first_stage}
 use Rattle.iom_nested.specs.Stages.{first_shape_of, format_of, ram_got, second_shape_of, table_got}
 use Rattle.iom_nested.specs.declared.translation.Reached.{Reached}
-use Rattle.iom_core.specs.State.{Machine}
+use Rattle.iom_core.specs.State.{Machine, device_id_end}
 use Rattle.iom_core.specs.declared.access.Request.{Request}
 use Rattle.iom_tables.specs.Parts.{access_parts, by_width, directory_parts, entry_parts, first_by, first_parts, parts_by, parts_of, read_at, second_by, second_parts, stage_parts}
 use Rattle.iom_tables.specs.Passing.{Breaks, IsBeyond}
@@ -105,7 +105,7 @@ module _ (m : Machine) (request : Request) where
   directory_wide : All (IsWide m request) (directory_parts m request.did)
   directory_wide =
       let items : List Met = path_of m.memory m.registers request.did in
-      each_by_width (IsWide m request) (not (is_too_wide (levels_of (mode_of m.registers)) request.did)) (wide.Directory request.did)
+      each_by_width (IsWide m request) (not (is_too_wide (levels_of (mode_of m.registers)) request.did)) (wide.Directory (request.did % device_id_end))
       (map part.Directory items) (λ is. (refl, not_false _ is)) (each_mapped (IsWide m request) part.Directory (λ met. tt) items)
 
   mode_wide : (own : Mode) → All (IsWide m request) (parts_by own m request)

@@ -23,7 +23,7 @@ use Rattle.iom_nested.specs.Faults.{Failure}
 use Rattle.iom_nested.specs.Nested.{first_stage}
 use Rattle.iom_nested.specs.Stages.{first_shape_of, format_of, ram_got, second_shape_of, table_got}
 use Rattle.iom_nested.specs.declared.translation.Reached.{Reached}
-use Rattle.iom_core.specs.State.{Machine}
+use Rattle.iom_core.specs.State.{Machine, device_id_end}
 use Rattle.iom_core.specs.declared.access.Request.{Request}
 use Rattle.iom_core.specs.Access.{led_under}
 use Rattle.iom_core.specs.Looking.{by_tables}
@@ -88,10 +88,10 @@ stage_parts memory features iova kind (Ok context) =
     ++ access_parts memory features context kind (first_stage memory features context iova kind (first_shape_of context))
 stage_parts memory features iova kind (Err why) = []
 
--- the directory, item by item
+-- the directory, item by item; a device id has 24 bits
 abbrev pub directory_parts : Machine → ℕ → List Part
 directory_parts m did =
-    by_width (not (is_too_wide (levels_of (mode_of m.registers)) did)) (wide.Directory did)
+    by_width (not (is_too_wide (levels_of (mode_of m.registers)) did)) (wide.Directory (did % device_id_end))
     (map part.Directory (path_of m.memory m.registers did))
 
 -- what is behind ddtp: the directory and the stages, where its mode has a directory

@@ -1,6 +1,6 @@
 -- Where a request is granted, nothing that is looked at refuses it; where it is denied, something does: RISC-V IOMMU Architecture 1.0,
 -- "Process to locate the Device-context" and "Process to translate an IOVA".
-use Rattle.std.specs.Prelude.{ℕ, ◌≡◌, ◌≢◌, ◌⊎◌, true, false, Option, Some, None, Result, Ok, Err}
+use Rattle.std.specs.Prelude.{ℕ, ◌≡◌, ◌≢◌, ◌⊎◌, ◌%◌, true, false, Option, Some, None, Result, Ok, Err}
 use Rattle.iom_bits.specs.declared.causes.Cause.{Cause}
 use Rattle.iom_bits.specs.declared.features.Features.{Features}
 use Rattle.iom_regs.specs.Views.{mode_of}
@@ -12,7 +12,7 @@ use Rattle.iom_walk.specs.declared.entry.Ruling.{Ruling}
 use Rattle.iom_walk.specs.declared.entry.Ruling.TheVariants as ruling
 use Rattle.iom_walk.specs.declared.shape.Shape.{Shape}
 use Rattle.iom_nested.specs.Stages.{first_shape_of, second_shape_of}
-use Rattle.iom_core.specs.State.{Machine}
+use Rattle.iom_core.specs.State.{Machine, device_id_end}
 use Rattle.iom_core.specs.declared.access.Request.{Request}
 use Rattle.iom_tables.specs.declared.part.Part.{Part}
 use Rattle.iom_tables.specs.declared.part.Part.TheVariants as part
@@ -53,7 +53,8 @@ IsBeyond (Some shape) address = is_in_width shape address ≡ false
 -- the request's own id breaks the rule of the directory, its IOVA that of the first stage of the context that the directory has for it,
 -- or a guest-physical address that of the second
 abbrev pub Breaks : Machine → Request → Wide → Type 0
-Breaks m request (wide.Directory did) = (did ≡ request.did) × (is_too_wide (levels_of (mode_of m.registers)) did ≡ true)
+Breaks m request (wide.Directory did) =
+    (did ≡ request.did % device_id_end) × (is_too_wide (levels_of (mode_of m.registers)) request.did ≡ true)
 Breaks m request (wide.First iova) =
     (iova ≡ request.iova)
     × ((context : Context) × ((located m.memory m.registers request.did ≡ Ok context) × IsBeyond (first_shape_of context) iova))

@@ -12,7 +12,7 @@ use Rattle.iom_cache.specs.Keys.{same_key}
 use Rattle.iom_cache.specs.declared.key.Key.{Key}
 use Rattle.iom_cache.specs.declared.place.Place.{Place}
 use Rattle.iom_cache.specs.declared.place.Place.TheVariants as place
-use Rattle.iom_core.specs.State.{Machine}
+use Rattle.iom_core.specs.State.{Machine, device_id_end}
 use Rattle.iom_core.specs.Access.{request_key}
 use Rattle.iom_core.specs.declared.access.Request.{Request}
 use Rattle.iom_core.specs.Looking.{by_tables}
@@ -42,7 +42,7 @@ found_by (mode.Levels levels) (Err why) = found.Fault why
 
 -- a device id has 24 bits
 abbrev pub found_now : Machine → ℕ → Located
-found_now m did = found_by (mode_of m.registers) (located m.memory m.registers (did % 2 ^ 24))
+found_now m did = found_by (mode_of m.registers) (located m.memory m.registers (did % device_id_end))
 
 -- the tables say that the device has this context
 abbrev pub IsContextNow : Machine → ℕ → Context → Type 0
@@ -50,7 +50,7 @@ IsContextNow m did context = found_now m did ≡ found.Context context
 
 -- the request of a key: at the first byte of its page, of which an IOVA has 52 bits
 abbrev pub request_of : Key → Request
-request_of key = record { did = key.did % 2 ^ 24; iova = key.page % 2 ^ 52 * 4096; kind = key.kind }
+request_of key = record { did = key.did % device_id_end; iova = key.page % 2 ^ 52 * 4096; kind = key.kind }
 
 -- the tables say that the request of the key hits this, under a context by which it has that very key
 abbrev pub IsHitNow : Machine → Key → Hit → Type 0

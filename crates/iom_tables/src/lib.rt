@@ -3,7 +3,7 @@
 #![tactic(auto)]
 
 pub use iom_core::Way;
-pub use listing::{Parts, parts, put_parts, put_parts_under};
+pub use listing::{Parts, put_parts, put_parts_under};
 pub use part::{Part, Wide};
 pub use places::{stale_context, stale_page};
 pub use staleness::{differing, stale};

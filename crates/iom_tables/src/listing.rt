@@ -1,6 +1,6 @@
 //! The parts of a walk.
 
-ghost use Rattle.std.specs.Prelude.{◌≡◌, ◌++◌, ◌+◌, ◌<◌, ◌≤◌, ◌^◌, ◌-◌, [], map, flat_map, slice_get, All, Any, IfOk, None, Ok, Result, Some, ◌≢◌};
+ghost use Rattle.std.specs.Prelude.{◌≡◌, ◌++◌, ◌+◌, ◌<◌, ◌≤◌, ◌-◌, ◌*◌, [], map, flat_map, slice_get, All, Any, IfOk, None, Ok, Result, Some, ◌≢◌};
 ghost use Rattle.arrayvec.specs.ArrayVec.{array_vec_len};
 ghost use Rattle.iom_regs.specs.Views.{mode_of};
 ghost use Rattle.iom_ddt.specs.Directory.{levels_of, located, path_of};
@@ -10,13 +10,14 @@ ghost use Rattle.iom_nested.specs.Nested.{first_stage, told_of};
 ghost use Rattle.iom_nested.specs.declared.translation.Reached.{Reached};
 ghost use Rattle.iom_nested.specs.Stages.{first_shape_of};
 ghost use Rattle.iom_tables.specs.Parts.{access_parts, directory_parts, entry_parts, first_parts, parts_by, parts_of, parts_under, read_at, second_parts, stage_parts};
-ghost use Rattle.iom_tables.specs.Bounds.{PartFits};
+ghost use Rattle.iom_tables.specs.Bounds.{PartFits, directory_levels, most_levels, most_parts, physical_end};
 ghost use Rattle.iom_tables.specs.Fetches.{IsRead};
 ghost use Rattle.iom_tables.specs.Passing.{IsGranted, Passes, Refuses};
 ghost use Rattle.iom_tables.specs.declared.part.Part.TheVariants as part;
 ghost use Rattle.iom_core.specs.Access.{led_under};
 ghost use Rattle.iom_core.specs.Looking.{by_tables};
 
+use crate::part::DEVICE_ID_END;
 use crate::{Part, Way, Wide};
 use arrayvec::ArrayVec;
 use iom_bits::{Features, Kind};
@@ -31,30 +32,14 @@ use iom_walk::{Format, Outcome, PathEntries, walk_listed};
 /// second, and the end.
 pub type Parts = ArrayVec<Part, 40>;
 
-/// All that is looked at to lead a request where nothing is cached, in order ("Process to translate an IOVA").
+/// Puts all that is looked at to lead a request where nothing is cached, in order ("Process to translate an IOVA"), in place of what a
+/// list holds.
 ///
 /// ddtp comes first, then the directory down to the device's context, then the first stage: before each of its entries those of the
 /// second stage that translate the entry's place, for a read. The second stage for the access itself is next, for the access's kind,
 /// and the end is the way that the request is led. A device id that is too wide stands in place of the directory, and an address that
 /// breaks the width rule of a stage in place of its entries. Where the request is granted no part refuses it; where it is denied one does.
-/// Each PPN told is below 2^44, and each address of an entry below 2^56. Any request has parts. No memory is taken.
-pub fn parts(platform: &Platform, request: &Request) -> Parts
-    ensures parts { result.items ≡ parts_of platform.now.machine request.now }
-    ensures read { All (IsRead platform.now.machine.memory) result.items }
-    ensures passed { IsGranted (by_tables platform.now.machine request.now) → All (Passes platform.now.machine.registers.features) result.items }
-    ensures refused { (IsGranted (by_tables platform.now.machine request.now) → ⊥) →
-        Any (Refuses platform.now.machine request.now) result.items }
-    ensures end { slice_get result.items (array_vec_len result - 1) ≡ Some (part.End (by_tables platform.now.machine request.now)) }
-    ensures some { 2 ≤ array_vec_len result }
-    ensures most { array_vec_len result ≤ 40 }
-    ensures fits { All PartFits result.items }
-{
-    let mut out = Parts::new();
-    put_parts(&mut out, platform, request);
-    out
-}
-
-/// Puts the same in place of what a list holds.
+/// Each PPN told is below 2^44, each address of an entry below 2^56, and each device id below 2^24. Any request has parts. No memory is taken.
 #[tactic(auto, unfolding(crate::specs::Parts::parts_of))]
 pub fn put_parts(out: &mut Parts, platform: &Platform, request: &Request)
     ensures parts { out.new.items ≡ parts_of platform.now.machine request.now }
@@ -64,7 +49,7 @@ pub fn put_parts(out: &mut Parts, platform: &Platform, request: &Request)
         Any (Refuses platform.now.machine request.now) out.new.items }
     ensures end { slice_get out.new.items (array_vec_len out.new - 1) ≡ Some (part.End (by_tables platform.now.machine request.now)) }
     ensures some { 2 ≤ array_vec_len out.new }
-    ensures most { array_vec_len out.new ≤ 40 }
+    ensures most { array_vec_len out.new ≤ most_parts }
     ensures fits { All PartFits out.new.items }
 {
     let registers = platform.registers();
@@ -95,10 +80,10 @@ pub fn put_parts_under(out: &mut Parts, platform: &Platform, request: &Request, 
 
 // What is behind ddtp, where its mode has a directory.
 fn push_walk(out: &mut Parts, platform: &Platform, request: &Request)
-    requires room { array_vec_len out.old ≤ 1 }
+    requires room { array_vec_len out.old + directory_levels + 7 * most_levels ≤ most_parts }
     ensures items { out.new.items ≡ out.old.items
         ++ parts_by (mode_of platform.now.machine.registers) platform.now.machine request.now }
-    ensures len { array_vec_len out.new ≤ array_vec_len out.old + 38 }
+    ensures len { array_vec_len out.new ≤ array_vec_len out.old + directory_levels + 7 * most_levels }
     ensures fits { All PartFits (parts_by (mode_of platform.now.machine.registers) platform.now.machine request.now) }
 {
     if let Mode::Levels(_) = platform.registers().mode() {
@@ -110,13 +95,15 @@ fn push_walk(out: &mut Parts, platform: &Platform, request: &Request)
 // The items of the directory, or a device id that is too wide for it.
 fn push_directory(out: &mut Parts, platform: &Platform, did: u32)
     requires directory { 1 ≤ levels_of (mode_of platform.now.machine.registers) }
-    requires room { array_vec_len out.old ≤ 37 }
+    requires room { array_vec_len out.old + directory_levels ≤ most_parts }
     ensures items { out.new.items ≡ out.old.items ++ directory_parts platform.now.machine did }
-    ensures len { array_vec_len out.new ≤ array_vec_len out.old + 3 }
+    ensures len { array_vec_len out.new ≤ array_vec_len out.old + directory_levels }
 {
     let _: Option<Way> = None;
     if is_too_wide(platform.registers(), did) {
-        out.push(Part::Wide(Wide::Directory { did }));
+        out.push(Part::Wide(Wide::Directory {
+            did: did % DEVICE_ID_END,
+        }));
     } else {
         push_items(out, platform, did);
     }
@@ -125,9 +112,9 @@ fn push_directory(out: &mut Parts, platform: &Platform, did: u32)
 // The items of the directory.
 fn push_items(out: &mut Parts, platform: &Platform, did: u32)
     requires directory { 1 ≤ levels_of (mode_of platform.now.machine.registers) }
-    requires room { array_vec_len out.old ≤ 37 }
+    requires room { array_vec_len out.old + directory_levels ≤ most_parts }
     ensures items { out.new.items ≡ out.old.items ++ map part.Directory (path_of platform.now.machine.memory platform.now.machine.registers did) }
-    ensures len { array_vec_len out.new ≤ array_vec_len out.old + 3 }
+    ensures len { array_vec_len out.new ≤ array_vec_len out.old + directory_levels }
 {
     let _: Option<Way> = None;
     let path = iom_ddt::path(platform.ram(), platform.registers(), did);
@@ -139,10 +126,10 @@ fn push_items(out: &mut Parts, platform: &Platform, did: u32)
 // Both stages of the context that the directory has for the request.
 fn push_located(out: &mut Parts, platform: &Platform, request: &Request)
     requires directory { 1 ≤ levels_of (mode_of platform.now.machine.registers) }
-    requires room { array_vec_len out.old ≤ 5 }
+    requires room { array_vec_len out.old + 7 * most_levels ≤ most_parts }
     ensures items { out.new.items ≡ out.old.items ++ stage_parts platform.now.machine.memory platform.now.machine.registers.features request.now.iova request.now.kind
         (located platform.now.machine.memory platform.now.machine.registers request.now.did) }
-    ensures len { array_vec_len out.new ≤ array_vec_len out.old + 35 }
+    ensures len { array_vec_len out.new ≤ array_vec_len out.old + 7 * most_levels }
     ensures fits { All PartFits (stage_parts platform.now.machine.memory platform.now.machine.registers.features request.now.iova request.now.kind
         (located platform.now.machine.memory platform.now.machine.registers request.now.did)) }
 {
@@ -153,10 +140,10 @@ fn push_located(out: &mut Parts, platform: &Platform, request: &Request)
 
 // Both stages of a context.
 fn push_stages(out: &mut Parts, platform: &Platform, request: &Request, context: &Context)
-    requires room { array_vec_len out.old ≤ 5 }
+    requires room { array_vec_len out.old + 7 * most_levels ≤ most_parts }
     ensures items { out.new.items ≡ out.old.items
         ++ stage_parts platform.now.machine.memory platform.now.machine.registers.features request.now.iova request.now.kind (Ok context.now) }
-    ensures len { array_vec_len out.new ≤ array_vec_len out.old + 35 }
+    ensures len { array_vec_len out.new ≤ array_vec_len out.old + 7 * most_levels }
     ensures fits { All PartFits (stage_parts platform.now.machine.memory platform.now.machine.registers.features request.now.iova request.now.kind (Ok context.now)) }
 {
     let _ = &context.fields;
@@ -175,13 +162,13 @@ fn push_first(
     iova: u64,
     kind: Kind,
 ) -> Result<Reached, Fault>
-    requires room { array_vec_len out.old ≤ 10 }
+    requires room { array_vec_len out.old + 6 * most_levels ≤ most_parts }
     ensures items { out.new.items ≡ out.old.items ++ first_parts ram.now features context.now iova kind }
-    ensures len { array_vec_len out.new ≤ array_vec_len out.old + 30 }
+    ensures len { array_vec_len out.new ≤ array_vec_len out.old + 6 * most_levels }
     ensures reached { result
         ≡ told_of kind (first_stage ram.now features context.now iova kind (first_shape_of context.now)) }
     ensures fits { IfOk result
-        (λ reached. (first_shape_of context.now ≢ None → reached.addr < 2 ^ 56) × (reached.level < 5)) }
+        (λ reached. (first_shape_of context.now ≢ None → reached.addr < physical_end) × (reached.level < most_levels)) }
 {
     let _: Option<Way> = None;
     let mut entries = PathEntries::new();
@@ -202,10 +189,10 @@ fn push_entries(
     context: &Context,
     entries: &PathEntries,
 )
-    requires few { array_vec_len entries.now ≤ 5 }
-    requires room { array_vec_len out.old ≤ 10 }
+    requires few { array_vec_len entries.now ≤ most_levels }
+    requires room { array_vec_len out.old + 6 * most_levels ≤ most_parts }
     ensures items { out.new.items ≡ out.old.items ++ flat_map (entry_parts ram.now features context.now) entries.now.items }
-    ensures len { array_vec_len out.new ≤ array_vec_len out.old + 30 }
+    ensures len { array_vec_len out.new ≤ array_vec_len out.old + 6 * most_levels }
 {
     let _: Option<Way> = None;
     for entry in entries.iter() {
@@ -224,10 +211,10 @@ fn push_access(
     reached: Result<Reached, Fault>,
     kind: Kind,
 )
-    requires room { array_vec_len out.old ≤ 35 }
+    requires room { array_vec_len out.old + most_levels ≤ most_parts }
     ensures items { (found : Result Reached Failure) → reached ≡ told_of kind found →
         out.new.items ≡ out.old.items ++ access_parts ram.now features context.now kind found }
-    ensures len { array_vec_len out.new ≤ array_vec_len out.old + 5 }
+    ensures len { array_vec_len out.new ≤ array_vec_len out.old + most_levels }
 {
     let _: Option<Way> = None;
     if let Ok(reached) = reached {
@@ -245,9 +232,9 @@ fn push_second(
     guest: u64,
     kind: Kind,
 ) -> Option<u64>
-    requires room { array_vec_len out.old ≤ 35 }
+    requires room { array_vec_len out.old + most_levels ≤ most_parts }
     ensures items { out.new.items ≡ out.old.items ++ second_parts ram.now features context.now kind guest }
-    ensures len { array_vec_len out.new ≤ array_vec_len out.old + 5 }
+    ensures len { array_vec_len out.new ≤ array_vec_len out.old + most_levels }
     ensures addr { kind ≡ Read → result ≡ read_at ram.now features context.now guest }
 {
     let _: Option<Way> = None;
@@ -276,8 +263,8 @@ fn push_second(
 
 // Entries of the second stage, from a guest-physical address on.
 fn push_path(out: &mut Parts, entries: &PathEntries, guest: u64)
-    requires few { array_vec_len entries.now ≤ 5 }
-    requires room { array_vec_len out.old ≤ 35 }
+    requires few { array_vec_len entries.now ≤ most_levels }
+    requires room { array_vec_len out.old + most_levels ≤ most_parts }
     ensures items { out.new.items ≡ out.old.items ++ map (part.Second guest) entries.now.items }
     ensures len { array_vec_len out.new ≤ array_vec_len out.old + array_vec_len entries.now }
 {

@@ -3,6 +3,9 @@ use iom_ddt::Met;
 use iom_regs::Mode;
 use iom_walk::PathEntry;
 
+/// A device id has 24 bits.
+pub(crate) const DEVICE_ID_END: u32 = 1 << 24;
+
 /// One thing that is looked at to lead a request.
 #[derive(Clone, Copy)]
 pub enum Part {

@@ -7,6 +7,7 @@ ghost use Rattle.iom_cache.specs.declared.place.Place.TheVariants.{Live};
 ghost use Rattle.iom_core.specs.Looking.{by_tables};
 ghost use Rattle.iom_tables.specs.Standing.{IsContextNow, IsHitNow, IsStanding, found_now, is_context_now, is_hit_now, request_of, standing_of};
 
+use crate::part::DEVICE_ID_END;
 use crate::{Located, Standing, Way};
 use iom_cache::{Key, Place, key_of};
 use iom_core::{Platform, Request};
@@ -54,7 +55,7 @@ fn found_now(platform: &Platform, did: u32) -> Located
 {
     match platform.registers().mode() {
         Mode::Off | Mode::Bare => Located::NoDirectory,
-        Mode::Levels(_) => match locate(platform.ram(), platform.registers(), did % (1 << 24)) {
+        Mode::Levels(_) => match locate(platform.ram(), platform.registers(), did % DEVICE_ID_END) {
             Ok(context) => Located::Context(context),
             Err(cause) => Located::Fault(cause),
         },
@@ -104,7 +105,7 @@ fn request_of(key: &Key) -> Request
     ensures { result ≡ request_of key.now }
 {
     Request {
-        did: key.did % (1 << 24),
+        did: key.did % DEVICE_ID_END,
         iova: key.page % (1 << 52) * 4096,
         kind: key.kind,
     }

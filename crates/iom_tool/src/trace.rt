@@ -178,7 +178,7 @@ fn carried_out(
     if !put_step_of(verb, text, &mut entry.step) {
         return false;
     }
-    platform.step_into(&entry.step, &mut entry.answer);
+    platform.step_into(&entry.step, &mut entry.answer, &mut ());
     push_answer(out, &entry.answer);
     true
 }

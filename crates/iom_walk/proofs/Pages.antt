@@ -1,5 +1,5 @@
 -- Addresses of one page have one end.
-use Rattle.std.proofs.Common.{◌≡◌, ◌+◌, ◌*◌, ◌/◌, ◌%◌, ◌^◌, ℕ, zero, suc, Bool, Option, Some, None, refl, sym, ◌∙◌, ap, if◌then◌else◌}
+use Rattle.std.proofs.Common.{◌≡◌, ◌+◌, ◌-◌, ◌*◌, ◌/◌, ◌%◌, ◌^◌, ℕ, zero, suc, Bool, Option, Some, None, refl, sym, ◌∙◌, ap, if◌then◌else◌}
 use Rattle.std.proofs.lemmas.Nat.{pow-add}
 use Rattle.std.proofs.Math.Nat.{div-div-eq-div-mul}
 use Rattle.iom_bits.specs.Bits.{has_bit}
@@ -8,9 +8,8 @@ use Rattle.iom_bits.specs.declared.features.Features.{Features}
 use Rattle.iom_walk.specs.declared.source.Got.{Got}
 use Rattle.iom_walk.specs.declared.shape.Format.{Format}
 use Rattle.iom_walk.specs.declared.shape.Shape.{Shape}
-use Rattle.iom_walk.specs.declared.shape.Shape.TheVariants.{Sv39, Sv39x4, Sv48, Sv48x4, Sv57, Sv57x4}
 use Rattle.iom_walk.specs.declared.outcome.Outcome.TheVariants as outcome
-use Rattle.iom_walk.specs.Shape.{index_of, index_width, is_in_width, levels}
+use Rattle.iom_walk.specs.Shape.{index_of, index_width, is_in_width, levels, page_width}
 use Rattle.iom_walk.specs.declared.entry.Verdict.{Verdict}
 use Rattle.iom_walk.specs.declared.entry.Verdict.TheVariants as verdict
 use Rattle.iom_walk.specs.Path.{Entry, entry_at, next_table, path_from, verdict_on}
@@ -30,12 +29,7 @@ same_index shape a b level same = ap (λ n. n % 2 ^ index_width shape level) (sa
 
 same_width : (shape : Shape) (a b : ℕ) → a / 4096 ≡ b / 4096 → is_in_width shape a ≡ is_in_width shape b
 unfolding is_in_width has_bit
-same_width Sv39 a b same = rw (same_bits a b 26 same, same_bits a b 27 same) refl
-same_width Sv39x4 a b same = rw (same_bits a b 29 same) refl
-same_width Sv48 a b same = rw (same_bits a b 35 same, same_bits a b 36 same) refl
-same_width Sv48x4 a b same = rw (same_bits a b 38 same) refl
-same_width Sv57 a b same = rw (same_bits a b 44 same, same_bits a b 45 same) refl
-same_width Sv57x4 a b same = rw (same_bits a b 47 same) refl
+same_width shape a b same = rw (same_bits a b (page_width shape) same, same_bits a b (page_width shape - 1) same) refl
 
 same_path : (at : ℕ → Got) (format : Format) (a b table count : ℕ) → a / 4096 ≡ b / 4096 →
     path_from at format a table count ≡ path_from at format b table count

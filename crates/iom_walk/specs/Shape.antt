@@ -1,7 +1,7 @@
 -- The shapes of page tables: RISC-V Privileged Architecture 1.12, "Sv39: Page-Based 39-bit Virtual-Memory System", "Sv48:
 -- Page-Based 48-bit Virtual-Memory System" and "Sv57: Page-Based 57-bit Virtual-Memory System", and for Sv39x4, Sv48x4 and Sv57x4
 -- "Two-Stage Address Translation", "Guest Physical Address Translation".
-use Rattle.std.specs.Prelude.{ℕ, ◌+◌, ◌-◌, ◌*◌, ◌^◌, ◌==◌, Bool, if◌then◌else◌}
+use Rattle.std.specs.Prelude.{ℕ, ◌+◌, ◌-◌, ◌*◌, ◌^◌, ◌==◌, ◌&&◌, Bool, if◌then◌else◌}
 use Rattle.iom_bits.specs.Bits.{has_bit, field_of}
 use Rattle.iom_walk.specs.declared.shape.Shape.{Shape}
 use Rattle.iom_walk.specs.declared.shape.Shape.TheVariants.{Sv39, Sv39x4, Sv48, Sv48x4, Sv57, Sv57x4}
@@ -37,12 +37,13 @@ abbrev pub are_all : Bool → ℕ → ℕ → Bool
 are_all bit address low =
     if bit then field_of address low (64 - low) == 2 ^ (64 - low) - 1 else field_of address low (64 - low) == 0
 
--- the width rule: bits 63:39 of an address of Sv39 equal bit 38, bits 63:48 of one of Sv48 bit 47, bits 63:57 of one of Sv57 bit
--- 56; bits 63:41 of one of Sv39x4 are 0, bits 63:50 of one of Sv48x4 and bits 63:59 of one of Sv57x4
+-- the width of a page's number: those of the indexes together (VPN, GPA VPN)
+abbrev pub page_width : Shape → ℕ
+page_width shape = 9 * levels shape + widening shape
+
+-- The width rule: the bits above the page's number equal its highest bit, and in a shape whose root is wider 0. So bits 63:39 of an
+-- address of Sv39 equal bit 38, bits 63:48 of one of Sv48 bit 47, bits 63:57 of one of Sv57 bit 56; bits 63:41 of one of Sv39x4 are 0,
+-- bits 63:50 of one of Sv48x4 and bits 63:59 of one of Sv57x4.
 unfoldable pub is_in_width : Shape → ℕ → Bool
-is_in_width Sv39 address = are_all (has_bit address 38) address 39
-is_in_width Sv39x4 address = field_of address 41 23 == 0
-is_in_width Sv48 address = are_all (has_bit address 47) address 48
-is_in_width Sv48x4 address = field_of address 50 14 == 0
-is_in_width Sv57 address = are_all (has_bit address 56) address 57
-is_in_width Sv57x4 address = field_of address 59 5 == 0
+is_in_width shape address =
+    are_all (widening shape == 0 && has_bit address (12 + (page_width shape - 1))) address (12 + page_width shape)

@@ -82,13 +82,12 @@ impl Shape {
     pub fn covers(self, addr: u64) -> bool
         ensures { result ≡ is_in_width self addr }
     {
-        match self {
-            Shape::Sv39 => field(addr, 39, 25) == if has_bit(addr, 38) { 0x1ff_ffff } else { 0 },
-            Shape::Sv39x4 => field(addr, 41, 23) == 0,
-            Shape::Sv48 => field(addr, 48, 16) == if has_bit(addr, 47) { 0xffff } else { 0 },
-            Shape::Sv48x4 => field(addr, 50, 14) == 0,
-            Shape::Sv57 => field(addr, 57, 7) == if has_bit(addr, 56) { 0x7f } else { 0 },
-            Shape::Sv57x4 => field(addr, 59, 5) == 0,
+        let width = 9 * u32::from(self.levels()) + self.widening();
+        let high = field(addr, 12 + width, 64 - (12 + width));
+        if self.widening() == 0 && has_bit(addr, 12 + (width - 1)) {
+            high == (1 << (64 - (12 + width))) - 1
+        } else {
+            high == 0
         }
     }
 }

@@ -1,6 +1,6 @@
 use Rattle.std.proofs.Common.{rules}
 use Rattle.iom_core.specs.Table.{next, asked}
-use Rattle.iom_core.proofs.platform.Platform.take.Goals as goal
+use Rattle.iom_core.proofs.platform.Platform.by_row.Goals as goal
 
 pub returns-in-Device-clause-answer : goal.returns-in-Device-clause-answer
 unfolding next asked
