@@ -270,7 +270,9 @@ class Facts(Case):
             ("pte ppn=1 flags=1", True), ("u64 1 2 3 4 5 6 7 8", True), ("u64 1 2 3 4 5 6 7 8 9", False), ("u64", False), ("bytes aabb", True),
             ("bytes abc", False), ("disk 5 1 aabb", True), ("disk 5 1 abc", False), ("rodisk 5 1 aabb", True), ("capabilities", True), ("capabilities nl=1 vectors=3", False),
             *((f"capabilities {key}=1", True) for key in ("sv57", "sv57x4", "svpbmt", "nl", "s", "vectors")), ("ram 0x90000000 0x1000", False),
-            *((f"context mode={mode}", mode in (0, 8, 9, 10)) for mode in range(16)), *((f"context gmode={mode}", mode in (0, 8, 9, 10)) for mode in range(16)),
+            *((f"context mode={mode}", mode in (0, 8, 9)) for mode in range(16)), *((f"context gmode={mode}", mode in (0, 8, 9)) for mode in range(16)),
+            *((f"capabilities {capability}\n{data}", capability == wanted) for wanted, data in (("sv57=1", "context mode=10"), ("sv57x4=1", "context gmode=10"), ("nl=1", "cmd vma nl=1"), ("s=1", "cmd gvma s=1"))
+                for capability in ("sv57=1", "sv57x4=1", "nl=1", "s=1")),
         ]:
             self.assertEqual(self.is_assembled(f"{IMAGE}{statement}\n"), wanted, f"whether {statement!r} is assembled")
         self.assertEqual(self.is_assembled("u64 1\n" + IMAGE), False, "whether a first statement may be another")

@@ -14,7 +14,8 @@ use Rattle.iom_queue.specs.Commands.{command_words}
 use Rattle.iom_queue.specs.Records.{record_words}
 use Rattle.iom_mem.specs.Words.{bytes_of_words}
 use Rattle.iom_items.specs.Items.{dir_word, pte_word}
-use Rattle.iom_items.specs.Forms.{words_for, numbers, each_number, command, fault, context, dir, pte}
+use Rattle.iom_bits.specs.declared.features.Features.{Features}
+use Rattle.iom_items.specs.Forms.{are_offered, words_for, words_on, numbers, each_number, command, fault, context, dir, pte}
 use Rattle.iom_items.specs.Operands as maybe
 use Rattle.iom_asm.specs.Assembly.{hex, one_hex, bytes_for}
 
@@ -86,11 +87,17 @@ one_hex_full [] = tt
 one_hex_full (word ∷ []) = hex_full word
 one_hex_full (word ∷ other ∷ others) = tt
 
-pub bytes_for_full : (name : List ℕ) (operands : List (List ℕ)) → Full (bytes_for name operands)
-unfolding bytes_for
-bytes_for_full name operands =
-    cond_both (bytes_eq name (codes "bytes")) (one_hex operands) (option_map bytes_of_words (words_for name operands)) Full
-    (λ _. one_hex_full operands) (λ _. bytes_full (words_for name operands) (words_full name operands))
+on_full : (features : Features) (name : List ℕ) (operands : List (List ℕ)) → Full (words_on features name operands)
+unfolding words_on
+on_full features name operands =
+    cond_both (are_offered features operands) (words_for name operands) None Full (λ _. words_full name operands) (λ _. tt)
 
-pub some_byte : (name : List ℕ) (operands : List (List ℕ)) (bytes : List ℕ) → bytes_for name operands ≡ Some bytes → 0 < length bytes
-some_byte name operands bytes is = rw is at (bytes_for_full name operands)
+pub bytes_for_full : (features : Features) (name : List ℕ) (operands : List (List ℕ)) → Full (bytes_for features name operands)
+unfolding bytes_for
+bytes_for_full features name operands =
+    cond_both (bytes_eq name (codes "bytes")) (one_hex operands) (option_map bytes_of_words (words_on features name operands)) Full
+    (λ _. one_hex_full operands) (λ _. bytes_full (words_on features name operands) (on_full features name operands))
+
+pub some_byte : (features : Features) (name : List ℕ) (operands : List (List ℕ)) (bytes : List ℕ) → bytes_for features name operands ≡ Some bytes →
+    0 < length bytes
+some_byte features name operands bytes is = rw is at (bytes_for_full features name operands)

@@ -1,5 +1,5 @@
 -- What the statements make stays an image.
-use Rattle.std.proofs.Common.{◌≡◌, ℕ, ◌+◌, ◌*◌, ◌≤◌, ◌<◌, Bool, true, false, ◌&&◌, ◌||◌, nat_lt, nat_le, List, [], ◌∷◌, ◌++◌, length, map, codes, bytes_eq, not, Option, Some, None, Result, Ok, Err, refl, sym, subst, append_assoc, append-nil, length-append, arith}
+use Rattle.std.proofs.Common.{◌≡◌, ℕ, ◌+◌, ◌*◌, ◌≤◌, ◌<◌, Bool, true, false, ◌&&◌, nat_lt, nat_le, List, [], ◌∷◌, ◌++◌, length, map, codes, bytes_eq, not, Option, Some, None, Result, Ok, Err, refl, sym, subst, append_assoc, append-nil, length-append, arith}
 use Rattle.std.specs.Prelude.{IfSome, IfOk}
 use Rattle.std.specs.List.{list_any}
 use Rattle.std.specs.Option.{option_map}
@@ -11,7 +11,7 @@ use Rattle.iom_asm.specs.declared.asm_fault.AsmFault.TheVariants.{Outside, Overl
 use Rattle.iom_bits.specs.declared.features.Features.{Features}
 use Rattle.iom_image.specs.declared.version.Version.{Version}
 use Rattle.iom_image.specs.declared.version.Version.TheVariants.{First, Second, Third}
-use Rattle.iom_image.specs.Versions.{is_flagged, is_third, flagged}
+use Rattle.iom_image.specs.Versions.{is_flagged, is_third, flagged, features_of}
 use Rattle.iom_image.specs.Image.{Chunk, Disk, IsChunk, AreChunks, IsDisk, AreDisks, IsImage, end_of, is_new_id, is_disk_size, is_next_disk}
 use Rattle.iom_items.specs.Capabilities.{features_for}
 use Rattle.iom_items.specs.Forms.{where_so}
@@ -165,9 +165,9 @@ moved_good draft (place ∷ []) good = found_good draft (number place) good
 moved_good draft (place ∷ more ∷ others) good = tt
 
 bytes_good : (line : ℕ) (draft : Draft) (name : List ℕ) (operands : List (List ℕ)) → Good draft → (found : Option (List ℕ)) →
-    bytes_for name operands ≡ found → OkGood (then_so (or_bad line found) (placed line draft))
+    bytes_for (features_of draft.image.version) name operands ≡ found → OkGood (then_so (or_bad line found) (placed line draft))
 bytes_good line draft name operands good None is = tt
-bytes_good line draft name operands good (Some bytes) is = placed_good line draft bytes good (some_byte name operands bytes is)
+bytes_good line draft name operands good (Some bytes) is = placed_good line draft bytes good (some_byte (features_of draft.image.version) name operands bytes is)
 
 stated_good : (line : ℕ) (draft : Draft) (name : List ℕ) (operands : List (List ℕ)) → Good draft → OkGood (stated line draft name operands)
 unfolding stated joined offered
@@ -180,7 +180,7 @@ stated_good line draft name operands good =
     (λ _. or_bad_good line (joined draft true operands) (joined_good draft (disk_for true operands) good))
     (λ _. cond_both (bytes_eq name (codes "capabilities")) _ _ OkGood
     (λ _. or_bad_good line (offered draft operands) (offered_good draft (features_for operands) good))
-    (λ _. bytes_good line draft name operands good (bytes_for name operands) refl))))
+    (λ _. bytes_good line draft name operands good (bytes_for (features_of draft.image.version) name operands) refl))))
 
 head_good : (base size : ℕ) → (is_paged base && is_good_size base size) ≡ true → Good (empty_draft base size)
 head_good base size accepted =

@@ -1,5 +1,5 @@
--- A chunk that was placed stays.
-use Rattle.std.proofs.Common.{ℕ, ◌+◌, true, false, nat_lt, List, [], ◌∷◌, length, codes, bytes_eq, not, Option, Some, None, Result, Ok, Err, refl, inl, inr}
+-- What lasts from one line to the last: a chunk that was placed, and a feature that was stated.
+use Rattle.std.proofs.Common.{◌≡◌, ◌⊎◌, ◌∙◌, sym, ℕ, ◌+◌, Bool, true, false, nat_lt, List, [], ◌∷◌, length, codes, bytes_eq, not, Option, Some, None, Result, Ok, Err, refl, inl, inr}
 use Rattle.std.specs.Prelude.{IfSome, IfOk}
 use Rattle.std.specs.List.{list_any}
 use Rattle.std.specs.Option.{option_map}
@@ -8,7 +8,10 @@ use Rattle.iom_text.specs.Words.{words_of, number}
 use Rattle.iom_asm.specs.declared.asm_fault.AsmFault.{AsmFault}
 use Rattle.iom_asm.specs.declared.asm_fault.AsmFault.TheVariants.{Outside, Overlap}
 use Rattle.iom_bits.specs.declared.features.Features.{Features}
-use Rattle.iom_image.specs.Versions.{is_third}
+use Rattle.iom_bits.specs.Features.{no_features}
+use Rattle.iom_image.specs.declared.version.Version.{Version}
+use Rattle.iom_image.specs.declared.version.Version.TheVariants.{First, Second, Third}
+use Rattle.iom_image.specs.Versions.{is_third, flagged, features_of}
 use Rattle.iom_image.specs.Image.{Chunk, Disk, is_next_disk}
 use Rattle.iom_items.specs.Capabilities.{features_for}
 use Rattle.iom_items.specs.Forms.{where_so}
@@ -33,87 +36,139 @@ now_in new [] = inl refl
 now_in new (first ∷ others) =
     cond_both (nat_lt new.addr first.addr) (new ∷ first ∷ others) (first ∷ insert new others) (IsIn new) (λ _. inl refl) (λ _. inr (now_in new others))
 
+-- it holds of a draft whatever the next statement does
+pub record Lasts (Holds : Draft → Type 0) : Type 0 where
+  pub placing : (draft : Draft) (bytes : List ℕ) → Holds draft → Holds (with_bytes draft bytes)
+  pub moving : (draft : Draft) (place : ℕ) → Holds draft → Holds (moved_to draft place)
+  pub joining : (draft : Draft) (disk : Disk) → Holds draft → Holds (with_disk draft disk)
+  pub stating : (draft : Draft) (features : Features) → not (is_third draft.image.version) ≡ true → Holds draft → Holds (offering draft features)
+
+or_bad_lasts : (Holds : Draft → Type 0) (line : ℕ) (found : Option Draft) → IfSome found Holds → IfOk (or_bad line found) Holds
+or_bad_lasts Holds line None holds = tt
+or_bad_lasts Holds line (Some draft) holds = holds
+
+placed_lasts : (Holds : Draft → Type 0) → Lasts Holds → (line : ℕ) (draft : Draft) (bytes : List ℕ) → Holds draft → IfOk (placed line draft bytes) Holds
+unfolding placed
+placed_lasts Holds lasts line draft bytes holds =
+    cond_both (is_inside draft.image draft.place (length bytes)) _ (Err (Outside line)) (λ made. IfOk made Holds)
+    (λ _. cond_both (list_any (meets draft.place (length bytes)) draft.image.chunks) (Err (Overlap line)) (Ok (with_bytes draft bytes)) (λ made. IfOk made Holds)
+    (λ _. tt) (λ _. lasts.placing draft bytes holds))
+    (λ _. tt)
+
+joined_lasts : (Holds : Draft → Type 0) → Lasts Holds → (draft : Draft) (found : Option Disk) → Holds draft →
+    IfSome (maybe.◌>>=◌ found (λ disk. where_so (is_next_disk draft.image.disks disk) (Some (with_disk draft disk)))) Holds
+joined_lasts Holds lasts draft None holds = tt
+joined_lasts Holds lasts draft (Some disk) holds =
+    cond_both (is_next_disk draft.image.disks disk) (Some (with_disk draft disk)) None (λ found. IfSome found Holds) (λ _. lasts.joining draft disk holds) (λ _. tt)
+
+offered_lasts : (Holds : Draft → Type 0) → Lasts Holds → (draft : Draft) (found : Option Features) → Holds draft →
+    IfSome (maybe.◌>>=◌ found (λ features. where_so (not (is_third draft.image.version)) (Some (offering draft features)))) Holds
+offered_lasts Holds lasts draft None holds = tt
+offered_lasts Holds lasts draft (Some features) holds =
+    cond_both (not (is_third draft.image.version)) (Some (offering draft features)) None (λ found. IfSome found Holds)
+    (λ first. lasts.stating draft features first holds) (λ _. tt)
+
+place_lasts : (Holds : Draft → Type 0) → Lasts Holds → (draft : Draft) (place : Option ℕ) → Holds draft → IfSome (option_map (moved_to draft) place) Holds
+place_lasts Holds lasts draft None holds = tt
+place_lasts Holds lasts draft (Some place) holds = lasts.moving draft place holds
+
+moved_lasts : (Holds : Draft → Type 0) → Lasts Holds → (draft : Draft) (words : List (List ℕ)) → Holds draft → IfSome (moved draft words) Holds
+unfolding moved
+moved_lasts Holds lasts draft [] holds = tt
+moved_lasts Holds lasts draft (place ∷ []) holds = place_lasts Holds lasts draft (number place) holds
+moved_lasts Holds lasts draft (place ∷ more ∷ others) holds = tt
+
+bytes_last : (Holds : Draft → Type 0) → Lasts Holds → (line : ℕ) (draft : Draft) (found : Option (List ℕ)) → Holds draft →
+    IfOk (then_so (or_bad line found) (placed line draft)) Holds
+bytes_last Holds lasts line draft None holds = tt
+bytes_last Holds lasts line draft (Some bytes) holds = placed_lasts Holds lasts line draft bytes holds
+
+stated_lasts : (Holds : Draft → Type 0) → Lasts Holds → (line : ℕ) (draft : Draft) (name : List ℕ) (operands : List (List ℕ)) → Holds draft →
+    IfOk (stated line draft name operands) Holds
+unfolding stated joined offered
+stated_lasts Holds lasts line draft name operands holds =
+    let Goal : Result Draft AsmFault → Type 0 = λ made. IfOk made Holds in
+    cond_both (bytes_eq name (codes "at")) _ _ Goal
+    (λ _. or_bad_lasts Holds line (moved draft operands) (moved_lasts Holds lasts draft operands holds))
+    (λ _. cond_both (bytes_eq name (codes "disk")) _ _ Goal
+    (λ _. or_bad_lasts Holds line (joined draft false operands) (joined_lasts Holds lasts draft (disk_for false operands) holds))
+    (λ _. cond_both (bytes_eq name (codes "rodisk")) _ _ Goal
+    (λ _. or_bad_lasts Holds line (joined draft true operands) (joined_lasts Holds lasts draft (disk_for true operands) holds))
+    (λ _. cond_both (bytes_eq name (codes "capabilities")) _ _ Goal
+    (λ _. or_bad_lasts Holds line (offered draft operands) (offered_lasts Holds lasts draft (features_for operands) holds))
+    (λ _. bytes_last Holds lasts line draft (bytes_for (features_of draft.image.version) name operands) holds))))
+
+-- a draft is there, and it holds of it
+abbrev pub There : (Draft → Type 0) → Option Draft → Type 0
+There Holds None = ⊥
+There Holds (Some draft) = Holds draft
+
+some_lasts : (Holds : Draft → Type 0) (made : Result Draft AsmFault) → IfOk made Holds → IfOk (then_so made (λ draft. Ok (Some draft))) (There Holds)
+some_lasts Holds (Ok draft) holds = holds
+some_lasts Holds (Err fault) holds = tt
+
+words_last : (Holds : Draft → Type 0) → Lasts Holds → (line : ℕ) (draft : Draft) (words : List (List ℕ)) → Holds draft →
+    IfOk (after_words line (Some draft) words) (There Holds)
+unfolding after_words
+words_last Holds lasts line draft [] holds = holds
+words_last Holds lasts line draft (name ∷ operands) holds =
+    some_lasts Holds (stated line draft name operands) (stated_lasts Holds lasts line draft name operands holds)
+
+next_lasts : (Holds : Draft → Type 0) (line : ℕ) (made : Result (Option Draft) AsmFault) (texts : List (List ℕ)) → IfOk made (There Holds) →
+    ((draft : Draft) → Holds draft → IfOk (after_lines (line + 1) (Some draft) texts) (There Holds)) →
+    IfOk (then_so made (λ next. after_lines (line + 1) next texts)) (There Holds)
+next_lasts Holds line (Ok None) texts holds others = absurd holds
+next_lasts Holds line (Ok (Some draft)) texts holds others = others draft holds
+next_lasts Holds line (Err fault) texts holds others = tt
+
+lines_last : (Holds : Draft → Type 0) → Lasts Holds → (line : ℕ) (draft : Draft) (texts : List (List ℕ)) → Holds draft →
+    IfOk (after_lines line (Some draft) texts) (There Holds)
+unfolding after_lines
+lines_last Holds lasts line draft [] holds = holds
+lines_last Holds lasts line draft (text ∷ texts) holds =
+    next_lasts Holds line (after_words line (Some draft) (words_of text)) texts (words_last Holds lasts line draft (words_of text) holds)
+    (λ next holds. lines_last Holds lasts (line + 1) next texts holds)
+
 abbrev pub Has : Chunk → Draft → Type 0
 Has chunk draft = IsIn chunk draft.image.chunks
 
-abbrev OkHas : Chunk → Result Draft AsmFault → Type 0
-OkHas chunk made = IfOk made (Has chunk)
+pub lines_has : (chunk : Chunk) (line : ℕ) (draft : Draft) (texts : List (List ℕ)) → Has chunk draft →
+    IfOk (after_lines line (Some draft) texts) (There (Has chunk))
+lines_has chunk = lines_last (Has chunk) (record {
+  placing = λ draft bytes has. still_in chunk (record { addr = draft.place; bytes = bytes }) draft.image.chunks has;
+  moving = λ draft place has. has;
+  joining = λ draft disk has. has;
+  stating = λ draft features first has. has;
+})
 
-or_bad_has : (chunk : Chunk) (line : ℕ) (found : Option Draft) → IfSome found (Has chunk) → OkHas chunk (or_bad line found)
-or_bad_has chunk line None has = tt
-or_bad_has chunk line (Some draft) has = has
+-- what was offered at a line is offered at the end: no line takes a feature away
+abbrev pub Grows : Features → Features → Type 0
+Grows before after = (before ≡ after) ⊎ (before ≡ no_features)
 
-placed_has : (chunk : Chunk) (line : ℕ) (draft : Draft) (bytes : List ℕ) → Has chunk draft → OkHas chunk (placed line draft bytes)
-unfolding placed
-placed_has chunk line draft bytes has =
-    cond_both (is_inside draft.image draft.place (length bytes)) _ (Err (Outside line)) (OkHas chunk)
-    (λ _. cond_both (list_any (meets draft.place (length bytes)) draft.image.chunks) (Err (Overlap line)) (Ok (with_bytes draft bytes)) (OkHas chunk) (λ _. tt)
-    (λ _. still_in chunk (record { addr = draft.place; bytes = bytes }) draft.image.chunks has))
-    (λ _. tt)
+abbrev pub GrowsTo : Features → Draft → Type 0
+GrowsTo before draft = Grows before (features_of draft.image.version)
 
-joined_has : (chunk : Chunk) (draft : Draft) (found : Option Disk) → Has chunk draft →
-    IfSome (maybe.◌>>=◌ found (λ disk. where_so (is_next_disk draft.image.disks disk) (Some (with_disk draft disk)))) (Has chunk)
-joined_has chunk draft None has = tt
-joined_has chunk draft (Some disk) has =
-    cond_both (is_next_disk draft.image.disks disk) (Some (with_disk draft disk)) None (λ found. IfSome found (Has chunk)) (λ _. has) (λ _. tt)
+from_first : (before : Features) (version : Version) (after : Features) → not (is_third version) ≡ true → Grows before (features_of version) → Grows before after
+from_first before First after first (inl same) = inr same
+from_first before Second after first (inl same) = inr same
+from_first before (Third features) after first (inl same) = absurd cc
+from_first before version after first (inr none) = inr none
 
-offered_has : (chunk : Chunk) (draft : Draft) (found : Option Features) → Has chunk draft →
-    IfSome (maybe.◌>>=◌ found (λ features. where_so (not (is_third draft.image.version)) (Some (offering draft features)))) (Has chunk)
-offered_has chunk draft None has = tt
-offered_has chunk draft (Some features) has =
-    cond_both (not (is_third draft.image.version)) (Some (offering draft features)) None (λ found. IfSome found (Has chunk)) (λ _. has) (λ _. tt)
+flags_same : (version : Version) (asked : Bool) → features_of (flagged version asked) ≡ features_of version
+flags_same First true = refl
+flags_same First false = refl
+flags_same Second asked = refl
+flags_same (Third features) asked = refl
 
-place_has : (chunk : Chunk) (draft : Draft) (place : Option ℕ) → Has chunk draft → IfSome (option_map (moved_to draft) place) (Has chunk)
-place_has chunk draft None has = tt
-place_has chunk draft (Some place) has = has
+with_flags : (before : Features) (version : Version) (asked : Bool) → Grows before (features_of version) → Grows before (features_of (flagged version asked))
+with_flags before version asked (inl same) = inl (same ∙ sym (flags_same version asked))
+with_flags before version asked (inr none) = inr none
 
-moved_has : (chunk : Chunk) (draft : Draft) (words : List (List ℕ)) → Has chunk draft → IfSome (moved draft words) (Has chunk)
-unfolding moved
-moved_has chunk draft [] has = tt
-moved_has chunk draft (place ∷ []) has = place_has chunk draft (number place) has
-moved_has chunk draft (place ∷ more ∷ others) has = tt
-
-bytes_has : (chunk : Chunk) (line : ℕ) (draft : Draft) (found : Option (List ℕ)) → Has chunk draft → OkHas chunk (then_so (or_bad line found) (placed line draft))
-bytes_has chunk line draft None has = tt
-bytes_has chunk line draft (Some bytes) has = placed_has chunk line draft bytes has
-
-stated_has : (chunk : Chunk) (line : ℕ) (draft : Draft) (name : List ℕ) (operands : List (List ℕ)) → Has chunk draft → OkHas chunk (stated line draft name operands)
-unfolding stated joined offered
-stated_has chunk line draft name operands has =
-    cond_both (bytes_eq name (codes "at")) _ _ (OkHas chunk)
-    (λ _. or_bad_has chunk line (moved draft operands) (moved_has chunk draft operands has))
-    (λ _. cond_both (bytes_eq name (codes "disk")) _ _ (OkHas chunk)
-    (λ _. or_bad_has chunk line (joined draft false operands) (joined_has chunk draft (disk_for false operands) has))
-    (λ _. cond_both (bytes_eq name (codes "rodisk")) _ _ (OkHas chunk)
-    (λ _. or_bad_has chunk line (joined draft true operands) (joined_has chunk draft (disk_for true operands) has))
-    (λ _. cond_both (bytes_eq name (codes "capabilities")) _ _ (OkHas chunk)
-    (λ _. or_bad_has chunk line (offered draft operands) (offered_has chunk draft (features_for operands) has))
-    (λ _. bytes_has chunk line draft (bytes_for name operands) has))))
-
--- a draft is there, and has the chunk
-abbrev pub There : Chunk → Option Draft → Type 0
-There chunk None = ⊥
-There chunk (Some draft) = Has chunk draft
-
-some_has : (chunk : Chunk) (made : Result Draft AsmFault) → OkHas chunk made → IfOk (then_so made (λ draft. Ok (Some draft))) (There chunk)
-some_has chunk (Ok draft) has = has
-some_has chunk (Err fault) has = tt
-
-words_has : (chunk : Chunk) (line : ℕ) (draft : Draft) (words : List (List ℕ)) → Has chunk draft → IfOk (after_words line (Some draft) words) (There chunk)
-unfolding after_words
-words_has chunk line draft [] has = has
-words_has chunk line draft (name ∷ operands) has = some_has chunk (stated line draft name operands) (stated_has chunk line draft name operands has)
-
-next_has : (chunk : Chunk) (line : ℕ) (made : Result (Option Draft) AsmFault) (texts : List (List ℕ)) → IfOk made (There chunk) →
-    ((draft : Draft) → Has chunk draft → IfOk (after_lines (line + 1) (Some draft) texts) (There chunk)) →
-    IfOk (then_so made (λ next. after_lines (line + 1) next texts)) (There chunk)
-next_has chunk line (Ok None) texts has others = absurd has
-next_has chunk line (Ok (Some draft)) texts has others = others draft has
-next_has chunk line (Err fault) texts has others = tt
-
-pub lines_has : (chunk : Chunk) (line : ℕ) (draft : Draft) (texts : List (List ℕ)) → Has chunk draft → IfOk (after_lines line (Some draft) texts) (There chunk)
-unfolding after_lines
-lines_has chunk line draft [] has = has
-lines_has chunk line draft (text ∷ texts) has =
-    next_has chunk line (after_words line (Some draft) (words_of text)) texts (words_has chunk line draft (words_of text) has)
-    (λ next has. lines_has chunk (line + 1) next texts has)
+pub lines_grow : (before : Features) (line : ℕ) (draft : Draft) (texts : List (List ℕ)) → GrowsTo before draft →
+    IfOk (after_lines line (Some draft) texts) (There (GrowsTo before))
+lines_grow before = lines_last (GrowsTo before) (record {
+  placing = λ draft bytes grows. grows;
+  moving = λ draft place grows. grows;
+  joining = λ draft disk grows. with_flags before draft.image.version disk.read_only grows;
+  stating = λ draft features first grows. from_first before draft.image.version features first grows;
+})

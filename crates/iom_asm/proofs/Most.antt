@@ -14,7 +14,9 @@ use Rattle.iom_asm.specs.declared.asm_fault.AsmFault.TheVariants.{BadLine}
 use Rattle.iom_items.specs.Items.{Entry, dir_word, pte_word}
 use Rattle.iom_items.specs.Operands.{operand_of, has_key, is_given, is_one_of, are_operands, ◌>>=◌}
 use Rattle.iom_items.specs.Capabilities.{capability_keys, features_for}
-use Rattle.iom_items.specs.Forms.{where_so, vma_keys, gvma_keys, fence_keys, fault_keys, context_keys, vma, gvma, fence, iodir, command, fault, context, dir, pte, each_number, numbers, words_for}
+use Rattle.iom_bits.specs.declared.features.Features.{Features}
+use Rattle.iom_image.specs.Versions.{features_of}
+use Rattle.iom_items.specs.Forms.{where_so, are_offered, words_on, vma_keys, gvma_keys, fence_keys, fault_keys, context_keys, vma, gvma, fence, iodir, command, fault, context, dir, pte, each_number, numbers, words_for}
 use Rattle.iom_asm.specs.Assembly.{Draft, one_hex, bytes_for, opened, moved, first_bytes, disk_of, disk_for, joined, offered, or_bad, then_so, placed, stated, started, after_words}
 
 -- how many of some keys are given
@@ -112,11 +114,16 @@ one_hex_none [] lt = refl
 one_hex_none (word ∷ []) lt = absurd (omega (arith, lt))
 one_hex_none (word ∷ other ∷ more) lt = refl
 
-bytes_none : (name : List ℕ) (words : List (List ℕ)) → 9 < length words → bytes_for name words ≡ None
+on_none : (features : Features) (name : List ℕ) (words : List (List ℕ)) → 9 < length words → words_on features name words ≡ None
+unfolding words_on
+on_none features name words lt =
+    cond_both (are_offered features words) (words_for name words) None (λ found. found ≡ None) (λ _. words_none name words lt) (λ _. refl)
+
+bytes_none : (features : Features) (name : List ℕ) (words : List (List ℕ)) → 9 < length words → bytes_for features name words ≡ None
 unfolding bytes_for
-bytes_none name words lt =
+bytes_none features name words lt =
     cond_both (bytes_eq name (codes "bytes")) _ _ (λ found. found ≡ None) (λ _. one_hex_none words (omega (arith, lt)))
-    (λ _. nothing bytes_of_words (words_for name words) (words_none name words lt))
+    (λ _. nothing bytes_of_words (words_on features name words) (on_none features name words lt))
 
 moved_none : (draft : Draft) (words : List (List ℕ)) → 9 < length words → moved draft words ≡ None
 unfolding moved
@@ -167,7 +174,7 @@ stated_bad line draft name words lt =
     cond_both (bytes_eq name (codes "disk")) _ _ (λ made. made ≡ Err (BadLine line)) (λ _. ap (or_bad line) (joined_none draft false words lt)) (λ _.
     cond_both (bytes_eq name (codes "rodisk")) _ _ (λ made. made ≡ Err (BadLine line)) (λ _. ap (or_bad line) (joined_none draft true words lt)) (λ _.
     cond_both (bytes_eq name (codes "capabilities")) _ _ (λ made. made ≡ Err (BadLine line)) (λ _. ap (or_bad line) (offered_none draft words lt))
-    (λ _. bad line (bytes_for name words) (placed line draft) (bytes_none name words lt)))))
+    (λ _. bad line (bytes_for (features_of draft.image.version) name words) (placed line draft) (bytes_none (features_of draft.image.version) name words lt)))))
 
 no_more : {A : Type 0} (b : Bool) (found : Option A) → found ≡ None → where_so b found ≡ None
 no_more true found is = is

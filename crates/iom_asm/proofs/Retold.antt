@@ -1,8 +1,21 @@
 -- What a text says is told again.
-use Rattle.std.proofs.Common.{◌≡◌, ℕ, suc, ◌+◌, ◌*◌, Bool, true, false, if◌then◌else◌, List, [], ◌∷◌, ◌++◌, length, Option, Some, None, Result, Ok, Err, refl, sym, subst, ap, ◌∙◌, append_assoc, arith}
+use Rattle.std.proofs.Common.{◌≡◌, ℕ, suc, ◌+◌, ◌*◌, ◌==◌, ◌&&◌, ◌||◌, not, inl, inr, length-append, append-nil, Bool, true, false, if◌then◌else◌, List, [], ◌∷◌, ◌++◌, length, Option, Some, None, Result, Ok, Err, refl, sym, subst, ap, ◌∙◌, append_assoc, arith}
 use Rattle.std.specs.List.{list_any}
 use Rattle.std.specs.Option.{option_map}
+use Rattle.std.specs.Result.{result_ok}
+use Rattle.std.proofs.lemmas.Bool.{and_parts, and_from}
 use Rattle.iom_bits.specs.Bytes.{bytes_of_number}
+use Rattle.iom_bits.specs.Features.{no_features}
+use Rattle.iom_bits.specs.declared.features.Features.{Features}
+use Rattle.iom_ddt.specs.declared.context.Context.{Context}
+use Rattle.iom_ddt.specs.Contexts.{has_modes}
+use Rattle.iom_ddt.specs.Words as ddt
+use Rattle.iom_queue.specs.declared.command.Command.{Command}
+use Rattle.iom_queue.specs.declared.command.Command.TheVariants.{Vma, Gvma, Fence, Iodir}
+use Rattle.iom_queue.specs.Commands.{command_of, command_words, is_offered}
+use Rattle.iom_items.specs.Forms as forms
+use Rattle.iom_image.specs.Versions.{features_of}
+use Rattle.iom_items.proofs.Restated.{statement_taken, line_taken}
 use Rattle.iom_mem.specs.Memory.{Memory, bytes_at, words_at}
 use Rattle.iom_mem.specs.Words.{bytes_of_words}
 use Rattle.iom_text.specs.Words.{words_of}
@@ -12,8 +25,8 @@ use Rattle.iom_items.specs.declared.item.Item.{Item}
 use Rattle.iom_items.specs.declared.item.Item.TheVariants as item
 use Rattle.iom_image.specs.Image.{Chunk, Image, IsImage, image_bytes}
 use Rattle.iom_items.specs.Items.{name_of, words_in}
-use Rattle.iom_items.specs.Forms.{words_for}
-use Rattle.iom_items.specs.Lines.{line_of, item_line}
+use Rattle.iom_items.specs.Forms.{are_offered, words_for, words_on}
+use Rattle.iom_items.specs.Lines.{line_of, line_on, is_taken, all_of, item_line_on}
 use Rattle.iom_asm.specs.Listing.{listed}
 use Rattle.iom_image.specs.Loading.{opening_of}
 use Rattle.iom_image.specs.Reading.{image_of}
@@ -23,7 +36,7 @@ use Rattle.iom_asm.proofs.Keeping.{Good, lines_good}
 use Rattle.iom_image.proofs.Images.{read_again}
 use Rattle.iom_asm.proofs.Standing.{IsIn, stands, front_at, behind_at}
 use Rattle.iom_items.proofs.Bounds.{AreWords, words_fine, length_of_words}
-use Rattle.iom_asm.proofs.Lasting.{now_in, lines_has}
+use Rattle.iom_asm.proofs.Lasting.{now_in, lines_has, Grows, lines_grow}
 use Rattle.iom_asm.proofs.Spans.{words_stand}
 use Rattle.iom_image.proofs.Oks.{ok_is}
 
@@ -47,7 +60,7 @@ placed_is line draft next bytes is =
 -- the statement of an item
 stated_is : (kind : Item) (line : ℕ) (draft : Draft) (operands : List (List ℕ)) →
     stated line draft (name_of kind) operands
-    ≡ then_so (or_bad line (option_map bytes_of_words (words_for (name_of kind) operands))) (placed line draft)
+    ≡ then_so (or_bad line (option_map bytes_of_words (words_on (features_of draft.image.version) (name_of kind) operands))) (placed line draft)
 unfolding stated bytes_for
 stated_is item.Cmd line draft operands = refl
 stated_is item.Fault line draft operands = refl
@@ -64,7 +77,7 @@ placed_next line draft next words is =
 
 -- the statement of an item on a line: its words are placed
 pub after_item : (kind : Item) (line : ℕ) (draft : Draft) (next : Option Draft) (words text : List ℕ) (operands : List (List ℕ)) →
-    words_of text ≡ name_of kind ∷ operands → words_for (name_of kind) operands ≡ Some words →
+    words_of text ≡ name_of kind ∷ operands → words_on (features_of draft.image.version) (name_of kind) operands ≡ Some words →
     after_words line (Some draft) (words_of text) ≡ Ok next → Some (with_bytes draft (bytes_of_words words)) ≡ next
 unfolding after_words
 after_item kind line draft next words text operands parts are is =
@@ -73,7 +86,7 @@ after_item kind line draft next words text operands parts are is =
 
 -- the lines behind it go on from there
 pub goes_past : (kind : Item) (line : ℕ) (draft last : Draft) (words text : List ℕ) (operands others : List (List ℕ)) →
-    words_of text ≡ name_of kind ∷ operands → words_for (name_of kind) operands ≡ Some words →
+    words_of text ≡ name_of kind ∷ operands → words_on (features_of draft.image.version) (name_of kind) operands ≡ Some words →
     after_lines line (Some draft) (text ∷ others) ≡ Ok (Some last) →
     after_lines (line + 1) (Some (with_bytes draft (bytes_of_words words))) others ≡ Ok (Some last)
 unfolding after_lines
@@ -98,24 +111,101 @@ words_front [] after fine = tt
 words_front (word ∷ words) after fine = (fine.0, words_front words after fine.1)
 
 -- the words of an item, as they stand in memory
-told_words : (memory : Memory) (kind : Item) (words : List ℕ) (addr : ℕ) → length words ≡ words_in kind → AreWords words →
-    bytes_at memory addr (length (bytes_of_words words)) ≡ Some (bytes_of_words words) → item_line memory kind addr ≡ Some (line_of kind words)
-unfolding item_line
-told_words memory kind words addr one fine there =
-    ap (option_map (line_of kind)) (ap (words_at memory addr) (sym one) ∙ words_stand memory words addr fine there)
+told_words : (memory : Memory) (features : Features) (kind : Item) (words : List ℕ) (addr : ℕ) → length words ≡ words_in kind → AreWords words →
+    is_taken features kind words ≡ true → bytes_at memory addr (length (bytes_of_words words)) ≡ Some (bytes_of_words words) →
+    item_line_on memory features kind addr ≡ Some (line_of kind words)
+unfolding item_line_on
+told_words memory features kind words addr one fine taken there =
+    ap (option_map (line_on features kind)) (ap (words_at memory addr) (sym one) ∙ words_stand memory words addr fine there)
+    ∙ ap (λ line. Some line) (line_taken features kind words taken)
 
 -- a part of what a chunk has stands in memory too
-part_told : (memory : Memory) (kind : Item) (before words after : List ℕ) (place : ℕ) → length words ≡ words_in kind →
-    AreWords (before ++ (words ++ after)) →
+part_told : (memory : Memory) (features : Features) (kind : Item) (before words after : List ℕ) (place : ℕ) → length words ≡ words_in kind →
+    AreWords (before ++ (words ++ after)) → is_taken features kind words ≡ true →
     bytes_at memory place (length (bytes_of_words (before ++ (words ++ after)))) ≡ Some (bytes_of_words (before ++ (words ++ after))) →
-    item_line memory kind (place + 8 * length before) ≡ Some (line_of kind words)
-part_told memory kind before words after place one fine there =
+    item_line_on memory features kind (place + 8 * length before) ≡ Some (line_of kind words)
+part_told memory features kind before words after place one fine taken there =
     let joined : bytes_of_words (before ++ (words ++ after)) ≡ bytes_of_words before ++ (bytes_of_words words ++ bytes_of_words after) =
     bytes_join before (words ++ after) ∙ ap (λ rest. bytes_of_words before ++ rest) (bytes_join words after) in
     let whole = behind_at memory place (bytes_of_words before) (bytes_of_words words ++ bytes_of_words after) (rw joined at there) in
     let part = front_at memory (place + length (bytes_of_words before)) (bytes_of_words words) (bytes_of_words after) whole in
-    told_words memory kind words (place + 8 * length before) one (words_front words after (words_behind before (words ++ after) fine))
+    told_words memory features kind words (place + 8 * length before) one (words_front words after (words_behind before (words ++ after) fine)) taken
     (rw (length_of_words before) at part)
+
+-- a statement of one item has its words alone
+where_found : {A : Type 0} (b : Bool) (next : Option A) (y : A) → (if b then next else None) ≡ Some y → (b ≡ true) × (next ≡ Some y)
+where_found true next y is = (refl, is)
+where_found false next y is = absurd cc
+
+pub for_on : (features : Features) (name : List ℕ) (operands : List (List ℕ)) (words : List ℕ) → words_on features name operands ≡ Some words →
+    (are_offered features operands ≡ true) × (words_for name operands ≡ Some words)
+unfolding words_on
+for_on features name operands words is = where_found (are_offered features operands) (words_for name operands) words is
+
+some_is : {A : Type 0} (x y : A) → Some x ≡ Some y → x ≡ y
+some_is x y is = cc
+
+pub as_many : {A : Type 0} (f : A → List ℕ) (count : ℕ) (first : Option A) (words : List ℕ) → ((x : A) → length (f x) ≡ count) →
+    option_map f first ≡ Some words → length words ≡ count
+as_many f count None words each is = absurd cc
+as_many f count (Some x) words each is = ap length (sym (some_is (f x) words is)) ∙ each x
+
+only_one : (count : ℕ) (before words after : List ℕ) → length words ≡ count → length (before ++ (words ++ after)) ≡ count → before ++ (words ++ after) ≡ words
+only_one count [] words [] one all = append-nil words
+only_one count [] words (word ∷ after) one all = absurd (omega (arith, one, all, length-append words (word ∷ after)))
+only_one count (word ∷ before) words after one all =
+    absurd (omega (arith, one, all, length-append before (words ++ after), length-append words after))
+
+part_taken : (features : Features) (kind : Item) (operands : List (List ℕ)) (before words after : List ℕ) → length words ≡ words_in kind →
+    words_on features (name_of kind) operands ≡ Some (before ++ (words ++ after)) → is_taken features kind words ≡ true
+unfolding words_for
+part_taken features item.Cmd operands before words after one is =
+    let on = for_on features (name_of item.Cmd) operands (before ++ (words ++ after)) is in
+    let many = as_many command_words 2 (forms.command operands) (before ++ (words ++ after)) (λ c. refl) on.1 in
+    subst (λ (words : List ℕ). is_taken features item.Cmd words ≡ true) (only_one 2 before words after one many)
+    (statement_taken features item.Cmd operands (before ++ (words ++ after)) on.0 on.1)
+part_taken features item.Context operands before words after one is =
+    let on = for_on features (name_of item.Context) operands (before ++ (words ++ after)) is in
+    let many = as_many ddt.words_of 4 (forms.context operands) (before ++ (words ++ after)) (λ c. refl) on.1 in
+    subst (λ (words : List ℕ). is_taken features item.Context words ≡ true) (only_one 4 before words after one many)
+    (statement_taken features item.Context operands (before ++ (words ++ after)) on.0 on.1)
+part_taken features item.Fault operands before words after one is = refl
+part_taken features item.Dir operands before words after one is = refl
+part_taken features item.Pte operands before words after one is = refl
+part_taken features item.Word operands before words after one is = refl
+
+-- what is taken with no features is taken with any
+or_right : (have other : Bool) → (false || other) ≡ true → (have || other) ≡ true
+or_right true other is = refl
+or_right false other is = is
+
+both_right : (one two first second : Bool) → ((false || first) && (false || second)) ≡ true → ((one || first) && (two || second)) ≡ true
+both_right one two first second is =
+    let parts = and_parts (false || first) (false || second) is in
+    and_from (one || first) (two || second) (or_right one first parts.0) (or_right two second parts.1)
+
+command_any : (features : Features) (found : Option Command) → all_of (is_offered no_features) found ≡ true → all_of (is_offered features) found ≡ true
+command_any features None is = refl
+command_any features (Some (Vma av page pscv pscid gv gscid nl s)) is = both_right features.nl features.s (not nl) (not s) is
+command_any features (Some (Gvma av page pscid gv gscid nl s)) is = both_right features.nl features.s (not nl) (not s) is
+command_any features (Some (Fence av wsi pr pw value addr)) is = refl
+command_any features (Some (Iodir dv did)) is = refl
+
+context_any : (features : Features) (found : Option Context) → all_of (has_modes no_features) found ≡ true → all_of (has_modes features) found ≡ true
+context_any features None is = refl
+context_any features (Some c) is = both_right features.sv57 features.sv57x4 (not (c.mode == 10)) (not (c.gmode == 10)) is
+
+taken_any : (features : Features) (kind : Item) (words : List ℕ) → is_taken no_features kind words ≡ true → is_taken features kind words ≡ true
+taken_any features item.Cmd words is = command_any features (command_of words) is
+taken_any features item.Context words is = context_any features (result_ok (ddt.context_in words)) is
+taken_any features item.Fault words is = refl
+taken_any features item.Dir words is = refl
+taken_any features item.Pte words is = refl
+taken_any features item.Word words is = refl
+
+still_taken : (before after : Features) (kind : Item) (words : List ℕ) → Grows before after → is_taken before kind words ≡ true → is_taken after kind words ≡ true
+still_taken before after kind words (inl same) is = subst (λ (features : Features). is_taken features kind words ≡ true) same is
+still_taken before after kind words (inr none) is = taken_any after kind words (subst (λ (features : Features). is_taken features kind words ≡ true) none is)
 
 -- lines before others
 next_then : (line : ℕ) (made : Result (Option Draft) AsmFault) (before after : List (List ℕ)) →
@@ -163,33 +253,40 @@ going_on text draft last lines stand made =
     ∙ ap (after_lines 1 None) (sym stand.parts) ∙ made
 
 stated_told : (text : List ℕ) (last : Draft) (kind : Item) (words : List ℕ) (addr : ℕ) → after_lines 1 None (lines_of text) ≡ Ok (Some last) →
-    IsStated text kind words addr → item_line (opening_of last.image).memory kind addr ≡ Some (line_of kind words)
+    IsStated text kind words addr →
+    item_line_on (opening_of last.image).memory (opening_of last.image).features kind addr ≡ Some (line_of kind words)
 unfolding opening_of
 stated_told text last kind words addr made it =
     let good = good_last text last made in
     let states = it.states in
+    let early = features_of it.draft.image.version in
     let all = states.before ++ (words ++ states.after) in
     let line = 1 + length it.stands.before in
+    let placed : Draft = with_bytes it.draft (bytes_of_words all) in
     let next = goes_past kind line it.draft last all it.line states.operands it.stands.after states.statement states.parts
     (going_on text it.draft last (it.line ∷ []) it.stands made) in
     let chunk : Chunk = record { addr = it.draft.place; bytes = bytes_of_words all } in
-    let has : IsIn chunk last.image.chunks =
-    rw next at (lines_has chunk (line + 1) (with_bytes it.draft (bytes_of_words all)) it.stands.after (now_in chunk it.draft.image.chunks)) in
-    let fine : AreWords all = rw states.parts at (words_fine kind states.operands) in
+    let has : IsIn chunk last.image.chunks = rw next at (lines_has chunk (line + 1) placed it.stands.after (now_in chunk it.draft.image.chunks)) in
+    let grows : Grows early (features_of last.image.version) = rw next at (lines_grow early (line + 1) placed it.stands.after (inl refl)) in
+    let taken = still_taken early (features_of last.image.version) kind words grows
+    (part_taken early kind states.operands states.before words states.after states.one states.parts) in
+    let fine : AreWords all = rw (for_on early (name_of kind) states.operands all states.parts).1 at (words_fine kind states.operands) in
     let place : it.draft.place + 8 * length states.before ≡ addr = ap (λ n. it.draft.place + 8 * n) states.behind ∙ sym it.place in
-    subst (λ (addr : ℕ). item_line (opening_of last.image).memory kind addr ≡ Some (line_of kind words)) place
-    (part_told (opening_of last.image).memory kind states.before words states.after it.draft.place states.one fine
-    (stands last.image.base last.image.size last.image.chunks chunk good.chunks has))
+    subst (λ (addr : ℕ). item_line_on (opening_of last.image).memory (opening_of last.image).features kind addr ≡ Some (line_of kind words)) place
+    (part_told (opening_of last.image).memory (opening_of last.image).features kind states.before words states.after it.draft.place states.one fine
+    taken (stands last.image.base last.image.size last.image.chunks chunk good.chunks has))
 
 pub tells_items : (text : List ℕ) (image : Image) (kind : Item) (words : List ℕ) (addr : ℕ) → described text ≡ Ok image →
-    IsStated text kind words addr → item_line (opening_of image).memory kind addr ≡ Some (line_of kind words)
+    IsStated text kind words addr →
+    item_line_on (opening_of image).memory (opening_of image).features kind addr ≡ Some (line_of kind words)
 tells_items text image kind words addr is it =
     let last = last_of text image is in
-    subst (λ (image : Image). item_line (opening_of image).memory kind addr ≡ Some (line_of kind words)) last.2
+    subst (λ (image : Image). item_line_on (opening_of image).memory (opening_of image).features kind addr ≡ Some (line_of kind words)) last.2
     (stated_told text last.0 kind words addr last.1 it)
 
 pub lists_items : (text : List ℕ) (image : Image) (kind : Item) (items : List (List ℕ)) (addr : ℕ) → described text ≡ Ok image →
-    AreStated text kind items addr → listed (opening_of image).memory kind addr (length items) ≡ Some (lines_told kind items)
+    AreStated text kind items addr →
+    listed (opening_of image).memory (opening_of image).features kind addr (length items) ≡ Some (lines_told kind items)
 unfolding listed
 lists_items text image kind [] addr is stated = refl
 lists_items text image kind (words ∷ items) addr is stated =

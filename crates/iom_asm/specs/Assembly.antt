@@ -10,11 +10,11 @@ use Rattle.iom_asm.specs.declared.asm_fault.AsmFault.{AsmFault}
 use Rattle.iom_asm.specs.declared.asm_fault.AsmFault.TheVariants.{BadLine, Outside, Overlap, OutOfMemory}
 use Rattle.iom_bits.specs.declared.features.Features.{Features}
 use Rattle.iom_image.specs.declared.version.Version.TheVariants.{First, Third}
-use Rattle.iom_image.specs.Versions.{is_third, flagged}
+use Rattle.iom_image.specs.Versions.{is_third, flagged, features_of}
 use Rattle.iom_image.specs.Image.{Chunk, Disk, Image, end_of, is_next_disk, image_bytes}
 use Rattle.iom_mem.specs.Words.{bytes_of_words}
 use Rattle.iom_items.specs.Capabilities.{features_for}
-use Rattle.iom_items.specs.Forms.{where_so, words_for}
+use Rattle.iom_items.specs.Forms.{where_so, words_on}
 use Rattle.iom_items.specs.Operands.{◌>>=◌}
 
 -- the second, where the first is no fault
@@ -50,10 +50,10 @@ one_hex [] = None
 one_hex (word ∷ []) = hex word
 one_hex (word ∷ other ∷ more) = None
 
--- the bytes that a statement places
-unfoldable pub bytes_for : List ℕ → List (List ℕ) → Option (List ℕ)
-bytes_for name operands =
-    if bytes_eq name (codes "bytes") then one_hex operands else option_map bytes_of_words (words_for name operands)
+-- the bytes that a statement places on a machine with these features
+unfoldable pub bytes_for : Features → List ℕ → List (List ℕ) → Option (List ℕ)
+bytes_for features name operands =
+    if bytes_eq name (codes "bytes") then one_hex operands else option_map bytes_of_words (words_on features name operands)
 
 -- `ram BASE SIZE`: the place is the base
 abbrev pub empty_draft : ℕ → ℕ → Draft
@@ -146,14 +146,14 @@ placed line draft bytes =
     then if list_any (meets draft.place (length bytes)) draft.image.chunks then Err (Overlap line) else Ok (with_bytes draft bytes)
     else Err (Outside line)
 
--- The statement of a name on line `line`, after the first one.
+-- The statement of a name on line `line`, after the first one. Data may use what `capabilities` stated before them.
 unfoldable pub stated : ℕ → Draft → List ℕ → List (List ℕ) → Result Draft AsmFault
 stated line draft name operands =
     if bytes_eq name (codes "at") then or_bad line (moved draft operands)
     else if bytes_eq name (codes "disk") then or_bad line (joined draft false operands)
     else if bytes_eq name (codes "rodisk") then or_bad line (joined draft true operands)
     else if bytes_eq name (codes "capabilities") then or_bad line (offered draft operands)
-    else then_so (or_bad line (bytes_for name operands)) (placed line draft)
+    else then_so (or_bad line (bytes_for (features_of draft.image.version) name operands)) (placed line draft)
 
 -- the first statement
 unfoldable pub started : ℕ → List ℕ → List (List ℕ) → Result Draft AsmFault

@@ -5,8 +5,8 @@ pub use asm_fault::AsmFault;
 pub use assembling::assemble;
 pub use iom_image::{LoadFault, built_in, images_are_what_is_read, judge, load, upgrade};
 pub use iom_items::{
-    Item, Line, context_line, item_line, items_are_told_again, operands_are_what_is_given,
-    words_for,
+    Item, Line, context_line, item_line, item_line_on, items_are_told_again,
+    operands_are_what_is_given, words_for, words_on,
 };
 pub use list_fault::ListFault;
 pub use listing::list;

@@ -4,18 +4,20 @@ ghost use Rattle.std.specs.Prelude.{◌≡◌, ◌++◌, ◌∷◌, ◌+◌, ◌
 ghost use Rattle.std.specs.Option.{is_some};
 ghost use Rattle.std.specs.String.{string_bytes};
 ghost use Rattle.std.specs.Str.{IsAscii};
+ghost use Rattle.iom_bits.specs.declared.features.Features.{Features as AnyFeatures};
 ghost use Rattle.iom_mem.specs.Memory.{size_of};
 ghost use Rattle.iom_asm.specs.declared.list_fault.ListFault.TheVariants as listing;
 ghost use Rattle.iom_asm.specs.Listing.{listed, Lists};
 
 use crate::list_fault::ListFault;
-use iom_items::{Item, item_line};
+use iom_bits::Features;
+use iom_items::{Item, item_line_on};
 use iom_mem::{Ram, covers};
 use std::alloc::{AllocError, Global};
 
 // Whether all bytes of so many items are memory; of none they are at every address.
 fn are_inside(ram: &Ram, item: Item, addr: u64, count: u64) -> bool
-    ensures value { result ≡ is_some (listed ram.now item addr count) }
+    ensures value { (features : AnyFeatures) → result ≡ is_some (listed ram.now features item addr count) }
     ensures legal { ram.now.base + size_of ram.now ≤ 2 ^ 56 }
 {
     let end = ram.base() + ram.size();
@@ -40,17 +42,19 @@ fn push_line(out: &mut String, line: &[u8]) -> Result<(), AllocError>
     out.push('\n')
 }
 
-/// The lines of `count` items one after the other, the first at physical address `addr`, of any alignment, each with its line end.
+/// The lines of `count` items one after the other on a machine with these features, the first at physical address `addr`, of any
+/// alignment, each with its line end. Words that the machine takes for no such item are shown as words.
 /// Of no items the text is empty at every address. The faults are `Outside`, which is tested first, and `OutOfMemory`.
 pub fn list(
     alloc: Global,
     ram: &Ram,
+    features: Features,
     item: Item,
     addr: u64,
     count: u64,
 ) -> Result<String, ListFault>
-    ensures outside { IfNone (listed ram.now item addr count) (result ≡ Err listing.Outside) }
-    ensures text { IfSome (listed ram.now item addr count) (Lists result) }
+    ensures outside { IfNone (listed ram.now features item addr count) (result ≡ Err listing.Outside) }
+    ensures text { IfSome (listed ram.now features item addr count) (Lists result) }
 {
     if !are_inside(ram, item, addr, count) {
         return Err(ListFault::Outside);
@@ -58,7 +62,7 @@ pub fn list(
     let mut text = String::new(alloc);
     let mut at = addr;
     for _ in 0..count {
-        let Some(line) = item_line(ram, item, at) else {
+        let Some(line) = item_line_on(ram, features, item, at) else {
             return Err(ListFault::Outside);
         };
         push_line(&mut text, line.as_slice())?;

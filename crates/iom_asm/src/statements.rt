@@ -12,8 +12,9 @@ ghost use Rattle.iom_asm.specs.Drafts.{draft_seen, found_seen};
 use crate::asm_fault::AsmFault;
 use crate::draft::Draft;
 use hex::FromHexError;
+use iom_bits::Features;
 use iom_image::OwnDisk;
-use iom_items::{features_for, words_for};
+use iom_items::{features_for, words_on};
 use iom_mem::is_ram;
 use iom_text::{number, words};
 use std::alloc::{AllocError, Global};
@@ -66,16 +67,22 @@ fn words_of(alloc: Global, words: &[u64]) -> Result<Vec<u8>, AllocError>
     Ok(bytes)
 }
 
-// The bytes that the statement of this name and these operands places; None where there is no such statement.
+// The bytes that the statement of this name and these operands places on a machine with these features; None where there is no such
+// statement.
 #[tactic(auto, unfolding(crate::specs::Assembly::bytes_for))]
-fn bytes_for(alloc: Global, name: &[u8], operands: &[&[u8]]) -> Result<Option<Vec<u8>>, AllocError>
+fn bytes_for(
+    alloc: Global,
+    features: Features,
+    name: &[u8],
+    operands: &[&[u8]],
+) -> Result<Option<Vec<u8>>, AllocError>
     ensures { IfOk result (λ found. option_map (λ bytes. bytes.items) found
-        ≡ bytes_for name.now (map (λ word. word.now) operands.now)) }
+        ≡ bytes_for features name.now (map (λ word. word.now) operands.now)) }
 {
     if name == b"bytes".as_slice() {
         return one_hex(alloc, operands);
     }
-    match words_for(name, operands) {
+    match words_on(features, name, operands) {
         Some(words) => Ok(Some(words_of(alloc, words.as_slice())?)),
         None => Ok(None),
     }
@@ -234,7 +241,7 @@ impl Draft {
         } else if name == b"capabilities".as_slice() {
             self.state_capabilities(line, operands)
         } else {
-            match bytes_for(alloc, name, operands)? {
+            match bytes_for(alloc, self.image.version.features(), name, operands)? {
                 Some(bytes) => self.put(line, bytes),
                 None => Err(AsmFault::BadLine(line)),
             }

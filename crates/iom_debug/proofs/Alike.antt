@@ -2,11 +2,12 @@
 use Rattle.std.proofs.Common.{◌≡◌, ◌∙◌, ℕ, List, [], Option, Some, refl, sym, ap, subst}
 use Rattle.std.specs.Prelude.{◌++◌, codes}
 use Rattle.std.specs.Option.{unwrap_or, option_map}
+use Rattle.iom_bits.specs.declared.features.Features.{Features}
 use Rattle.iom_mem.specs.Memory.{Memory}
 use Rattle.iom_mem.specs.Memory as memory
 use Rattle.iom_ddt.specs.declared.listing.Met.{Met}
 use Rattle.iom_ddt.specs.declared.listing.Met.TheVariants as met
-use Rattle.iom_items.specs.Lines.{line_of, operand}
+use Rattle.iom_items.specs.Lines.{line_on, operand}
 use Rattle.iom_items.specs.Lines as lines
 use Rattle.iom_items.specs.declared.item.Item.TheVariants as item
 use Rattle.iom_core.specs.State.{Machine}
@@ -17,26 +18,29 @@ use Rattle.iom_tables.specs.declared.part.Part.TheVariants as part
 use Rattle.iom_debug.specs.Walks.{IsBeforeEnd, met_text, part_text}
 
 -- one item of the directory is told by what was read of it
-met_alike : (now before : Memory) (item : Met) → IsItem now item → IsItem before item → met_text now item ≡ met_text before item
-unfolding met_text lines.item_line memory.bytes_at
-met_alike now before (met.Entry place entry) is was =
+met_alike : (now before : Memory) (features : Features) (item : Met) → IsItem now item → IsItem before item →
+    met_text now features item ≡ met_text before features item
+unfolding met_text lines.item_line_on memory.bytes_at
+met_alike now before features (met.Entry place entry) is was =
     ap (λ (o : Option ℕ). codes "dir" ++ operand (codes "at") place ++ codes " "
-    ++ unwrap_or (option_map (line_of item.Dir) (memory.before o (Some []))) (codes "outside")) (sym is ∙ was)
-met_alike now before (met.Leaf place words) is was =
+    ++ unwrap_or (option_map (line_on features item.Dir) (memory.before o (Some []))) (codes "outside")) (sym is ∙ was)
+met_alike now before features (met.Leaf place words) is was =
     ap (λ (o : Option (List ℕ)). codes "context" ++ operand (codes "at") place ++ codes " "
-    ++ unwrap_or (option_map (line_of item.Context) o) (codes "outside")) (sym is ∙ was)
+    ++ unwrap_or (option_map (line_on features item.Context) o) (codes "outside")) (sym is ∙ was)
 
-one_alike : (now before : Machine) (request asked : Request) (p : Part) → IsBeforeEnd p → IsRead now.memory p → IsRead before.memory p →
-    part_text now request p ≡ part_text before asked p
-one_alike now before request asked (part.Ddtp mode root) inner is was = refl
-one_alike now before request asked (part.Directory met) inner is was = met_alike now.memory before.memory met is was
-one_alike now before request asked (part.Wide what) inner is was = refl
-one_alike now before request asked (part.First entry addr) inner is was = refl
-one_alike now before request asked (part.Second guest entry) inner is was = refl
-one_alike now before request asked (part.End way) inner is was = absurd inner
+one_alike : (now before : Machine) (request asked : Request) (p : Part) → IsBeforeEnd p → now.registers.features ≡ before.registers.features →
+    IsRead now.memory p → IsRead before.memory p → part_text now request p ≡ part_text before asked p
+one_alike now before request asked (part.Ddtp mode root) inner same is was = refl
+one_alike now before request asked (part.Directory met) inner same is was =
+    met_alike now.memory before.memory now.registers.features met is was ∙ ap (λ features. met_text before.memory features met) same
+one_alike now before request asked (part.Wide what) inner same is was = refl
+one_alike now before request asked (part.First entry addr) inner same is was = refl
+one_alike now before request asked (part.Second guest entry) inner same is was = refl
+one_alike now before request asked (part.End way) inner same is was = absurd inner
 
 pub told_alike : (now before : Machine) (request asked : Request) (p other : Part) → IsBeforeEnd p → p ≡ other →
-    IsRead now.memory p → IsRead before.memory other → part_text now request p ≡ part_text before asked other
-told_alike now before request asked p other inner same is was =
+    now.registers.features ≡ before.registers.features → IsRead now.memory p → IsRead before.memory other →
+    part_text now request p ≡ part_text before asked other
+told_alike now before request asked p other inner same features is was =
     let Goal : Part → Type 0 = λ q. IsRead before.memory q → part_text now request p ≡ part_text before asked q in
-    subst Goal same (λ was. one_alike now before request asked p inner is was) was
+    subst Goal same (λ was. one_alike now before request asked p inner features is was) was

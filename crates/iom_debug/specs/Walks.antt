@@ -1,6 +1,7 @@
 -- The texts of the parts of a walk. Their names are those of the standards' terms.
 use Rattle.std.specs.Prelude.{ℕ, ◌+◌, ◌++◌, List, [], ◌∷◌, codes, slice_get, Option, Some, None, Result}
 use Rattle.iom_text.specs.Texts.{hexed}
+use Rattle.iom_bits.specs.declared.features.Features.{Features}
 use Rattle.iom_mem.specs.Memory.{Memory}
 use Rattle.iom_regs.specs.declared.views.Mode.{Mode}
 use Rattle.iom_regs.specs.declared.views.Mode.TheVariants as mode
@@ -23,7 +24,7 @@ use Rattle.iom_core.specs.declared.way.Way.{Way}
 use Rattle.iom_core.specs.declared.way.Way.TheVariants as way
 use Rattle.iom_items.specs.Lines.{line_of, operand}
 use Rattle.iom_items.specs.declared.item.Item.TheVariants as item
-use Rattle.iom_tool.specs.Debugger.{item_text}
+use Rattle.iom_tool.specs.Debugger.{shown_text}
 use Rattle.iom_debug.specs.Ways.{address_of, address_text}
 
 -- "Device-directory-table pointer": iommu_mode is 0 Off, 1 Bare, 2 to 4 for one to three levels
@@ -32,12 +33,12 @@ mode_number mode.Off = 0
 mode_number mode.Bare = 1
 mode_number (mode.Levels levels) = levels + 1
 
--- an item of the directory, with the line of what stands there
-unfoldable pub met_text : Memory → Met → List ℕ
-met_text memory (met.Entry place word) =
-    codes "dir" ++ operand (codes "at") place ++ codes " " ++ item_text memory item.Dir place
-met_text memory (met.Leaf place words) =
-    codes "context" ++ operand (codes "at") place ++ codes " " ++ item_text memory item.Context place
+-- an item of the directory, with the line that what stands there has on an IOMMU with these features
+unfoldable pub met_text : Memory → Features → Met → List ℕ
+met_text memory features (met.Entry place word) =
+    codes "dir" ++ operand (codes "at") place ++ codes " " ++ shown_text memory features item.Dir place
+met_text memory features (met.Leaf place words) =
+    codes "context" ++ operand (codes "at") place ++ codes " " ++ shown_text memory features item.Context place
 
 -- the row of the table of entries that decides
 unfoldable pub row_text : Ruling → List ℕ
@@ -94,7 +95,7 @@ end_text (way.Denied denial) addr = address_text addr ++ operand (codes "iotval2
 abbrev pub part_text : Machine → Request → Part → List ℕ
 part_text m request (part.Ddtp mode root) =
     codes "ddtp" ++ operand (codes "mode") (mode_number mode) ++ operand (codes "root") root
-part_text m request (part.Directory met) = met_text m.memory met
+part_text m request (part.Directory met) = met_text m.memory m.registers.features met
 part_text m request (part.Wide what) = wide_text what
 part_text m request (part.First entry addr) = first_text entry addr
 part_text m request (part.Second guest entry) = second_text guest entry

@@ -9,7 +9,7 @@ ghost use Rattle.iom_core.specs.State.{Machine};
 ghost use Rattle.iom_core.specs.declared.access.Request.{Request};
 ghost use Rattle.iom_tables.specs.Bounds.{PartFits};
 ghost use Rattle.iom_tables.specs.Fetches.{IsRead};
-ghost use Rattle.iom_tool.specs.Debugger.{item_text};
+ghost use Rattle.iom_tool.specs.Debugger.{shown_text};
 ghost use Rattle.iom_debug.specs.Walks.{IsBeforeEnd, end_text, first_text, got_text, in_text, met_text, mode_number, part_text, row_text, second_text, wide_text};
 ghost use Rattle.iom_debug.specs.Ways.{address_text};
 
@@ -17,8 +17,7 @@ use crate::ways::address_of;
 use iom_bits::{Cause, field};
 use iom_core::{Denial, Platform, Request};
 use iom_ddt::{Context, Met};
-use iom_items::{Item, context_line, item_line};
-use iom_mem::Ram;
+use iom_items::{Item, context_line, item_line_on};
 use iom_regs::Mode;
 use iom_tables::{Part, Way, Wide};
 use iom_text::decimal;
@@ -35,7 +34,7 @@ pub fn put_part(out: &mut Draft, platform: &Platform, request: &Request, part: &
     out.clear();
     match part {
         Part::Ddtp { mode, root } => push_ddtp(out, *mode, *root),
-        Part::Directory(met) => push_met(out, platform.ram(), met),
+        Part::Directory(met) => push_met(out, platform, met),
         Part::Wide(what) => push_wide(out, *what),
         Part::First { entry, addr } => push_first(out, entry, *addr),
         Part::Second { guest, entry } => push_second(out, *guest, entry),
@@ -53,11 +52,11 @@ pub fn put_cached(out: &mut Draft, context: &Context)
     out.append(context_line(context).as_slice());
 }
 
-/// Whether two parts are equal, and neither is the end of a walk. Then they are told alike, whatever their walks are: the text of an end
-/// has its request's address too.
+/// Whether two parts are equal, and neither is the end of a walk. Then they are told alike on IOMMUs with the same features, whatever
+/// their walks are: the text of an end has its request's address too.
 pub fn is_told_alike(part: &Part, other: &Part) -> bool
     ensures same { IsTrue result ↔ IsBeforeEnd part.now × (part.now ≡ other.now) }
-    ensures alike { IsTrue result → (now before : Machine) (request asked : Request) → IsRead now.memory part.now → IsRead before.memory other.now →
+    ensures alike { IsTrue result → (now before : Machine) (request asked : Request) → now.registers.features ≡ before.registers.features → IsRead now.memory part.now → IsRead before.memory other.now →
         part_text now request part.now ≡ part_text before asked other.now }
 {
     is_same(part, other)
@@ -124,14 +123,14 @@ fn push_ddtp(out: &mut Draft, mode: Mode, root: u64)
     push_operand(out, b"root", root);
 }
 
-// Appends a blank and the line of an item, or that a byte of it is outside memory.
-fn push_item(out: &mut Draft, ram: &Ram, kind: Item, addr: u64)
+// Appends a blank and the line of an item on this platform, or that a byte of it is outside memory.
+fn push_item(out: &mut Draft, platform: &Platform, kind: Item, addr: u64)
     requires { length out.old ≤ 63 }
-    ensures text { out.new ≡ out.old ++ codes " " ++ item_text ram.now kind addr }
+    ensures text { out.new ≡ out.old ++ codes " " ++ shown_text platform.now.machine.memory platform.now.machine.registers.features kind addr }
     ensures short { length out.new ≤ 320 }
 {
     out.append(b" ");
-    match item_line(ram, kind, addr) {
+    match item_line_on(platform.ram(), platform.registers().features(), kind, addr) {
         Some(line) => out.append(line.as_slice()),
         None => out.append(b"outside"),
     }
@@ -139,21 +138,21 @@ fn push_item(out: &mut Draft, ram: &Ram, kind: Item, addr: u64)
 
 // Appends an item of the directory.
 #[tactic(auto, unfolding(crate::specs::Walks::met_text))]
-fn push_met(out: &mut Draft, ram: &Ram, met: &Met)
+fn push_met(out: &mut Draft, platform: &Platform, met: &Met)
     requires { length out.old ≡ 0 }
-    ensures text { out.new ≡ out.old ++ met_text ram.now met.now }
+    ensures text { out.new ≡ out.old ++ met_text platform.now.machine.memory platform.now.machine.registers.features met.now }
     ensures short { length out.new ≤ 320 }
 {
     match met {
         Met::Entry { place, .. } => {
             out.append(b"dir");
             push_operand(out, b"at", *place);
-            push_item(out, ram, Item::Dir, *place);
+            push_item(out, platform, Item::Dir, *place);
         }
         Met::Leaf { place, .. } => {
             out.append(b"context");
             push_operand(out, b"at", *place);
-            push_item(out, ram, Item::Context, *place);
+            push_item(out, platform, Item::Context, *place);
         }
     }
 }

@@ -74,7 +74,7 @@ with_words text (pair ∷ pairs) bare keys =
     ∙ append_assoc (words_of text) (word_for pair ∷ []) (words_for_all pairs)
 
 -- whether keys pass as those of operands, and the number that pairs have for a key
-abbrev among : List ℕ → List (List ℕ) → Bool
+abbrev pub among : List ℕ → List (List ℕ) → Bool
 among key [] = false
 among key (other ∷ others) = bytes_eq other key || among key others
 
@@ -90,7 +90,7 @@ abbrev pub told_for : List ℕ → List Pair → Option ℕ
 told_for key [] = Some 0
 told_for key (pair ∷ pairs) = if bytes_eq pair.0 key then Some pair.1 else told_for key pairs
 
-given_same : (key : List ℕ) (pairs : List Pair) → are_keys pairs ≡ true → is_given key (words_for_all pairs) ≡ among key (keys_of pairs)
+pub given_same : (key : List ℕ) (pairs : List Pair) → are_keys pairs ≡ true → is_given key (words_for_all pairs) ≡ among key (keys_of pairs)
 given_same key [] keys = refl
 given_same key (pair ∷ pairs) keys =
     let parts = and_parts (is_key pair.0) (are_keys pairs) keys in
@@ -116,7 +116,7 @@ fine_same known (pair ∷ pairs) keys =
 abbrev pub AreSmall : List Pair → Type 0
 AreSmall pairs = AllByRecursion (λ pair. pair.1 < 2 ^ 64) pairs
 
-told_same : (key : List ℕ) (pairs : List Pair) → are_keys pairs ≡ true → AreSmall pairs → value_of key (words_for_all pairs) ≡ told_for key pairs
+pub told_same : (key : List ℕ) (pairs : List Pair) → are_keys pairs ≡ true → AreSmall pairs → value_of key (words_for_all pairs) ≡ told_for key pairs
 told_same key [] keys small = refl
 told_same key (pair ∷ pairs) keys small =
     let parts = and_parts (is_key pair.0) (are_keys pairs) keys in

@@ -1,22 +1,23 @@
--- The line of any words is a statement of them.
+-- The line of any words is a statement of them, on an IOMMU with any features.
 use Rattle.std.proofs.Common.{◌≡◌, ℕ, ◌%◌, ◌<◌, ◌≤◌, ◌^◌, ◌==◌, ◌&&◌, ◌||◌, true, not, List, [], ◌∷◌, length, codes, All, Option, Some, None, Ok, Err, refl, sym, ap, subst, ◌∙◌, inl, inr, arith}
 use Rattle.std.specs.Prelude.{IfSome}
 use Rattle.std.specs.Result.{result_ok}
-use Rattle.std.proofs.lemmas.Bool.{cond_both, and_parts}
+use Rattle.std.proofs.lemmas.Bool.{cond_both, and_parts, cases_Bool}
 use Rattle.std.proofs.lemmas.Grind.{common_steps}
 use Rattle.iom_bits.specs.Bits.{has_bit, flag, field_of}
 use Rattle.iom_bits.specs.declared.causes.Cause.TheVariants.{DirInvalid, DirBad}
+use Rattle.iom_bits.specs.declared.features.Features.{Features}
 use Rattle.iom_ddt.specs.declared.context.Context.{Context}
-use Rattle.iom_ddt.specs.Contexts.{is_mode, is_well_formed, IsWellFormed}
+use Rattle.iom_ddt.specs.Contexts.{has_modes, is_mode, is_well_formed, IsWellFormed}
 use Rattle.iom_ddt.specs.Words.{tc, iohgatp, ta, fsc, words_of, fields_in, are_words_of, context_in}
 use Rattle.iom_queue.specs.declared.command.Command.{Command}
-use Rattle.iom_queue.specs.Commands.{first_word, second_word, CommandFits, command_words, vma_in, gvma_in, fence_in, iodir_in, operands_of, with_words, command_of}
+use Rattle.iom_queue.specs.Commands.{first_word, second_word, CommandFits, is_offered, command_words, vma_in, gvma_in, fence_in, iodir_in, operands_of, with_words, command_of}
 use Rattle.iom_queue.specs.declared.record.Record.{Record}
 use Rattle.iom_queue.specs.Records.{RecordFits, summary_word, record_words, record_in, record_of}
 use Rattle.iom_items.specs.declared.item.Item.{Item}
 use Rattle.iom_items.specs.declared.item.Item.TheVariants as item
 use Rattle.iom_items.specs.Items.{name_of, words_in, Entry, dir_of, pte_of, dir_word, pte_word, IsDirEncoding, IsPteEncoding}
-use Rattle.iom_items.specs.Lines.{words_text, line_of}
+use Rattle.iom_items.specs.Lines.{words_text, line_on}
 use Rattle.iom_items.specs.Telling.{IsStatement, HasStatement}
 use Rattle.iom_items.proofs.Bounds.{AreWords}
 use Rattle.iom_items.proofs.Operating.{all_first, all_rest}
@@ -118,77 +119,84 @@ abbrev four : ℕ → ℕ → ℕ → ℕ → List ℕ
 four first second third fourth = first ∷ second ∷ third ∷ fourth ∷ []
 
 -- words that are no such item have a line of numbers
-as_numbers : (kind : Item) (words : List ℕ) → AreWords words → 1 ≤ length words → length words ≤ 8 → line_of kind words ≡ words_text words →
-    HasStatement kind words
-as_numbers kind words small least most is = record {
+as_numbers : (features : Features) (kind : Item) (words : List ℕ) → AreWords words → 1 ≤ length words → length words ≤ 8 → line_on features kind words ≡ words_text words →
+    HasStatement features kind words
+as_numbers features kind words small least most is = record {
   name = codes "u64";
   operands = numbers_of words;
-  statement = subst (λ (line : List ℕ). IsStatement line words (codes "u64") (numbers_of words)) (sym is) (numbers_state words small least most);
+  statement = subst (λ (line : List ℕ). IsStatement features line words (codes "u64") (numbers_of words)) (sym is) (numbers_state features words small least most);
   named = inr refl;
 }
 
-as_item : (kind : Item) (words : List ℕ) (operands : List (List ℕ)) → IsStatement (line_of kind words) words (name_of kind) operands →
-    HasStatement kind words
-as_item kind words operands statement = record { name = name_of kind; operands = operands; statement = statement; named = inl refl }
+as_item : (features : Features) (kind : Item) (words : List ℕ) (operands : List (List ℕ)) → IsStatement features (line_on features kind words) words (name_of kind) operands →
+    HasStatement features kind words
+as_item features kind words operands statement = record { name = name_of kind; operands = operands; statement = statement; named = inl refl }
 
-command_states_words : (words : List ℕ) → AreWords words → 1 ≤ length words → length words ≤ 8 → HasStatement item.Cmd words
-command_states_words words small least most = by (command_of words) refl (command_found words)
+command_states_words : (features : Features) (words : List ℕ) → AreWords words → 1 ≤ length words → length words ≤ 8 → HasStatement features item.Cmd words
+command_states_words features words small least most = by (command_of words) refl (command_found words)
   where
-    by : (found : Option Command) → command_of words ≡ found → IfSome found (IsCommand words) → HasStatement item.Cmd words
-    by None none _ = as_numbers item.Cmd words small least most (rw none refl)
-    by (Some c) there is = subst (HasStatement item.Cmd) (sym is.1) (as_item item.Cmd (command_words c) _ (command_states c is.0))
+    by : (found : Option Command) → command_of words ≡ found → IfSome found (IsCommand words) → HasStatement features item.Cmd words
+    by None none _ = as_numbers features item.Cmd words small least most (rw none refl)
+    by (Some c) there is = elim (cases_Bool (is_offered features c)) as (λ _. HasStatement features item.Cmd words) [
+      | inl offered ↦
+          subst (HasStatement features item.Cmd) (sym is.1) (as_item features item.Cmd (command_words c) _ (command_states features c is.0 offered))
+      | inr lacking ↦ as_numbers features item.Cmd words small least most (rw (there, lacking) refl)
+    ]
 
-record_states_words : (first second third fourth : ℕ) → AreWords (four first second third fourth) →
-    HasStatement item.Fault (four first second third fourth)
-record_states_words first second third fourth small = by (record_of (four first second third fourth)) refl (record_found first second third fourth small)
+record_states_words : (features : Features) (first second third fourth : ℕ) → AreWords (four first second third fourth) →
+    HasStatement features item.Fault (four first second third fourth)
+record_states_words features first second third fourth small = by (record_of (four first second third fourth)) refl (record_found first second third fourth small)
   where
-    by : (found : Option Record) → record_of (four first second third fourth) ≡ found → IfSome found (IsRecord (four first second third fourth)) → HasStatement item.Fault (four first second third fourth)
-    by None none _ = as_numbers item.Fault (four first second third fourth) small (omega arith) (omega arith) (rw none refl)
-    by (Some r) there is = subst (HasStatement item.Fault) (sym is.1) (as_item item.Fault (record_words r) _ (record_states r is.0))
+    by : (found : Option Record) → record_of (four first second third fourth) ≡ found → IfSome found (IsRecord (four first second third fourth)) → HasStatement features item.Fault (four first second third fourth)
+    by None none _ = as_numbers features item.Fault (four first second third fourth) small (omega arith) (omega arith) (rw none refl)
+    by (Some r) there is = subst (HasStatement features item.Fault) (sym is.1) (as_item features item.Fault (record_words r) _ (record_states features r is.0))
 
-context_states_words : (first second third fourth : ℕ) → AreWords (four first second third fourth) →
-    HasStatement item.Context (four first second third fourth)
-context_states_words first second third fourth small = by (result_ok (context_in (four first second third fourth))) refl (context_found first second third fourth)
+context_states_words : (features : Features) (first second third fourth : ℕ) → AreWords (four first second third fourth) →
+    HasStatement features item.Context (four first second third fourth)
+context_states_words features first second third fourth small = by (result_ok (context_in (four first second third fourth))) refl (context_found first second third fourth)
   where
-    by : (found : Option Context) → result_ok (context_in (four first second third fourth)) ≡ found → IfSome found (IsContext (four first second third fourth)) → HasStatement item.Context (four first second third fourth)
-    by None none _ = as_numbers item.Context (four first second third fourth) small (omega arith) (omega arith) (rw none refl)
-    by (Some c) there is = subst (HasStatement item.Context) (sym is.1) (as_item item.Context (words_of c) _ (context_states c is.0))
+    by : (found : Option Context) → result_ok (context_in (four first second third fourth)) ≡ found → IfSome found (IsContext (four first second third fourth)) → HasStatement features item.Context (four first second third fourth)
+    by None none _ = as_numbers features item.Context (four first second third fourth) small (omega arith) (omega arith) (rw none refl)
+    by (Some c) there is = elim (cases_Bool (has_modes features c)) as (λ _. HasStatement features item.Context (four first second third fourth)) [
+      | inl has ↦ subst (HasStatement features item.Context) (sym is.1) (as_item features item.Context (words_of c) _ (context_states features c is.0 has))
+      | inr lacking ↦ as_numbers features item.Context (four first second third fourth) small (omega arith) (omega arith) (rw (there, lacking) refl)
+    ]
 
-dir_states_words : (word : ℕ) → AreWords (word ∷ []) → HasStatement item.Dir (word ∷ [])
-dir_states_words word small = by (dir_of word) refl
+dir_states_words : (features : Features) (word : ℕ) → AreWords (word ∷ []) → HasStatement features item.Dir (word ∷ [])
+dir_states_words features word small = by (dir_of word) refl
   where
-    by : (found : Option ℕ) → dir_of word ≡ found → HasStatement item.Dir (word ∷ [])
-    by None none = as_numbers item.Dir (word ∷ []) small (omega arith) (omega arith) (rw none refl)
+    by : (found : Option ℕ) → dir_of word ≡ found → HasStatement features item.Dir (word ∷ [])
+    by None none = as_numbers features item.Dir (word ∷ []) small (omega arith) (omega arith) (rw none refl)
     by (Some ppn) there =
         let is : IsDirEncoding ppn word = (reads_dirs ppn word small.0).1 there in
-        subst (λ (word : ℕ). HasStatement item.Dir (word ∷ [])) (sym is.word_is) (as_item item.Dir (dir_word ppn ∷ []) _ (dir_states ppn is.fits))
+        subst (λ (word : ℕ). HasStatement features item.Dir (word ∷ [])) (sym is.word_is) (as_item features item.Dir (dir_word ppn ∷ []) _ (dir_states features ppn is.fits))
 
-pte_states_words : (word : ℕ) → AreWords (word ∷ []) → HasStatement item.Pte (word ∷ [])
-pte_states_words word small = by (pte_of word) refl
+pte_states_words : (features : Features) (word : ℕ) → AreWords (word ∷ []) → HasStatement features item.Pte (word ∷ [])
+pte_states_words features word small = by (pte_of word) refl
   where
-    by : (found : Option Entry) → pte_of word ≡ found → HasStatement item.Pte (word ∷ [])
-    by None none = as_numbers item.Pte (word ∷ []) small (omega arith) (omega arith) (rw none refl)
+    by : (found : Option Entry) → pte_of word ≡ found → HasStatement features item.Pte (word ∷ [])
+    by None none = as_numbers features item.Pte (word ∷ []) small (omega arith) (omega arith) (rw none refl)
     by (Some entry) there =
         let is : IsPteEncoding entry word = (reads_ptes entry word small.0).1 there in
-        subst (λ (word : ℕ). HasStatement item.Pte (word ∷ [])) (sym is.word_is)
-        (as_item item.Pte (pte_word entry.ppn entry.flags ∷ []) _ (pte_states entry (is.ppn_fits, is.flags_fit)))
+        subst (λ (word : ℕ). HasStatement features item.Pte (word ∷ [])) (sym is.word_is)
+        (as_item features item.Pte (pte_word entry.ppn entry.flags ∷ []) _ (pte_states features entry (is.ppn_fits, is.flags_fit)))
 
 are_words : (words : List ℕ) → All (λ word. word < 2 ^ 64) words → AreWords words
 are_words [] all = tt
 are_words (word ∷ words) all =
     (all_first (λ word. word < 2 ^ 64) word words all, are_words words (all_rest (λ word. word < 2 ^ 64) word words all))
 
-fitting : (kind : Item) (words : List ℕ) → length words ≡ words_in kind → AreWords words → HasStatement kind words
-fitting item.Cmd words count small = command_states_words words small (omega (arith, count)) (omega (arith, count))
-fitting item.Fault (first ∷ second ∷ third ∷ fourth ∷ []) count small = record_states_words first second third fourth small
-fitting item.Context (first ∷ second ∷ third ∷ fourth ∷ []) count small = context_states_words first second third fourth small
-fitting item.Dir (word ∷ []) count small = dir_states_words word small
-fitting item.Pte (word ∷ []) count small = pte_states_words word small
-fitting item.Word words count small = as_numbers item.Word words small (omega (arith, count)) (omega (arith, count)) refl
-fitting item.Fault words count small = absurd (omega (arith, count))
-fitting item.Context words count small = absurd (omega (arith, count))
-fitting item.Dir words count small = absurd (omega (arith, count))
-fitting item.Pte words count small = absurd (omega (arith, count))
+fitting : (features : Features) (kind : Item) (words : List ℕ) → length words ≡ words_in kind → AreWords words → HasStatement features kind words
+fitting features item.Cmd words count small = command_states_words features words small (omega (arith, count)) (omega (arith, count))
+fitting features item.Fault (first ∷ second ∷ third ∷ fourth ∷ []) count small = record_states_words features first second third fourth small
+fitting features item.Context (first ∷ second ∷ third ∷ fourth ∷ []) count small = context_states_words features first second third fourth small
+fitting features item.Dir (word ∷ []) count small = dir_states_words features word small
+fitting features item.Pte (word ∷ []) count small = pte_states_words features word small
+fitting features item.Word words count small = as_numbers features item.Word words small (omega (arith, count)) (omega (arith, count)) refl
+fitting features item.Fault words count small = absurd (omega (arith, count))
+fitting features item.Context words count small = absurd (omega (arith, count))
+fitting features item.Dir words count small = absurd (omega (arith, count))
+fitting features item.Pte words count small = absurd (omega (arith, count))
 
-pub states_words : (kind : Item) (words : List ℕ) → length words ≡ words_in kind → All (λ word. word < 2 ^ 64) words → HasStatement kind words
-states_words kind words count all = fitting kind words count (are_words words all)
+pub states_words : (features : Features) (kind : Item) (words : List ℕ) → length words ≡ words_in kind → All (λ word. word < 2 ^ 64) words → HasStatement features kind words
+states_words features kind words count all = fitting features kind words count (are_words words all)

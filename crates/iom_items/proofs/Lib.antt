@@ -7,6 +7,7 @@ pub mod Numerals
 pub mod Joined
 pub mod Saying
 pub mod Again
+pub mod Offered
 pub mod Restated
 pub mod Decoded
 pub mod Shown

@@ -11,6 +11,7 @@ use Rattle.std.proofs.lemmas.Bool.{and_parts, and_from, cond_both, lt-ltb, ltb-t
 use Rattle.std.proofs.lemmas.Int.Digits.{all_below_base_digits_of}
 use Rattle.std.proofs.lemmas.Str.Ascii.{IsAscii-nil, IsAscii-cons}
 use Rattle.iom_text.specs.Texts.{hexed, numeral, digits_in}
+use Rattle.iom_bits.specs.declared.features.Features.{Features}
 use Rattle.iom_mem.specs.Memory.{Memory, words_at}
 use Rattle.iom_ddt.specs.declared.context.Context.{Context}
 use Rattle.iom_ddt.specs.Words.{context_in}
@@ -22,7 +23,7 @@ use Rattle.iom_queue.specs.Records.{record_of}
 use Rattle.iom_items.specs.declared.item.Item.{Item}
 use Rattle.iom_items.specs.declared.item.Item.TheVariants as item
 use Rattle.iom_items.specs.Items.{words_in, dir_of, pte_of, Entry}
-use Rattle.iom_items.specs.Lines.{Pair, operand, with_operands, command_form, command_pairs, further_pairs, not_zero, command_text, record_pairs, record_text, context_pairs, context_text, dir_pairs, dir_text, pte_pairs, pte_text, numbers_text, words_text, or_words, line_of, item_line}
+use Rattle.iom_items.specs.Lines.{Pair, operand, with_operands, command_form, command_pairs, further_pairs, not_zero, command_text, record_pairs, record_text, context_pairs, context_text, dir_pairs, dir_text, pte_pairs, pte_text, numbers_text, words_text, or_words, line_of, line_on, is_taken, item_line_on}
 
 abbrev is_plain : List ℕ → Bool
 is_plain text = list_all (λ c. nat_lt c 128) text
@@ -129,10 +130,15 @@ ascii (c ∷ text) plain =
     let parts = and_parts (nat_lt c 128) (is_plain text) plain in
     IsAscii-cons c text (ltb-true c 128 parts.0) (ascii text parts.1)
 
-found_plain : (kind : Item) (found : Option (List ℕ)) → IfSome (option_map (line_of kind) found) IsAscii
-found_plain kind None = tt
-found_plain kind (Some words) = ascii (line_of kind words) (line_plain kind words)
+on_plain : (features : Features) (kind : Item) (words : List ℕ) → Plain (line_on features kind words)
+on_plain features kind words =
+    cond_both (is_taken features kind words) (line_of kind words) (words_text words) Plain (λ _. line_plain kind words) (λ _. words_plain words)
 
-pub line_ascii : (memory : Memory) (kind : Item) (addr : ℕ) (line : List ℕ) → item_line memory kind addr ≡ Some line → IsAscii line
-unfolding item_line
-line_ascii memory kind addr line is = rw is at (found_plain kind (words_at memory addr (words_in kind)))
+found_plain : (features : Features) (kind : Item) (found : Option (List ℕ)) → IfSome (option_map (line_on features kind) found) IsAscii
+found_plain features kind None = tt
+found_plain features kind (Some words) = ascii (line_on features kind words) (on_plain features kind words)
+
+pub line_ascii : (memory : Memory) (features : Features) (kind : Item) (addr : ℕ) (line : List ℕ) →
+    item_line_on memory features kind addr ≡ Some line → IsAscii line
+unfolding item_line_on
+line_ascii memory features kind addr line is = rw is at (found_plain features kind (words_at memory addr (words_in kind)))

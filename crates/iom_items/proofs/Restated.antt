@@ -1,5 +1,5 @@
--- The line of an item is a statement of its words.
-use Rattle.std.proofs.Common.{◌≡◌, ℕ, ◌<◌, ◌≤◌, ◌^◌, ◌==◌, ◌&&◌, if◌then◌else◌, Bool, true, false, not, nat_le, nat_lt, List, [], ◌∷◌, ◌++◌, length, map, take, drop, take-append-drop, codes, bytes_eq, Option, Some, None, refl, sym, ap, subst, ◌∙◌, inl, inr, append_assoc, append-nil, le-leb, leb-true, arith}
+-- The line of an item is a statement of its words, on an IOMMU with any features.
+use Rattle.std.proofs.Common.{◌≡◌, ℕ, ◌<◌, ◌≤◌, ◌^◌, ◌==◌, ◌&&◌, ◌||◌, if◌then◌else◌, Bool, true, false, not, nat_le, nat_lt, List, [], ◌∷◌, ◌++◌, length, map, take, drop, take-append-drop, codes, bytes_eq, Option, Some, None, refl, sym, ap, subst, ◌∙◌, inl, inr, append_assoc, append-nil, le-leb, leb-true, arith}
 use Rattle.std.specs.Prelude.{IfSome}
 use Rattle.std.specs.Char.{is_digit, digit_value}
 use Rattle.std.specs.Str.Parse.{digits_value}
@@ -10,30 +10,33 @@ use Rattle.iom_text.specs.Texts.{hexed}
 use Rattle.std.specs.Option.{option_map}
 use Rattle.std.specs.List.{list_all}
 use Rattle.iom_bits.specs.Bits.{flag}
+use Rattle.iom_bits.specs.declared.features.Features.{Features}
 use Rattle.iom_text.specs.Words.{words_of, number, number_in}
 use Rattle.iom_ddt.specs.declared.context.Context.{Context}
-use Rattle.iom_ddt.specs.Contexts.{IsWellFormed}
+use Rattle.iom_ddt.specs.Contexts.{has_modes, IsWellFormed}
 use Rattle.iom_ddt.specs.Words as ddt
 use Rattle.iom_queue.specs.declared.command.Command.{Command}
 use Rattle.iom_queue.specs.declared.command.Command.TheVariants.{Vma, Gvma, Fence, Iodir}
 use Rattle.iom_queue.specs.declared.record.Record.{Record}
-use Rattle.iom_queue.specs.Commands.{CommandFits, command_words}
+use Rattle.iom_queue.specs.Commands.{CommandFits, is_offered, command_words}
 use Rattle.iom_queue.specs.Records.{RecordFits, record_words}
 use Rattle.iom_queue.proofs.Encodings.{command_of_words}
 use Rattle.iom_items.specs.declared.item.Item.{Item}
 use Rattle.iom_items.specs.declared.item.Item.TheVariants as item
 use Rattle.iom_items.specs.Items.{name_of, Entry, dir_word, pte_word}
-use Rattle.iom_items.specs.Operands.{◌>>=◌, operand_of, has_key, number_for, value_of}
-use Rattle.iom_items.specs.Forms.{command, fault, context, dir, pte, each_number, numbers, words_for}
-use Rattle.iom_items.specs.Lines.{Pair, with_operands, command_form, command_pairs, further_pairs, not_zero, command_text, record_pairs, record_text, context_pairs, dir_pairs, dir_text, pte_pairs, pte_text, numbers_text, words_text, line_of}
+use Rattle.iom_items.specs.Operands.{◌>>=◌, operand_of, has_key, is_given, number_for, value_of}
+use Rattle.iom_items.specs.Forms.{command, fault, context, dir, pte, each_number, numbers, words_for, is_ten, are_offered, words_on}
+use Rattle.iom_items.specs.Lines.{Pair, with_operands, command_form, command_pairs, further_pairs, not_zero, command_text, record_pairs, record_text, context_pairs, context_text, dir_pairs, dir_text, pte_pairs, pte_text, numbers_text, words_text, line_of, line_on, is_taken}
 use Rattle.iom_items.specs.Telling.{IsStatement, IsToldAgain}
-use Rattle.iom_items.proofs.Stating.{command_fits, fault_fits, context_fits, dir_fits, pte_fits, EntryFits, record_of_words, context_same, dir_read, pte_read, mode_fits, small, given, is_so, some_is}
+use Rattle.iom_items.specs.Telling.{told}
+use Rattle.iom_items.proofs.Stating.{command_fits, fault_fits, context_fits, dir_fits, pte_fits, EntryFits, record_of_words, context_of_words, dir_read, pte_read, mode_fits, small, given, is_so, some_is, statement_told}
 use Rattle.iom_items.proofs.Bounds.{AreWords, words_fine}
 use Rattle.iom_items.proofs.Operating.{cut_later, longer}
 use Rattle.iom_items.proofs.Joined.{is_bare, turned, words_joined, one_word, word_bare, bare_joined}
 use Rattle.iom_items.proofs.Numerals.{is_word, hexed_inside, hexed_read}
 use Rattle.iom_items.proofs.Saying.{Says, IsForm, all_pairs, both, command_says, command_said, fault_says, fault_said, context_says, context_said, dir_says, dir_said, pte_says, pte_said}
-use Rattle.iom_items.proofs.Again.{AreTold, AreShownBy, are_keys, words_for_all, with_words, words_say, shown_say, same_values}
+use Rattle.iom_items.proofs.Again.{AreTold, AreShownBy, AreSmall, among, keys_of, are_keys, told_for, words_for_all, with_words, words_say, shown_say, same_values}
+use Rattle.iom_items.proofs.Offered.{NeedsAll, all_offered, anyway, from_all, shown_offered, command_taken, context_taken}
 
 -- the operands of each item's line
 flag_small : (set : Bool) → flag set < 2 ^ 64
@@ -145,64 +148,144 @@ form_parts (Gvma av page pscid gv gscid nl s) = (refl, refl)
 form_parts (Fence av wsi pr pw value addr) = (refl, refl)
 form_parts (Iodir dv did) = (refl, refl)
 
-pub command_states : (c : Command) → CommandFits c →
-    IsStatement (line_of item.Cmd (command_words c)) (command_words c) (codes "cmd") (command_form c ∷ words_for_all (shown_pairs c))
-unfolding words_for
-command_states c fits =
+-- what stands before a command's operands has no key
+form_no_key : (key : List ℕ) (c : Command) → has_key key (operand_of (command_form c)) ≡ false
+unfolding operand_of
+form_no_key key (Vma av page pscv pscid gv gscid nl s) = refl
+form_no_key key (Gvma av page pscid gv gscid nl s) = refl
+form_no_key key (Fence av wsi pr pw value addr) = refl
+form_no_key key (Iodir dv did) = refl
+
+behind_form : (key : List ℕ) (c : Command) (operands : List (List ℕ)) → value_of key (command_form c ∷ operands) ≡ value_of key operands
+behind_form key c operands =
+    ap (λ has. if has then number_for (operand_of (command_form c)) else value_of key operands) (form_no_key key c)
+
+given_behind : (key : List ℕ) (c : Command) (operands : List (List ℕ)) → is_given key (command_form c ∷ operands) ≡ is_given key operands
+given_behind key c operands = ap (λ has. has || is_given key operands) (form_no_key key c)
+
+-- the operands of a command that is offered need no more
+command_needs : (features : Features) (c : Command) → is_offered features c ≡ true → NeedsAll features (shown_pairs c)
+command_needs features (Vma av page pscv pscid gv gscid true true) is =
+    let parts = and_parts (features.nl || false) (features.s || false) is in
+    record { nl = parts.0; s = parts.1; first = anyway features.sv57; second = anyway features.sv57x4 }
+command_needs features (Vma av page pscv pscid gv gscid true false) is =
+    let parts = and_parts (features.nl || false) (features.s || true) is in
+    record { nl = parts.0; s = parts.1; first = anyway features.sv57; second = anyway features.sv57x4 }
+command_needs features (Vma av page pscv pscid gv gscid false true) is =
+    let parts = and_parts (features.nl || true) (features.s || false) is in
+    record { nl = parts.0; s = parts.1; first = anyway features.sv57; second = anyway features.sv57x4 }
+command_needs features (Vma av page pscv pscid gv gscid false false) is =
+    record { nl = anyway features.nl; s = anyway features.s; first = anyway features.sv57; second = anyway features.sv57x4 }
+command_needs features (Gvma av page pscid gv gscid true true) is =
+    let parts = and_parts (features.nl || false) (features.s || false) is in
+    record { nl = parts.0; s = parts.1; first = anyway features.sv57; second = anyway features.sv57x4 }
+command_needs features (Gvma av page pscid gv gscid true false) is =
+    let parts = and_parts (features.nl || false) (features.s || true) is in
+    record { nl = parts.0; s = parts.1; first = anyway features.sv57; second = anyway features.sv57x4 }
+command_needs features (Gvma av page pscid gv gscid false true) is =
+    let parts = and_parts (features.nl || true) (features.s || false) is in
+    record { nl = parts.0; s = parts.1; first = anyway features.sv57; second = anyway features.sv57x4 }
+command_needs features (Gvma av page pscid gv gscid false false) is =
+    record { nl = anyway features.nl; s = anyway features.s; first = anyway features.sv57; second = anyway features.sv57x4 }
+command_needs features (Fence av wsi pr pw value addr) is =
+    record { nl = anyway features.nl; s = anyway features.s; first = anyway features.sv57; second = anyway features.sv57x4 }
+command_needs features (Iodir dv did) is =
+    record { nl = anyway features.nl; s = anyway features.s; first = anyway features.sv57; second = anyway features.sv57x4 }
+
+command_offered : (features : Features) (c : Command) → CommandFits c → is_offered features c ≡ true →
+    are_offered features (command_form c ∷ words_for_all (shown_pairs c)) ≡ true
+command_offered features c fits is =
+    let told = command_told c fits in
+    let shown : List (List ℕ) = words_for_all (shown_pairs c) in
+    let all = all_offered features shown (shown_offered features (shown_pairs c) told.keys told.small (command_needs features c is)) in
+    from_all features (command_form c ∷ shown) (record {
+      nl = ap (λ given. features.nl || not given) (given_behind (codes "nl") c shown) ∙ all.nl;
+      s = ap (λ given. features.s || not given) (given_behind (codes "s") c shown) ∙ all.s;
+      first = ap (λ found. features.sv57 || not (is_ten found)) (behind_form (codes "mode") c shown) ∙ all.first;
+      second = ap (λ found. features.sv57x4 || not (is_ten found)) (behind_form (codes "gmode") c shown) ∙ all.second;
+    })
+
+pub command_states : (features : Features) (c : Command) → CommandFits c → is_offered features c ≡ true →
+    IsStatement features (line_on features item.Cmd (command_words c)) (command_words c) (codes "cmd") (command_form c ∷ words_for_all (shown_pairs c))
+unfolding words_on words_for
+command_states features c fits is =
     let told = command_told c fits in
     let form = form_parts c in
-    let line : line_of item.Cmd (command_words c) ≡ command_text c = rw (command_of_words c fits) refl in
+    let line : line_on features item.Cmd (command_words c) ≡ command_text c = rw (command_of_words c fits, is) refl in
     record {
       parts =
           ap words_of line ∙ with_words (codes "cmd " ++ command_form c) (shown_pairs c) form.0 told.keys
           ∙ ap (λ words. words ++ words_for_all (shown_pairs c)) form.1;
-      stands = ap (option_map command_words) (command_said (words_for_all (shown_pairs c)) c fits (shown_say (all_pairs c) (shown_pairs c) told));
+      stands = rw (command_offered features c fits is)
+          (ap (option_map command_words) (command_said (words_for_all (shown_pairs c)) c fits (shown_say (all_pairs c) (shown_pairs c) told)));
     }
 
-pub record_states : (r : Record) → RecordFits r →
-    IsStatement (line_of item.Fault (record_words r)) (record_words r) (codes "fault") (words_for_all (record_pairs r))
-unfolding words_for
-record_states r fits =
+-- operands that name nothing which may be missing
+plain_needs : (features : Features) (shown : List Pair) → are_keys shown ≡ true → AreSmall shown → among (codes "nl") (keys_of shown) ≡ false →
+    among (codes "s") (keys_of shown) ≡ false → told_for (codes "mode") shown ≡ Some 0 → told_for (codes "gmode") shown ≡ Some 0 →
+    are_offered features (words_for_all shown) ≡ true
+plain_needs features shown keys small nl s first second =
+    shown_offered features shown keys small (record {
+      nl = ap (λ given. features.nl || not given) nl ∙ anyway features.nl;
+      s = ap (λ given. features.s || not given) s ∙ anyway features.s;
+      first = ap (λ found. features.sv57 || not (is_ten found)) first ∙ anyway features.sv57;
+      second = ap (λ found. features.sv57x4 || not (is_ten found)) second ∙ anyway features.sv57x4;
+    })
+
+pub record_states : (features : Features) (r : Record) → RecordFits r →
+    IsStatement features (line_on features item.Fault (record_words r)) (record_words r) (codes "fault") (words_for_all (record_pairs r))
+unfolding words_on words_for
+record_states features r fits =
     let told = record_told r fits in
-    let line : line_of item.Fault (record_words r) ≡ record_text r = rw (record_of_words r fits) refl in
+    let line : line_on features item.Fault (record_words r) ≡ record_text r = rw (record_of_words r fits) refl in
     record {
       parts = ap words_of line ∙ line_parts (codes "fault") (record_pairs r) refl refl (omega arith) told.keys;
-      stands = ap (option_map record_words) (fault_said (words_for_all (record_pairs r)) r fits (words_say (record_pairs r) told));
+      stands = rw (plain_needs features (record_pairs r) told.keys told.small refl refl refl refl)
+          (ap (option_map record_words) (fault_said (words_for_all (record_pairs r)) r fits (words_say (record_pairs r) told)));
     }
 
-pub context_states : (c : Context) → IsWellFormed c →
-    IsStatement (line_of item.Context (ddt.words_of c)) (ddt.words_of c) (codes "context") (words_for_all (context_pairs c))
-unfolding words_for
-context_states c fits =
+context_needs : (features : Features) (c : Context) → has_modes features c ≡ true → NeedsAll features (context_pairs c)
+context_needs features c is =
+    let parts = and_parts (features.sv57 || not (c.mode == 10)) (features.sv57x4 || not (c.gmode == 10)) is in
+    record { nl = anyway features.nl; s = anyway features.s; first = parts.0; second = parts.1 }
+
+pub context_states : (features : Features) (c : Context) → IsWellFormed c → has_modes features c ≡ true →
+    IsStatement features (line_on features item.Context (ddt.words_of c)) (ddt.words_of c) (codes "context") (words_for_all (context_pairs c))
+unfolding words_on words_for
+context_states features c fits is =
     let told = context_told c fits in
+    let line : line_on features item.Context (ddt.words_of c) ≡ context_text c = rw (context_of_words c fits, is) refl in
     record {
-      parts = ap words_of (context_same c fits) ∙ line_parts (codes "context") (context_pairs c) refl refl (omega arith) told.keys;
-      stands = ap (option_map ddt.words_of) (context_said (words_for_all (context_pairs c)) c fits (words_say (context_pairs c) told));
+      parts = ap words_of line ∙ line_parts (codes "context") (context_pairs c) refl refl (omega arith) told.keys;
+      stands = rw (shown_offered features (context_pairs c) told.keys told.small (context_needs features c is))
+          (ap (option_map ddt.words_of) (context_said (words_for_all (context_pairs c)) c fits (words_say (context_pairs c) told)));
     }
 
-pub dir_states : (ppn : ℕ) → ppn < 2 ^ 44 →
-    IsStatement (line_of item.Dir (dir_word ppn ∷ [])) (dir_word ppn ∷ []) (codes "dir") (words_for_all (dir_pairs ppn))
-unfolding words_for
-dir_states ppn fits =
+pub dir_states : (features : Features) (ppn : ℕ) → ppn < 2 ^ 44 →
+    IsStatement features (line_on features item.Dir (dir_word ppn ∷ [])) (dir_word ppn ∷ []) (codes "dir") (words_for_all (dir_pairs ppn))
+unfolding words_on words_for
+dir_states features ppn fits =
     let told = dir_told ppn fits in
-    let line : line_of item.Dir (dir_word ppn ∷ []) ≡ dir_text ppn = rw (dir_read ppn fits) refl in
+    let line : line_on features item.Dir (dir_word ppn ∷ []) ≡ dir_text ppn = rw (dir_read ppn fits) refl in
     record {
       parts = ap words_of line ∙ line_parts (codes "dir") (dir_pairs ppn) refl refl (omega arith) told.keys;
-      stands = ap (option_map (λ ppn. dir_word ppn ∷ [])) (dir_said (words_for_all (dir_pairs ppn)) ppn fits (words_say (dir_pairs ppn) told));
+      stands = rw (plain_needs features (dir_pairs ppn) told.keys told.small refl refl refl refl)
+          (ap (option_map (λ ppn. dir_word ppn ∷ [])) (dir_said (words_for_all (dir_pairs ppn)) ppn fits (words_say (dir_pairs ppn) told)));
     }
 
 abbrev entry_words : Entry → List ℕ
 entry_words entry = pte_word entry.ppn entry.flags ∷ []
 
-pub pte_states : (entry : Entry) → EntryFits entry →
-    IsStatement (line_of item.Pte (entry_words entry)) (entry_words entry) (codes "pte") (words_for_all (pte_pairs entry))
-unfolding words_for
-pte_states entry fits =
+pub pte_states : (features : Features) (entry : Entry) → EntryFits entry →
+    IsStatement features (line_on features item.Pte (entry_words entry)) (entry_words entry) (codes "pte") (words_for_all (pte_pairs entry))
+unfolding words_on words_for
+pte_states features entry fits =
     let told = pte_told entry fits in
-    let line : line_of item.Pte (entry_words entry) ≡ pte_text entry = rw (pte_read entry fits.0 fits.1) refl in
+    let line : line_on features item.Pte (entry_words entry) ≡ pte_text entry = rw (pte_read entry fits.0 fits.1) refl in
     record {
       parts = ap words_of line ∙ line_parts (codes "pte") (pte_pairs entry) refl refl (omega arith) told.keys;
-      stands = ap (option_map entry_words) (pte_said (words_for_all (pte_pairs entry)) entry fits (words_say (pte_pairs entry) told));
+      stands = rw (plain_needs features (pte_pairs entry) told.keys told.small refl refl refl refl)
+          (ap (option_map entry_words) (pte_said (words_for_all (pte_pairs entry)) entry fits (words_say (pte_pairs entry) told)));
     }
 
 -- numbers on a line
@@ -228,14 +311,6 @@ numbers_read : (words : List ℕ) → AreWords words → 1 ≤ length words → 
 unfolding numbers
 numbers_read words fits least most =
     rw (length-map words hexed, le-leb 1 (length words) least, le-leb (length words) 8 most, each_read words fits) refl
-
-pub numbers_state : (words : List ℕ) → AreWords words → 1 ≤ length words → length words ≤ 8 →
-    IsStatement (words_text words) words (codes "u64") (numbers_of words)
-unfolding words_for
-numbers_state words fits least most = record {
-  parts = numbers_parts (codes "u64") words refl ∙ ap (λ front. front ++ numbers_of words) (one_word (codes "u64") refl (omega arith));
-  stands = numbers_read words fits least most;
-}
 
 -- a number has no key
 digit_other : (radix c : ℕ) → radix ≤ 16 → is_digit c radix ≡ true → (c == 61) ≡ false
@@ -290,6 +365,32 @@ no_value key (word ∷ words) = by (number word) refl (each_number words) (no_va
     by (Some n) is (Some ns) rest =
         ap (λ operand. if has_key key operand then number_for operand else value_of key words) (no_operand word (number_other word n is)) ∙ rest
 
+-- numbers name nothing
+no_given : (key : List ℕ) (words : List ℕ) → AreWords words → is_given key (numbers_of words) ≡ false
+no_given key [] fits = refl
+no_given key (word ∷ words) fits =
+    ap (λ operand. has_key key operand || is_given key (numbers_of words)) (no_operand (hexed word) (number_other (hexed word) word (hexed_read word fits.0)))
+    ∙ no_given key words fits.1
+
+numbers_value : (key : List ℕ) (words : List ℕ) → AreWords words → value_of key (numbers_of words) ≡ Some 0
+numbers_value key words fits = rw (each_read words fits) at (no_value key (numbers_of words))
+
+numbers_offered : (features : Features) (words : List ℕ) → AreWords words → are_offered features (numbers_of words) ≡ true
+numbers_offered features words fits = from_all features (numbers_of words) (record {
+  nl = ap (λ given. features.nl || not given) (no_given (codes "nl") words fits) ∙ anyway features.nl;
+  s = ap (λ given. features.s || not given) (no_given (codes "s") words fits) ∙ anyway features.s;
+  first = ap (λ found. features.sv57 || not (is_ten found)) (numbers_value (codes "mode") words fits) ∙ anyway features.sv57;
+  second = ap (λ found. features.sv57x4 || not (is_ten found)) (numbers_value (codes "gmode") words fits) ∙ anyway features.sv57x4;
+})
+
+pub numbers_state : (features : Features) (words : List ℕ) → AreWords words → 1 ≤ length words → length words ≤ 8 →
+    IsStatement features (words_text words) words (codes "u64") (numbers_of words)
+unfolding words_on words_for
+numbers_state features words fits least most = record {
+  parts = numbers_parts (codes "u64") words refl ∙ ap (λ front. front ++ numbers_of words) (one_word (codes "u64") refl (omega arith));
+  stands = rw (numbers_offered features words fits) (numbers_read words fits least most);
+}
+
 each_length : (words : List (List ℕ)) → IfSome (each_number words) (λ ns. length ns ≡ length words)
 unfolding each_number
 each_length [] = refl
@@ -302,39 +403,34 @@ each_length (word ∷ words) = by (number word) (each_number words) (each_length
     by (Some n) (Some ns) rest = omega (arith, rest)
 
 -- the line says the same as the statement's own operands
-keyed : (kind : Item) (operands : List (List ℕ)) (words : List ℕ) (pairs : List Pair) → AreTold pairs →
-    IsStatement (line_of kind words) words (name_of kind) (words_for_all pairs) → Says pairs operands → IsToldAgain kind operands words
-keyed kind operands words pairs told states says = record {
+keyed : (features : Features) (kind : Item) (operands : List (List ℕ)) (words : List ℕ) (pairs : List Pair) → AreTold pairs →
+    IsStatement features (line_on features kind words) words (name_of kind) (words_for_all pairs) → Says pairs operands →
+    IsToldAgain features kind operands words
+keyed features kind operands words pairs told states says = record {
   again = words_for_all pairs;
   statement = states;
   numbers = same_values pairs (words_for_all pairs) operands (words_say pairs told) says;
 }
 
-form_no_key : (key : List ℕ) (c : Command) → has_key key (operand_of (command_form c)) ≡ false
-unfolding operand_of
-form_no_key key (Vma av page pscv pscid gv gscid nl s) = refl
-form_no_key key (Gvma av page pscid gv gscid nl s) = refl
-form_no_key key (Fence av wsi pr pw value addr) = refl
-form_no_key key (Iodir dv did) = refl
-
-behind_form : (key : List ℕ) (c : Command) (operands : List (List ℕ)) → value_of key (command_form c ∷ operands) ≡ value_of key operands
-behind_form key c operands =
-    ap (λ has. if has then number_for (operand_of (command_form c)) else value_of key operands) (form_no_key key c)
-
-command_again : (form : List ℕ) (operands : List (List ℕ)) (c : Command) → CommandFits c → IsForm form operands c →
-    IsToldAgain item.Cmd (form ∷ operands) (command_words c)
-command_again form operands c fits is = record {
+command_again : (features : Features) (form : List ℕ) (operands : List (List ℕ)) (c : Command) → are_offered features (form ∷ operands) ≡ true →
+    CommandFits c → IsForm form operands c → IsToldAgain features item.Cmd (form ∷ operands) (command_words c)
+command_again features form operands c offered fits is = record {
   again = command_form c ∷ words_for_all (shown_pairs c);
-  statement = command_states c fits;
+  statement = command_states features c fits (command_taken features form operands c is offered);
   numbers = λ key.
       behind_form key c (words_for_all (shown_pairs c))
       ∙ same_values (all_pairs c) (words_for_all (shown_pairs c)) operands (shown_say (all_pairs c) (shown_pairs c) (command_told c fits)) is.says key
       ∙ sym (ap (λ form. value_of key (form ∷ operands)) is.named ∙ behind_form key c operands);
 }
 
-numbers_again : (operands : List (List ℕ)) (words : List ℕ) → AreWords words → numbers operands ≡ Some words → IsToldAgain item.Word operands words
+under_test : {A : Type 0} (b : Bool) (found : Option A) (x : A) → (if b then found else None) ≡ Some x → (b ≡ true) × (found ≡ Some x)
+under_test true found x is = (refl, is)
+under_test false found x is = absurd cc
+
+numbers_again : (features : Features) (operands : List (List ℕ)) (words : List ℕ) → AreWords words → numbers operands ≡ Some words →
+    IsToldAgain features item.Word operands words
 unfolding numbers
-numbers_again operands words fits is =
+numbers_again features operands words fits is =
     let test = under_test (nat_le 1 (length operands) && nat_le (length operands) 8) (each_number operands) words is in
     let counts = and_parts (nat_le 1 (length operands)) (nat_le (length operands) 8) test.0 in
     let same : length words ≡ length operands = rw test.1 at (each_length operands) in
@@ -342,49 +438,84 @@ numbers_again operands words fits is =
     let most : length words ≤ 8 = omega (arith, leb-true (length operands) 8 counts.1, same) in
     record {
       again = numbers_of words;
-      statement = numbers_state words fits least most;
+      statement = numbers_state features words fits least most;
       numbers = λ key.
-          let one : value_of key (numbers_of words) ≡ Some 0 = rw (each_read words fits) at (no_value key (numbers_of words)) in
           let other : value_of key operands ≡ Some 0 = rw test.1 at (no_value key operands) in
-          one ∙ sym other;
+          numbers_value key words fits ∙ sym other;
     }
-  where
-    under_test : (b : Bool) (found : Option (List ℕ)) (words : List ℕ) → (if b then found else None) ≡ Some words → (b ≡ true) × (found ≡ Some words)
-    under_test true found words is = (refl, is)
-    under_test false found words is = absurd cc
 
 -- from an item to its words
-of_words : {A : Type 0} (kind : Item) (operands : List (List ℕ)) (to_words : A → List ℕ) (found : Option A) (words : List ℕ) →
-    IfSome found (λ x. IsToldAgain kind operands (to_words x)) → option_map to_words found ≡ Some words → IsToldAgain kind operands words
-of_words kind operands to_words None words again is = absurd cc
-of_words kind operands to_words (Some x) words again is = subst (IsToldAgain kind operands) (some_is (to_words x) words is) again
+of_words : {A : Type 0} (Holds : List ℕ → Type 0) (to_words : A → List ℕ) (found : Option A) (words : List ℕ) →
+    IfSome found (λ x. Holds (to_words x)) → option_map to_words found ≡ Some words → Holds words
+of_words Holds to_words None words holds is = absurd cc
+of_words Holds to_words (Some x) words holds is = subst Holds (some_is (to_words x) words is) holds
 
-pub tells_statements : (kind : Item) (operands : List (List ℕ)) (words : List ℕ) → words_for (name_of kind) operands ≡ Some words →
-    IsToldAgain kind operands words
+statement_again : (features : Features) (kind : Item) (operands : List (List ℕ)) (words : List ℕ) → are_offered features operands ≡ true →
+    words_for (name_of kind) operands ≡ Some words → IsToldAgain features kind operands words
 unfolding words_for command
-tells_statements item.Cmd [] words is = absurd cc
-tells_statements item.Cmd (form ∷ operands) words is =
-    of_words item.Cmd (form ∷ operands) command_words (command (form ∷ operands)) words
-    (both CommandFits (IsForm form operands) (λ c. IsToldAgain item.Cmd (form ∷ operands) (command_words c)) (command (form ∷ operands))
-    (command_again form operands) (command_fits (form ∷ operands)) (command_says form operands)) is
-tells_statements item.Fault operands words is =
-    of_words item.Fault operands record_words (fault operands) words
-    (both RecordFits (λ r. Says (record_pairs r) operands) (λ r. IsToldAgain item.Fault operands (record_words r)) (fault operands)
-    (λ r fits. keyed item.Fault operands (record_words r) (record_pairs r) (record_told r fits) (record_states r fits))
+statement_again features item.Cmd [] words offered is = absurd cc
+statement_again features item.Cmd (form ∷ operands) words offered is =
+    of_words (IsToldAgain features item.Cmd (form ∷ operands)) command_words (command (form ∷ operands)) words
+    (both CommandFits (IsForm form operands) (λ c. IsToldAgain features item.Cmd (form ∷ operands) (command_words c)) (command (form ∷ operands))
+    (λ c fits says. command_again features form operands c offered fits says) (command_fits (form ∷ operands)) (command_says form operands)) is
+statement_again features item.Fault operands words offered is =
+    of_words (IsToldAgain features item.Fault operands) record_words (fault operands) words
+    (both RecordFits (λ r. Says (record_pairs r) operands) (λ r. IsToldAgain features item.Fault operands (record_words r)) (fault operands)
+    (λ r fits. keyed features item.Fault operands (record_words r) (record_pairs r) (record_told r fits) (record_states features r fits))
     (fault_fits operands) (fault_says operands)) is
-tells_statements item.Context operands words is =
-    of_words item.Context operands ddt.words_of (context operands) words
-    (both IsWellFormed (λ c. Says (context_pairs c) operands) (λ c. IsToldAgain item.Context operands (ddt.words_of c)) (context operands)
-    (λ c fits. keyed item.Context operands (ddt.words_of c) (context_pairs c) (context_told c fits) (context_states c fits))
+statement_again features item.Context operands words offered is =
+    of_words (IsToldAgain features item.Context operands) ddt.words_of (context operands) words
+    (both IsWellFormed (λ c. Says (context_pairs c) operands) (λ c. IsToldAgain features item.Context operands (ddt.words_of c)) (context operands)
+    (λ c fits says. keyed features item.Context operands (ddt.words_of c) (context_pairs c) (context_told c fits)
+    (context_states features c fits (context_taken features operands c says offered)) says)
     (context_fits operands) (context_says operands)) is
-tells_statements item.Dir operands words is =
-    of_words item.Dir operands (λ ppn. dir_word ppn ∷ []) (dir operands) words
-    (both (λ ppn. ppn < 2 ^ 44) (λ ppn. Says (dir_pairs ppn) operands) (λ ppn. IsToldAgain item.Dir operands (dir_word ppn ∷ [])) (dir operands)
-    (λ ppn fits. keyed item.Dir operands (dir_word ppn ∷ []) (dir_pairs ppn) (dir_told ppn fits) (dir_states ppn fits))
+statement_again features item.Dir operands words offered is =
+    of_words (IsToldAgain features item.Dir operands) (λ ppn. dir_word ppn ∷ []) (dir operands) words
+    (both (λ ppn. ppn < 2 ^ 44) (λ ppn. Says (dir_pairs ppn) operands) (λ ppn. IsToldAgain features item.Dir operands (dir_word ppn ∷ [])) (dir operands)
+    (λ ppn fits. keyed features item.Dir operands (dir_word ppn ∷ []) (dir_pairs ppn) (dir_told ppn fits) (dir_states features ppn fits))
     (dir_fits operands) (dir_says operands)) is
-tells_statements item.Pte operands words is =
-    of_words item.Pte operands entry_words (pte operands) words
-    (both EntryFits (λ entry. Says (pte_pairs entry) operands) (λ entry. IsToldAgain item.Pte operands (entry_words entry)) (pte operands)
-    (λ entry fits. keyed item.Pte operands (entry_words entry) (pte_pairs entry) (pte_told entry fits) (pte_states entry fits))
+statement_again features item.Pte operands words offered is =
+    of_words (IsToldAgain features item.Pte operands) entry_words (pte operands) words
+    (both EntryFits (λ entry. Says (pte_pairs entry) operands) (λ entry. IsToldAgain features item.Pte operands (entry_words entry)) (pte operands)
+    (λ entry fits. keyed features item.Pte operands (entry_words entry) (pte_pairs entry) (pte_told entry fits) (pte_states features entry fits))
     (pte_fits operands) (pte_says operands)) is
-tells_statements item.Word operands words is = numbers_again operands words (rw is at (words_fine item.Word operands)) is
+statement_again features item.Word operands words offered is =
+    numbers_again features operands words (rw is at (words_fine item.Word operands)) is
+
+pub tells_statements : (features : Features) (kind : Item) (operands : List (List ℕ)) (words : List ℕ) →
+    words_on features (name_of kind) operands ≡ Some words → IsToldAgain features kind operands words
+unfolding words_on
+tells_statements features kind operands words is =
+    let test = under_test (are_offered features operands) (words_for (name_of kind) operands) words is in
+    statement_again features kind operands words test.0 test.1
+
+-- the words of a statement that is offered are taken as its item
+pub statement_taken : (features : Features) (kind : Item) (operands : List (List ℕ)) (words : List ℕ) → are_offered features operands ≡ true →
+    words_for (name_of kind) operands ≡ Some words → is_taken features kind words ≡ true
+unfolding words_for command
+statement_taken features item.Cmd [] words offered is = absurd cc
+statement_taken features item.Cmd (form ∷ operands) words offered is =
+    of_words (λ words. is_taken features item.Cmd words ≡ true) command_words (command (form ∷ operands)) words
+    (both CommandFits (IsForm form operands) (λ c. is_taken features item.Cmd (command_words c) ≡ true) (command (form ∷ operands))
+    (λ c fits says. rw (command_of_words c fits) (command_taken features form operands c says offered))
+    (command_fits (form ∷ operands)) (command_says form operands)) is
+statement_taken features item.Context operands words offered is =
+    of_words (λ words. is_taken features item.Context words ≡ true) ddt.words_of (context operands) words
+    (both IsWellFormed (λ c. Says (context_pairs c) operands) (λ c. is_taken features item.Context (ddt.words_of c) ≡ true) (context operands)
+    (λ c fits says. rw (context_of_words c fits) (context_taken features operands c says offered))
+    (context_fits operands) (context_says operands)) is
+statement_taken features item.Fault operands words offered is = refl
+statement_taken features item.Dir operands words offered is = refl
+statement_taken features item.Pte operands words offered is = refl
+statement_taken features item.Word operands words offered is = refl
+
+pub line_taken : (features : Features) (kind : Item) (words : List ℕ) → is_taken features kind words ≡ true → line_on features kind words ≡ line_of kind words
+line_taken features kind words is = rw is refl
+
+pub tells_operands : (features : Features) (kind : Item) (operands : List (List ℕ)) (words : List ℕ) →
+    words_on features (name_of kind) operands ≡ Some words → told kind operands ≡ Some (line_on features kind words)
+unfolding words_on
+tells_operands features kind operands words is =
+    let test = under_test (are_offered features operands) (words_for (name_of kind) operands) words is in
+    statement_told kind operands words test.1
+    ∙ ap (λ line. Some line) (sym (line_taken features kind words (statement_taken features kind operands words test.0 test.1)))

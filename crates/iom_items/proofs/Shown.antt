@@ -1,5 +1,5 @@
 -- Operands that a line has where they aren't 0.
-use Rattle.std.proofs.Common.{◌≡◌, ◌==◌, ℕ, Bool, true, false, List, [], ◌∷◌, if◌then◌else◌, refl}
+use Rattle.std.proofs.Common.{◌≡◌, ◌==◌, ℕ, true, false, List, [], ◌∷◌, if◌then◌else◌, refl}
 use Rattle.iom_items.specs.Lines.{Pair, with_operands, not_zero}
 
 pub one_more : (text : List ℕ) (pair : Pair) (pairs : List Pair) →

@@ -144,7 +144,7 @@ with_fields : (words : List ℕ) (c : Context) → fields_in words ≡ c → con
 unfolding context_in
 with_fields words c is = rw (sym is) refl
 
-context_of_words : (c : Context) → IsWellFormed c → context_in (words_of c) ≡ Ok c
+pub context_of_words : (c : Context) → IsWellFormed c → context_in (words_of c) ≡ Ok c
 context_of_words c fits =
     let valid : field_of (tc c) 0 1 ≡ flag true = omega (arith, small c.dtf, fits.custom) in
     with_fields (words_of c) c (fields_of_words c fits)
@@ -222,21 +222,21 @@ tells Fits to_words text line (Some x) words fits same is =
 numbers_told : (found : Option (List ℕ)) (words : List ℕ) → found ≡ Some words → option_map words_text found ≡ Some (words_text words)
 numbers_told found words is = ap (option_map words_text) is
 
-pub tells_operands : (kind : Item) (operands : List (List ℕ)) (words : List ℕ) → words_for (name_of kind) operands ≡ Some words →
+pub statement_told : (kind : Item) (operands : List (List ℕ)) (words : List ℕ) → words_for (name_of kind) operands ≡ Some words →
     told kind operands ≡ Some (line_of kind words)
 unfolding words_for told
-tells_operands item.Cmd operands words is =
+statement_told item.Cmd operands words is =
     tells CommandFits command_words command_text (line_of item.Cmd) (command operands) words (command_fits operands)
     (λ c fits. rw (command_of_words c fits) refl) is
-tells_operands item.Fault operands words is =
+statement_told item.Fault operands words is =
     tells RecordFits record_words record_text (line_of item.Fault) (fault operands) words (fault_fits operands)
     (λ r fits. rw (record_of_words r fits) refl) is
-tells_operands item.Context operands words is =
+statement_told item.Context operands words is =
     tells IsWellFormed words_of context_text (line_of item.Context) (context operands) words (context_fits operands) context_same is
-tells_operands item.Dir operands words is =
+statement_told item.Dir operands words is =
     tells (λ ppn. ppn < 2 ^ 44) (λ ppn. dir_word ppn ∷ []) dir_text (line_of item.Dir) (dir operands) words (dir_fits operands)
     (λ ppn fits. rw (dir_read ppn fits) refl) is
-tells_operands item.Pte operands words is =
+statement_told item.Pte operands words is =
     tells EntryFits (λ entry. pte_word entry.ppn entry.flags ∷ []) pte_text (line_of item.Pte) (pte operands) words (pte_fits operands)
     (λ entry fits. rw (pte_read entry fits.0 fits.1) refl) is
-tells_operands item.Word operands words is = numbers_told (numbers operands) words is
+statement_told item.Word operands words is = numbers_told (numbers operands) words is

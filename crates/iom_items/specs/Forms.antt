@@ -1,7 +1,8 @@
 -- Statements that stand for words: numbers, and the items with their operands. None: no such statement.
-use Rattle.std.specs.Prelude.{ℕ, ◌^◌, ◌%◌, ◌==◌, ◌&&◌, Bool, List, [], ◌∷◌, length, codes, bytes_eq, nat_le, Option, Some, None, if◌then◌else◌}
+use Rattle.std.specs.Prelude.{ℕ, ◌^◌, ◌%◌, ◌==◌, ◌&&◌, ◌||◌, Bool, false, not, List, [], ◌∷◌, length, codes, bytes_eq, nat_le, Option, Some, None, if◌then◌else◌}
 use Rattle.std.specs.Option.{option_map}
 use Rattle.iom_text.specs.Words.{number}
+use Rattle.iom_bits.specs.declared.features.Features.{Features}
 use Rattle.iom_ddt.specs.declared.context.Context.{Context}
 use Rattle.iom_ddt.specs.Contexts.{is_well_formed}
 use Rattle.iom_ddt.specs.Words.{words_of}
@@ -11,7 +12,7 @@ use Rattle.iom_queue.specs.declared.record.Record.{Record}
 use Rattle.iom_queue.specs.Commands.{command_words}
 use Rattle.iom_queue.specs.Records.{record_words}
 use Rattle.iom_items.specs.Items.{Entry, dir_word, pte_word}
-use Rattle.iom_items.specs.Operands.{◌>>=◌, are_operands, limited, flag_for}
+use Rattle.iom_items.specs.Operands.{◌>>=◌, is_given, are_operands, value_of, limited, flag_for}
 
 -- what follows a test
 abbrev pub where_so : {A : Type 0} → Bool → Option A → Option A
@@ -165,3 +166,19 @@ words_for name operands =
     else if bytes_eq name (codes "dir") then option_map (λ ppn. dir_word ppn ∷ []) (dir operands)
     else if bytes_eq name (codes "pte") then option_map (λ entry. pte_word entry.ppn entry.flags ∷ []) (pte operands)
     else None
+
+-- An IOMMU takes the operands nl and s only with the capability of that name, mode 10 of a context only with Sv57, gmode 10 only with
+-- Sv57x4.
+abbrev pub is_ten : Option ℕ → Bool
+is_ten None = false
+is_ten (Some n) = n == 10
+
+abbrev pub are_offered : Features → List (List ℕ) → Bool
+are_offered features operands =
+    (features.nl || not (is_given (codes "nl") operands)) && (features.s || not (is_given (codes "s") operands))
+    && (features.sv57 || not (is_ten (value_of (codes "mode") operands)))
+    && (features.sv57x4 || not (is_ten (value_of (codes "gmode") operands)))
+
+-- the words that a statement stands for on an IOMMU with these features
+unfoldable pub words_on : Features → List ℕ → List (List ℕ) → Option (List ℕ)
+words_on features name operands = where_so (are_offered features operands) (words_for name operands)

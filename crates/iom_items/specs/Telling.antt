@@ -1,13 +1,14 @@
--- What a statement says is told again by its words.
+-- What a statement says is told again by its words, on an IOMMU with any features.
 use Rattle.std.specs.Prelude.{ℕ, ◌≡◌, ◌^◌, ◌<◌, ◌⊎◌, List, ◌∷◌, length, codes, All, Option, Some}
 use Rattle.std.specs.Option.{option_map}
 use Rattle.iom_text.specs.Words.{words_of}
+use Rattle.iom_bits.specs.declared.features.Features.{Features}
 use Rattle.iom_items.specs.declared.item.Item.{Item}
 use Rattle.iom_items.specs.declared.item.Item.TheVariants as item
 use Rattle.iom_items.specs.Items.{name_of, words_in, dir_of, Entry, pte_of, IsDirEncoding, IsPteEncoding}
 use Rattle.iom_items.specs.Operands.{value_of}
-use Rattle.iom_items.specs.Forms.{command, fault, context, dir, pte, numbers, words_for}
-use Rattle.iom_items.specs.Lines.{command_text, record_text, context_text, dir_text, pte_text, words_text, line_of}
+use Rattle.iom_items.specs.Forms.{command, fault, context, dir, pte, numbers, words_on}
+use Rattle.iom_items.specs.Lines.{command_text, record_text, context_text, dir_text, pte_text, words_text, line_on}
 
 -- the line with what a statement's operands say, all of them in order; None: there is no such statement
 unfoldable pub told : Item → List (List ℕ) → Option (List ℕ)
@@ -21,37 +22,38 @@ told item.Word operands = option_map words_text (numbers operands)
 -- The line of the words that a statement stands for has the statement's own operands.
 abbrev pub TellsOperands : Type 0
 TellsOperands =
-    (kind : Item) (operands : List (List ℕ)) (words : List ℕ) → words_for (name_of kind) operands ≡ Some words →
-    told kind operands ≡ Some (line_of kind words)
+    (features : Features) (kind : Item) (operands : List (List ℕ)) (words : List ℕ) → words_on features (name_of kind) operands ≡ Some words →
+    told kind operands ≡ Some (line_on features kind words)
 
 -- A line is a statement of words: it has this name and these operands, and they stand for those words.
-pub record IsStatement (line words name : List ℕ) (operands : List (List ℕ)) : Type 0 where
+pub record IsStatement (features : Features) (line words name : List ℕ) (operands : List (List ℕ)) : Type 0 where
   pub parts : words_of line ≡ name ∷ operands
-  pub stands : words_for name operands ≡ Some words
+  pub stands : words_on features name operands ≡ Some words
 
 -- The line of some words is a statement of the same words, with the same number for each key as these operands.
-pub record IsToldAgain (kind : Item) (operands : List (List ℕ)) (words : List ℕ) : Type 0 where
+pub record IsToldAgain (features : Features) (kind : Item) (operands : List (List ℕ)) (words : List ℕ) : Type 0 where
   pub again : List (List ℕ)
-  pub statement : IsStatement (line_of kind words) words (name_of kind) again
+  pub statement : IsStatement features (line_on features kind words) words (name_of kind) again
   pub numbers : (key : List ℕ) → value_of key again ≡ value_of key operands
 
 -- The line of a statement's words is again a statement of them, with the same numbers.
 abbrev pub TellsStatements : Type 0
 TellsStatements =
-    (kind : Item) (operands : List (List ℕ)) (words : List ℕ) → words_for (name_of kind) operands ≡ Some words →
-    IsToldAgain kind operands words
+    (features : Features) (kind : Item) (operands : List (List ℕ)) (words : List ℕ) → words_on features (name_of kind) operands ≡ Some words →
+    IsToldAgain features kind operands words
 
 -- The line of some words is a statement of them, by the item's name or by `u64`.
-pub record HasStatement (kind : Item) (words : List ℕ) : Type 0 where
+pub record HasStatement (features : Features) (kind : Item) (words : List ℕ) : Type 0 where
   pub name : List ℕ
   pub operands : List (List ℕ)
-  pub statement : IsStatement (line_of kind words) words name operands
+  pub statement : IsStatement features (line_on features kind words) words name operands
   pub named : (name ≡ name_of kind) ⊎ (name ≡ codes "u64")
 
 -- The line of any words is a statement of them, if they are as many as the item has.
 abbrev pub StatesWords : Type 0
 StatesWords =
-    (kind : Item) (words : List ℕ) → length words ≡ words_in kind → All (λ word. word < 2 ^ 64) words → HasStatement kind words
+    (features : Features) (kind : Item) (words : List ℕ) → length words ≡ words_in kind → All (λ word. word < 2 ^ 64) words →
+    HasStatement features kind words
 
 -- An entry of a directory and its word stand for each other.
 abbrev pub ReadsDirs : Type 0

@@ -4,10 +4,11 @@ ghost use Rattle.std.specs.Prelude.{◌≡◌, ◌+◌, ◌++◌, ◌≤◌, ◌
 ghost use Rattle.std.specs.Option.{option_map};
 ghost use Rattle.iom_queue.specs.Commands.{CommandFits};
 ghost use Rattle.iom_queue.specs.Records.{RecordFits};
-ghost use Rattle.iom_items.specs.Forms.{vma, gvma, fence, iodir, command, fault, formed, context, dir, pte, each_number, numbers, words_for};
+ghost use Rattle.iom_items.specs.Forms.{vma, gvma, fence, iodir, command, fault, formed, context, dir, pte, each_number, numbers, words_for, is_ten, are_offered, words_on};
 
-use crate::operands::{any_number, are_operands, flag_for, limited};
+use crate::operands::{any_number, are_operands, flag_for, is_given, limited};
 use arrayvec::ArrayVec;
+use iom_bits::Features;
 use iom_ddt::{Context, ContextFields, encode_context};
 use iom_queue::{Command, Record, encode_command, encode_record};
 use iom_text::number;
@@ -264,6 +265,40 @@ pub fn words_for(name: &[u8], operands: &[&[u8]]) -> Option<Words>
     } else if name == b"pte".as_slice() {
         let (ppn, flags) = pte(operands)?;
         Some(all(&[flags + (ppn << 10)]))
+    } else {
+        None
+    }
+}
+
+// Whether a number is given, and it is 10.
+fn is_ten(number: Option<u64>) -> bool
+    ensures { result ≡ is_ten number }
+{
+    match number {
+        Some(number) => number == 10,
+        None => false,
+    }
+}
+
+// Whether an IOMMU with these features has what the operands of a statement name.
+fn are_offered(features: Features, operands: &[&[u8]]) -> bool
+    ensures { result ≡ are_offered features (map (λ word. word.now) operands.now) }
+{
+    (features.nl || !is_given(b"nl", operands))
+        && (features.s || !is_given(b"s", operands))
+        && (features.sv57 || !is_ten(any_number(b"mode", operands)))
+        && (features.sv57x4 || !is_ten(any_number(b"gmode", operands)))
+}
+
+/// As `words_for`, on an IOMMU with these features: None also of a command with an operand `nl` or `s` whose capability it lacks, and of
+/// a context with a mode that it lacks.
+#[tactic(auto, unfolding(crate::specs::Forms::words_on))]
+pub fn words_on(features: Features, name: &[u8], operands: &[&[u8]]) -> Option<Words>
+    ensures { option_map (λ words. words.items) result
+        ≡ words_on features name.now (map (λ word. word.now) operands.now) }
+{
+    if are_offered(features, operands) {
+        words_for(name, operands)
     } else {
         None
     }

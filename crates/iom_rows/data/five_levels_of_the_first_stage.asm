@@ -2,8 +2,8 @@ ram 0x80000000 0x100000
 capabilities sv57=1
 at 0x80001000
 context mode=10 ppn=0x80033                          # device 0: a first stage of five levels
-context gmode=10 gppn=0x80028 gscid=7                # device 1: a second stage of five levels
-context gmode=10 gppn=0x80028 gscid=7 mode=10 ppn=0x80033
+u64 1 0xa000700000080028 0 0                         # device 1: a second stage of five levels
+u64 1 0xa000700000080028 0 0xa000000000080033
 at 0x80028000                                        # second stage, level 4
 pte ppn=0x8002c flags=1
 at 0x8002a018                                        # entry 0x403

@@ -1,8 +1,7 @@
 //! Images, the assembler and listings.
 
-use iom_asm::{AsmFault, Item, ListFault, LoadFault, assemble, item_line, judge, list, load};
+use iom_asm::{AsmFault, Item, ListFault, LoadFault, assemble, item_line_on, judge, list, load};
 use iom_core::Platform;
-use iom_mem::Ram;
 use std::alloc::{AllocError, Global};
 use std::test::Fail;
 
@@ -59,6 +58,26 @@ const TEXTS: &[Text<'static>] = &[
         Some(AsmFault::Outside(4)),
     ),
     (b"ram 0x80000000 0x1000\nbytes 00\nbytes 01\n", None),
+    (
+        b"ram 0x80000000 0x1000\ncapabilities nl=1\ncmd gvma nl=1 s=0",
+        Some(AsmFault::BadLine(3)),
+    ),
+    (
+        b"ram 0x80000000 0x1000\ncapabilities nl=1 s=1\ncmd gvma s=2",
+        Some(AsmFault::BadLine(3)),
+    ),
+    (
+        b"ram 0x80000000 0x1000\ncapabilities sv57=1\ncontext gmode=10 gppn=4",
+        Some(AsmFault::BadLine(3)),
+    ),
+    (
+        b"ram 0x80000000 0x1000\ncapabilities sv57x4=1\ncontext gmode=10 gppn=2",
+        Some(AsmFault::BadLine(3)),
+    ),
+    (
+        b"ram 0x80000000 0x1000\ncontext mode=10\ncapabilities sv57=1",
+        Some(AsmFault::BadLine(2)),
+    ),
 ];
 
 // Why a text is refused.
@@ -100,8 +119,10 @@ const STATEMENTS: &[(&[u8], bool)] = &[
     (b"cmd iodir did=", false),
     (b"cmd iodir did = 5", false),
     (b"cmd gvma pscv=1", false),
-    (b"cmd vma nl=1 s=1", true),
-    (b"cmd gvma s=2", false),
+    (b"cmd vma nl=1", false),
+    (b"cmd gvma s=0", false),
+    (b"capabilities nl=1 s=1\ncmd vma nl=1 s=1", true),
+    (b"capabilities nl=1 s=1\ncmd gvma nl=0 s=0", true),
     (b"cmd fence nl=1", false),
     (b"cmd fence addr=2", false),
     (b"cmd", false),
@@ -109,9 +130,11 @@ const STATEMENTS: &[(&[u8], bool)] = &[
     (b"context mode=8 ppn=1", true),
     (b"context mode=1", false),
     (b"context mode=9 ppn=1", true),
-    (b"context mode=10 ppn=1", true),
+    (b"context mode=10 ppn=1", false),
+    (b"capabilities sv57=1\ncontext mode=0xa ppn=1", true),
     (b"context mode=11", false),
-    (b"context gmode=10 gppn=2", false),
+    (b"context gmode=10 gppn=4", false),
+    (b"capabilities sv57x4=1\ncontext gmode=10 gppn=4", true),
     (b"context gmode=8 gppn=1", false),
     (b"context gmode=9 gppn=4", true),
     (b"context gmode=9 gppn=1", false),
@@ -385,17 +408,17 @@ fn loaded(alloc: Global, text: &[u8]) -> Result<Platform, Fail> {
 // An item at an address, and its line.
 type Line<'a> = (Item, u64, &'a [u8]);
 
-fn is_line(ram: &Ram, item: Item, addr: u64, want: &[u8]) -> bool {
-    match item_line(ram, item, addr) {
+fn is_line(platform: &Platform, item: Item, addr: u64, want: &[u8]) -> bool {
+    match item_line_on(platform.ram(), platform.registers().features(), item, addr) {
         Some(line) => line.as_slice() == want,
         None => false,
     }
 }
 
 // The index of the first item with another line.
-fn otherwise_told(ram: &Ram, lines: &[Line<'_>]) -> Option<usize> {
+fn otherwise_told(platform: &Platform, lines: &[Line<'_>]) -> Option<usize> {
     for (i, (item, addr, want)) in lines.iter().enumerate() {
-        if !is_line(ram, *item, *addr, want) {
+        if !is_line(platform, *item, *addr, want) {
             return Some(i);
         }
     }
@@ -406,9 +429,10 @@ fn otherwise_told(ram: &Ram, lines: &[Line<'_>]) -> Option<usize> {
 type Listing<'a> = (Item, u64, u64, Option<&'a str>);
 
 // Whether a listing is the expected one.
-fn is_listed(alloc: Global, ram: &Ram, listing: &Listing<'_>) -> bool {
+fn is_listed(alloc: Global, platform: &Platform, listing: &Listing<'_>) -> bool {
     let (item, addr, count, want) = listing;
-    match list(alloc, ram, *item, *addr, *count) {
+    let features = platform.registers().features();
+    match list(alloc, platform.ram(), features, *item, *addr, *count) {
         Ok(text) => *want == Some(text.as_str()),
         Err(fault) => want.is_none() && fault == ListFault::Outside,
     }
@@ -422,7 +446,7 @@ fn otherwise_listed(
 ) -> Result<Option<usize>, Fail> {
     let platform = loaded(alloc, text)?;
     for (i, listing) in listings.iter().enumerate() {
-        if !is_listed(alloc, platform.ram(), listing) {
+        if !is_listed(alloc, &platform, listing) {
             return Ok(Some(i));
         }
     }
@@ -430,6 +454,7 @@ fn otherwise_listed(
 }
 
 const STATED: &[u8] = b"ram 0x80000000 0x100000
+capabilities nl=1 s=1 sv57=1
 at 0x80090000
 cmd iodir did=5 dv=1 # operands in any order
 cmd vma page=0xabc gv=1 gscid=7
@@ -439,7 +464,9 @@ pte flags=0xd7 ppn=0x80010
 u64 0x10
 at 0x80090100
 cmd vma s=1 page=3 av=1
-cmd gvma nl=1";
+cmd gvma nl=1
+context mode=10 ppn=0x80002
+u64 1 0xa000000000000004 0 0";
 
 const STATED_LISTED: &[Listing<'static>] = &[
     (
@@ -485,6 +512,16 @@ const STATED_TOLD: &[Line<'static>] = &[
         b"cmd gvma av=0x0 page=0x0 pscid=0x0 gv=0x0 gscid=0x0 nl=0x1",
     ),
     (
+        Item::Context,
+        0x8009_0120,
+        b"context dtf=0x0 custom=0x0 gmode=0x0 gppn=0x0 gscid=0x0 tav=0x0 pscid=0x0 mode=0xa ppn=0x80002",
+    ),
+    (
+        Item::Context,
+        0x8009_0140,
+        b"u64 0x1 0xa000000000000004 0x0 0x0",
+    ),
+    (
         Item::Fault,
         0x8009_0058,
         b"fault cause=0x0 pid=0x0 pv=0x0 priv=0x0 ttyp=0x0 did=0x0 iotval=0x0 iotval2=0x0",
@@ -500,7 +537,34 @@ fn what_was_stated_is_listed(rt: HostRuntime) -> Result<(), Fail> {
 #[test]
 fn what_was_stated_is_told(rt: HostRuntime) -> Result<(), Fail> {
     let platform = loaded(rt.alloc(), STATED)?;
-    assert_eq!(rt; otherwise_told(platform.ram(), STATED_TOLD), None);
+    assert_eq!(rt; otherwise_told(&platform, STATED_TOLD), None);
+    Ok(())
+}
+
+// The same words on a machine without these features.
+const LACKED: &[u8] = b"ram 0x80000000 0x100000
+at 0x80090100
+u64 0x401 0x3200 0x400000081 0
+u64 1 0 0 0xa000000000080002";
+
+const LACKED_LISTED: &[Listing<'static>] = &[
+    (
+        Item::Cmd,
+        0x8009_0100,
+        2,
+        Some("u64 0x401 0x3200\nu64 0x400000081 0x0\n"),
+    ),
+    (
+        Item::Context,
+        0x8009_0120,
+        1,
+        Some("u64 0x1 0x0 0x0 0xa000000000080002\n"),
+    ),
+];
+
+#[test]
+fn what_the_machine_lacks_is_listed_as_words(rt: HostRuntime) -> Result<(), Fail> {
+    assert_eq!(rt; otherwise_listed(rt.alloc(), LACKED, LACKED_LISTED)?, None);
     Ok(())
 }
 

@@ -7,6 +7,7 @@ use crate::devices::devices;
 use crate::warrants::{MAPPED, otherwise, read, started, stored, take, walked, written};
 use crate::{first_wrong, playing};
 use iom_asm::{Item, assemble, list, load, upgrade};
+use iom_bits::Features;
 use iom_blk::Blk;
 use iom_cache::{ContextCache, Place, TransCache};
 use iom_core::{Answer, Platform, Step};
@@ -268,7 +269,7 @@ fn image_is_upgraded(rt: HostRuntime) -> Result<(), Fail> {
 fn items_are_listed(rt: HostRuntime) -> Result<(), Fail> {
     spend(rt.alloc(), 11)?;
     let ram = Ram::new(rt.alloc(), BASE, 0x1000)?;
-    let listing = list(rt.alloc(), &ram, Item::Word, BASE, 64)?;
+    let listing = list(rt.alloc(), &ram, Features::none(), Item::Word, BASE, 64)?;
     assert!(rt; listing.len() == 64 * 8);
     Ok(())
 }

@@ -13,7 +13,7 @@ use Rattle.iom_cache.specs.declared.key.Key.{Key}
 use Rattle.iom_cache.specs.declared.place.Place.{Place}
 use Rattle.iom_cache.specs.declared.place.Place.TheVariants.{Beyond, Empty, Live}
 use Rattle.iom_items.specs.declared.item.Item.{Item}
-use Rattle.iom_items.specs.Lines.{context_text, item_line, item_line_on}
+use Rattle.iom_items.specs.Lines.{context_text, item_line_on}
 use Rattle.iom_tool.specs.Console.{Console}
 use Rattle.iom_text.specs.Texts.{hexed}
 use Rattle.iom_tool.specs.Texts.{entry_text}
@@ -56,11 +56,7 @@ context_place_text Beyond = codes "none"
 context_place_text Empty = codes "empty"
 context_place_text (Live did context) = codes "did=" ++ hexed did ++ codes " " ++ context_text context
 
--- the line of an item in memory
-abbrev pub item_text : Memory → Item → ℕ → List ℕ
-item_text memory kind addr = unwrap_or (item_line memory kind addr) (codes "outside")
-
--- the same on an IOMMU with these features
+-- the line of an item in memory, on an IOMMU with these features
 abbrev pub shown_text : Memory → Features → Item → ℕ → List ℕ
 shown_text memory features kind addr = unwrap_or (item_line_on memory features kind addr) (codes "outside")
 

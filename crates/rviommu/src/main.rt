@@ -120,7 +120,8 @@ fn list<'a>(
     mut output: impl Write + Drop,
 ) -> Result<(), Fault<'a>> {
     let platform = iom_asm::load(alloc, image)?;
-    let text = iom_asm::list(alloc, platform.ram(), item, addr, count)?;
+    let features = platform.registers().features();
+    let text = iom_asm::list(alloc, platform.ram(), features, item, addr, count)?;
     output
         .write_all(text.as_bytes())
         .map_err(|_| RunFault::Write)?;

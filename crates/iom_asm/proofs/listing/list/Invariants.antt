@@ -6,5 +6,5 @@ use Rattle.iom_asm.proofs.listing.list.Given as goal
 
 abbrev pub invariant-loop : goal.invariant-loop
 invariant-loop l = record {
-  so_far : behind (string_bytes l.text) (listed l.ram l.item l.at (l.count - l.counter)) ≡ listed l.ram l.item l.addr l.count;
+  so_far : behind (string_bytes l.text) (listed l.ram l.features l.item l.at (l.count - l.counter)) ≡ listed l.ram l.features l.item l.addr l.count;
 }

@@ -1,5 +1,5 @@
-use Rattle.iom_items.proofs.Stating.{tells_operands, reads_dirs, reads_ptes}
-use Rattle.iom_items.proofs.Restated.{tells_statements}
+use Rattle.iom_items.proofs.Stating.{reads_dirs, reads_ptes}
+use Rattle.iom_items.proofs.Restated.{tells_operands, tells_statements}
 use Rattle.iom_items.proofs.Decoded.{states_words}
 use Rattle.iom_items.proofs.telling.items_are_told_again.Goals as goal
 
