@@ -4,18 +4,18 @@
 #                             does so (iom_player), on all cores
 #   make build                proves and builds the whole program, if needed
 #   make test                 every proof from nothing, the edits that must be refused, every test
-#   make edits [CRATES=..]    tries the edits of crates/*/edits, or those of the crates that are named, many in one check
-#   make rows                 plays the scripts of crates/iom_rows/data, and prints each answer that is not the expected one
-#   make bench [OTHER=FILE]   lines per second, explain beside run, images and texts, beside another program if one is named
-#   make fuzz [OTHER=FILE]    cases made to harm, beside another program, or the words of one; MINUTES=1 and SEED=1 if not given
-#   make peer                 the program beside QEMU's IOMMU (QEMU 10), 5,000 cases; CASES=5000 and SEED=1 where they aren't given
-#   make linux                lives of the driver of Linux over the C library, 3,000 operations each; OPERATIONS=3000 and SEED=1 where they aren't given
-#   make library              the C library, its header and pkg-config file into c/out; the Python module takes it from there
-#   make page                 the page that shows the model in a browser, into web/out; it proves a copy of the crates (web/build.py)
-#   make install PREFIX=..    copy the program to PREFIX/bin, /usr/local/bin where PREFIX is not given, with its man page and
-#                             completions for bash and zsh, and the C library to PREFIX/lib and PREFIX/include
-#   make dist, make deb       pack both into dist/, as an archive or as Debian packages
-#   make wheel                pack the Python module and the library into dist/, as a wheel for pip
+#   make edits [CRATES=..]    tries the edits of crates/*/edits, or those of the named crates, many in one check
+#   make rows                 runs the scripts of crates/iom_rows/data, and prints each answer that is not the expected one
+#   make bench [OTHER=FILE]   lines per second, of explain too, and images loaded, assembled and listed; also of another program
+#   make fuzz [OTHER=FILE]    compares the program with another one, or its own words, on cases made to harm; MINUTES=1, SEED=1
+#   make peer                 compares the program with QEMU's IOMMU (QEMU 10); CASES=5000, SEED=1
+#   make linux                runs the IOMMU driver of Linux over the C library; OPERATIONS=3000, SEED=1
+#   make library              builds the C library, its header and its pkg-config file into c/out, where the Python module finds it
+#   make page                 builds the page that shows the model in a browser into web/out; it proves a copy of the crates (web/build.py)
+#   make install PREFIX=..    copies the program, its man page and its completions for bash and zsh, and the C library to PREFIX, or to
+#                             /usr/local if PREFIX is not given
+#   make dist, make deb       packs both into dist/, as an archive or as Debian packages
+#   make wheel                packs the Python module and the library into dist/, as a wheel for pip
 
 PREFIX = /usr/local
 MINUTES = 1

@@ -3,13 +3,16 @@ import re
 import shutil
 
 from documents import blocks, names_there, plain, played, section, section_of, spans, table_with
-from frame import EXAMPLES, TOP, Case, called, commands, text_of
+from frame import EXAMPLES, PLAYER, TOP, Case, called, commands, text_of
 from samples import DEBUG_FORMS, FORMS, IMAGE
 from crates import kit_version, version
 
-# The words that a line is answered by, and those of what `debug` asks.
-ANSWERS = ["done", "idle", "denied", "bus error", "bad access", "no device", "misuse", "outside", "none", "empty"]
-OF_DEBUG = [*ANSWERS[7:], "same", "no directory", "register", "context", "no access", "denied"]
+# The words that a line is answered by; ADDRESS, CAUSE and a number stand for any, and .. for what follows.
+ANSWERS = [
+    "done", "idle", "denied CAUSE", "bus error", "bad access", "no device", "misuse", "outside", "none", "empty",
+    "same", "no directory", "register", "context", "no access", "denied", "addr=ADDRESS", "context ..", "page ..",
+    "context 12", "walked context=12 walk=14", "walked context=12 walk=14 current=15", "0x0",
+]
 # RISC-V IOMMU Architecture 1.0, "IOMMU capabilities": the bits of the features that are offered, and that are left out.
 OFFERED = {"Sv39": 9, "Sv48": 10, "Sv39x4": 17, "Sv48x4": 18}
 LEFT_OUT = {
@@ -27,15 +30,18 @@ def operands(word, told):
     return [f"[{it}]" for it in options if it != "--help"] + named
 
 
-def is_of(line, form):
-    """Whether a line of a script is of this form; its operands stand for any word."""
-    words, parts = line.split(), form.split()
-    fits = (one == it or it.isupper() and (it != "NAME" or one[0].isalpha()) for one, it in zip(words, parts))
-    return len(words) == len(parts) and all(fits)
+def pattern(answer):
+    text = re.sub(r"\d+", r"\\d+", re.escape(answer)).replace("ADDRESS", "0x[0-9a-f]+").replace("CAUSE", r"\d+")
+    return text.replace(r"\.\.", ".+=.+")
 
 
-def answers_to(forms):
-    return [answer for line, answer in played() if any(is_of(line, form) for form in forms)]
+def named_answers(head):
+    """The answers that the man page's table below this head names for each form of a line."""
+    rows = re.search(rf"(?ms)^{head} +answers\n(.*?)^\.EE$", section("ANSWERS"))[1]
+    for row in re.sub(r"\n {10,}", " ", rows).splitlines():
+        forms, answers = re.fullmatch(r"(.+?)  +(.+)", row).groups()
+        # A word in capitals stands for others.
+        yield forms.split(", "), {it for it in answers.split(", ") if not re.match("[A-Z]", it)}
 
 
 class Versions(Case):
@@ -79,35 +85,38 @@ class Versions(Case):
 
 
 class Readme(Case):
-    def test_session(self):
-        """README: its session, pasted as it stands, is answered as it says, and passes a check"""
-        lines = next(it for it in blocks("README.md") if it.count("# =>") > 5)
-        wanted = re.findall(r"# => *(.*?) *$", lines, re.MULTILINE)
-        self.want([], "".join(f"{it}\n" for it in wanted).encode(), given=lines.encode())
-        self.want(["check"], b"%d passed, 0 failed\n" % len(wanted), given=lines.encode())
-
     def test_commands(self):
-        """README: its commands after a $ write what stands below them, and that on an example its answers"""
+        """README: its commands after a $ write what is below them, and that on an example its answers"""
         shutil.copytree(EXAMPLES, self.path("examples"))
         shown = [it for it in blocks("README.md") if it.startswith("$ ")]
         self.assertTrue(shown)
         for block in shown:
-            given, answers = (re.findall(it, block) for it in (r"(?m)^\$ (.*\n)", r"(?m)^(?!\$ ).*\n"))
-            self.assertEqual(self.shell("".join(given))[1], "".join(answers), given[-1])
+            given = [it[1] for it in re.finditer(r"(?m)^\$ (.*<<'(\w+)'\n(?:.*\n)*?\2\n|.*\n)", block)]
+            wanted = block
+            for command in given:
+                wanted = wanted.replace(f"$ {command}", "")
+            self.assertEqual(self.shell("".join(given))[1], wanted, given[-1])
         (command,) = re.findall(r"(?m)^    (rviommu asm .*)$", text_of("README.md"))
-        script = re.search(r"examples/\w+\.script", command)[0]
-        self.assertEqual(self.shell(command), (0, text_of(script.replace(".script", ".answers"))))
+        self.assertEqual(self.shell(command), (0, text_of("examples/disk.answers")))
+
+    def test_make_run(self):
+        """README: `make run` answers a script, if what plays it is current"""
+        self.needs("make")
+        (shown,) = re.findall(r"(?m)^    make run < (.*)$", text_of("README.md"))
+        words = ["make", "-s", "-C", TOP, "-o", PLAYER, "run", f"player={PLAYER}"]
+        seen = called(words, input=(TOP / shown).read_bytes(), stderr=None).decode()
+        self.assertEqual(seen, text_of(shown.replace(".script", ".answers")))
 
     def test_paths(self):
-        """README and CHANGELOG.md: each name for make that they name is there"""
+        """README and CHANGELOG.md: each target of make that they name is there"""
         targets = set(re.findall(r"(?m)^(\w+):", text_of("Makefile")))
         for name in ("README.md", "CHANGELOG.md"):
             self.assertLessEqual(set(re.findall(r"(?m)(?:`|^    )make (\w+)", text_of(name))), targets, name)
 
     def test_examples(self):
-        """README: its table of examples names each of them, and in each example a comment explains each line"""
+        """examples/README.md: its table names each of them, and in each example a comment explains each line"""
         scripts = sorted(EXAMPLES.glob("*.script"))
-        rows = table_with("README.md", "`stale_translation`")
+        rows = table_with("examples/README.md", "`stale_translation`")
         named = {name for row in rows for name in re.findall(r"`(\w+)`", row[0])}
         self.assertEqual(named, {it.stem for it in scripts})
         for path in scripts:
@@ -120,11 +129,10 @@ class Readme(Case):
             self.assertEqual(lacking, [], path.name)
 
     def test_words(self):
-        """README and the man page: each word of the program with its operands, and no other"""
+        """README names each word of the program, and the man page each with its operands, and no other"""
         helps = {word: self.written([word, "--help"]) for word in commands() if word != "help"}
+        self.assertLessEqual(set(helps), set(spans(text_of("README.md"))))
         wanted = [" ".join([word, *operands(word, told)]) for word, told in helps.items()]
-        named = [row[0].strip("`") for row in table_with("README.md", "`asm SOURCE IMAGE`")]
-        self.assertEqual(sorted(named), sorted([*wanted, "none"]))
         shown = " ".join(plain(section("SYNOPSIS")).split()).split("rviommu")[1:]
         self.assertEqual(sorted(it.strip() for it in shown), sorted([*wanted, "", "help [WORD]"]))
 
@@ -141,32 +149,19 @@ class Readme(Case):
 
 
 class Answers(Case):
-    def want_named(self, known, forms, named):
-        """Wants each answer that is named of some forms given to a line of them, and each known one of those named."""
-        given = {re.sub(r"^denied \d+$", "denied", answer) for answer in answers_to(forms)}
-        named = {it.replace(" CAUSE", "") for it in named}
-        for answer in named:
-            # ADDRESS and a number stand for any, .. for what follows, and a blank before it for what stands there.
-            pattern = re.sub(r"\d+", r"\\d+", re.escape(answer)).replace("ADDRESS", "0x[0-9a-f]+")
-            pattern = ".*" * answer.startswith(" ") + pattern.replace(r"\.\.", ".+=.+") + ".*" * answer.startswith(" ")
-            self.assertTrue([it for it in given if re.fullmatch(pattern, it)], f"{answer} of {forms}")
-        self.assertLessEqual(given & set(known), named, forms)
-
     def test_named(self):
-        """README: the answers that its table names for a form are those that there are, and are given"""
-        left = list(FORMS)
-        for forms, _, given in table_with("README.md", "`load ADDR SIZE`"):
-            self.want_named(ANSWERS, spans(forms), re.findall(r"`([a-z][^`]*)`", given))
-            left = [it for it in left if it not in spans(forms)]
-        self.assertEqual(left, [], "the forms that README does not name")
-
-    def test_named_of_debug(self):
-        """README: the lines that only debug has, with the answers that it names"""
-        forms = []
-        for form, _, given in table_with("README.md", "`dump ADDR LEN`"):
-            self.want_named(OF_DEBUG, spans(form), [it for it in spans(given) if it != "place"])
-            forms += spans(form)
-        self.assertEqual([it for it in DEBUG_FORMS if not any(form.startswith(it) for form in forms)], [])
+        """man page: the answers that its tables name for a form are those that there are, and are given"""
+        told = []
+        for head in ("line", "line of debug"):
+            for forms, named in named_answers(head):
+                told += forms
+                given = {answer for line, answer in played() if line.startswith(tuple(forms))}
+                # The answer of a line of many steps, or of many stores, is that of the last.
+                known = ANSWERS[:10] if head == "line" else ANSWERS
+                seen = {it for it in known for answer in given if re.fullmatch(pattern(it), answer)}
+                self.assertEqual(named, seen if named else set(), forms)
+        wanted = {re.match("(?:[a-z]+ ?)+", form)[0].strip() for form in [*FORMS, *DEBUG_FORMS]}
+        self.assertLessEqual(wanted, set(told))
 
     def test_capabilities(self):
         """README: the value of capabilities, and each feature that is offered or left out"""

@@ -10,8 +10,8 @@ from documents import names_there, rows, section_of, sections, spans, table_with
 from frame import TOP, Case, text_of
 from crates import below, listed, stands_on
 
-DOCUMENTS = ["README.md", "CHANGELOG.md", *names_there("docs/*")]
-SUFFIXES = tuple(f".{it}" for it in "rt antt py sh md edit script answers asm txt h 1 js S".split())
+DOCUMENTS = ["README.md", "CHANGELOG.md", "examples/README.md", *names_there("docs/*")]
+SUFFIXES = tuple(f".{it}" for it in "rt antt py sh md edit script answers asm txt h 1".split())
 # Folders that each crate may have, and what a build makes.
 OF_EACH = {
     *("src/", "specs/", "proofs/", "must-fail/", "edits/", "data/", "out/", "proofs/Lib.antt", "dist/", "c/out"),
@@ -21,7 +21,20 @@ WORDS = {"asm", "run", "check", "debug", "explain", "list", "upgrade", "bad"}
 CRATES = stands_on()
 # The crates of the toolchain that they stand on.
 OTHERS = {name for _, uses in listed().values() for name in uses} - set(CRATES)
-TESTS, PROGRAMS = {"iom_tests", "iom_rows"}, {"iom_player", "rviommu"}
+TESTS = {"iom_tests", "iom_rows"}
+# What a document says of a number, and where the code or a clause has it.
+NUMBERS = [
+    ("docs/PROMISES.md", "2^20 lines or 2^26 bytes", "crates/iom_reader/specs/Running.antt",
+     "(length text ≡ 2 ^ 26) ⊎ (length (ended_lines text) ≡ 2 ^ 20)"),
+    ("docs/CONTRIBUTING.md", "320 bytes", "crates/iom_tool/src/draft.rt", "bytes: [u8; 320],"),
+    ("README.md", "2 to 3 GB", "packaging/build.py", "BYTES_A_JOB = 3 << 30"),
+    ("README.md", "glibc 2.36", "packaging/package.py", 'GLIBC = "2.36"'),
+    ("man/rviommu.1", "2^30 bytes", "crates/rviommu/src/files.rt", "MOST_BYTES: u64 = 1 << 30;"),
+    *((name, "200 lists of steps", "crates/iom_rows/src/generated.rt", "SCRIPTS: u64 = 200;")
+      for name in ("docs/PROMISES.md", "docs/GATE.md")),
+    *((name, words, "tests/c_library.py", "PLAIN_LINES, HARMFUL_LINES = 20_000, 40_000")
+      for name, words in (("docs/PROMISES.md", "100,000 lines"), ("docs/GATE.md", "100,000 generated lines"))),
+]
 # Which section of a document, or all of it, has names of the code.
 NAMING = {
     "README.md": "What is proved", "docs/MAP.md": "How a step flows", "docs/CONTRIBUTING.md": "Recipes",
@@ -114,9 +127,7 @@ def promised():
 
 
 def public(crate):
-    """The names that a library gives to those above it; the functions of the C library."""
-    if crate == "iom_c":
-        return set(re.findall(r"(?m)^(?:enum )?\w+ (rviommu_\w+)\(", text_of("include/rviommu.h")))
+    """The names that a library gives to those above it."""
     path = f"crates/{crate}/src/lib.rt"
     text = text_of(path) if is_there(path) else ""
     used = re.findall(r"(?m)^pub use (?:[\w:]+::)?(\{[^}]*\}|\w+);", text)
@@ -124,11 +135,14 @@ def public(crate):
 
 
 def glossary():
-    """Both tables as tuples of crates, names here, term and section."""
-    one, other = (rows(section_of("docs/GLOSSARY.md", f"From the {it}")) for it in (
-        "repository to the standard", "standard to the repository"))
-    return [[(spans(crate), spans(names), term, where) for crate, names, term, where in one],
-            [(spans(crate), spans(names), term, where) for term, names, crate, where in other]]
+    """The rows of the tables of GLOSSARY: their crates, none if they name none, and the names of this repository."""
+    own, terms, other = (rows(section_of("docs/GLOSSARY.md", head)) for head in (
+        "One word for one thing", "From the standards' terms to the names", "Other public names"))
+    return [
+        *(([], spans(names)) for _, _, names in own),
+        *((spans(crates), spans(names)) for _, names, crates, _ in terms),
+        *((spans(crates), spans(names)) for crates, names in other),
+    ]
 
 
 class Names(Case):
@@ -161,18 +175,9 @@ class Names(Case):
             self.assertEqual(lacking, [], document)
 
     def test_crates(self):
-        """MAP: the crates are those of crates.txt, lowest first, each with those that it stands on"""
-        text = section_of("docs/MAP.md", "")
-        told = {spans(cells[0])[0]: spans(cells[2]) for cells in rows(text) if len(cells) == 4}
-        self.assertEqual(set(told), set(CRATES))
-        # iom_tests stands on all libraries but those that MAP names.
-        left_out = set(spans(text.partition("all libraries above but")[2].partition(" |")[0])) - {"iom_asm"}
-        self.assertEqual(left_out, {*CRATES} - {*CRATES["iom_tests"], *TESTS, *PROGRAMS})
-        del told["iom_tests"]
-        self.assertEqual({it: sorted(told[it]) for it in told}, {it: sorted(CRATES[it]) for it in told})
-        order = list(told)
-        above = [it for it in order if any(order.index(low) > order.index(it) for low in told[it])]
-        self.assertEqual(above, [], "the crates above one that they are below")
+        """MAP: the crates are those of crates.txt, in its order"""
+        there = [spans(cells[0])[0] for cells in rows(section_of("docs/MAP.md", "")) if len(cells) == 3]
+        self.assertEqual(there, list(CRATES))
 
     def test_rules(self):
         """MAP: each definition, function and type is in the file that it is named beside, or in its crate, and what a
@@ -216,26 +221,21 @@ class Names(Case):
         with_tests = {path.split("/")[1] for path in names_there("crates/*/src/**/*.rt") if "#[test]" in text_of(path)}
         self.assertEqual(with_tests, {"iom_tests"})
 
-    def test_glossary(self):
-        """GLOSSARY: it has each public name of a library, and each function of the C library"""
-        first, _ = glossary()
-        for crate in CRATES:
-            told = {it for crates, names, *_ in first if crate in crates for it in re.findall(r"\w+", " ".join(names))}
-            self.assertLessEqual(public(crate), told, crate)
+    def test_numbers(self):
+        """documents: their numbers are those of the code and of its clauses"""
+        for document, phrase, path, there in NUMBERS:
+            said = " ".join(text_of(document).split())
+            self.assertEqual((phrase in said, there in text_of(path)), (True, True), (document, phrase))
 
-    def test_both_tables(self):
-        """GLOSSARY: a name with a term of the standard stands in both tables, and each is the crate's"""
-        tables = glossary()
-        pairs = [{(crate, word) for crates, names, *_ in table for crate in crates for word in
-                  re.findall(r"\w+", " ".join(names))} for table in tables]
-        for table, other in zip(tables, reversed(pairs)):
-            for crates, names, term, where in table:
-                for name in names:
-                    last = re.findall(r"\w+", name)[-1]
-                    if where and not term.startswith("none"):
-                        self.assertTrue(any((crate, last) in other for crate in crates), f"{name} in both tables")
-                    if crates and re.fullmatch(r"\w+(::\w+)*", name) and re.search("[_A-Z]", name):
-                        self.assertTrue(any(has(below(CRATES, crate), name) for crate in crates), name)
+    def test_glossary(self):
+        """GLOSSARY: it has each public name of a library; those that look like names are there"""
+        named = {word for _, names in glossary() for word in re.findall(r"\w+", " ".join(names))}
+        for crate in set(CRATES) - {"iom_c"}:
+            self.assertLessEqual(public(crate), named, crate)
+        for crates, names in glossary():
+            places = {low for it in crates for low in below(CRATES, it)} or CRATES
+            looking = [it for it in names if re.fullmatch(r"\w+(::\w+)*", it) and re.search("[_A-Z]", it)]
+            self.assertEqual([it for it in looking if not has(places, it)], [], crates)
 
     def test_docstrings(self):
         """code: each public item and field has a docstring, and each longer private function a comment"""
