@@ -6,9 +6,8 @@
 #   make test                 every proof from nothing, the edits that must be refused, every test
 #   make edits [CRATES=..]    tries the edits of crates/*/edits, or those of the named crates, many in one check
 #   make rows                 runs the scripts of crates/iom_rows/data, and prints each answer that is not the expected one
-#   make cost                 processor seconds of each crate and part of make test, on a copy
-#   make bench [OTHER=FILE]   lines per second, and images loaded, assembled and listed; also of another program, if one is named
-#   make fuzz OTHER=FILE      compares the program with another one on cases made to harm; MINUTES=1, SEED=1
+#   make bench [OTHER=FILE]   lines per second, of explain too, and images loaded, assembled and listed; also of another program
+#   make fuzz [OTHER=FILE]    compares the program with another one, or its own words, on cases made to harm; MINUTES=1, SEED=1
 #   make peer                 compares the program with QEMU's IOMMU (QEMU 10); CASES=5000, SEED=1
 #   make linux                runs the IOMMU driver of Linux over the C library; OPERATIONS=3000, SEED=1
 #   make library              builds the C library, its header and its pkg-config file into c/out, where the Python module finds it
@@ -33,7 +32,7 @@ sources = $(shell find crates -name out -prune -o -type f \( -name '*.rt' -o -na
 has_rt = command -v rt >/dev/null || { echo "rt, the command of the Rattle kit, is not on the path" >&2; exit 1; }
 has_python = command -v python3 >/dev/null || { echo "python3 is not on the path" >&2; exit 1; }
 
-.PHONY: run build test edits rows cost bench fuzz peer linux library page install dist deb wheel
+.PHONY: run build test edits rows bench fuzz peer linux library page install dist deb wheel
 
 $(program): crates.txt $(sources)
 	@$(has_rt)
@@ -81,19 +80,13 @@ rows:
 	@$(has_rt)
 	@cd crates/iom_rows && rt run -- data </dev/null 2>/dev/null
 
-cost:
-	@$(has_rt)
-	@$(has_python)
-	tests/gate_cost.py
-
 bench: $(program)
 	@$(has_python)
 	bench/bench.py $(program) $(OTHER)
-	bench/images.py $(program) $(OTHER)
 
 fuzz: $(program)
 	@$(has_python)
-	tests/fuzz.py $(program) $(OTHER) $(MINUTES) $(SEED)
+	tests/fuzz.py $(program) $(or $(OTHER),$(program)) $(MINUTES) $(SEED)
 
 peer: $(program)
 	@$(has_python)

@@ -1,4 +1,7 @@
-"""Chromium and Firefox without a window, each with one page, driven by their own protocols: Chromium's over a pipe, Firefox's Marionette over a socket."""
+"""Chromium and Firefox without a window, each with one page, driven by their own protocols.
+
+That is Chromium's over a pipe, and Firefox's Marionette over a socket.
+"""
 import base64
 import json
 import os
@@ -6,10 +9,10 @@ import re
 import shutil
 import socket
 import subprocess
-import sys
 import tempfile
 import threading
 import time
+from pathlib import Path
 
 # How long a page may take to be ready, and a browser to be asked all.
 SECONDS, MOST_SECONDS = 60, 900
@@ -18,20 +21,27 @@ IS_READY = 'document.body?.dataset.ready === "yes" || !(document.getElementById(
 FIREFOX = 134
 
 
-def found(names):
+def found(*names):
     """The first of these programs that is on the path."""
     return next(filter(None, map(shutil.which, names)), None)
 
 
-class Page:
+class Browser:
     """What can be done with a page of either browser; `told` has what was told on its console of errors."""
 
     def start(self, words, **how):
+        self.rest, self.number = b"", 0
         quiet = {"stdin": subprocess.DEVNULL, "stdout": subprocess.DEVNULL, "stderr": subprocess.DEVNULL}
         self.process = subprocess.Popen(words, **quiet, **how)
         self.limit = threading.Timer(MOST_SECONDS, self.process.kill)
         self.limit.daemon = True
         self.limit.start()
+
+    def more(self, piece):
+        """Keeps bytes that came from the browser."""
+        if not piece:
+            raise OSError("the browser has ended")
+        self.rest += piece
 
     def wait(self, code, seconds=SECONDS):
         """Waits until an expression holds, and returns whether it did."""
@@ -43,10 +53,16 @@ class Page:
         return True
 
     def open(self, address):
+        """Opens an address, and gives the page the functions of page.js."""
         self.navigate("about:blank")
         self.navigate(address)
         if not self.wait(IS_READY):
-            sys.exit(f"page.py: {address} isn't ready: {self.told}")
+            raise OSError(f"{address} isn't ready: {self.told}")
+        self.run(Path(__file__).with_name("page.js").read_text(encoding="utf-8"))
+
+    def ask(self, name, *words):
+        """What a function of page.js answers."""
+        return self.run(f"asked.{name}({', '.join(map(json.dumps, words))})")
 
     def close(self):
         self.end()
@@ -55,12 +71,12 @@ class Page:
         shutil.rmtree(self.folder, ignore_errors=True)
 
 
-class Chromium(Page):
+class Chromium(Browser):
     name = "Chromium"
 
     @staticmethod
     def program():
-        return found(("chromium", "chromium-browser", "google-chrome"))
+        return found("chromium", "chromium-browser", "google-chrome")
 
     def __init__(self):
         self.folder = tempfile.mkdtemp()
@@ -71,10 +87,11 @@ class Chromium(Page):
             os.dup2(their_in, 90), os.dup2(their_out, 91)
             os.dup2(90, 3), os.dup2(91, 4)
 
-        options = ["--headless=new", "--no-sandbox", "--disable-gpu", "--disable-dev-shm-usage", "--remote-debugging-pipe", f"--user-data-dir={self.folder}"]
+        options = ["--headless=new", "--no-sandbox", "--disable-gpu", "--disable-dev-shm-usage"]
+        options += ["--remote-debugging-pipe", f"--user-data-dir={self.folder}"]
         self.start([self.program(), *options, "about:blank"], preexec_fn=as_three_and_four, pass_fds=(3, 4))
         os.close(their_in), os.close(their_out)
-        self.rest, self.number, self.session, self.told = b"", 0, None, []
+        self.session, self.told = None, []
         target = self.call("Target.createTarget", url="about:blank")["targetId"]
         self.session = self.call("Target.attachToTarget", targetId=target, flatten=True)["sessionId"]
         for domain in ("Runtime", "Log", "Page"):
@@ -82,10 +99,7 @@ class Chromium(Page):
 
     def message(self):
         while b"\0" not in self.rest:
-            piece = os.read(self.back, 1 << 20)
-            if not piece:
-                sys.exit("page.py: the browser has ended")
-            self.rest += piece
+            self.more(os.read(self.back, 1 << 20))
         one, _, self.rest = self.rest.partition(b"\0")
         return json.loads(one)
 
@@ -95,17 +109,14 @@ class Chromium(Page):
         if self.session:
             asked["sessionId"] = self.session
         os.write(self.to, json.dumps(asked).encode() + b"\0")
-        while True:
-            got = self.message()
-            if got.get("id") == self.number:
-                if "error" in got:
-                    sys.exit(f"page.py: {method}: {got['error']}")
-                return got["result"]
-            self.listen(got)
+        while (got := self.message()).get("id") != self.number:
+            self.listen(got.get("method"), got.get("params", {}))
+        if "error" in got:
+            raise OSError(f"{method}: {got['error']}")
+        return got["result"]
 
-    def listen(self, got):
+    def listen(self, method, words):
         """Keeps what is told of errors."""
-        method, words = got.get("method"), got.get("params", {})
         if method == "Runtime.exceptionThrown":
             self.told.append(words["exceptionDetails"].get("exception", {}).get("description", str(words)))
         elif method == "Runtime.consoleAPICalled" and words["type"] in ("error", "warning", "assert"):
@@ -122,7 +133,7 @@ class Chromium(Page):
         """The value of an expression, awaited."""
         got = self.call("Runtime.evaluate", expression=code, awaitPromise=True, returnByValue=True)
         if "exceptionDetails" in got:
-            sys.exit(f"page.py: {code[:80]}: {got['exceptionDetails']}")
+            raise OSError(f"{code[:80]}: {got['exceptionDetails']}")
         return got["result"].get("value")
 
     def navigate(self, address):
@@ -134,14 +145,13 @@ class Chromium(Page):
     def theme(self, name):
         self.call("Emulation.setEmulatedMedia", features=[{"name": "prefers-color-scheme", "value": name}])
 
-    def picture(self, path):
-        data = self.call("Page.captureScreenshot", format="png")["data"]
-        with open(path, "wb") as file:
-            file.write(base64.b64decode(data))
+    def picture(self):
+        return base64.b64decode(self.call("Page.captureScreenshot", format="png")["data"])
 
     def key(self, key):
         for kind in ("keyDown", "keyUp"):
-            self.call("Input.dispatchKeyEvent", type=kind, key=key, text=key if kind == "keyDown" and len(key) == 1 else "")
+            text = key if kind == "keyDown" and len(key) == 1 else ""
+            self.call("Input.dispatchKeyEvent", type=kind, key=key, text=text)
 
     def click(self, x, y):
         for kind in ("mousePressed", "mouseReleased"):
@@ -152,61 +162,50 @@ class Chromium(Page):
         self.call("Browser.close")
 
 
-class Firefox(Page):
+class Firefox(Browser):
     name = "Firefox"
     keys = {"Home": "\ue011", "End": "\ue010"}
 
     @staticmethod
     def program():
-        """Firefox, where it is on the path and has a memory of 64 bits for WebAssembly."""
-        program = found(("firefox", "firefox-esr"))
-        if program is None:
-            print("page: Firefox isn't installed, and is left out")
-            return None
-        told = subprocess.run([program, "--version"], stdout=subprocess.PIPE, stderr=subprocess.DEVNULL, check=False).stdout.decode()
+        """Firefox, if it is on the path and has a memory of 64 bits for WebAssembly."""
+        program = found("firefox", "firefox-esr")
+        told = subprocess.run([program, "--version"], capture_output=True).stdout.decode() if program else ""
         version = re.search(r"(\d+)\.", told)
-        if version is None or int(version[1]) < FIREFOX:
-            print(f"page: '{told.strip()}' has no memory of 64 bits for WebAssembly, and is left out")
-            return None
-        return program
+        return program if version and int(version[1]) >= FIREFOX else None
 
     def __init__(self):
         self.folder = tempfile.mkdtemp()
-        settings = {"marionette.port": 0, "browser.shell.checkDefaultBrowser": False, "datareporting.policy.dataSubmissionEnabled": False, "app.update.auto": False}
-        with open(os.path.join(self.folder, "user.js"), "w", encoding="utf-8") as file:
-            file.writelines(f'user_pref("{key}", {json.dumps(value)});\n' for key, value in settings.items())
-        options = ["--headless", "--no-remote", "--marionette", "--remote-allow-system-access", "--profile", self.folder, "about:blank"]
-        self.start([self.program(), *options], env={**os.environ, "HOME": self.folder, "MOZ_HEADLESS_WIDTH": "1440", "MOZ_HEADLESS_HEIGHT": "1200"})
-        self.rest, self.number = b"", 0
+        settings = {"marionette.port": 0, "browser.shell.checkDefaultBrowser": False, "app.update.auto": False}
+        settings["datareporting.policy.dataSubmissionEnabled"] = False
+        lines = [f'user_pref("{key}", {json.dumps(value)});\n' for key, value in settings.items()]
+        Path(self.folder, "user.js").write_text("".join(lines), encoding="utf-8")
+        options = ["--headless", "--no-remote", "--marionette", "--remote-allow-system-access"]
+        sizes = {"MOZ_HEADLESS_WIDTH": "1440", "MOZ_HEADLESS_HEIGHT": "1200"}
+        words = [self.program(), *options, "--profile", self.folder, "about:blank"]
+        self.start(words, env={**os.environ, "HOME": self.folder, **sizes})
         self.socket = socket.create_connection(("127.0.0.1", self.port()))
         self.message()
-        self.call("WebDriver:NewSession", capabilities={"alwaysMatch": {"timeouts": {"script": 1000 * MOST_SECONDS, "pageLoad": 1000 * MOST_SECONDS}}})
+        limits = {"script": 1000 * MOST_SECONDS, "pageLoad": 1000 * MOST_SECONDS}
+        self.call("WebDriver:NewSession", capabilities={"alwaysMatch": {"timeouts": limits}})
 
     def port(self):
-        """The port that Firefox tells in its folder once it listens there."""
-        path = os.path.join(self.folder, "MarionetteActivePort")
-        end = time.monotonic() + SECONDS
-        while not (os.path.exists(path) and os.path.getsize(path)):
+        """The port that Firefox writes into its folder once it listens there."""
+        path, end = Path(self.folder, "MarionetteActivePort"), time.monotonic() + SECONDS
+        while not (path.exists() and path.stat().st_size):
             if time.monotonic() > end or self.process.poll() is not None:
-                sys.exit("page.py: Firefox can't be driven")
+                raise OSError("Firefox can't be driven")
             time.sleep(0.05)
-        with open(path, encoding="utf-8") as file:
-            return int(file.read())
+        return int(path.read_text())
 
     def message(self):
         while b":" not in self.rest:
-            self.receive()
+            self.more(self.socket.recv(1 << 20))
         length, _, self.rest = self.rest.partition(b":")
         while len(self.rest) < int(length):
-            self.receive()
+            self.more(self.socket.recv(1 << 20))
         one, self.rest = self.rest[: int(length)], self.rest[int(length) :]
         return json.loads(one)
-
-    def receive(self):
-        piece = self.socket.recv(1 << 20)
-        if not piece:
-            sys.exit("page.py: the browser has ended")
-        self.rest += piece
 
     def call(self, method, **words):
         self.number += 1
@@ -214,15 +213,17 @@ class Firefox(Page):
         self.socket.sendall(b"%d:%s" % (len(asked), asked))
         _, _, error, result = self.message()
         if error:
-            sys.exit(f"page.py: {method}: {error.get('message')} {str(words)[:200]}")
+            raise OSError(f"{method}: {error.get('message')} {str(words)[:200]}")
         return result
 
     def run(self, code):
         # The page's own variables are seen by code of its own, which 'eval' of its window is.
-        script = "const [code, done] = arguments; Promise.resolve(window.eval(code)).then((it) => done(JSON.stringify([it ?? null])), (fault) => done(`fault: ${fault}`));"
-        got = self.call("WebDriver:ExecuteAsyncScript", script=script, args=[code], sandbox=None, newSandbox=False)["value"]
+        script = """const [code, done] = arguments; Promise.resolve(window.eval(code)).then(
+            (it) => done(JSON.stringify([it ?? null])), (fault) => done(`fault: ${fault}`));"""
+        words = {"script": script, "args": [code], "sandbox": None, "newSandbox": False}
+        got = self.call("WebDriver:ExecuteAsyncScript", **words)["value"]
         if got.startswith("fault"):
-            sys.exit(f"page.py: {code[:80]}: {got}")
+            raise OSError(f"{code[:80]}: {got}")
         return json.loads(got)[0]
 
     def navigate(self, address):
@@ -242,28 +243,31 @@ class Firefox(Page):
 
     @property
     def told(self):
-        code = "return Services.console.getMessageArray().filter((it) => it instanceof Ci.nsIScriptError && /^(file|http):/.test(it.sourceName)).map((it) => it.errorMessage)"
-        return self.chrome(code)
+        is_own = "it instanceof Ci.nsIScriptError && /^(file|http):/.test(it.sourceName)"
+        messages = f"Services.console.getMessageArray().filter((it) => {is_own})"
+        return self.chrome(f"return {messages}.map((it) => it.errorMessage)")
 
     def forget(self):
         """What was told on the console up to now was to be expected."""
         self.chrome("Services.console.reset()")
 
     def theme(self, name):
-        self.chrome('Services.prefs.setIntPref("layout.css.prefers-color-scheme.content-override", arguments[0])', ["dark", "light"].index(name))
+        setting = "layout.css.prefers-color-scheme.content-override"
+        self.chrome(f'Services.prefs.setIntPref("{setting}", arguments[0])', ["dark", "light"].index(name))
 
-    def picture(self, path):
-        data = self.call("WebDriver:TakeScreenshot", full=False)["value"]
-        with open(path, "wb") as file:
-            file.write(base64.b64decode(data))
+    def picture(self):
+        return base64.b64decode(self.call("WebDriver:TakeScreenshot", full=False)["value"])
+
+    def act(self, kind, *actions, **more):
+        self.call("WebDriver:PerformActions", actions=[{"type": kind, "id": kind, "actions": actions, **more}])
 
     def key(self, key):
-        actions = [{"type": kind, "value": self.keys.get(key, key)} for kind in ("keyDown", "keyUp")]
-        self.call("WebDriver:PerformActions", actions=[{"type": "key", "id": "keys", "actions": actions}])
+        self.act("key", *({"type": kind, "value": self.keys.get(key, key)} for kind in ("keyDown", "keyUp")))
 
     def click(self, x, y):
-        actions = [{"type": "pointerMove", "x": round(x), "y": round(y), "origin": "viewport"}, {"type": "pointerDown", "button": 0}, {"type": "pointerUp", "button": 0}]
-        self.call("WebDriver:PerformActions", actions=[{"type": "pointer", "id": "mouse", "parameters": {"pointerType": "mouse"}, "actions": actions}])
+        move = {"type": "pointerMove", "x": round(x), "y": round(y), "origin": "viewport"}
+        press = [{"type": kind, "button": 0} for kind in ("pointerDown", "pointerUp")]
+        self.act("pointer", move, *press, parameters={"pointerType": "mouse"})
 
     def end(self):
         self.call("Marionette:Quit", flags=["eForceQuit"])

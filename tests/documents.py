@@ -1,7 +1,8 @@
-"""The documents as the tests read them: their sections, tables and names, and the man page's."""
+"""The documents as the tests read them, the man page, and what scripts are answered."""
+import functools
 import re
 
-from frame import TOP, text_of
+from frame import EXAMPLES, ROWS, TESTS, TOP, answers_of, text_of, words_of
 
 
 def spans(text):
@@ -12,24 +13,33 @@ def rows(text):
     """The cells of the rows of a text's tables, without the heads."""
     lines = text.splitlines()
     heads = {at - 1 for at, line in enumerate(lines) if re.match(r"\|-", line)}
-    return [[cell.strip() for cell in line.strip("|").split(" | ")] for at, line in enumerate(lines) if line.startswith("| ") and at not in heads]
+    rows = [line for at, line in enumerate(lines) if line.startswith("| ") and at not in heads]
+    return [[cell.strip() for cell in line.strip("|").split(" | ")] for line in rows]
 
 
-def table_of(document, head):
-    """The cells of the rows of the table that begins with this head."""
-    return rows(re.search(rf"(?m)^\| {re.escape(head)} \|.*\n(?:\|.*\n)+", text_of(document))[0])
+def table_with(document, text):
+    """The cells of the rows of the first table of a document that has this text."""
+    tables = re.findall(r"(?m)^(?:\|.*\n)+", text_of(document))
+    return rows(next(it for it in tables if text in it))
 
 
 def sections(text):
-    """The sections of a document, each with its head; what is below a head of three stands with its section."""
+    """The sections of a document by their heads; what is below a head of three stands with its section."""
     return re.findall(r"(?ms)^## (.*?)\n(.*?)(?=^## |\Z)", "## \n" + text)
+
+
+def section_of(document, head):
+    """A section of a document; the part above the first for an empty head."""
+    return dict(sections(text_of(document)))[head]
+
+
+def blocks(document):
+    """The indented blocks of a document, without the indent."""
+    return [re.sub(r"(?m)^    ", "", it) for it in re.findall(r"(?m)^\n((?:    .*\n)+)", text_of(document))]
 
 
 def names_there(pattern):
     return sorted(str(path.relative_to(TOP)) for path in TOP.glob(pattern))
-
-
-# The man page.
 
 
 def section(name):
@@ -58,3 +68,22 @@ def plain(page):
 
 def man_page():
     return plain(text_of("man/rviommu.1"))
+
+
+def answered_lines(text):
+    """The lines of a script that are answered, without what they want."""
+    return [it for line in text.splitlines() if (it := line.partition("#")[0].strip())]
+
+
+@functools.cache
+def played():
+    """Each line of the examples, the rows and tests/debugged with its answer, which other tests compare."""
+    found = []
+    for path in [*EXAMPLES.glob("*.script"), *ROWS.glob("*.script")]:
+        text = path.read_text(encoding="utf-8", errors="replace")
+        answers = answers_of(path).decode().splitlines()
+        found += zip(answered_lines(text), answers) if words_of(path.read_bytes())[0] != "check" else []
+    for path in (TESTS / "debugged").glob("*.script"):
+        wanted = re.findall(r"(?m)^(.*?) *# => (.*)$", path.read_text(encoding="utf-8"))
+        found += [(line.strip(), answer) for line, answer in wanted]
+    return found

@@ -1,7 +1,7 @@
-"""What the tests share: where things lie, the program and how it is run, and how a part of the tests is carried out.
+"""What the tests share: where things are, the program and how it is run, and how a part of the tests is carried out.
 
-The program is the one that RVIOMMU_PROGRAM names in the environment, else the built one. So `python3 -m unittest`, in this folder, takes a
-module, a class or a test by its name.
+The program is the one that RVIOMMU_PROGRAM names in the environment, else the built one. So `python3 -m unittest`, in
+this folder, takes a module, a class or a test by its name.
 """
 import functools
 import importlib.util
@@ -18,10 +18,10 @@ import unittest
 from pathlib import Path
 
 TESTS = Path(__file__).resolve().parent
-sys.path += map(str, (TESTS.parent / "packaging", TESTS / "peer"))
+sys.path += map(str, (TESTS.parent / "packaging", TESTS.parent / "bench", TESTS / "peer"))
 from crates import TOP  # noqa: E402
 
-EXAMPLES, ROWS = TOP / "examples", TOP / "crates" / "iom_rows" / "data"
+EXAMPLES, ROWS = TOP / "examples", TOP / "crates/iom_rows/data"
 BUILT, PLAYER = (TOP / "crates" / name / "out" / name for name in ("rviommu", "iom_player"))
 # The row whose lines are bad for run, and not for debug.
 BAD_FOR_RUN = "lines_of_debug_alone"
@@ -42,11 +42,17 @@ def cannot(what, name):
     return fault(b"cannot " + what + b" " + name.encode())
 
 
-WELL = (0, b"")
-READ_FAILED, WRITE_FAILED, TOO_LONG, OUT_OF_MEMORY = map(fault, (b"read failed", b"write failed", b"script too long", b"out of memory"))
-BUILT_IN = b"RVIOMMU1" + (0x80000000).to_bytes(8, "little") + (0x100000).to_bytes(8, "little") + bytes(8)
-READ_ONLY = b"RVIOMMU2" + (0x80000000).to_bytes(8, "little") + (0x1000).to_bytes(8, "little") + bytes(4) + b"".join(
-    number.to_bytes(4, "little") for number in (1, 5, 1, 1, 1)) + b"\xaa"
+WELL, FAILED = (0, b""), (1, b"")
+READ_FAILED, WRITE_FAILED, TOO_LONG, OUT_OF_MEMORY = map(
+    fault, (b"read failed", b"write failed", b"script too long", b"out of memory"))
+
+
+def numbers(size, *values):
+    return b"".join(value.to_bytes(size, "little") for value in values)
+
+
+BUILT_IN = b"RVIOMMU1" + numbers(8, 0x80000000, 0x100000, 0)
+READ_ONLY = b"RVIOMMU2" + numbers(8, 0x80000000, 0x1000) + numbers(4, 0, 1, 5, 1, 1, 1) + b"\xaa"
 
 
 def program():
@@ -58,7 +64,16 @@ def text_of(name):
 
 
 def short(data):
-    return repr(data) if data is None or len(data) <= 200 else f"{data[:100]!r} .. {data[-80:]!r} ({len(data)} bytes)"
+    is_short = data is None or len(data) <= 200
+    return repr(data) if is_short else f"{data[:100]!r} .. {data[-80:]!r} ({len(data)} bytes)"
+
+
+def called(words, **how):
+    """What a command writes; it is to end well."""
+    done = subprocess.run(words, **{"stdout": subprocess.PIPE, "stderr": subprocess.STDOUT, **how})
+    end = done.stdout.decode(errors="replace")[-500:]
+    assert done.returncode == 0, f"{words} ended with {done.returncode}: {end}"
+    return done.stdout
 
 
 def run(words=(), given=b"", at_pipe=False, **how):
@@ -67,7 +82,8 @@ def run(words=(), given=b"", at_pipe=False, **how):
         script.write(given)
         script.seek(0)
         source = {"input": given} if at_pipe else {"stdin": script}
-        ended = subprocess.run([program(), *words], timeout=RUN_SECONDS, **{**source, "stdout": subprocess.PIPE, "stderr": errors, **how})
+        how = {**source, "stdout": subprocess.PIPE, "stderr": errors, "timeout": RUN_SECONDS, **how}
+        ended = subprocess.run([program(), *words], **how)
         errors.seek(0)
         return ended.returncode, ended.stdout, errors.read()
 
@@ -76,14 +92,20 @@ def run(words=(), given=b"", at_pipe=False, **how):
 def commands():
     """The words that the program knows, by its help."""
     out = run(["--help"])[1].decode()
-    return [line.split()[0] for line in out[out.index("Commands:\n") : out.index("Options:\n")].splitlines()[1:] if line.strip()]
+    listed = out[out.index("Commands:\n") : out.index("Options:\n")]
+    return [line.split()[0] for line in listed.splitlines()[1:] if line.strip()]
 
 
 def scripts():
-    """The paths of the scripts of the examples and of the rows, each with its bytes, and with the text of its image or None."""
+    """The scripts of the examples and of the rows, each with its bytes, and with the text of its image or None."""
     for path in sorted([*EXAMPLES.glob("*.script"), *ROWS.glob("*.script")]):
         text = path.with_suffix(".asm")
         yield path, path.read_bytes(), text.read_bytes() if text.exists() else None
+
+
+def answers_of(path):
+    """The bytes of the answers to a script, which are in a file beside it."""
+    return next(it for it in (path.with_suffix(".answers"), path.with_suffix(".expect")) if it.exists()).read_bytes()
 
 
 def page_build():
@@ -105,11 +127,14 @@ class Case(unittest.TestCase):
 
     maxDiff = 2000
 
+    @functools.cached_property
+    def folder(self):
+        folder = tempfile.mkdtemp()
+        self.addCleanup(shutil.rmtree, folder)
+        return folder
+
     def path(self, name):
         """The path of a file in the test's folder."""
-        if not hasattr(self, "folder"):
-            self.folder = tempfile.mkdtemp()
-            self.addCleanup(shutil.rmtree, self.folder)
         return os.path.join(self.folder, name)
 
     def put(self, name, data):
@@ -146,20 +171,23 @@ class Case(unittest.TestCase):
         return file
 
     def want(self, words, out=b"", ending=WELL, given=b"", **how):
-        """Wants a run with these words to write exactly this, None for anything, and to end with this status and text on standard error."""
+        """Wants a run with these words to write exactly this, None for anything, and to end with this status and text
+        on standard error."""
         status, seen, errors = run(words, given, **how)
         if out is not None and seen != out:
-            self.fail(f"{words}: standard output is {short(seen)}, wanted {short(out)} (status {status}, standard error {short(errors)})")
+            self.fail(f"{words}: {short(seen)}, wanted {short(out)} (status {status}, {short(errors)})")
         self.assertEqual((status, errors), ending, f"status and standard error of {words}")
+
+    def written(self, words, given=b"", **how):
+        """The text that a run with these words writes; it is to end well."""
+        status, out, errors = run(words, given, **how)
+        self.assertEqual((status, errors), WELL, f"status and standard error of {words}")
+        return out.decode()
 
     def answers(self, text, lines, word="run"):
         """The answers to a script's lines on the image of a text."""
-        status, out, errors = run([word, self.image(text)], "".join(f"{line}\n" for line in lines).encode())
-        self.assertEqual((status, errors), WELL)
-        return out.decode().splitlines()
-
-    def last_answer(self, text, lines):
-        return self.answers(text, lines)[-1]
+        script = "".join(f"{line}\n" for line in lines).encode()
+        return self.written([word, self.image(text)], script).splitlines()
 
     def is_assembled(self, text):
         status, _, errors = run(["asm", self.put("source", text), self.path("image")])
@@ -169,8 +197,9 @@ class Case(unittest.TestCase):
     def shell(self, command):
         """What a shell writes in the test's folder, where `rviommu` is the program; and how it ends."""
         os.chmod(self.put("rviommu", f'#!/bin/sh\nexec {shlex.quote(program())} "$@"\n'), 0o755)
-        how = {"cwd": self.folder, "env": {**os.environ, "PATH": f"{self.folder}:{os.environ['PATH']}"}, "stdout": subprocess.PIPE}
-        ended = subprocess.run(["sh", "-c", command], timeout=RUN_SECONDS, **how)
+        env = {**os.environ, "PATH": f"{self.folder}:{os.environ['PATH']}"}
+        how = {"cwd": self.folder, "env": env, "stdout": subprocess.PIPE, "timeout": RUN_SECONDS}
+        ended = subprocess.run(["sh", "-c", command], **how)
         return ended.returncode, ended.stdout.decode()
 
     def talk(self, words=(), at=None):
@@ -184,7 +213,8 @@ class Talk:
 
     def __init__(self, case, words):
         self.case, self.errors = case, tempfile.TemporaryFile()
-        self.program = subprocess.Popen(words, stdin=subprocess.PIPE, stdout=subprocess.PIPE, stderr=self.errors, bufsize=0)
+        pipes = {"stdin": subprocess.PIPE, "stdout": subprocess.PIPE, "stderr": self.errors}
+        self.program = subprocess.Popen(words, bufsize=0, **pipes)
 
     def close(self):
         self.program.kill()
@@ -192,27 +222,28 @@ class Talk:
         for file in (self.program.stdin, self.program.stdout, self.errors):
             file.close()
 
-    def send(self, data):
-        self.program.stdin.write(data)
-
     def take(self, seconds):
         """Returns what the program has written, or None after so many seconds with nothing."""
         if not select.select([self.program.stdout], [], [], seconds)[0]:
             return None
         return os.read(self.program.stdout.fileno(), 1 << 16)
 
-    def want_answer(self, sent, wanted):
-        """Wants exactly this text, as soon as it is there."""
+    def send(self, sent, wanted=None):
+        """Sends bytes, and wants exactly this text as soon as it is there, or for b"" nothing for a while."""
+        self.program.stdin.write(sent)
+        if wanted == b"":
+            self.case.assertIsNone(self.take(QUIET_SECONDS), f"the answer to {short(sent)}")
+        elif wanted:
+            self.want(sent, wanted)
+
+    def want(self, sent, wanted):
         seen, until = b"", time.monotonic() + ANSWER_SECONDS
         while seen.count(b"\n") < wanted.count(b"\n"):
             some = self.take(max(0, until - time.monotonic()))
             if not some:
-                self.case.fail(f"no answer to {short(sent)} {'after some seconds' if some is None else 'at the end'}, only {short(seen)}")
+                self.case.fail(f"the answer to {short(sent)} is only {short(seen)}")
             seen += some
         self.case.assertEqual(seen, wanted, f"the answer to {short(sent)}")
-
-    def want_nothing(self, sent):
-        self.case.assertIsNone(self.take(QUIET_SECONDS), f"the answer to {short(sent)}")
 
     def ended(self):
         """How the program ends: its status and its text on standard error."""
@@ -220,31 +251,20 @@ class Talk:
         self.errors.seek(0)
         return status, self.errors.read()
 
-    def want_end(self):
+    def end(self, wanted=b"", ending=WELL):
+        """Ends the input, and wants exactly this text and end."""
         self.program.stdin.close()
+        if wanted:
+            self.want(b"the end", wanted)
         self.case.assertEqual(self.take(ANSWER_SECONDS), b"", "what was written after the end of the input")
-        self.case.assertEqual(self.ended(), WELL)
+        self.case.assertEqual(self.ended(), ending)
 
 
-class Result(unittest.TextTestResult):
-    """A result that counts the tests that passed."""
-
-    passed = 0
-
-    def addSuccess(self, test):
-        super().addSuccess(test)
-        self.passed += 1
-
-
-def main(usage, part, files):
-    """Carries out the tests of these files, with the program that the first word names. The status is 1 where a test failed, or none passed."""
-    if len(sys.argv) != 2:
+def main(usage, files):
+    """Carries out the tests of these files, with the program that the first word names; other words are unittest's."""
+    if len(sys.argv) < 2:
         sys.exit(usage)
     os.environ["RVIOMMU_PROGRAM"] = os.path.abspath(sys.argv[1])
     if not os.path.isfile(program()) or not os.access(program(), os.X_OK):
-        sys.exit(f"{part}: {sys.argv[1]} is no program that can be run")
-    found = unittest.defaultTestLoader.discover(str(TESTS), files)
-    result = unittest.TextTestRunner(sys.stdout, verbosity=2, resultclass=Result).run(found)
-    failed = len(result.failures) + len(result.errors)
-    print(f"{part}: {result.passed} passed, {failed} failed")
-    sys.exit(1 if failed or not result.passed else 0)
+        sys.exit(f"{sys.argv[1]} is no program that can be run")
+    unittest.main(None, argv=["unittest", "discover", "-v", "-s", str(TESTS), "-p", files, *sys.argv[2:]])

@@ -1,327 +1,332 @@
 #!/usr/bin/env -S python3 -B
-"""page.py PROGRAM    Drives the page of web/out in Chromium without a window, and in Firefox where it is installed and new enough, and puts
-pictures into the folder that RVIOMMU_PICTURES names, where it names one.
+"""page.py PROGRAM    Drives the page of web/out in Chromium without a window, and in Firefox if it is new enough.
 
-Each example's answers in the page are those of its file NAME.answers, or give the verdicts that stand there. What the page shows at each line is
-what the program's word `debug` answers to the same questions, and what it marks is what `check` tells. A script of 10,000 lines is
-answered within two seconds, one of 100,000 and one of 1,000,000 are shown within few more than the model needs, a script kept in the address comes
-back, the page can be served, the keys move through the steps, a picture of a walk has a box for each part, no box lies on another, nothing is wider
-than a narrow screen, and nothing is told on the browser's console; the rest stands in page_using.py.
+Each example's answers in the page are those of its file NAME.answers, or give the verdicts that stand there. What the
+page shows at each line is what the program's word `debug` answers to the same questions, and what it marks is what
+`check` tells. Scripts of 10,000 to 1,000,000 lines are answered and shown within some seconds, a script kept in the
+address comes back, the page can be served, the keys move through the steps, a picture of a walk has a box for each
+part, no box lies on another, nothing is wider than a narrow screen, and nothing is told on the browser's console. How
+one uses it stands in page_using.py, and what is asked of the page itself in page.js.
 
-Prints each test, and 'page: N passed, M failed' at the end; a judgement that isn't met counts as one that failed. The status is 1 where there is
-one. The picture web/page.png, which README shows, is that of stale_translation.
+Pictures are put into the folder that RVIOMMU_PICTURES names, if it names one; web/page.png, which README shows, is
+that of stale_translation. Prints each test. The status is 1 if one failed.
 """
 import filecmp
 import functools
 import http.server
-import json
 import os
 import re
-import subprocess
-import tempfile
+import shutil
 import threading
-import time
+import unittest
+from pathlib import Path
 
 import frame
-import page_using as using
-from browsers import SECONDS, Chromium, Firefox
+from browsers import Chromium, Firefox
 from frame import EXAMPLES
-from page_using import PAGE, WEB
+from page_using import NAMES, PAGE, WEB, Using, lines_of
 
-# Of which example a picture is taken, at which of its accesses, and how.
+# The example of a picture, which of its accesses, and how.
 PICTURES = [("stale_translation", 1, "light"), ("both_stages", -1, "dark"), ("who_refused", 0, "light")]
 WIDE, NARROW = (1440, 1100), (390, 1600)
-# How many lines are shown within how many seconds.
-LARGE = [(100_000, 4), (1_000_000, 30)]
+WHY = [f"why {it}" for it in range(32)]
 
 
 def read(name, ending):
     return (EXAMPLES / f"{name}.{ending}").read_text(encoding="utf-8")
 
 
-def names():
-    return sorted(it.stem for it in EXAMPLES.glob("*.script"))
-
-
-def answers_of(program, image, lines):
-    """What the program's `debug` answers to the lines, blank ones too."""
-    words = [program, "debug", *([image] if image else [])]
-    done = subprocess.run(words, input="".join(f"{it}\n" for it in lines).encode(), stdout=subprocess.PIPE, check=True)
-    return done.stdout.decode().splitlines()
-
-
-def image_of(program, name, folder):
-    """The image of an example, None where it has none."""
-    text, image = EXAMPLES / f"{name}.asm", os.path.join(folder, f"{name}.image")
-    return image if text.exists() and subprocess.run([program, "asm", text, image], check=True) else None
-
-
-def verdicts(browser, lines):
-    """What `check --stale` tells of the lines, by what the page shows at each."""
-    told, passed, failed = [], 0, 0
-    for number, line in enumerate(lines, 1):
-        answer, wanted, stale = browser.run(f'go({number}), [script.answers[line - 1], wantedOf(script.lines[line - 1]) ?? null, document.querySelector("#why .stale")?.textContent ?? ""]')
-        stale = stale.strip(" .").replace("Stale: the tables said", "stale: the tables now say")
-        faults = [f"wanted {wanted}"] * (wanted not in (None, answer)) + [stale] * bool(stale)
-        if faults or (answer == "bad" and wanted != answer):
-            told.append(f"line {number}: " + ", ".join([f"{line.partition('#')[0].strip()} -> {answer}", *faults]))
-            failed += 1
-        elif wanted is not None:
-            passed += 1
-    return [*told, f"{passed} passed, {failed} failed"]
-
-
-def judge_built(tally):
-    names_there = [it for it in os.listdir(WEB) if it.endswith((".html", ".css", ".js"))]
-    others = [it for it in names_there if not filecmp.cmp(os.path.join(WEB, it), os.path.join(WEB, "out", it), shallow=False)]
-    tally.judge("the files of web/out that 'make page' has yet to copy", others, [])
-    build = frame.page_build()
-    tally.judge("the page's files that 'make page' copies", sorted(build.PAGES), sorted(names_there))
-    tally.judge("what 'make page' builds with", hasattr(build.build, "Build"), True)
-
-
-def judge_answers(browser, tally):
-    for name in names():
-        browser.run(f"show({json.dumps(name)})")
-        lines = read(name, "script").splitlines()
-        is_check = "check" in lines[0].split()
-        got = verdicts(browser, lines) if is_check else browser.run('script.answers.filter((it) => it !== "")')
-        tally.judge(f"answers of {name}", got, read(name, "answers").splitlines())
-
-
-def judge_states(browser, tally, program):
-    """What is shown at each line of each example, beside the program's answers to the same questions."""
-    with tempfile.TemporaryDirectory() as folder:
-        for name in names():
-            image = image_of(program, name, folder)
-            lines = read(name, "script").splitlines()
-            browser.run(f"show({json.dumps(name)}, 0)")
-            bad = [number for number in range(len(lines) + 1) if not is_state(browser, program, image, lines, number)]
-            tally.judge(f"states of {name}", bad, [])
-
-
-def is_state(browser, program, image, lines, number):
-    told, steps = browser.run(f"go({number}), [[...shown], view.isStep ? Array(view.at - line + 1).fill(view.script.lines[line - 1]) : null]")
-    shown = dict(told)
-    # Of a line of many steps one is shown.
-    lines, number = (lines, number) if steps is None else ([*lines[: number - 1], *steps], number - 1 + len(steps))
-    # A walk is told as the tables stood before the line, all else as after it.
-    before = {it: told for it, told in shown.items() if it.startswith(("walk", "stale read", "stale write"))}
-    after = {it: told for it, told in shown.items() if it not in before}
-    for count, asked in ((number, after), (max(number - 1, 0), before)):
-        if asked:
-            told = answers_of(program, image, [*lines[:count], *asked])[-len(asked) :]
-            if told != list(asked.values()):
-                return False
-    return True
+def words_in(name):
+    """The lines of an example without comments and blank ones."""
+    lines = (it.partition("#")[0].strip() for it in read(name, "script").splitlines())
+    return [it for it in lines if it]
 
 
 def long_script():
-    """10,000 lines: the mapping of the example stale_translation is used, taken away, used again and put back."""
-    before = [it.partition("#")[0].strip() for it in read("stale_translation", "script").splitlines() if it.startswith("store 0x800") and "0x8009" not in it]
-    round_ = ["store 0x80004008 8 0x200040d7", "dma read 5 0x40201abc 8", "dma write 5 0x40201abc ff", "store 0x80004008 8 0", "dma read 5 0x40201abc 8", "cmd"]
-    lines = ["reg write 16 8 0x20000402", *before]
-    return (lines + round_ * 1700)[:10000]
+    """10,000 lines: the mapping of stale_translation is used, taken away, used again and put back."""
+    setting = [it for it in words_in("stale_translation") if it.startswith("store 0x800") and "0x8009" not in it]
+    around = [
+        *("store 0x80004008 8 0x200040d7", "dma read 5 0x40201abc 8", "dma write 5 0x40201abc ff"),
+        *("store 0x80004008 8 0", "dma read 5 0x40201abc 8", "cmd"),
+    ]
+    return (["reg write 16 8 0x20000402", *setting] + around * 1700)[:10000]
 
 
-def own(browser, script, image=""):
-    """Shows a script of one's own."""
-    browser.run(f"showOwn(own.find({json.dumps(script)}, {json.dumps(image)}))")
+def runs_script():
+    """The script of the example disk with the steps of the device that follow each other as lines of many steps. After
+    twenty of them the pages that the device uses are unmapped, and nothing is invalidated."""
+    lines = []
+    for line in words_in("disk"):
+        line = "dev run 0 500" if line.startswith("dev step 0") else line
+        if lines[-1:] != [line] or line != "dev run 0 500":
+            lines.append(line)
+    first = lines.index("dev run 0 500")
+    return [*lines[:first], "dev run 0 20", "store 0x80004008 8 0", "store 0x80004010 8 0", *lines[first:]]
 
 
-def answer_of(browser, number):
-    return browser.run(f"script.answers[{number - 1}]")
-
-
-def judge_speed(browser, tally, program):
-    lines = long_script()
-    timed = "(() => { const from = performance.now(); play(); return performance.now() - from; })()"
-    own(browser, "".join(f"{it}\n" for it in lines))
-    milliseconds = browser.run(timed)
-    step = browser.run("(() => { const from = performance.now(); go(5000); return performance.now() - from; })()")
-    tally.judge("line 5,000 stands beside its number and its answer", browser.run(f"{using.ROW_OF}(5000)"), [lines[4999], answer_of(browser, 5000), True])
-    print(f"page: {browser.name}: 10,000 lines are answered in {milliseconds:.0f} ms, one of them is shown in {step:.0f} ms")
-    tally.judge("10,000 lines within two seconds", milliseconds < 2000, True)
-    tally.judge("10,000 answers", browser.run('script.answers.filter((it) => it !== "").length'), 10000)
-    tally.judge("the answers to 10,000 lines", browser.run("script.answers"), answers_of(program, None, lines))
-
-
-def judge_address(browser, tally):
-    browser.open(PAGE + "#example=first_stage&line=3")
-    tally.judge("an example in the address", browser.run('[at("example").value, line]'), ["first_stage", 3])
-    own(browser, "reg read 0 8\nload 0x80000000 8\n")
-    end = time.monotonic() + SECONDS
-    while "own=" not in (address := browser.run("location.href")) and time.monotonic() < end:
-        time.sleep(0.05)
-    browser.open(address)
-    tally.judge("a script in the address", browser.run("script.answers"), ["0x3810060610", "0x0"])
-    tally.judge("the script as a file", browser.run('fetch(at("save").href).then((it) => it.text())'), "reg read 0 8\nload 0x80000000 8\n")
-
-
-def judge_served(browser, tally):
-    class Quiet(http.server.SimpleHTTPRequestHandler):
-        def log_message(self, *words):
-            pass
-
-    with http.server.ThreadingHTTPServer(("127.0.0.1", 0), functools.partial(Quiet, directory=os.path.join(WEB, "out"))) as server:
-        threading.Thread(target=server.serve_forever, daemon=True).start()
-        browser.open(f"http://127.0.0.1:{server.server_address[1]}/#example=disk")
-        tally.judge("the page that is served", browser.run("[at('example').value, script.answers[1]]"), ["disk", "done"])
-        server.shutdown()
-
-
-def judge_keys(browser, tally):
-    browser.run('show("first_stage"), document.activeElement.blur()')
-    tally.judge("the longest answer, where its place is less wide", browser.run('getComputedStyle(document.querySelector(".row .answer")).textOverflow'), "ellipsis")
-    moved = []
-    for key in ("Home", ".", ".", ",", "End", "."):
-        browser.key(key)
-        moved.append(browser.run("line"))
-    stops = [0, *(number for number, line in enumerate(read("first_stage", "script").splitlines(), 1) if line.partition("#")[0].strip())]
-    tally.judge("keys", moved, [0, stops[1], stops[2], stops[1], stops[-1], stops[-1]])
-    seen = browser.run('at("slider").focus(), at("slider").value = 1, at("slider").dispatchEvent(new Event("input")), [line, Number(at("slider").max)]')
-    tally.judge("the slider", seen, [stops[1], len(stops) - 1])
-
-
-def judge_largest(browser, tally):
-    """An image with the most memory, and with the largest disks."""
-    image, text = "ram 0x80000000 0x4000000\ndisk 5 65536\nrodisk 6 65536\n", "store 0x83fffff8 8 5\nload 0x83fffff8 8\ndisk 1 33554368 64\n"
-    own(browser, text, image)
-    tally.judge("the largest image", browser.run("script.answers"), ["done", "0x5", "00" * 64])
-
-
-WALK = """(() => {
-  const boxes = [...document.querySelectorAll("#walk rect")].map((it) => it.getBBox());
-  const apart = (a, b) => a.x + a.width <= b.x || b.x + b.width <= a.x || a.y + a.height <= b.y || b.y + b.height <= a.y;
-  const texts = [...document.querySelectorAll("#walk g")].map((it) => [it.querySelector("rect").getBBox(), [...it.querySelectorAll("text")].map((text) => text.getBBox())]);
-  const within = texts.every(([box, lines]) => lines.every((it) => it.x + it.width <= box.x + box.width && it.y + it.height <= box.y + box.height));
-  return { boxes: boxes.length, apart: boxes.every((a, i) => boxes.slice(i + 1).every((b) => apart(a, b))), within, decides: document.querySelectorAll("#walk .decides").length };
-})()"""
-
-
-def judge_walks(browser, tally):
-    """The picture of each access of each example."""
-    for name in names():
-        browser.run(f"show({json.dumps(name)}, 0)")
-        bad = []
-        for number in browser.run("script.accesses"):
-            parts = browser.run(f'go({number}), [...shown.keys()].filter((it) => it.startsWith("walk")).length')
-            seen = browser.run(WALK)
-            if seen != {"boxes": parts, "apart": True, "within": True, "decides": min(parts, 1)}:
-                bad.append((number, parts, seen))
-        tally.judge(f"walks of {name}", bad, [])
-
-
-def judge_fillers(browser, tally):
-    """The lines that are told to have filled what an access used are those that `why` tells of it."""
-    seen = 0
-    for name in names():
-        browser.run(f"show({json.dumps(name)}, 0)")
-        bad = []
-        for number in browser.run("script.accesses"):
-            fillers, why = browser.run(f'go({number}), [view.script.fillers(view.at), [...shown].findLast(([it]) => it.startsWith("why"))?.[1] ?? ""]')
-            found = re.match(r"walked context=\d+ walk=(\d+) current=(\d+)", why)
-            if found and not (int(found[1]) in fillers["pages"] and int(found[2]) in fillers["contexts"]):
-                bad.append((number, why, fillers))
-            seen += bool(found)
-        tally.judge(f"what filled the places of {name}", bad, [])
-    tally.judge("accesses by both caches", seen > 20, True)
-
-
-def take_pictures(browser, tally, folder):
-    for name, access, theme in PICTURES:
-        browser.theme(theme)
-        browser.size(*WIDE)
-        browser.run(f"show({json.dumps(name)}), go(script.accesses.at({access})), document.activeElement.blur(), scrollTo(0, 0)")
-        if folder:
-            browser.picture(os.path.join(folder, f"{name}.png"))
-    browser.size(*NARROW)
-    for theme in ("light", "dark"):
-        browser.theme(theme)
-        tally.judge(f"a narrow screen, {theme}", browser.run("document.documentElement.scrollWidth <= innerWidth"), True)
-        if folder:
-            browser.picture(os.path.join(folder, f"narrow_{theme}.png"))
-    browser.size(*WIDE)
-
-
-def judge_with(browser, tally, program):
+class Shown(Using):
     """What the page shows, beside what the program answers."""
-    judge_states(browser, tally, program)
-    with tempfile.TemporaryDirectory() as folder:
-        images = {name: image_of(program, name, folder) for name in names()}
 
-        def checked(name):
-            script = read(name, "script").encode()
-            return lambda words: told_by(program, [*words, *([images[name]] if images[name] else [])], script)
+    def setUp(self):
+        super().setUp()
+        self.browser.size(*WIDE)
+        self.browser.theme("light")
 
-        using.judge_verdicts(browser, tally, [(name, checked(name)) for name in names()])
-        disk = [it.partition("#")[0].strip() for it in read("disk", "script").splitlines()]
-        using.judge_runs(browser, tally, [it for it in disk if it], read("disk", "asm"), lambda lines: answers_of(program, images["disk"], lines))
+    def tearDown(self):
+        self.assertEqual(self.browser.told, [], "the console")
+        self.browser.forget()
+        super().tearDown()
+
+    def image_of(self, name):
+        """The words that name the image of an example, none if it has none."""
+        text = EXAMPLES / f"{name}.asm"
+        return [self.image(text.read_bytes(), f"{name}.image")] if text.exists() else []
+
+    def told(self, words, script):
+        """The lines that the program writes of a script."""
+        return frame.run(words, script.encode())[1].decode().splitlines()
+
+    def answers(self, image, lines):
+        """What `debug` answers to the lines, blank ones too."""
+        return self.told(["debug", *image], lines_of(lines))
+
+    def want_shown(self, image, lines, at, shown):
+        """Wants what is shown to be what `debug` answers: of a walk before line `at`, and of all else after it."""
+        before = {it: told for it, told in shown.items() if it.startswith(("walk", "stale read", "stale write"))}
+        after = {it: told for it, told in shown.items() if it not in before}
+        for count, asked in ((at, after), (max(at - 1, 0), before)):
+            if asked:
+                told = self.answers(image, [*lines[:count], *asked])[-len(asked) :]
+                self.assertEqual(told, list(asked.values()), f"line {at}")
+        return before
+
+    def test_start(self):
+        """the page opens without a fault"""
+        self.browser.open(PAGE)
+        self.assertTrue(self.browser.run("at('fault').hidden"), self.ask("text", "fault"))
+
+    def test_answers(self):
+        """each example's answers, or the verdicts of a checked one, are those of its file of answers"""
+        self.browser.open(PAGE)
+        for name in NAMES:
+            self.show(name)
+            lines = read(name, "script").splitlines()
+            got = self.browser.run('script.answers.filter((it) => it !== "")')
+            if "check" in lines[0].split():
+                got = self.verdicts(lines)
+            self.want(name, got, read(name, "answers").splitlines())
+
+    def verdicts(self, lines):
+        """What `check --stale` tells of the lines, by what the page shows at each."""
+        told, passed, failed = [], 0, 0
+        for number, line in enumerate(lines, 1):
+            answer, wanted, stale = self.ask("verdict", number)
+            stale = stale.strip(" .").replace("Stale: the tables said", "stale: the tables now say")
+            faults = [f"wanted {wanted}"] * (wanted not in (None, answer)) + [stale] * bool(stale)
+            if faults or (answer == "bad" and wanted != answer):
+                shown = ", ".join([f"{line.partition('#')[0].strip()} -> {answer}", *faults])
+                told.append(f"line {number}: {shown}")
+                failed += 1
+            elif wanted is not None:
+                passed += 1
+        return [*told, f"{passed} passed, {failed} failed"]
+
+    def test_states(self):
+        """what is shown at each line of each example is what the program answers to the same questions"""
+        self.browser.open(PAGE)
+        for name in NAMES:
+            image, script = self.image_of(name), read(name, "script").splitlines()
+            self.show(name, 0)
+            with self.subTest(name):
+                for number in range(len(script) + 1):
+                    told, steps = self.ask("state", number)
+                    # Of a line of many steps one is shown.
+                    lines = script if steps is None else [*script[: number - 1], *steps]
+                    self.want_shown(image, lines, number if steps is None else len(lines), dict(told))
+
+    def test_verdicts(self):
+        """the lines that fail and those with a stale access are those that `check` and `check --stale` tell of"""
+        stale = 0
+        self.browser.open(PAGE)
+        for name in NAMES:
+            image, script = self.image_of(name), read(name, "script")
+            (*failed, counts), (*either, _) = (self.told([*words, *image], script) for words in (["check"], ["check", "--stale"]))
+            failed, either = ([int(re.match(r"line (\d+): ", it)[1]) for it in told] for told in (failed, either))
+            self.show(name)
+            wrong, late = self.ask("marked", "wrong"), self.ask("marked", "stale")
+            seen = wrong, sorted({*wrong, *late}), ", ".join(self.ask("counts")[:2])
+            self.want(name, seen, (failed, either, counts))
+            stale += len(set(either) - set(failed))
+        self.assertGreater(stale, 2)
+
+    def test_runs(self):
+        """each step of a line of many is shown as a line of its own is, and what they all were is told"""
+        lines, image = runs_script(), self.image_of("disk")
+        self.open_own(lines_of(lines), read("disk", "asm"), 1)
+        plain = self.answers(image, lines)
+        runs = [number for number, line in enumerate(lines, 1) if line.startswith("dev run")]
+        self.assertTrue(len(runs) > 1 and any(it.endswith("idle") for it in plain))
+        most_stale = all_denied = 0
+        for number in runs:
+            stale, denied = self.want_run(image, lines, number, int(plain[number - 1].split()[0], 16))
+            most_stale, all_denied = max(most_stale, stale), all_denied + denied
+        self.assertTrue(most_stale > 1 and all_denied > 0, "stale accesses of one line, and denied ones")
+        self.browser.run(f"go({runs[0]}, 3), at('run-forward').click()")
+        self.assertEqual(self.browser.run("Number(at('run-step').value)"), 4, "the next step of a line")
+
+    def want_run(self, image, lines, number, count):
+        """Wants a line of so many steps shown as so many lines of one; returns how many were stale, and denied."""
+        asked = ["dev show 0", "dev step 0", *WHY]
+        around = self.answers(image, [*lines[: number - 1], *asked * count])[number - 1 :]
+        around = [around[i : i + len(asked)] for i in range(0, len(around), len(asked))]
+        accesses = [i for i, (view, *_) in enumerate(around, 1) if re.search("next=(read|write) ", view)]
+        denied = sum(answer.startswith("denied") for _, answer, *_ in around)
+        stale = sum(" stale " in [it for it in whys if it != "none"][-1] for _, _, *whys in around)
+        text, is_stale, why, *picture = self.ask("run", number)
+        steps = "1 step" if count == 1 else f"{count} steps"
+        made = f", {len(accesses)} accesses: {denied} denied, {stale} stale" if accesses else ""
+        self.assertEqual(text, f"This line made {steps}{made}; the last was {around[-1][1]}.")
+        self.assertEqual(is_stale, stale > 0, number)
+        first = [True, True, accesses[-1]] if accesses else [False, False, count]
+        self.assertEqual([why != "No access.", *picture], first, "the step that is shown first")
+        for step in range(1, count + 1):
+            told = [*lines[: number - 1], *["dev step 0"] * step]
+            before = self.want_shown(image, told, len(told), dict(self.ask("stepShown", number, step)))
+            self.assertEqual(bool(before), step in accesses, step)
+        return stale, denied
+
+    def test_pictures_of_walks(self):
+        """the picture of each access of each example has a box for each part, apart from all others"""
+        self.browser.open(PAGE)
+        for name in NAMES:
+            self.show(name, 0)
+            for number in self.browser.run("script.accesses"):
+                seen = self.ask("picture", number)
+                parts = seen["parts"]
+                wanted = {"parts": parts, "boxes": parts, "apart": True, "within": True, "decides": min(parts, 1)}
+                self.want((name, number), seen, wanted)
+
+    def test_fillers(self):
+        """the lines that are told to have filled what an access used are those that `why` tells of it"""
+        seen = 0
+        self.browser.open(PAGE)
+        for name in NAMES:
+            self.show(name, 0)
+            for number in self.browser.run("script.accesses"):
+                fillers, why = self.ask("fillers", number)
+                if found := re.match(r"walked context=\d+ walk=(\d+) current=(\d+)", why):
+                    self.assertIn(int(found[1]), fillers["pages"], (name, number))
+                    self.assertIn(int(found[2]), fillers["contexts"], (name, number))
+                    seen += 1
+        self.assertGreater(seen, 20)
+
+    def test_speed(self):
+        """10,000 lines are answered within two seconds, as the program answers them"""
+        lines = long_script()
+        self.browser.open(PAGE)
+        self.ask("own", lines_of(lines), "")
+        milliseconds, step = self.ask("played"), self.ask("stepped", 5000)
+        print(f"page: {self.browser.name}: 10,000 lines answered in {milliseconds:.0f} ms, one shown in {step:.0f} ms")
+        self.assertLess(milliseconds, 2000)
+        answers = self.browser.run("script.answers")
+        self.assertEqual(self.ask("row", 5000), [lines[4999], answers[4999], True])
+        self.assertEqual(answers, self.answers([], lines))
+
+    def test_address(self):
+        """an example and a script of one's own come back by the address, and the script can be saved"""
+        self.open("example=first_stage&line=3")
+        self.assertEqual(self.browser.run("[at('example').value, line]"), ["first_stage", 3])
+        self.ask("own", "reg read 0 8\nload 0x80000000 8\n", "")
+        self.browser.wait('location.href.includes("own=")')
+        self.browser.open(self.browser.run("location.href"))
+        self.assertEqual(self.browser.run("script.answers"), ["0x3810060610", "0x0"])
+        saved = self.browser.run("fetch(at('save').href).then((it) => it.text())")
+        self.assertEqual(saved, "reg read 0 8\nload 0x80000000 8\n")
+
+    def test_served(self):
+        """the page can be served"""
+        class Quiet(http.server.SimpleHTTPRequestHandler):
+            def log_message(self, *words):
+                pass
+
+        handler = functools.partial(Quiet, directory=WEB / "out")
+        with http.server.ThreadingHTTPServer(("127.0.0.1", 0), handler) as server:
+            threading.Thread(target=server.serve_forever, daemon=True).start()
+            self.addCleanup(server.shutdown)
+            self.browser.open(f"http://127.0.0.1:{server.server_address[1]}/#example=disk")
+            self.assertEqual(self.browser.run("[at('example').value, script.answers[1]]"), ["disk", "done"])
+            server.shutdown()
+
+    def test_keys(self):
+        """the keys and the slider move through the steps"""
+        self.browser.open(PAGE)
+        self.show("first_stage")
+        self.browser.run("document.activeElement.blur()")
+        overflow = self.browser.run('getComputedStyle(document.querySelector(".row .answer")).textOverflow')
+        self.assertEqual(overflow, "ellipsis", "an answer that is longer than its place")
+        moved = []
+        for key in ("Home", ".", ".", ",", "End", "."):
+            self.browser.key(key)
+            moved.append(self.browser.run("line"))
+        stops = [0]
+        stops += [at for at, it in enumerate(read("first_stage", "script").splitlines(), 1) if it.split("#")[0].strip()]
+        self.assertEqual(moved, [0, stops[1], stops[2], stops[1], stops[-1], stops[-1]])
+        self.assertEqual(self.ask("slid", 1), [stops[1], len(stops) - 1])
+
+    def test_largest_image(self):
+        """an image with the most memory, and with the largest disks"""
+        self.browser.open(PAGE)
+        image = "ram 0x80000000 0x4000000\ndisk 5 65536\nrodisk 6 65536\n"
+        self.ask("own", "store 0x83fffff8 8 5\nload 0x83fffff8 8\ndisk 1 33554368 64\n", image)
+        self.assertEqual(self.browser.run("script.answers"), ["done", "0x5", "00" * 64])
+
+    def test_screens(self):
+        """nothing is wider than a narrow screen; pictures are taken"""
+        pictures = os.environ.get("RVIOMMU_PICTURES") or self.path("pictures")
+        os.makedirs(pictures, exist_ok=True)
+        self.browser.open(PAGE)
+        for name, access, theme in PICTURES:
+            self.browser.theme(theme)
+            self.show(name)
+            self.browser.run(f"go(script.accesses.at({access})), document.activeElement.blur(), scrollTo(0, 0)")
+            Path(pictures, f"{name}.png").write_bytes(self.browser.picture())
+        self.browser.size(*NARROW)
+        for theme in ("light", "dark"):
+            self.browser.theme(theme)
+            self.assertTrue(self.browser.run("document.documentElement.scrollWidth <= innerWidth"), theme)
+            Path(pictures, f"narrow_{theme}.png").write_bytes(self.browser.picture())
 
 
-def told_by(program, words, script):
-    """The lines that the program writes of a script, whatever its status."""
-    return subprocess.run([program, *words], input=script, stdout=subprocess.PIPE, check=False).stdout.decode().splitlines()
+class InBrowser(frame.Case):
+    """The tests above in one browser."""
+
+    @classmethod
+    def setUpClass(cls):
+        if cls.kind.program() is None:
+            raise unittest.SkipTest(f"there is no {cls.kind.name} that is new enough")
+        cls.browser = cls.kind()
+        cls.addClassCleanup(cls.browser.close)
 
 
-def judge_browser(browser, tally, program, folder):
-    browser.size(*WIDE)
-    browser.open(PAGE)
-    tally.judge("the start", browser.run('at("fault").hidden || at("fault").textContent'), True)
-    judge_answers(browser, tally)
-    judge_with(browser, tally, program)
-    judge_walks(browser, tally)
-    judge_fillers(browser, tally)
-    judge_speed(browser, tally, program)
-    judge_address(browser, tally)
-    judge_served(browser, tally)
-    judge_keys(browser, tally)
-    judge_largest(browser, tally)
-    using.judge_lines(browser, tally, names())
-    using.judge_readable(browser, tally, names())
-    using.judge_queues(browser, tally)
-    using.judge_marks(browser, tally)
-    using.judge_clicks(browser, tally)
-    using.judge_own(browser, tally)
-    using.judge_too_long(browser, tally)
-    using.judge_refused(browser, tally)
-    using.judge_broken_addresses(browser, tally)
-    for count, seconds in LARGE:
-        using.judge_large(browser, tally, count, seconds)
-    using.judge_large_typing(browser, tally)
-    browser.open(PAGE)
-    take_pictures(browser, tally, folder)
-    tally.judge("the console", browser.told, [])
-    using.judge_unbuilt(browser, tally)
+class InChromium(Shown, InBrowser):
+    kind = Chromium
 
 
-class Page(frame.Case):
-    """What is judged below, each judgement a subtest."""
+class InFirefox(Shown, InBrowser):
+    kind = Firefox
 
-    def judge(self, name, got, wanted):
-        with self.subTest(name):
-            self.assertEqual(got, wanted)
 
-    def in_browser(self, kind, folder=None):
-        if kind.program() is None:
-            self.skipTest(f"there is no {kind.name} that is new enough")
-        browser = kind()
-        self.addCleanup(browser.close)
-        judge_browser(browser, self, frame.program(), folder)
-
+class Built(unittest.TestCase):
     def test_built(self):
-        """the page in web/out is that of web/, and all that it needs is there"""
-        judge_built(self)
+        """the page in web/out is that of web/"""
+        own = [it for it in WEB.iterdir() if it.suffix in frame.page_build().ENDINGS]
+        others = [it.name for it in own if not filecmp.cmp(it, WEB / "out" / it.name, shallow=False)]
+        self.assertEqual(others, [], "what 'make page' has yet to copy")
 
     def test_chromium(self):
-        """the page in Chromium"""
-        self.assertTrue(Chromium.program(), "chromium is not on the path")
-        self.in_browser(Chromium, os.environ.get("RVIOMMU_PICTURES"))
-
-    def test_firefox(self):
-        """the page in Firefox"""
-        self.in_browser(Firefox)
+        """there is a Chromium"""
+        self.assertTrue(shutil.which(Chromium.program() or "chromium"))
 
 
 if __name__ == "__main__":
-    frame.main(__doc__, "page", "page.py")
+    frame.main(__doc__, "page.py")

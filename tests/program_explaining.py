@@ -140,12 +140,9 @@ class Explaining(Case):
     def test_at_pipe(self):
         """explain: at a pipe a line is told before the next is sent"""
         talk = self.talk(["explain"])
-        talk.send(ASK + b"\ncm")
-        talk.want_answer(ASK, b"1: reg read 0x8 0x4 -> " + ANSWER)
-        talk.send(b"d\n")
-        talk.want_answer(b"cmd", b"2: cmd -> idle\n")
-        talk.program.stdin.close()
-        talk.want_answer(b"the end", summary(0, 0).encode())
+        talk.send(ASK + b"\ncm", b"1: reg read 0x8 0x4 -> " + ANSWER)
+        talk.send(b"d\n", b"2: cmd -> idle\n")
+        talk.end(summary(0, 0).encode())
 
     def test_examples_and_rows(self):
         """explain: each example and row is answered as debug answers it"""

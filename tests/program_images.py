@@ -2,12 +2,13 @@
 import os
 from pathlib import Path
 
-from frame import ANSWER, ASK, BUILT_IN, READ_FAILED, READ_ONLY, ROWS, WELL, Case, cannot, fault, run, scripts
-from samples import STATEMENTS
+from frame import (
+    ANSWER, ASK, BUILT_IN, READ_FAILED, READ_ONLY, ROWS, Case, cannot, fault, numbers, run, scripts)
+from samples import IMAGE, STATEMENTS
 
 TEXT = b"ram 0x80000000 0x1000 # a page\nat 0x80000ff0\ncmd iodir dv=1 did=5\n"
 COMMAND = b"cmd iodir dv=0x1 did=0x5\n"
-WITHOUT_SVNAPOT = b"RVIOMMU3" + (1 << 56).to_bytes(8, "little")
+WITHOUT_SVNAPOT = b"RVIOMMU3" + numbers(8, 1 << 56)
 WRITABLE = b"RVIOMMU1" + READ_ONLY[8:40] + READ_ONLY[44:]
 BAD_TEXTS = {
     "an empty text": (b"", b"line 0: bad line"),
@@ -20,18 +21,37 @@ BAD_IMAGES = {
     "an image that ends early": (BUILT_IN[:31], b"truncated"),
     "another magic": (b"S" + BUILT_IN[1:], b"bad magic"),
     "a version that there is not": (BUILT_IN[:7] + b"4" + BUILT_IN[8:], b"bad magic"),
-    "a capability that there is not": (b"RVIOMMU3" + (1 << 9).to_bytes(8, "little") + BUILT_IN[8:], b"bad capabilities"),
+    "a capability that there is not": (b"RVIOMMU3" + numbers(8, 1 << 9) + BUILT_IN[8:], b"bad capabilities"),
     "a flag that there is not": (READ_ONLY[:40] + b"\2" + READ_ONLY[41:], b"bad device"),
     "a disk that ends in its flags": (READ_ONLY[:43], b"truncated"),
     "bytes after the image": (BUILT_IN + b"\0", b"trailing bytes"),
-    "a memory that can't be": (BUILT_IN[:16] + (0x1001).to_bytes(8, "little") + BUILT_IN[24:], b"bad memory"),
-    "a chunk without bytes": (BUILT_IN[:24] + b"\1" + bytes(7) + BUILT_IN[8:16] + bytes(4), b"bad chunk"),
+    "a memory that can't be": (BUILT_IN[:16] + numbers(8, 0x1001) + BUILT_IN[24:], b"bad memory"),
+    "a chunk without bytes": (BUILT_IN[:24] + numbers(8, 1) + BUILT_IN[8:16] + bytes(4), b"bad chunk"),
     "nine devices": (BUILT_IN[:28] + b"\x09\0\0\0", b"bad device"),
+}
+# Whether a first line of a text is taken, and a statement after one; the numbers that limit them, and their keys.
+FIRST_LINES = {
+    "ram 0x80000000 0x1000": True, "ram 0x80000000 0": False, "ram 0x80000800 0x1000": False,
+    "ram 0x80000000 0x1800": False, "ram 0x80000000 0x4000000": True, "ram 0x80000000 0x4001000": False,
+    "ram 0xfffffffffff000 0x1000": True, "ram 0xfffffffffff000 0x2000": False,
+    "ram 0x100000000000000 0x1000": False, "u64 1\nram 0x80000000 0x1000": False,
+}
+THIRD_STAGE = {mode: mode in (0, 8, 9, 10) for mode in range(16)}
+STATED = {
+    "disk 0xffffff 1": True, "disk 0x1000000 1": False, "disk 5 0": False, "disk 5 65536": True, "disk 5 65537": False,
+    "".join(f"disk {it} 1\n" for it in range(8)): True, "".join(f"disk {it} 1\n" for it in range(9)): False,
+    "context jump=0": False, "fault jump=0": False, "dir ppn=1": True, "dir flags=1": False, "pte ppn=1 flags=1": True,
+    "u64 1 2 3 4 5 6 7 8": True, "u64 1 2 3 4 5 6 7 8 9": False, "u64": False, "bytes aabb": True, "bytes abc": False,
+    "disk 5 1 aabb": True, "disk 5 1 abc": False, "rodisk 5 1 aabb": True, "capabilities": True,
+    "capabilities nl=1 vectors=3": False, "ram 0x90000000 0x1000": False,
+    **{f"capabilities {key}=1": True for key in ("sv57", "sv57x4", "svpbmt", "nl", "s", "vectors")},
+    **{f"context {key}={mode}": is_one for mode, is_one in THIRD_STAGE.items() for key in ("mode", "gmode")},
 }
 # What the help of a word names, and how its example ends.
 HELPS = {
-    "asm": (["<SOURCE>", "<IMAGE>", *STATEMENTS], 0), "run": (["<IMAGE>"], 0), "check": (["[IMAGE]", "--stale"], 1), "debug": (["[IMAGE]"], 0),
-    "explain": (["[IMAGE]"], 0), "list": (["<IMAGE>", "<KIND>", "<ADDR>", "<COUNT>"], 0), "upgrade": (["<IMAGE>", "<NEW>"], 0),
+    "asm": (["<SOURCE>", "<IMAGE>", *STATEMENTS], 0), "run": (["<IMAGE>"], 0), "check": (["[IMAGE]", "--stale"], 1),
+    "debug": (["[IMAGE]"], 0), "explain": (["[IMAGE]"], 0), "list": (["<IMAGE>", "<KIND>", "<ADDR>", "<COUNT>"], 0),
+    "upgrade": (["<IMAGE>", "<NEW>"], 0),
 }
 
 
@@ -55,8 +75,9 @@ class Images(Case):
 
     def test_versions(self):
         """asm: a text with capabilities gives version 3, another with rodisk version 2, any other version 1"""
-        third = b"RVIOMMU3" + (1 << 42 | 2 << 57).to_bytes(8, "little") + READ_ONLY[8:]
-        for word, wanted in ((b"rodisk", READ_ONLY), (b"disk", WRITABLE), (b"capabilities vectors=4 nl=1\nrodisk", third)):
+        third = b"RVIOMMU3" + numbers(8, 1 << 42 | 2 << 57) + READ_ONLY[8:]
+        capable = b"capabilities vectors=4 nl=1\nrodisk"
+        for word, wanted in ((b"rodisk", READ_ONLY), (b"disk", WRITABLE), (capable, third)):
             self.assertEqual(read(self.image(b"ram 0x80000000 0x1000\n" + word + b" 5 1 aa\n")), wanted)
 
     def test_bad_texts(self):
@@ -69,6 +90,11 @@ class Images(Case):
                 self.want(["asm", source, self.path("new")], b"", fault(line))
                 self.assertEqual(sorted(os.listdir(self.folder)), ["image", "source"])
 
+    def test_statements(self):
+        """asm: the limits of memory, disks and device ids, and which statements are taken"""
+        for text, wanted in [*FIRST_LINES.items(), *((IMAGE + it, is_well) for it, is_well in STATED.items())]:
+            self.assertEqual(self.is_assembled(text + "\n"), wanted, text[-40:])
+
     def test_bad_images(self):
         """run, list, upgrade: an image that is refused"""
         for name, (image, text) in BAD_IMAGES.items():
@@ -80,10 +106,12 @@ class Images(Case):
                 self.assertEqual(read(new), b"before")
 
     def test_upgrade(self):
-        """upgrade: versions 1 and 2 get another magic, the word of a machine without Svnapot, and flags; version 3 comes back, and a file may be upgraded in place"""
+        """upgrade: versions 1 and 2 get another magic, the word of a machine without Svnapot, and flags; version 3
+        comes back, and a file may be upgraded in place"""
         read_only = WITHOUT_SVNAPOT + READ_ONLY[8:]
         writable = read_only[:48] + bytes(4) + read_only[52:]
-        for image, wanted in ((BUILT_IN, WITHOUT_SVNAPOT + BUILT_IN[8:]), (READ_ONLY, read_only), (WRITABLE, writable)):
+        built_in = WITHOUT_SVNAPOT + BUILT_IN[8:]
+        for image, wanted in ((BUILT_IN, built_in), (READ_ONLY, read_only), (WRITABLE, writable)):
             old, new, twice = self.put("old", image), self.path("once"), self.path("twice")
             for words in (["upgrade", old, new], ["upgrade", new, twice], ["upgrade", old, old]):
                 self.want(words)
@@ -124,31 +152,33 @@ class Images(Case):
         source = self.put("source", TEXT)
         self.want(["run", name], b"", cannot(b"read", told))
         self.want(["asm", source, f"{name}/x"], b"", cannot(b"write", f"{told}/x"))
-        self.want(["list", source, "u64", "a\nb", "1"], b"", fault(b"a\\nb: ADDR is decimal, or hex after 0x, below 2^64", 2))
+        refusal = b"a\\nb: ADDR is decimal, or hex after 0x, below 2^64"
+        self.want(["list", source, "u64", "a\nb", "1"], b"", fault(refusal, 2))
 
     def test_unreadable(self):
         """files that can't be read or written are named"""
         source, image, none = self.put("source", TEXT), self.put("image", BUILT_IN), self.path("none")
         here, far = self.folder, self.path("none/image")
-        for words in (["run", none], ["run", here], ["run", ""], ["list", none, "u64", "0", "1"], ["asm", none, image], ["upgrade", none, image]):
+        for words in (
+            ["run", none], ["run", here], ["run", ""], ["list", none, "u64", "0", "1"], ["asm", none, image],
+            ["upgrade", none, image],
+        ):
             self.want(words, b"", cannot(b"read", words[1]))
         for words in (["asm", source, here], ["upgrade", image, here], ["asm", source, far]):
             self.want(words, b"", cannot(b"write", words[2]))
 
     def test_largest_file(self):
         """a file above 2^30 bytes can't be read"""
-        large = self.put("large", b"")
-        os.truncate(large, 2**30 + 1)
-        self.want(["run", large], b"", cannot(b"read", large))
-        self.put("large", b"S")
-        os.truncate(large, 2**30)
-        self.want(["run", large], b"", fault(b"bad magic"))
+        large = self.put("large", b"S")
+        for size, ending in ((2**30 + 1, cannot(b"read", large)), (2**30, fault(b"bad magic"))):
+            os.truncate(large, size)
+            self.want(["run", large], b"", ending)
 
     def test_order(self):
         """faults are looked for in order: words, the file, its content, the run"""
         none = self.path("none")
-        for words in (["list", none, "word", "0", "1"], ["list", none, "u64", "x", "1"], ["list", none, "u64", "0", "-"]):
-            self.assertEqual(run(words)[:2], (2, b""))
+        for words in (["word", "0", "1"], ["u64", "x", "1"], ["u64", "0", "-"]):
+            self.assertEqual(run(["list", none, *words])[:2], (2, b""))
         self.want(["run", self.put("bad", b"no image")], b"", fault(b"bad magic"), stdin=self.unreadable())
         self.want(["run", self.put("image", BUILT_IN)], b"", READ_FAILED, stdin=self.unreadable())
 
@@ -157,9 +187,7 @@ class Images(Case):
         self.image(b"ram 0x80000000 0x1000\nu64 7\n", "seven.image")
         for word, (parts, ending) in HELPS.items():
             with self.subTest(word):
-                status, out, errors = run([word, "--help"], ASK)
-                self.assertEqual((status, errors), WELL)
-                out = out.decode()
+                out = self.written([word, "--help"], ASK)
                 self.assertEqual([part for part in parts if part not in out], [])
                 shown = [line[2:] for line in out[out.index("\n  $ ") + 1 :].splitlines() if line.startswith("  ")]
                 command = "\n".join(line[2:] for line in shown if line.startswith("$ "))

@@ -4,7 +4,7 @@ import re
 import subprocess
 from pathlib import Path
 
-from documents import names_there, spans, table_of
+from documents import names_there, spans, table_with
 from frame import ASK, OUT_OF_MEMORY, RUN_SECONDS, TESTS, Case, program, text_of
 
 MOST_ALLOCATIONS = 2000
@@ -79,7 +79,7 @@ def calls_that_take_memory():
 class Calls(Case):
     def test_listed(self):
         """documents: the calls that take memory are those that docs/PROMISES.md lists, with tests that refused_memory.sh tries"""
-        listed = table_of("docs/PROMISES.md", "Call that takes memory")
+        listed = table_with("docs/PROMISES.md", "Call that takes memory")
         named = {name for row in listed for name in re.findall(r"`([\w:]+)`", row[0])}
         self.assertEqual(sorted(calls_that_take_memory()), sorted(named))
         tried = text_of("tests/refused_memory.sh")

@@ -1,45 +1,54 @@
-"""The names in the documents: each file, crate, definition, call, clause and test that they name is there. And each public item has a docstring."""
+"""The names in the documents: each file, crate, definition, call, clause and test that they name is there.
+
+And each public item has a docstring, in the page's crate too.
+"""
 import glob
 import re
 from pathlib import PurePath
 
-from documents import names_there, rows, sections, spans
+from documents import names_there, rows, section_of, sections, spans, table_with
 from frame import TOP, Case, text_of
 from crates import below, listed, stands_on
 
 DOCUMENTS = ["README.md", "CHANGELOG.md", "examples/README.md", *names_there("docs/*")]
-SUFFIXES = (".rt", ".antt", ".py", ".sh", ".md", ".edit", ".script", ".answers", ".asm", ".txt", ".h", ".1")
+SUFFIXES = tuple(f".{it}" for it in "rt antt py sh md edit script answers asm txt h 1".split())
 # Folders that each crate may have, and what a build makes.
 OF_EACH = {
-    "src/", "specs/", "proofs/", "must-fail/", "edits/", "data/", "out/", "proofs/Lib.antt", "dist/", "c/out", "out/build", "out/whole", "web/out",
-    "web/out/index.html", "crates/rviommu/out/rviommu",
+    *("src/", "specs/", "proofs/", "must-fail/", "edits/", "data/", "out/", "proofs/Lib.antt", "dist/", "c/out"),
+    *("out/build", "out/whole", "web/out", "web/out/index.html", "crates/rviommu/out/rviommu"),
 }
-WORDS = {"asm", "run", "check", "debug", "list", "upgrade", "bad"}
+WORDS = {"asm", "run", "check", "debug", "explain", "list", "upgrade", "bad"}
 CRATES = stands_on()
 # The crates of the toolchain that they stand on.
 OTHERS = {name for _, uses in listed().values() for name in uses} - set(CRATES)
+TESTS = {"iom_tests", "iom_rows"}
 # What a document says of a number, and where the code or a clause has it.
 NUMBERS = [
-    ("docs/PROMISES.md", "beyond 2^20 lines or 2^26 bytes", "crates/iom_reader/specs/Running.antt", "(length text ≡ 2 ^ 26) ⊎ (length (ended_lines text) ≡ 2 ^ 20)"),
-    ("docs/CONTRIBUTING.md", "the 320 bytes of a `Reply`", "crates/iom_tool/src/draft.rt", "bytes: [u8; 320],"),
-    ("README.md", "each process with 2 to 3 GB of memory", "packaging/build.py", "BYTES_A_JOB = 3 << 30"),
-    ("README.md", "glibc 2.36 or later", "packaging/package.py", 'LIBC = "libc6 (>= 2.36)"'),
-    ("man/rviommu.1", "A file may have at most 2^30 bytes", "crates/rviommu/src/files.rt", "MOST_BYTES: u64 = 1 << 30;"),
-    ("docs/PROMISES.md", "and of 200 lists of steps made at random", "crates/iom_rows/src/generated.rt", "SCRIPTS: u64 = 200;"),
-    ("docs/GATE.md", "and of 200 lists of steps made at random", "crates/iom_rows/src/generated.rt", "SCRIPTS: u64 = 200;"),
-    ("docs/PROMISES.md", "100,000 lines of generated scripts", "tests/c_library.py", "PLAIN_LINES, HARMFUL_LINES = 20_000, 40_000"),
-    ("docs/GATE.md", "It plays 100,000 generated lines", "tests/c_library.py", "PLAIN_LINES, HARMFUL_LINES = 20_000, 40_000"),
+    ("docs/PROMISES.md", "2^20 lines or 2^26 bytes", "crates/iom_reader/specs/Running.antt",
+     "(length text ≡ 2 ^ 26) ⊎ (length (ended_lines text) ≡ 2 ^ 20)"),
+    ("docs/CONTRIBUTING.md", "320 bytes", "crates/iom_tool/src/draft.rt", "bytes: [u8; 320],"),
+    ("README.md", "2 to 3 GB", "packaging/build.py", "BYTES_A_JOB = 3 << 30"),
+    ("README.md", "glibc 2.36", "packaging/package.py", 'GLIBC = "2.36"'),
+    ("man/rviommu.1", "2^30 bytes", "crates/rviommu/src/files.rt", "MOST_BYTES: u64 = 1 << 30;"),
+    *((name, "200 lists of steps", "crates/iom_rows/src/generated.rt", "SCRIPTS: u64 = 200;")
+      for name in ("docs/PROMISES.md", "docs/GATE.md")),
+    *((name, words, "tests/c_library.py", "PLAIN_LINES, HARMFUL_LINES = 20_000, 40_000")
+      for name, words in (("docs/PROMISES.md", "100,000 lines"), ("docs/GATE.md", "100,000 generated lines"))),
 ]
 # Which section of a document, or all of it, has names of the code.
-NAMING = {"README.md": "What is proved", "docs/MAP.md": "How a step flows", "docs/CONTRIBUTING.md": "Recipes", "docs/MODEL.md": None}
-PUBLIC = re.compile(r"\s*pub (?:(?:const|unsafe|extern \"C\") )*(?:fn|struct|enum|trait|const|type) \w")
-FIELD = re.compile(r"\s+pub \w+: ")
+NAMING = {
+    "README.md": "What is proved", "docs/MAP.md": "How a step flows", "docs/CONTRIBUTING.md": "Recipes",
+    "docs/MODEL.md": None,
+}
+PUBLIC = re.compile(r"\s*pub (?:(?:const|unsafe|extern \"C\") )*(?:fn|struct|enum|trait|const|type) \w|\s+pub \w+: ")
 PRIVATE = re.compile(r"( *)fn \w")
 LONG = 5
+NAME = r"[A-Za-z_]\w*(?:::\w+)*"
 
 
 def undocumented(path):
-    """The lines of a file that lack a docstring or, where a private function is long, a comment. What a trait asks for is told there."""
+    """The lines of a file that lack a docstring or, if a private function is long, a comment. What a trait asks for is
+    told there."""
     lines = text_of(path).splitlines()
     of_trait, found = False, []
     for at, line in enumerate(lines):
@@ -47,13 +56,13 @@ def undocumented(path):
             of_trait = line.startswith("impl") and " for " in line
         above = next((it.strip() for it in reversed(lines[:at]) if not it.strip().startswith("#[")), "")
         private = PRIVATE.match(line)
-        if PUBLIC.match(line) or FIELD.match(line):
+        if PUBLIC.match(line):
             found += [line] * (not above.startswith("///"))
         elif private and not of_trait:
             indent = private[1]
             end = lines.index(indent + "}", at) if indent + "}" in lines[at:] else at
-            start = next((it for it in range(at, end) if lines[it] == indent + "{" or lines[it].startswith(f"{indent}fn") and lines[it].endswith("{")), end)
-            found += [line] * (end - start - 1 > LONG and not above.startswith("//"))
+            opens = (it for it in range(at, end) if lines[it] == indent + "{" or it == at and line.endswith("{"))
+            found += [line] * (end - next(opens, end) - 1 > LONG and not above.startswith("//"))
     return [f"{path}: {line.strip()}" for line in found]
 
 
@@ -63,37 +72,38 @@ def clauses(text):
 
 
 def defined(path):
-    """The names that a file gives to items, cases, fields, operands and clauses; in a file of definitions to these and to fields."""
+    """The names that a file gives to items, cases, fields, operands and clauses; in a file of definitions to these and
+    to fields."""
     text = text_of(path)
     if path.endswith(".antt"):
         return set(re.findall(r"(?m)^\s*(?:\w+ )?(?:pub )?(?:data |record )?([^\s:()]+)(?: [({].*[)}])? :", text))
     text = re.sub(r"//.*", "", text)
     items = re.findall(r"\b(?:fn|struct|enum|trait|const|type|mod|impl|for)\s+(\w+)", text)
-    return {*items, *re.findall(r"\b(\w+): ", text), *re.findall(r"(?m)^\s+(\w+)(?:,|\(.*\),| \{.*)$", text), *clauses(text)}
+    cases = re.findall(r"(?m)^\s+(\w+)(?:,|\(.*\),| \{.*)$", text)
+    return {*items, *cases, *re.findall(r"\b(\w+): ", text), *clauses(text)}
 
 
-def files_of(crate):
-    return [path for kind in ("src", "specs", "proofs") for path in names_there(f"crates/{crate}/{kind}/**/*.*t")]
+def files_of(crate, *parts):
+    return [it for part in parts or ("src", "specs", "proofs") for it in names_there(f"crates/{crate}/{part}/**/*.*t")]
 
 
-def names_of(crate):
-    """The names that a crate defines, those of its files among them."""
-    files = files_of(crate)
-    return {PurePath(path).name.partition(".")[0] for path in files}.union(*(defined(path) for path in files))
+def stem(path):
+    return PurePath(path).name.partition(".")[0]
 
 
-NAMES = {crate: names_of(crate) for crate in CRATES}
+# The names that each crate defines, those of its files among them.
+NAMES = {it: {*map(stem, files_of(it))}.union(*map(defined, files_of(it))) for it in CRATES}
 # What C has beside the functions of the crate.
 NAMES["iom_c"].update(re.findall(r"rviommu_\w+", text_of("c/guard.c") + text_of("include/rviommu_record.h")))
 
 
-def has(crate, name):
-    """Whether each part of a name, as of `Queue::entries`, is one of the crate's."""
-    return all(part in NAMES[crate] for part in name.split("::"))
+def has(crates, name):
+    """Whether each part of a name, as of `Queue::entries`, is one of a crate's among these."""
+    return any(set(name.removeprefix(f"{it}::").split("::")) <= NAMES[it] for it in crates)
 
 
-def is_there(path, places):
-    return any(glob.glob(path, root_dir=TOP / place) for place in places)
+def is_there(path, *places):
+    return any(glob.glob(path, root_dir=TOP / place) for place in places or [""])
 
 
 def beside(text):
@@ -112,25 +122,22 @@ def beside(text):
 
 def promised():
     """The sections of PROMISES that speak of a crate."""
-    for head, body in sections(text_of("docs/PROMISES.md")):
-        crate = re.fullmatch(r"`(\w+)`", head)
-        if crate:
-            yield crate[1], body
+    found = sections(text_of("docs/PROMISES.md"))
+    return {head.strip("`"): body for head, body in found if re.fullmatch(r"`\w+`", head)}
 
 
 def public(crate):
-    """The names that a library gives to those above it; the functions of the C library."""
-    if crate == "iom_c":
-        return set(re.findall(r"(?m)^(?:enum )?\w+ (rviommu_\w+)\(", text_of("include/rviommu.h")))
+    """The names that a library gives to those above it."""
     path = f"crates/{crate}/src/lib.rt"
-    text = text_of(path) if is_there(path, [""]) else ""
-    used = [group or name for group, name in re.findall(r"(?m)^pub use (?:[\w:]+::)?(?:\{([^}]*)\}|(\w+));", text)]
+    text = text_of(path) if is_there(path) else ""
+    used = re.findall(r"(?m)^pub use (?:[\w:]+::)?(\{[^}]*\}|\w+);", text)
     return {*re.findall(r"\w+", " ".join(used)), *re.findall(r"(?m)^pub (?:fn|struct|enum|trait) (\w+)", text)}
 
 
 def glossary():
-    """The tables of GLOSSARY: each row's crates, none where it names none, and the names of this repository in it."""
-    own, terms, other = (rows(body) for head, body in sections(text_of("docs/GLOSSARY.md")) if head in ("One word for one thing", "From the standards' terms to the names", "Other public names"))
+    """The rows of the tables of GLOSSARY: their crates, none if they name none, and the names of this repository."""
+    own, terms, other = (rows(section_of("docs/GLOSSARY.md", head)) for head in (
+        "One word for one thing", "From the standards' terms to the names", "Other public names"))
     return [
         *(([], spans(names)) for _, _, names in own),
         *((spans(crates), spans(names)) for _, names, crates, _ in terms),
@@ -139,116 +146,99 @@ def glossary():
 
 
 class Names(Case):
-    def test_file_they_name_there(self):
+    def test_files(self):
         """documents: each file that they name is there"""
         for document in DOCUMENTS:
             lacking = []
             for head, body in sections(text_of(document)):
                 places = ["", "crates", "include", "crates/iom_rows/data"]
                 for word in " ".join(spans(head + "\n" + body)).split():
-                    named = re.fullmatch(r"(?:crates/)?(\w+)(?:/.*)?", word)
-                    if named and named[1] in CRATES:
-                        places += [f"crates/{named[1]}", *(f"crates/{named[1]}/{kind}" for kind in ("src", "specs", "proofs"))]
-                    is_path = re.fullmatch(r"[\w.*/-]+", word) and (word.endswith(SUFFIXES) or re.fullmatch(r"\w[^.]*/.*", word))
-                    if is_path and word not in OF_EACH and not re.search(r"NAME|PATH|\.\.|^[A-Z]+$", word) and not is_there(word, places):
+                    crate = re.fullmatch(r"(?:crates/)?(\w+)(?:/.*)?", word)
+                    if crate and crate[1] in CRATES:
+                        places += [f"crates/{crate[1]}{part}" for part in ("", "/src", "/specs", "/proofs")]
+                    is_file = word.endswith(SUFFIXES) or re.fullmatch(r"\w[^.]*/.*", word)
+                    is_other = word in OF_EACH or re.search(r"NAME|PATH|\.\.|^[A-Z]+$|[^\w.*/-]", word)
+                    if is_file and not is_other and not is_there(word, *places):
                         lacking.append(word)
-            self.assertEqual(lacking, [], f"what {document} names and is not there")
-
-    def test_named(self):
-        """README, MAP, CONTRIBUTING and MODEL: the names in them, or in the section that speaks of the code, are there"""
-        python = "".join(text_of(path) for path in names_there("tests/**/*.py"))
-        patterns = ("crates/*/must-fail/*", "crates/*/edits/*", "crates/iom_rows/data/*", "examples/*")
-        files = {PurePath(path).name.partition(".")[0] for pattern in patterns for path in names_there(pattern)}
-        for document, head in NAMING.items():
-            body = dict(sections(text_of(document)))[head] if head else text_of(document)
-            named = {name for name in spans(body) if re.fullmatch(r"[A-Za-z_]\w*(::\w+)*", name) and "NAME" not in name} - set(CRATES) - OTHERS - WORDS
-            called = {name for name in named if any(has(crate, name.removeprefix(f"{crate}::")) for crate in CRATES)}
-            lacking = [name for name in sorted(named - called - files) if not re.search(rf"\b{name}\b", python)]
             self.assertEqual(lacking, [], document)
 
-    def test_crates_crates_txt_lowest(self):
+    def test_named(self):
+        """README, MAP, CONTRIBUTING and MODEL: the names of the code in them are there"""
+        python = "".join(text_of(path) for path in names_there("tests/**/*.py"))
+        folders = ("crates/*/must-fail", "crates/*/edits", "crates/iom_rows/data", "examples", "tests/debugged")
+        files = {stem(path) for folder in folders for path in names_there(f"{folder}/*")}
+        for document, head in NAMING.items():
+            text = section_of(document, head) if head else text_of(document)
+            named = {name for name in spans(text) if re.fullmatch(NAME, name) and "NAME" not in name}
+            named -= {*CRATES, *OTHERS, *WORDS, *files}
+            lacking = [it for it in sorted(named) if not has(CRATES, it) and not re.search(rf"\b{it}\b", python)]
+            self.assertEqual(lacking, [], document)
+
+    def test_crates(self):
         """MAP: the crates are those of crates.txt, in its order"""
-        there = [spans(cells[0])[0] for cells in rows(dict(sections(text_of("docs/MAP.md")))[""]) if len(cells) == 3]
-        self.assertEqual(there, list(CRATES), "the crates")
+        there = [spans(cells[0])[0] for cells in rows(section_of("docs/MAP.md", "")) if len(cells) == 3]
+        self.assertEqual(there, list(CRATES))
 
-    def test_definition_function_type_stands(self):
-        """MAP: each definition, function and type stands in the file that it is named beside, or in its crate"""
+    def test_rules(self):
+        """MAP: each definition, function and type is in the file that it is named beside, or in its crate, and what a
+        rule is tried by is there"""
         lacking = []
-        for what, *cells, _ in rows(dict(sections(text_of("docs/MAP.md")))["Where a rule lives"]):
+        for what, *cells, tried in rows(section_of("docs/MAP.md", "Where a rule lives")):
             for crate, path, name in beside("; ".join(cells)):
-                if path and not is_there(path, [""]):
+                if path and not is_there(path):
                     lacking.append((what, path))
-                elif not (set(name.split("::")) <= defined(path) if path else any(has(it, name) for it in below(CRATES, crate))):
+                elif not (set(name.split("::")) <= defined(path) if path else has(below(CRATES, crate), name)):
                     lacking.append((what, path or crate, name))
-        self.assertEqual(lacking, [], "what is not where MAP says")
+            there = [it for it in spans(tried) if is_there(it, "", "crates") or is_there(f"{it}.script", "examples")]
+            lacking += set(spans(tried)) - set(there)
+        self.assertEqual(lacking, [])
 
-    def test_rule_tried_there(self):
-        """MAP: what a rule is tried by is there"""
-        tried = [cells[-1] for cells in rows(dict(sections(text_of("docs/MAP.md")))["Where a rule lives"])]
-        lacking = [name for cell in tried for name in spans(cell) if not is_there(name, ["", "crates"]) and not is_there(name + ".script", ["examples"])]
-        self.assertEqual(lacking, [], "what is not there")
-
-    def test_crate_but_tests_has(self):
-        """PROMISES: each crate but those of tests has a section"""
-        told = [crate for crate, _ in promised()]
-        self.assertEqual(sorted(told), sorted(set(CRATES) - {"iom_tests", "iom_rows"}), "the sections")
-
-    def test_crate_section_names_crate(self):
-        """PROMISES: what a crate's section names is the crate's, or of one below it"""
-        for crate, body in promised():
-            named = {name for name in spans(body) if re.fullmatch(r"[A-Za-z_][\w:-]*", name)} - set(CRATES) - WORDS - {"stale_translation"}
-            lacking = [name for name in sorted(named) if not any(has(it, name) for it in below(CRATES, crate))]
-            self.assertEqual(lacking, [], f"what the section of {crate} names and is not there")
-
-    def test_names_parentheses_clause_or(self):
-        """PROMISES: what it names in parentheses is a clause or a function of the crate"""
-        for crate, body in promised():
-            there = {name for path in names_there(f"crates/{crate}/src/**/*.rt") for name in [*clauses(text_of(path)), *re.findall(r"\bfn (\w+)", text_of(path))]}
-            named = {name for group in re.findall(r"\((`[a-z_]+`(?:, `[a-z_]+`)*)\)", body) for name in spans(group)}
-            self.assertEqual(sorted(named - there), [], f"the clauses and functions that {crate} doesn't have")
-
-    def test_tests_names_there(self):
-        """PROMISES: the tests that it names are there"""
-        promises = dict(sections(text_of("docs/PROMISES.md")))
-        refused = defined("crates/iom_tests/src/refused.rt")
-        named = [name for cells in rows(promises["Calls that take memory"]) for name in spans(cells[1])]
-        self.assertEqual([name for name in named if name not in refused], [], "the tests of refused memory that are not there")
-        calls = [name for cells in rows(promises["Calls that take memory"]) for name in spans(cells[0])]
-        self.assertEqual([name for name in calls if not any(has(crate, name) for crate in CRATES)], [], "the calls that are not there")
-
-    def test_all_tests_libraries_stand(self):
-        """PROMISES: all tests of the libraries stand in iom_tests"""
-        with_tests = {path.split("/")[1] for path in names_there("crates/*/src/**/*.rt") if "#[test]" in text_of(path)}
-        self.assertEqual(sorted(with_tests), ["iom_tests"], "the crates with tests")
-
-    def test_library_definitions_has_section(self):
-        """MODEL: each library with definitions has a section"""
+    def test_sections(self):
+        """PROMISES and MODEL: each crate but those of tests has a section; each library with definitions has one"""
+        self.assertEqual(set(promised()), set(CRATES) - TESTS)
         told = [spans(head)[0] for head, _ in sections(text_of("docs/MODEL.md")) if spans(head)]
         defining = {path.split("/")[1] for path in names_there("crates/*/specs/*.antt")} - {"iom_tests"}
-        self.assertEqual(sorted(told), sorted(defining), "the sections")
+        self.assertEqual(sorted(told), sorted(defining))
 
-    def test_their_numbers_code_clauses(self):
+    def test_promises(self):
+        """PROMISES: what a crate's section names is the crate's, or of one below it; in parentheses stand clauses and
+        functions"""
+        for crate, body in promised().items():
+            named = {name for name in spans(body) if re.fullmatch(r"[A-Za-z_][\w:-]*", name)}
+            named -= {*CRATES, *WORDS, "stale_translation"}
+            self.assertEqual([it for it in sorted(named) if not has(below(CRATES, crate), it)], [], crate)
+            texts = map(text_of, files_of(crate, "src"))
+            there = {name for it in texts for name in [*clauses(it), *re.findall(r"\bfn (\w+)", it)]}
+            groups = re.findall(r"\((`[a-z_]+`(?:, `[a-z_]+`)*)\)", body)
+            self.assertLessEqual({name for it in groups for name in spans(it)}, there, crate)
+
+    def test_tests(self):
+        """PROMISES: the calls that take memory and their tests are there, and all tests stand in iom_tests"""
+        refused = defined("crates/iom_tests/src/refused.rt")
+        for calls, tests, *_ in table_with("docs/PROMISES.md", "Call that takes memory"):
+            self.assertLessEqual(set(spans(tests)), refused)
+            self.assertEqual([name for name in spans(calls) if not has(CRATES, name)], [])
+        with_tests = {path.split("/")[1] for path in names_there("crates/*/src/**/*.rt") if "#[test]" in text_of(path)}
+        self.assertEqual(with_tests, {"iom_tests"})
+
+    def test_numbers(self):
         """documents: their numbers are those of the code and of its clauses"""
         for document, phrase, path, there in NUMBERS:
             said = " ".join(text_of(document).split())
-            self.assertEqual((phrase in said, there in text_of(path)), (True, True), f"whether {document} says {phrase!r} and {path} has {there!r}")
+            self.assertEqual((phrase in said, there in text_of(path)), (True, True), (document, phrase))
 
-    def test_has_public_name_library(self):
-        """GLOSSARY: it has each public name of a library; those of the C library stand in its header"""
-        named = {word for _, names in glossary() for name in names for word in re.findall(r"\w+", name)}
+    def test_glossary(self):
+        """GLOSSARY: it has each public name of a library; those that look like names are there"""
+        named = {word for _, names in glossary() for word in re.findall(r"\w+", " ".join(names))}
         for crate in set(CRATES) - {"iom_c"}:
-            self.assertEqual(sorted(public(crate) - named), [], f"what it lacks of {crate}")
-
-    def test_name_begins_crate_type(self):
-        """GLOSSARY: each name that begins with a crate's type or has a low line is the crate's"""
-        lacking = []
+            self.assertLessEqual(public(crate), named, crate)
         for crates, names in glossary():
-            named = [name for name in names if re.fullmatch(r"\w+(::\w+)*", name) and re.search("[_A-Z]", name)]
-            places = [below_it for crate in crates for below_it in below(CRATES, crate)] if crates else CRATES
-            lacking += [(crates, name) for name in named if not any(has(crate, name) for crate in places)]
-        self.assertEqual(lacking, [], "what is not there")
+            places = {low for it in crates for low in below(CRATES, it)} or CRATES
+            looking = [it for it in names if re.fullmatch(r"\w+(::\w+)*", it) and re.search("[_A-Z]", it)]
+            self.assertEqual([it for it in looking if not has(places, it)], [], crates)
 
-    def test_public_item_field_has(self):
+    def test_docstrings(self):
         """code: each public item and field has a docstring, and each longer private function a comment"""
-        for crate in CRATES:
-            self.assertEqual([line for path in files_of(crate) if "/src/" in path for line in undocumented(path)], [], f"what lacks one in {crate}")
+        paths = [path for crate in CRATES for path in files_of(crate, "src")]
+        paths += names_there("web/iom_page/src/**/*.page")
+        self.assertEqual([line for path in paths for line in undocumented(path)], [])

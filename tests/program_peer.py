@@ -2,9 +2,11 @@
 
 For the second each side of the comparison is a model that says something false at one place, in place of the program or of QEMU.
 """
+import struct
+
+from frame import Case, program
 from cases import WELL, random_case
 from directed import FAULTS, GSCID, GUEST_ROOT, GV, IODIR, IOVA, LEAVES, SV39, SV39X4, VMA, Plain
-from frame import Case, program
 from model import BASE, CQCSR, FQB, FQCSR, IPSR, Model
 from qemu import IOMMU, PLACE
 import directed
@@ -28,92 +30,57 @@ def whole_case():
     return case.read(IOVA)
 
 
-# Models that say something false.
-
-
-class OtherCause(Model):
-    def access(self, did, iova, length, data=None):
-        answer, got = super().access(did, iova, length, data)
-        return "denied 1" if answer == "denied 13" else answer, got
-
-
-class OtherCauseInRecord(Model):
-    def deliver(self, words):
-        super().deliver([words[0] & ~2, *words[1:]])
-
-
-class OtherLowBit(Model):
-    def deliver(self, words):
-        super().deliver([*words[:3], words[3] ^ 1])
-
-
-class HalfRead(Model):
-    """Half of the bytes that a device reads, which the rest of a buffer doesn't show."""
-
-    def access(self, did, iova, length, data=None):
-        answer, got = super().access(did, iova, length, data)
-        half = len(got) // 2
-        return (answer, got) if data is not None or " " in answer else (answer[: 2 * half], got[:half])
-
-
-class LostRecord(Model):
-    def deliver(self, words):
-        if not self.records:
-            super().deliver(words)
-
-
-class StalePage(Model):
-    def is_dropped_by_vma(self, *which):
-        return False
-
-
-class StaleContext(Model):
-    def drop_contexts(self, dv, did):
-        pass
-
-
-class OtherWrite(Model):
-    def access(self, did, iova, length, data=None):
-        return super().access(did, iova, length, data and data[:-1] + b"\0")
-
-
-class StrayWrite(Model):
-    """A write that leaves a byte where no model writes one."""
-
-    def access(self, did, iova, length, data=None):
-        self.memory[-1] |= data is not None
-        return super().access(did, iova, length, data)
+def false(**methods):
+    """A model that says something false by these methods, of which each has the true model's own as its last operand."""
+    made = type("False", (Model,), {})
+    for name, method in methods.items():
+        own = getattr(Model, name)
+        setattr(made, name, lambda self, *words, method=method, own=own: method(self, *words, own.__get__(self)))
+    return made
 
 
 def shows(offset, change):
     """A model that shows a register otherwise."""
-
-    class Shows(Model):
-        def read(self, off, size):
-            value = super().read(off, size)
-            return change(value) if off == offset else value
-
-    return Shows
+    return false(read=lambda self, off, size, own: change(own(off, size)) if off == offset else own(off, size))
 
 
+def half_read(self, did, iova, length, data, own):
+    """Half of the bytes that a device reads, which the rest of a buffer doesn't show."""
+    answer, got = own(did, iova, length, data)
+    half = len(got) // 2
+    return (answer, got) if data is not None or " " in answer else (answer[: 2 * half], got[:half])
+
+
+def other_cause(self, did, iova, length, data, own):
+    answer, got = own(did, iova, length, data)
+    return "denied 1" if answer == "denied 13" else answer, got
+
+
+def stray_write(self, did, iova, length, data, own):
+    """A write that leaves a byte where no model writes one."""
+    self.memory[-1] |= data is not None
+    return own(did, iova, length, data)
+
+
+# An access that QEMU refuses gives zeros, whatever the cause; only its record has that.
+UNSEEN_OF_QEMU, STRAY_WRITE = false(access=other_cause), false(access=stray_write)
 FALSE = {
-    "a cause that is a part of the right one": OtherCause,
-    "a cause in a record": OtherCauseInRecord,
-    "iotval2 with the other low bit": OtherLowBit,
-    "half of a read": HalfRead,
-    "a record that is lost": LostRecord,
-    "a translation that stays behind an invalidation": StalePage,
-    "a context that stays behind an invalidation": StaleContext,
-    "a write without its last byte": OtherWrite,
-    "a write that goes elsewhere too": StrayWrite,
+    "a cause that is a part of the right one": UNSEEN_OF_QEMU,
+    "a cause in a record": false(deliver=lambda self, words, own: own([words[0] & ~2, *words[1:]])),
+    "iotval2 with the other low bit": false(deliver=lambda self, words, own: own([*words[:3], words[3] ^ 1])),
+    "half of a read": false(access=half_read),
+    "a record that is lost": false(deliver=lambda self, words, own: self.records or own(words)),
+    "a translation that stays behind an invalidation": false(is_dropped_by_vma=lambda self, *words: False),
+    "a context that stays behind an invalidation": false(drop_contexts=lambda self, *words: None),
+    "a write without its last byte": false(
+        access=lambda self, did, iova, length, data, own: own(did, iova, length, data and data[:-1] + b"\0")),
+    "a write that goes elsewhere too": STRAY_WRITE,
     "fqcsr without fqon": shows(FQCSR, lambda value: value & ~(1 << 16)),
     "fqcsr without fqof": shows(FQCSR, lambda value: value & ~(1 << 9)),
     "fqcsr with fie": shows(FQCSR, lambda value: value | FQIE),
-    "cqcsr that is 1 where it is on": shows(CQCSR, lambda value: 1 if value else 0),
+    "cqcsr that is 1 while it is on": shows(CQCSR, lambda value: 1 if value else 0),
     "ipsr with fip": shows(IPSR, lambda value: value | 2),
 }
-# An access that QEMU refuses gives zeros, whatever the cause; only its record has that.
-UNSEEN_OF_QEMU = OtherCause
 
 
 class OfProgram:
@@ -123,36 +90,32 @@ class OfProgram:
         self.model = model
 
     def answers(self, image, lines):
-        model = self.model()
-        count = int.from_bytes(image[24:28], "little")
-        at = 32
-        for _ in range(count):
-            address, length = int.from_bytes(image[at : at + 8], "little"), int.from_bytes(image[at + 8 : at + 12], "little")
+        model, at = self.model(), 32
+        for _ in range(*struct.unpack_from("<I", image, 24)):
+            address, length = struct.unpack_from("<QI", image, at)
             model.put(address, image[at + 12 : at + 12 + length])
             at += 12 + length
         return [self.answer(model, *line.split()) for line in lines]
 
     @staticmethod
     def answer(model, word, *rest):
+        kind, *rest = rest if word in ("reg", "dma") else (word, *rest)
+        data = bytes.fromhex(rest.pop()) if (word, kind) == ("dma", "write") else None
+        numbers = [int(it, 0) for it in rest]
         if word == "cmd":
             return "done" if model.command() else "idle"
         if word == "load":
-            return hex(model.load(*(int(it, 0) for it in rest)))
-        if word == "store":
-            address, size, value = (int(it, 0) for it in rest)
-            model.put(address, value.to_bytes(size, "little"))
-            return "done"
-        kind, *numbers = rest
+            return hex(model.load(*numbers))
         if word == "dma":
-            did, iova = int(numbers[0], 0), int(numbers[1], 0)
-            data = bytes.fromhex(numbers[2]) if kind == "write" else None
-            return model.access(did, iova, len(data) if data else int(numbers[2]), data)[0]
-        numbers = [int(it, 0) for it in numbers]
-        if kind == "write":
+            return model.access(*numbers[:2], len(data) if data else numbers[2], data)[0]
+        if kind == "read":
+            value = model.read(*numbers)
+            return "bad access" if value is None else hex(value)
+        if word == "store":
+            model.put(numbers[0], numbers[2].to_bytes(numbers[1], "little"))
+        else:
             model.write(*numbers)
-            return "done"
-        value = model.read(*numbers)
-        return "bad access" if value is None else hex(value)
+        return "done"
 
 
 class OfQemu:
@@ -199,7 +162,7 @@ class OfQemu:
 def sides_found(program, qemu):
     """The sides of which a comparison of the case tells a difference."""
     comparison = peer.Comparison(OfProgram(program), [OfQemu(qemu)])
-    told = comparison.compare(whole_case(), NAMES, is_whole=StrayWrite in (program, qemu))[0]
+    told = comparison.compare(whole_case(), NAMES, is_whole=STRAY_WRITE in (program, qemu))[0]
     return {what.split(",")[0] for what in told}
 
 

@@ -1,33 +1,38 @@
 #!/usr/bin/env -S python3 -B
-"""walks.py FILE [WORLDS] [SEED]    Records what a RISC-V hart's own page-table walks give, by QEMU, into FILE (tests/walks.txt).
+"""walks.py FILE [WORLDS] [SEED]    Records what a RISC-V hart's own page-table walks give, by QEMU, into FILE.
 
-The hart is in M-mode and loads and stores as a guest's user by HLV.D and HSV.D, through both stages, without hardware updates of A and D. Its
-PMP lets it reach one MiB of memory from 0x80000000 alone. Worlds follow one another; each stores page tables and data over what is there, and
-has walks. `program_walks.py` plays the file on the program, where a device makes the same accesses.
+The hart is in M-mode and loads and stores as a guest's user by HLV.D and HSV.D, through both stages, without hardware
+updates of A and D (walks.S is its program). Its PMP lets it reach one MiB of memory from 0x80000000 on and nothing else.
+Worlds follow one another; each stores page tables and data over what is there, and has walks. `program_walks.py` plays
+the file, tests/walks.txt, on the program, where a device makes the same accesses.
 
 A line of FILE is one of
 
     world                   caches are emptied
     ADDRESS WORD            a word is stored
-    stages FIRST SECOND     vsatp and hgatp of the walks that follow, which have the form of a context's fsc and iohgatp
+    stages FIRST SECOND     vsatp and hgatp of the walks that follow, in the form of a context's fsc and iohgatp
     r ADDRESS RESULT        eight bytes are read; RESULT is their number
     w ADDRESS WORD RESULT   eight bytes are written; RESULT is `done`
     left ADDRESS WORD       a word at the end of the world
 
-with numbers in hex. RESULT is `!CAUSE` or `!CAUSE:GUEST` where the access is refused: mcause, and for a guest page fault the guest-physical
-address with bits 1:0 cleared, and 1 more where the hart says that it was an entry of the first stage.
+with numbers in hex. RESULT is `!CAUSE` or `!CAUSE:GUEST` if the access is refused: mcause, and for a guest page fault
+the guest-physical address with bits 1:0 cleared, and 1 more if the hart says that it was an entry of the first stage.
+It needs QEMU, clang and llvm-objcopy.
 """
 import random
-import socket
 import subprocess
 import sys
 import tempfile
+from pathlib import Path
 
-QEMU = "qemu-system-riscv64"
+from frame import TESTS
+from qemu import Qtest
+
 BASE, SIZE = 0x80000000, 0x100000
 CODE, MAIL = 0x80400000, 0x80500000
-# Pages of the tables and data: the first of memory is spared, and the last eight, which have directory and queues where the walks are played.
-# Each page is of one kind in all worlds, so that what an earlier world left in a second-stage table is of such a table.
+# Pages of the tables and data: the first of memory is spared, and the last eight, which have directory and queues where
+# the walks are played. Each page is of one kind in all worlds, so that what an earlier world left in a second-stage
+# table is of such a table.
 PAGES = range((BASE >> 12) + 1, (BASE + SIZE >> 12) - 8)
 DATA, SECOND, FIRST = PAGES[:7], PAGES[7:135], PAGES[135:]
 WALKS = 100
@@ -36,100 +41,31 @@ LEVELS = {0: 0, 8: 3, 9: 4}
 OUTSIDE = 0x90000
 PSEUDO_INSTRUCTIONS = (0x3000, 0x3020)
 
-# The hart's program. Registers:
-T0, S0, S1, A0, A1, A2, A3, A4, A5 = 5, 8, 9, 10, 11, 12, 13, 14, 15
-VSSTATUS, VSATP, MTVEC, MEPC, MCAUSE, MTINST, MTVAL2, PMPCFG0, PMPADDR0, HSTATUS, HGATP = (
-    *(0x200, 0x280, 0x305, 0x341, 0x342, 0x34A, 0x34B, 0x3A0, 0x3B0, 0x600, 0x680),
-)
 
-
-def auipc(rd, pages):
-    return pages << 12 | rd << 7 | 0x17
-
-
-def lui(rd, pages):
-    return pages << 12 | rd << 7 | 0x37
-
-
-def addi(rd, rs1, value):
-    return (value & 4095) << 20 | rs1 << 15 | rd << 7 | 0x13
-
-
-def ld(rd, offset, rs1):
-    return offset << 20 | rs1 << 15 | 3 << 12 | rd << 7 | 0x03
-
-
-def sd(rs2, offset, rs1):
-    return offset >> 5 << 25 | rs2 << 20 | rs1 << 15 | 3 << 12 | (offset & 31) << 7 | 0x23
-
-
-def csrw(csr, rs1):
-    return csr << 20 | rs1 << 15 | 1 << 12 | 0x73
-
-
-def csrr(rd, csr):
-    return csr << 20 | 2 << 12 | rd << 7 | 0x73
-
-
-def bne(rs1, rs2, distance, is_equal=False):
-    field = (distance >> 12 & 1) << 31 | (distance >> 5 & 63) << 25 | (distance >> 1 & 15) << 8 | (distance >> 11 & 1) << 7
-    return field | rs2 << 20 | rs1 << 15 | (0 if is_equal else 1) << 12 | 0x63
-
-
-def jump(distance):
-    return (distance >> 20 & 1) << 31 | (distance >> 1 & 1023) << 21 | (distance >> 11 & 1) << 20 | (distance >> 12 & 255) << 12 | 0x6F
-
-
-def program():
-    """Waits for a count at MAIL, carries out as many requests from MAIL + 32 on, puts each result in its request's place, and clears the count."""
-    start = [auipc(S0, MAIL - CODE >> 12), auipc(T0, 0), None, csrw(MTVEC, T0)]
-    start += [lui(T0, (BASE >> 14) + (SIZE >> 15)), addi(T0, T0, -1), csrw(PMPADDR0, T0), addi(T0, 0, 0x1F), csrw(PMPCFG0, T0)]
-    start += [csrw(HSTATUS, 0), csrw(VSSTATUS, 0)]
-    wait = [ld(T0, 0, S0), bne(T0, 0, -4, True), addi(S1, S0, 32)]
-    body = [ld(A0, 0, S1), csrw(VSATP, A0), ld(A0, 8, S1), csrw(HGATP, A0), 0x62000073, 0x22000073]  # hfence.gvma, hfence.vvma
-    body += [ld(A1, 16, S1), ld(A2, 24, S1), addi(A3, 0, 0), addi(A4, 0, 0), csrw(MTVAL2, 0), csrw(MTINST, 0)]
-    body += [bne(A2, 0, 12), 0x6C004073 | A1 << 15 | A4 << 7, jump(8), 0x6E004073 | A1 << 15 | A2 << 20]  # hlv.d, hsv.d
-    body += [sd(A3, 0, S1), sd(A4, 8, S1), csrr(A5, MTVAL2), sd(A5, 16, S1), csrr(A5, MTINST), sd(A5, 24, S1)]
-    body += [addi(S1, S1, 32), addi(T0, T0, -1)]
-    body += [bne(T0, 0, -4 * len(body)), sd(0, 0, S0)]
-    body += [jump(-4 * (len(body) + len(wait)))]
-    trap = [csrr(A3, MCAUSE), csrr(A5, MEPC), addi(A5, A5, 4), csrw(MEPC, A5), 0x30200073]  # mret
-    start[2] = addi(T0, T0, 4 * (len(start) + len(wait) + len(body)) - 4)
-    return b"".join(word.to_bytes(4, "little") for word in start + wait + body + trap)
-
-
-class Hart:
-    def __init__(self):
-        ours, its = socket.socketpair()
-        self.code = tempfile.NamedTemporaryFile()
-        self.code.write(program())
-        self.code.flush()
-        words = [QEMU, "-M", "virt", "-m", "8M", "-nodefaults", "-display", "none", "-bios", "none", "-accel", "tcg"]
-        words += ["-cpu", "rv64,h=on,svade=on,svadu=off,svnapot=off,svpbmt=off", "-device", f"loader,file={self.code.name},addr={CODE:#x}"]
-        words += ["-device", f"loader,addr={CODE:#x},cpu-num=0"]
-        words += ["-chardev", f"socket,id=q,fd={its.fileno()}", "-qtest", "chardev:q", "-qtest-log", "none"]
-        self.process = subprocess.Popen(words, pass_fds=[its.fileno()], stdin=subprocess.DEVNULL)
-        its.close()
-        self.socket, self.lines = ours, ours.makefile("rb")
+class Hart(Qtest):
+    def __init__(self, folder):
+        compiled, code = Path(folder, "walks.o"), Path(folder, "walks.bin")
+        target = ["--target=riscv64-unknown-elf", "-march=rv64g", "-mno-relax"]
+        subprocess.run(["clang", *target, "-c", TESTS / "walks.S", "-o", compiled], check=True)
+        subprocess.run(["llvm-objcopy", "-O", "binary", "-j", ".text", compiled, code], check=True)
+        loaded = ["-device", f"loader,file={code},addr={CODE:#x}", "-device", f"loader,addr={CODE:#x},cpu-num=0"]
+        super().__init__("-m", "8M", "-cpu", "rv64,h=on,svade=on,svadu=off,svnapot=off,svpbmt=off", *loaded)
         self.ask([f"memset {BASE:#x} {SIZE:#x} 0"])
 
-    def ask(self, commands):
-        self.socket.sendall("".join(command + "\n" for command in commands).encode())
-        answers = [self.lines.readline().decode().split() for _ in commands]
-        if any(answer[0] != "OK" for answer in answers):
-            raise OSError(f"qtest: {answers}")
-        return [answer[1] if len(answer) > 1 else "" for answer in answers]
+    def memory(self):
+        return bytes.fromhex(self.ask([f"read {BASE:#x} {SIZE:#x}"])[0][2:])
 
     def words(self, addresses):
         return [int(answer, 0) for answer in self.ask([f"readq {address:#x}" for address in addresses])]
 
     def walks(self, requests):
         """Carries requests out: vsatp, hgatp, an address and a word to write or 0 for a read."""
-        stores = [f"writeq {MAIL + 32 + 32 * at + 8 * part:#x} {word:#x}" for at, request in enumerate(requests) for part, word in enumerate(request)]
-        self.ask([*stores, f"writeq {MAIL:#x} {len(requests):#x}"])
+        words = [word for request in requests for word in request]
+        places = [MAIL + 32 + 8 * at for at in range(len(words))]
+        self.ask([*(f"writeq {at:#x} {word:#x}" for at, word in zip(places, words)), f"writeq {MAIL:#x} {len(requests)}"])
         while self.words([MAIL])[0]:
             pass
-        words = self.words([MAIL + 32 + 8 * at for at in range(4 * len(requests))])
+        words = self.words(places)
         return [words[at : at + 4] for at in range(0, len(words), 4)]
 
 
@@ -262,7 +198,7 @@ def result(is_write, cause, value, guest, instruction):
 def recorded(hart, world):
     """The lines of a world."""
     hart.ask([f"writeq {address:#x} {word:#x}" for address, word in world.words.items()])
-    before = hart.ask([f"read {BASE:#x} {SIZE:#x}"])[0][2:]
+    before = hart.memory()
     lines, stages = ["world"] + [f"{address:x} {word:x}" for address, word in world.words.items()], None
     for walk, told in zip(world.walks, hart.walks(world.walks)):
         if walk[:2] != stages:
@@ -270,27 +206,25 @@ def recorded(hart, world):
             lines.append(f"stages {stages[0]:x} {stages[1]:x}")
         said = result(walk[3], *told)
         lines.append(f"w {walk[2]:x} {walk[3]:x} {said}" if walk[3] else f"r {walk[2]:x} {said}")
-    after = hart.ask([f"read {BASE:#x} {SIZE:#x}"])[0][2:]
+    after = hart.memory()
     for at in range(0, SIZE, 8):
-        if before[2 * at : 2 * at + 16] != after[2 * at : 2 * at + 16]:
-            word = int.from_bytes(bytes.fromhex(after[2 * at : 2 * at + 16]), "little")
-            lines.append(f"left {BASE + at:x} {word:x}")
+        word = after[at : at + 8]
+        if word != before[at : at + 8]:
+            lines.append(f"left {BASE + at:x} {int.from_bytes(word, 'little'):x}")
     return lines
 
 
-def main():
-    if len(sys.argv) not in (2, 3, 4):
-        sys.exit("usage: walks.py FILE [WORLDS] [SEED]")
-    worlds, seed = int(sys.argv[2]) if len(sys.argv) > 2 else 104, sys.argv[3] if len(sys.argv) > 3 else "1"
-    hart = Hart()
-    try:
-        with open(sys.argv[1], "w") as file:
-            for number in range(worlds):
-                file.writelines(line + "\n" for line in recorded(hart, World(random.Random(f"{seed}/{number}"))))
-    finally:
-        hart.process.terminate()
-        hart.process.wait()
+def main(file, worlds="104", seed="1"):
+    with tempfile.TemporaryDirectory() as folder:
+        hart = Hart(folder)
+        try:
+            lines = [it for at in range(int(worlds)) for it in recorded(hart, World(random.Random(f"{seed}/{at}")))]
+        finally:
+            hart.end()
+    Path(file).write_text("".join(f"{line}\n" for line in lines), encoding="utf-8")
 
 
 if __name__ == "__main__":
-    main()
+    if not 2 <= len(sys.argv) <= 4:
+        sys.exit(__doc__)
+    main(*sys.argv[1:])

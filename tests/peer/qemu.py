@@ -30,22 +30,17 @@ def pattern(device):
     return bytes((at * 37 + at // 64 * 11 + device * 53 + 1) & 255 for at in range(HALF))
 
 
-class Qemu:
-    def __init__(self, bus):
-        """Starts a QEMU whose devices' ids are those of a bus."""
+class Qtest:
+    """A QEMU of a RISC-V machine, driven over qtest."""
+
+    def __init__(self, *words):
         ours, its = socket.socketpair()
-        words = [QEMU, "-M", "virt", "-m", str(SIZE >> 20), "-nodefaults", "-display", "none", "-bios", "none"]
-        # the hart sleeps, so the delay of an edu's transfer passes at once
-        words += ["-accel", "tcg", "-icount", "shift=0,sleep=off", "-global", "riscv-cpu.start-powered-off=on"]
-        words += ["-chardev", f"socket,id=q,fd={its.fileno()}", "-qtest", "chardev:q", "-qtest-log", "none"]
-        words += ["-global", f"riscv-iommu.bus={bus:#x}", "-device", f"{DEVICE},intremap=off,ats=off,hpm-counters=0,addr=1"]
-        for slot in SLOTS:
-            words += ["-device", f"edu,addr={slot:#x},dma_mask={(1 << 64) - 1}"]
-        self.process = subprocess.Popen(words, pass_fds=[its.fileno()], stdin=subprocess.DEVNULL, stderr=subprocess.DEVNULL)
+        at = ["-chardev", f"socket,id=q,fd={its.fileno()}", "-qtest", "chardev:q", "-qtest-log", "none", "-accel", "tcg"]
+        words = [QEMU, "-M", "virt", "-nodefaults", "-display", "none", "-bios", "none", *at, *words]
+        quiet = {"stdin": subprocess.DEVNULL, "stderr": subprocess.DEVNULL}
+        self.process = subprocess.Popen(words, pass_fds=[its.fileno()], **quiet)
         its.close()
-        self.socket = ours
-        self.lines = ours.makefile("rb")
-        self.set_up()
+        self.socket, self.lines = ours, ours.makefile("rb")
 
     def end(self):
         self.process.terminate()
@@ -64,6 +59,20 @@ class Qemu:
             elif line[0] != "IRQ":
                 raise OSError("qtest: " + " ".join(line))
         return answers
+
+
+class Qemu(Qtest):
+    """A QEMU whose devices' ids are those of a bus."""
+
+    def __init__(self, bus):
+        # The hart sleeps, so the delay of an edu's transfer passes at once.
+        words = ["-m", str(SIZE >> 20), "-icount", "shift=0,sleep=off", "-global", "riscv-cpu.start-powered-off=on"]
+        words += ["-global", f"riscv-iommu.bus={bus:#x}"]
+        words += ["-device", f"{DEVICE},intremap=off,ats=off,hpm-counters=0,addr=1"]
+        for slot in SLOTS:
+            words += ["-device", f"edu,addr={slot:#x},dma_mask={(1 << 64) - 1}"]
+        super().__init__(*words)
+        self.set_up()
 
     def set_up(self):
         for at, slot in enumerate([1, *SLOTS]):
