@@ -89,7 +89,6 @@ cost:
 bench: $(program)
 	@$(has_python)
 	bench/bench.py $(program) $(OTHER)
-	bench/images.py $(program) $(OTHER)
 
 fuzz: $(program)
 	@$(has_python)

@@ -23,7 +23,7 @@ NUMBERS = [
     ("docs/PROMISES.md", "beyond 2^20 lines or 2^26 bytes", "crates/iom_reader/specs/Running.antt", "(length text ≡ 2 ^ 26) ⊎ (length (ended_lines text) ≡ 2 ^ 20)"),
     ("docs/CONTRIBUTING.md", "the 320 bytes of a `Reply`", "crates/iom_tool/src/draft.rt", "bytes: [u8; 320],"),
     ("README.md", "each process with 2 to 3 GB of memory", "packaging/build.py", "BYTES_A_JOB = 3 << 30"),
-    ("README.md", "glibc 2.36 or later", "packaging/package.py", 'LIBC = "libc6 (>= 2.36)"'),
+    ("README.md", "glibc 2.36 or later", "packaging/package.py", 'GLIBC = "2.36"'),
     ("man/rviommu.1", "A file may have at most 2^30 bytes", "crates/rviommu/src/files.rt", "MOST_BYTES: u64 = 1 << 30;"),
     ("docs/PROMISES.md", "and of 200 lists of steps made at random", "crates/iom_rows/src/generated.rt", "SCRIPTS: u64 = 200;"),
     ("docs/GATE.md", "and of 200 lists of steps made at random", "crates/iom_rows/src/generated.rt", "SCRIPTS: u64 = 200;"),
