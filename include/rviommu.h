@@ -170,7 +170,7 @@ enum rviommu_part_kind {
     RVIOMMU_PART_WIDE_GUEST = 8   /* a guest-physical address with bits above those that the second stage uses */
 };
 
-/* The verdict on an entry of a page table. All but POINTER and LEAF are faults. */
+/* The ruling on an entry of a page table. All but POINTER and LEAF are faults. */
 enum rviommu_ruling {
     RVIOMMU_ENTRY_OUTSIDE = 0,             /* it is outside memory */
     RVIOMMU_ENTRY_GUEST = 1,               /* the second stage doesn't translate its guest-physical address */

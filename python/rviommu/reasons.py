@@ -13,7 +13,7 @@ PartKind.__doc__ = ("A part of a walk: ddtp, an entry of the directory or its le
 
 Ruling = IntEnum("Ruling", "OUTSIDE GUEST INVALID WRITE_ONLY RESERVED RESERVED_IN_POINTER LAST_LEVEL POINTER MISALIGNED NOT_USER NOT_READABLE NOT_WRITABLE "
                  "NOT_ACCESSED NOT_DIRTY LEAF", start=0)
-Ruling.__doc__ = "The verdict on an entry of a page table. All but POINTER and LEAF are faults."
+Ruling.__doc__ = "The ruling on an entry of a page table. All but POINTER and LEAF are faults."
 
 WhyKind = IntEnum("WhyKind", "NO_ACCESS DENIED REGISTER CONTEXT WALK", start=0)
 WhyKind.__doc__ = "Where a step got its translation from: nowhere, ddtp, a context whose stages are both Bare, or the stages of a context."
