@@ -20,15 +20,15 @@ CRATES = stands_on()
 OTHERS = {name for _, uses in listed().values() for name in uses} - set(CRATES)
 # What a document says of a number, and where the code or a clause has it.
 NUMBERS = [
-    ("docs/PROMISES.md", "beyond 2^20 lines or 2^26 bytes", "crates/iom_reader/specs/Running.antt", "(length text ≡ 2 ^ 26) ⊎ (length (ended_lines text) ≡ 2 ^ 20)"),
-    ("docs/CONTRIBUTING.md", "the 320 bytes of a `Reply`", "crates/iom_tool/src/draft.rt", "bytes: [u8; 320],"),
-    ("README.md", "each process with 2 to 3 GB of memory", "packaging/build.py", "BYTES_A_JOB = 3 << 30"),
-    ("README.md", "glibc 2.36 or later", "packaging/package.py", 'LIBC = "libc6 (>= 2.36)"'),
-    ("man/rviommu.1", "A file may have at most 2^30 bytes", "crates/rviommu/src/files.rt", "MOST_BYTES: u64 = 1 << 30;"),
-    ("docs/PROMISES.md", "and of 200 lists of steps made at random", "crates/iom_rows/src/generated.rt", "SCRIPTS: u64 = 200;"),
-    ("docs/GATE.md", "and of 200 lists of steps made at random", "crates/iom_rows/src/generated.rt", "SCRIPTS: u64 = 200;"),
-    ("docs/PROMISES.md", "100,000 lines of generated scripts", "tests/c_library.py", "PLAIN_LINES, HARMFUL_LINES = 20_000, 40_000"),
-    ("docs/GATE.md", "It plays 100,000 generated lines", "tests/c_library.py", "PLAIN_LINES, HARMFUL_LINES = 20_000, 40_000"),
+    ("docs/PROMISES.md", "2^20 lines or 2^26 bytes", "crates/iom_reader/specs/Running.antt", "(length text ≡ 2 ^ 26) ⊎ (length (ended_lines text) ≡ 2 ^ 20)"),
+    ("docs/CONTRIBUTING.md", "320 bytes", "crates/iom_tool/src/draft.rt", "bytes: [u8; 320],"),
+    ("README.md", "2 to 3 GB", "packaging/build.py", "BYTES_A_JOB = 3 << 30"),
+    ("README.md", "glibc 2.36", "packaging/package.py", 'GLIBC = "2.36"'),
+    ("man/rviommu.1", "2^30 bytes", "crates/rviommu/src/files.rt", "MOST_BYTES: u64 = 1 << 30;"),
+    ("docs/PROMISES.md", "200 lists of steps", "crates/iom_rows/src/generated.rt", "SCRIPTS: u64 = 200;"),
+    ("docs/GATE.md", "200 lists of steps", "crates/iom_rows/src/generated.rt", "SCRIPTS: u64 = 200;"),
+    ("docs/PROMISES.md", "100,000 lines", "tests/c_library.py", "PLAIN_LINES, HARMFUL_LINES = 20_000, 40_000"),
+    ("docs/GATE.md", "100,000 generated lines", "tests/c_library.py", "PLAIN_LINES, HARMFUL_LINES = 20_000, 40_000"),
 ]
 # Which section of a document, or all of it, has names of the code.
 NAMING = {"README.md": "What is proved", "docs/MAP.md": "How a step flows", "docs/CONTRIBUTING.md": "Recipes", "docs/MODEL.md": None}
