@@ -55,7 +55,7 @@ DEBUG_SAMPLES = {
     "stale context": {
         "same": [*CACHED, "stale context 0"], "context ..": [*CACHED, "put 0x800010a0 context mode=8 ppn=0x80002", "stale context 0"],
         "denied CAUSE": [*CACHED, "store 0x800010a0 8 0", "stale context 0"], "no directory": [*TO_DDTP, "stale context 0"],
-        "empty": [*CACHED, *INVALIDATE.decode().splitlines(), "stale context 0"], "none": ["stale context 0"],
+        "empty": [*CACHED, "reg write cqb 0x20024001", "reg write cqcsr 1", "reg write cqt 2", "cmd run 9", "stale context 0"], "none": ["stale context 0"],
     },
     "stale page": {
         "same": [*CACHED, "stale page 0"], "page ..": [*CACHED, REMAP, "stale page 0"], "denied CAUSE": [*UNMAPPED, "stale page 0"],
