@@ -225,7 +225,7 @@ struct rviommu_why {
     uint64_t context;       /* CONTEXT: the number of the step that filled the context it used; WALK: of the step that filled the context
                                under which its page was walked */
     uint64_t walk;          /* WALK: the number of the step that filled its page */
-    uint64_t current;       /* WALK: the number of the step that filled the context in force, whose PSCID and GSCID its page has */
+    uint64_t current;       /* WALK: the number of the step that filled the context in force, which gives its page the same ids */
     uint32_t did;           /* all but NO_ACCESS: the device id of its access */
     uint32_t kind;          /* an enum rviommu_why_kind */
     bool is_write;          /* all but NO_ACCESS: its access was a write */
@@ -277,7 +277,8 @@ enum rviommu_status rviommu_line(rviommu_t *handle, const char *line, size_t lin
  * Steps by numbers. The handle is open. Each call is one step: the trace keeps it and the account counts it, as for a line. Only a device's
  * access of no bytes, or of more than 64, is no step. Each comment names the answers that are possible. `value` is written for
  * RVIOMMU_VALUE, `bytes` for RVIOMMU_BYTES and `cause` for RVIOMMU_DENIED; with any other answer they are left unchanged. A refused step
- * changes nothing, except that a denial may make a fault record and that translation may fill the caches.
+ * changes nothing, with three exceptions: a denial may make a fault record, translation may fill the caches, and a block device whose access
+ * is refused is broken.
  */
 
 /* The hart reads `size` bytes, 1, 2, 4 or 8, at a physical address that is a multiple of the size: VALUE, BUS_ERROR, MISUSE. */
