@@ -67,7 +67,7 @@ def calls_that_take_memory():
 
 class Calls(Case):
     def test_listed(self):
-        """documents: the calls that take memory are those that PROMISES lists, with tests that refused_memory.sh tries"""
+        """PROMISES: the calls that take memory, and their tests, which refused_memory.sh tries"""
         listed = table_with("docs/PROMISES.md", "Call that takes memory")
         self.assertEqual(calls_that_take_memory(), {name for row in listed for name in spans(row[0])})
         tried = text_of("tests/refused_memory.sh")

@@ -14,7 +14,8 @@ DIRECTORY = range(PAGES.stop, BASE + SIZE >> 12)
 NOWHERE = 0x90000
 # What there is to meet, without numbers: how entries of both stages are judged, and how walks end.
 FIELDS = re.compile(r" ?\b(?:level|at|in|of|ppn|flags|frame|addr|iotval2|did|iova|guest)=\S+| pte| u64 \S+")
-JUDGED = ["V=0", "R=0 W=1", "reserved bits", "reserved in pointer", "last level", "pointer", "misaligned", *"URWAD", "leaf", OUTSIDE]
+JUDGED = ["V=0", "R=0 W=1", "reserved bits", "reserved in pointer", "last level", "pointer", "misaligned"]
+JUDGED += [*"URWAD", "leaf", OUTSIDE]
 ENDS = ["register", "context", "", *(f"denied {cause}" for cause in (5, 7, 13, 15, 21, 23, 256, 257, 258, 259, 260))]
 # What is too wide for a table, with the part behind it; each is met as often as this at least.
 WIDE = ["dir width, denied 260", *(f"first width, denied {cause}" for cause in (13, 15))]
