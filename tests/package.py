@@ -1,8 +1,8 @@
 #!/usr/bin/env -S python3 -B
-"""package.py PROGRAM    Packs the built program and the C library, installs each package into an empty root, and uses it.
+"""package.py PROGRAM    Packs the built program and the C library, installs each package and uses it.
 
-The Debian packages are removed again. If the page is built, it is looked for in both packages. Prints each test. The
-status is 1 if one failed.
+The Debian packages are installed into an empty root, and removed again. If the page is built, it is looked for in both
+packages. Prints each test. The status is 1 if one failed.
 """
 import filecmp
 import os

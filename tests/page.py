@@ -150,7 +150,8 @@ class Shown(Using):
         self.browser.open(PAGE)
         for name in NAMES:
             image, script = self.image_of(name), read(name, "script")
-            (*failed, counts), (*either, _) = (self.told([*words, *image], script) for words in (["check"], ["check", "--stale"]))
+            told = [self.told([*words, *image], script) for words in (["check"], ["check", "--stale"])]
+            (*failed, counts), (*either, _) = told
             failed, either = ([int(re.match(r"line (\d+): ", it)[1]) for it in told] for told in (failed, either))
             self.show(name)
             wrong, late = self.ask("marked", "wrong"), self.ask("marked", "stale")

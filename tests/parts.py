@@ -1,9 +1,12 @@
-"""The parts of a device's access where nothing is cached, as `walk read` and `walk write` of a debugger tell them, by the model of tests/peer/stages.py."""
+"""The parts of a device's access with nothing cached, as a debugger's `walk read` and `walk write` tell them.
+
+They are found by the model of tests/peer/stages.py.
+"""
 from stages import PPN, READ, WRITE, Refused, Stages
 
 
 class Parts(Stages):
-    """Accesses over words by their addresses, 0 where none was stored, from a base on, of an IOMMU with these features."""
+    """Accesses over words by their addresses, 0 where none was stored, from a base on, of an IOMMU with features."""
 
     def __init__(self, base, size, features=frozenset()):
         self.base, self.size, self.features, self.words, self.told = base, size, features, {}, []
@@ -14,7 +17,7 @@ class Parts(Stages):
     def tell(self, text):
         self.told.append(text)
 
-    def parts(self, ddtp, did, iova, is_write):
+    def parts(self, ddtp, did, iova, is_write=False):
         """All parts of a device's access to an IOVA, in order, by the value of ddtp."""
         mode = ddtp & 15
         self.told = [f"ddtp mode={mode:#x} root={(ddtp & PPN) >> 10:#x}"]

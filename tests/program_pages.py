@@ -25,7 +25,7 @@ FLAGS = {
 
 
 def bold(name):
-    """The words in bold type that the man page has after `name=` up to the next paragraph, but names of other fields."""
+    """The words in bold type after `name=` in its paragraph of the man page, without names of other fields."""
     told = re.search(rf"(?ms)^\.B {name}=\n(.*?)(?=^\.(?:IP|TP|PP))", text_of("man/rviommu.1"))[1]
     words = {re.sub(r"[() ,.;]", "", it) for it in re.findall(r"(?m)^\.(?:B|BR|RB) (.*)$", told)}
     return {it for it in words if not it.endswith("=")}

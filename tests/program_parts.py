@@ -1,9 +1,9 @@
-"""The parts of walks that a debugger tells, beside those of a plain program (parts.py), on tables with defects at random."""
+"""The parts of walks that a debugger tells, beside those of a plain program (parts.py), on tables with defects."""
 import random
 import re
 from collections import Counter
 
-from frame import WELL, Case, run
+from frame import Case
 from parts import Parts
 from stages import GUEST, OUTSIDE
 from walks import BASE, PAGES, SIZE, World
@@ -14,7 +14,8 @@ DIRECTORY = range(PAGES.stop, BASE + SIZE >> 12)
 NOWHERE = 0x90000
 # What there is to meet, without numbers: how entries of both stages are judged, and how walks end.
 FIELDS = re.compile(r" ?\b(?:level|at|in|of|ppn|flags|frame|addr|iotval2|did|iova|guest)=\S+| pte| u64 \S+")
-JUDGED = ["V=0", "R=0 W=1", "reserved bits", "reserved in pointer", "last level", "pointer", "misaligned", *"URWAD", "leaf", OUTSIDE]
+JUDGED = ["V=0", "R=0 W=1", "reserved bits", "reserved in pointer", "last level", "pointer", "misaligned"]
+JUDGED += [*"URWAD", "leaf", OUTSIDE]
 ENDS = ["register", "context", "", *(f"denied {cause}" for cause in (5, 7, 13, 15, 21, 23, 256, 257, 258, 259, 260))]
 # What is too wide for a table, with the part behind it; each is met as often as this at least.
 WIDE = ["dir width, denied 260", *(f"first width, denied {cause}" for cause in (13, 15))]
@@ -45,13 +46,14 @@ class Play:
         return word ^ 1 << self.rng.randrange(64)
 
     def spoilt(self, word):
-        """The word with a bit turned over or as it is refused by one of the rules: as a pointer, as a leaf without a flag, outside memory, and with a
-        PPN beyond a second stage."""
+        """The word with a bit turned over or as it is refused by one of the rules: as a pointer, as a leaf without a
+        flag, outside memory, and with a PPN beyond a second stage."""
         rng, leaf = self.rng, word | 0xDF
         bare, reserved, beyond = word & ~0xDE | 1, leaf | 1 << rng.randrange(54, 64), 1 << rng.randrange(39, 54)
         without = [leaf & ~flags for flags in (0x1, 0x2, 0x4, 0x6, 0x10, 0x40, 0x80)]
         pointers = [bare, bare, bare, bare | 1 << rng.choice([4, 6, 7])]
-        return rng.choice([*without, *without, 0, leaf, reserved, *pointers, NOWHERE << 10 | word & 1023, self.flipped(word), *[word | beyond] * 5])
+        others = [0, leaf, reserved, *pointers, NOWHERE << 10 | word & 1023, self.flipped(word)]
+        return rng.choice([*without, *without, *others, *[word | beyond] * 5])
 
     def directory(self, first, second):
         """Stores a context of these stages behind a directory of its own; returns ddtp and the device's id."""
@@ -72,9 +74,8 @@ class Play:
     def spoil(self, told):
         """Spoils a word that one of these parts tells; returns what puts it right again."""
         lines = [line for line in told[1:-1] if line.startswith("first")] if self.chance(0.5) else told[1:-1]
-        places = [re.search(r"in=(0x\w+)" if line.startswith("first") else r"at=(0x\w+)", line) for line in lines]
-        places = [int(found[1], 0) for found in places if found]
-        places = [place for place in places if self.memory.load(place) is not None]
+        found = [re.search(r"in=(0x\w+)" if line.startswith("first") else r"at=(0x\w+)", line) for line in lines]
+        places = [place for it in found if it and self.memory.load(place := int(it[1], 0)) is not None]
         if not places or self.chance(0.3):
             return None
         place = self.rng.choice(places)
@@ -112,9 +113,7 @@ class Walks(Case):
             for first, second, iova, _ in world.walks:
                 bare = play.chance(0.03)
                 play.walk(0 if bare else first, 0 if bare else second, iova, play.chance(0.5))
-        status, out, errors = run(["debug"], "".join(line + "\n" for line in play.lines).encode())
-        self.assertEqual((status, errors), WELL)
-        answers = out.decode().splitlines()
+        answers = self.written(["debug"], "".join(line + "\n" for line in play.lines).encode()).splitlines()
         self.assertEqual(len(answers), len(play.wanted))
         for line, wanted, answer in zip(play.lines, play.wanted, answers):
             self.assertEqual(answer, wanted, line)

@@ -1,6 +1,6 @@
-"""The program beside the standard's model of tests/peer, without QEMU; and whether the comparison there notices what is false.
+"""The program beside the standard's model of tests/peer, without QEMU; and whether what is false is noticed there.
 
-For the second each side of the comparison is a model that says something false at one place, in place of the program or of QEMU.
+For the second a model that says something false at one place stands in place of the program or of QEMU.
 """
 import struct
 
@@ -19,8 +19,8 @@ FQIE = 2
 
 
 def whole_case():
-    """What the false answers are about: a read, a write, reads after an invalidation of the translation and of the context, a fault of
-    the second stage for an entry of the first, and faults up to one more than the queue has room for."""
+    """What the false answers are about: a read, a write, reads after an invalidation of the translation and of the
+    context, a fault of the second stage for an entry of the first, and faults up to one more than the queue holds."""
     case = Plain(SV39, SV39X4).with_entry(LEAVES, 1, 1 << 10 | WELL).with_entry(LEAVES, 2, 2 << 10 | WELL)
     case.write(FQCSR, 4, 0).write(FQB, 8, FAULTS << 10 | 1).write(FQCSR, 4, 1).write(CQCSR, 4, 1)
     case.read(IOVA, length=8).put(IOVA, length=8)
@@ -31,7 +31,7 @@ def whole_case():
 
 
 def false(**methods):
-    """A model that says something false by these methods, of which each has the true model's own as its last operand."""
+    """A model that says something false by these methods; the last operand of each is the true model's own method."""
     made = type("False", (Model,), {})
     for name, method in methods.items():
         own = getattr(Model, name)

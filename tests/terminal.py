@@ -24,7 +24,8 @@ class Terminal:
             fcntl.ioctl(0, termios.TIOCSWINSZ, struct.pack("HHHH", 24, 200, 0, 0))
             os.chdir(here)
             names = {"PATH": os.environ["PATH"], "HOME": here, "TERM": "dumb", "PS1": "ready> ", "INPUTRC": "/dev/null"}
-            os.execvpe(words[0], words, {**names, "LC_ALL": "C.UTF-8", "HISTFILE": "", "BASH_SILENCE_DEPRECATION_WARNING": "1"})
+            names |= {"LC_ALL": "C.UTF-8", "HISTFILE": "", "BASH_SILENCE_DEPRECATION_WARNING": "1"}
+            os.execvpe(words[0], words, names)
         case.addCleanup(self.close)
 
     def close(self):

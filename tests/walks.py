@@ -2,9 +2,9 @@
 """walks.py FILE [WORLDS] [SEED]    Records what a RISC-V hart's own page-table walks give, by QEMU, into FILE.
 
 The hart is in M-mode and loads and stores as a guest's user by HLV.D and HSV.D, through both stages, without hardware
-updates of A and D (walks.S is its program). Its PMP lets it reach one MiB of memory from 0x80000000 on and nothing else.
-Worlds follow one another; each stores page tables and data over what is there, and has walks. `program_walks.py` plays
-the file, tests/walks.txt, on the program, where a device makes the same accesses.
+updates of A and D (walks.S is its program). Its PMP lets it reach one MiB of memory from 0x80000000 on and nothing
+else. Worlds follow one another; each stores page tables and data over what is there, and has walks. `program_walks.py`
+plays the file, tests/walks.txt, on the program, where a device makes the same accesses.
 
 A line of FILE is one of
 
@@ -62,7 +62,7 @@ class Hart(Qtest):
         """Carries requests out: vsatp, hgatp, an address and a word to write or 0 for a read."""
         words = [word for request in requests for word in request]
         places = [MAIL + 32 + 8 * at for at in range(len(words))]
-        self.ask([*(f"writeq {at:#x} {word:#x}" for at, word in zip(places, words)), f"writeq {MAIL:#x} {len(requests)}"])
+        self.ask([f"writeq {at:#x} {word:#x}" for at, word in zip([*places, MAIL], [*words, len(requests)])])
         while self.words([MAIL])[0]:
             pass
         words = self.words(places)
@@ -101,19 +101,18 @@ class World:
     def is_spared(self, word):
         """Whether an entry would lead to memory that the two sides don't share."""
         page = word >> 10 & (1 << 44) - 1
-        return page == BASE >> 12 or PAGES.stop <= page < MAIL + (1 << 20) >> 12 or page < BASE >> 12 and page << 12 >= 1 << 24
+        is_below = page < BASE >> 12 and page << 12 >= 1 << 24
+        return page == BASE >> 12 or PAGES.stop <= page < MAIL + (1 << 20) >> 12 or is_below
 
     def spoilt(self, word, is_pointer_of_second):
-        """A word with a bit turned over, or another one. A second stage's pointer to no table of its own is spared: where the table is outside
-        memory QEMU's hart tells a guest page fault for an entry of the first stage, and the standard an access fault."""
+        """A word with a bit turned over, or another one. A second stage's pointer to no table of its own is spared: if
+        the table is outside memory QEMU's hart reports a guest page fault for an entry of the first stage, and the
+        standard an access fault."""
         rng = self.rng
         for _ in range(100):
-            new = rng.choice(
-                [
-                    *(word ^ 1 << rng.randrange(8), word ^ 1 << rng.randrange(8), word ^ 1 << rng.randrange(10, 54), word ^ 1 << rng.randrange(54, 64)),
-                    *(0, OUTSIDE << 10 | word & 1023, word & ~0xFF | 1, rng.choice(self.data) << 10 | rng.getrandbits(8)),
-                ]
-            )
+            turned = [word ^ 1 << rng.randrange(*bits) for bits in ((8,), (8,), (10, 54), (54, 64))]
+            leaf = rng.choice(self.data) << 10 | rng.getrandbits(8)
+            new = rng.choice([*turned, 0, OUTSIDE << 10 | word & 1023, word & ~0xFF | 1, leaf])
             page = new >> 10 & (1 << 44) - 1
             if not self.is_spared(new) and not (is_pointer_of_second and page not in [*DATA, *SECOND]):
                 return new
@@ -146,7 +145,8 @@ class World:
 
     def context(self):
         rng = self.rng
-        first, second = rng.choice([(8, 8), (8, 9), (9, 8), (9, 9)] if self.chance(0.9) else [(8, 0), (9, 0), (0, 8), (0, 9)])
+        both, one = [(8, 8), (8, 9), (9, 8), (9, 9)], [(8, 0), (9, 0), (0, 8), (0, 9)]
+        first, second = rng.choice(both if self.chance(0.9) else one)
         guest, guest_root, root = (lambda page: page), 0, 0
         if second:
             guest_root = self.roots()

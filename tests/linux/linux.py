@@ -1,10 +1,9 @@
 #!/usr/bin/env python3
-"""Plays lives of the IOMMU driver of Linux over the C library. tests/linux/README.md says what is needed, and what is compared.
+"""linux.py LIBRARY [OPERATIONS [SEED]]    Plays lives of the IOMMU driver of Linux over the C library.
 
-    tests/linux/linux.py LIBRARY [OPERATIONS [SEED]]
-
-LIBRARY is librviommu.a. The driver's source is looked for in the folder LINUX_SOURCE, or in /usr/src/linux-source-*.tar.xz, which Debian's packages put there.
-Prints a line for each life, and ends with status 1 where one failed, 2 where there is no source.
+tests/linux/README.md says what is needed, and what is compared. LIBRARY is librviommu.a. The driver's source is looked
+for in the folder LINUX_SOURCE, or in /usr/src/linux-source-*.tar.xz, which Debian's packages put there. Prints a line
+for each life, and ends with status 1 if one failed, 2 if there is no source.
 """
 import glob
 import os
@@ -16,16 +15,19 @@ from pathlib import Path
 
 HERE = Path(__file__).resolve().parent
 TOP = HERE.parent.parent
-PARTS = ("drivers/iommu/riscv/", "drivers/iommu/generic_pt/", "drivers/iommu/iommu-pages.h", "include/linux/generic_pt/")
-SOURCES = ("drivers/iommu/riscv/iommu.c", "drivers/iommu/riscv/iommu-platform.c", "drivers/iommu/generic_pt/fmt/iommu_riscv64.c")
+IOMMU = "drivers/iommu"
+PARTS = (f"{IOMMU}/riscv/", f"{IOMMU}/generic_pt/", f"{IOMMU}/iommu-pages.h", "include/linux/generic_pt/")
+SOURCES = (f"{IOMMU}/riscv/iommu.c", f"{IOMMU}/riscv/iommu-platform.c", f"{IOMMU}/generic_pt/fmt/iommu_riscv64.c")
 # The headers of the kernel that these include; each stands for stubs.h.
-HEADERS = """acpi acpi_rimt args atomic bitfield bitops bits bug build_bug cacheflush cleanup compiler container_of crash_dump dma-mapping errno export init iommu iopoll
-irqchip/riscv-imsic kconfig kernel limits log2 mm_types msi of_irq of_platform pci platform_device sizes spinlock stringify types""".split()
+HEADERS = """acpi acpi_rimt args atomic bitfield bitops bits bug build_bug cacheflush cleanup compiler container_of
+crash_dump dma-mapping errno export init iommu iopoll irqchip/riscv-imsic kconfig kernel limits log2 mm_types msi of_irq
+of_platform pci platform_device sizes spinlock stringify types""".split()
 SVPBMT, SV57, SV57X4, NL, S = 1 << 15, 1 << 11, 1 << 19, 1 << 42, 1 << 43
 VECTORS = {1: 0, 2: 1 << 57, 4: 2 << 57}
 SIZES = {"DEF_CQ_COUNT\t8192": "DEF_CQ_COUNT\t64", "DEF_FQ_COUNT\t4096": "DEF_FQ_COUNT\t32"}
 SVNAPOT_ASKED = "BIT(PT_FEAT_RISCV_SVNAPOT_64K) |"
-# A name, the word of the image, or None for one of version 1, and how many lives there are. Of version 1 the driver's Svnapot is taken out.
+# A name, the word of the image, or None for one of version 1, and how many lives there are. Of version 1 the driver's
+# Svnapot is taken out.
 MACHINES = [
     ("everything but Svpbmt", SV57 | SV57X4 | NL | S | VECTORS[4], 6),
     ("Svnapot alone", 0, 6),
@@ -61,8 +63,9 @@ def compiled(folder, source, library, is_small, is_plain):
     for name in HEADERS:
         path = headers / f"{name}.h"
         path.parent.mkdir(parents=True, exist_ok=True)
-        # the C library's own headers include these three
-        path.write_text(("#include_next <linux/%s.h>\n" % name if name in ("errno", "limits", "types") else "") + '#include "stubs.h"\n')
+        # The C library's own headers include these three.
+        own = f"#include_next <linux/{name}.h>\n" if name in ("errno", "limits", "types") else ""
+        path.write_text(own + '#include "stubs.h"\n')
     (folder / "headers" / "asm").mkdir(exist_ok=True)
     (folder / "headers" / "asm" / "page.h").write_text('#include "stubs.h"\n')
     riscv = source / "drivers/iommu/riscv"
@@ -74,7 +77,8 @@ def compiled(folder, source, library, is_small, is_plain):
     changed = folder / "changed" / "riscv" / "iommu.c"
     changed.parent.mkdir(parents=True, exist_ok=True)
     changed.write_text(text.replace('"../iommu-pages.h"', f'"{source}/drivers/iommu/iommu-pages.h"'))
-    flags = ["-std=gnu11", "-O2", "-g", "-fno-strict-aliasing", "-w", f"-I{folder}/headers", f"-I{HERE}", f"-I{source}/include", f"-I{TOP}/include", f"-I{riscv}"]
+    flags = ["-std=gnu11", "-O2", "-g", "-fno-strict-aliasing", "-w"]
+    flags += [f"-I{it}" for it in (folder / "headers", HERE, source / "include", TOP / "include", riscv)]
     files = [changed, *(source / it for it in SOURCES[1:]), HERE / "lives.c"]
     subprocess.run([os.environ.get("CC", "cc"), *flags, *map(str, files), str(library), "-o", str(program)], check=True)
     return program
@@ -82,7 +86,8 @@ def compiled(folder, source, library, is_small, is_plain):
 
 def image(word):
     """The image of 64 MiB whose machine a word states, or the one of version 1."""
-    return (b"RVIOMMU1" if word is None else b"RVIOMMU3" + word.to_bytes(8, "little")) + (0x80000000).to_bytes(8, "little") + (1 << 26).to_bytes(8, "little") + bytes(8)
+    head = b"RVIOMMU1" if word is None else b"RVIOMMU3" + word.to_bytes(8, "little")
+    return head + (0x80000000).to_bytes(8, "little") + (1 << 26).to_bytes(8, "little") + bytes(8)
 
 
 def main():
@@ -92,7 +97,8 @@ def main():
         folder = Path(made)
         source = extracted(folder / "source")
         if not source:
-            print("linux.py: there is no source of Linux: install Debian's linux-source-7.2 or later, or name a folder by LINUX_SOURCE", file=sys.stderr)
+            help_ = "install Debian's linux-source-7.2 or later, or name a folder by LINUX_SOURCE"
+            print(f"linux.py: there is no source of Linux: {help_}", file=sys.stderr)
             return 2
         programs = {}
         for name, word, lives in MACHINES:
@@ -101,8 +107,10 @@ def main():
                 kind = (life % 2 == 1, word is None)
                 if kind not in programs:
                     programs[kind] = compiled(folder, source, library, *kind)
-                ended = subprocess.run([programs[kind], folder / "image", str(seed + life), str(operations), "quiet"], stdout=subprocess.PIPE)
-                print(f"{name}, seed {seed + life}{', few entries' if kind[0] else ''}: {ended.stdout.decode().strip() or f'status {ended.returncode}'}", flush=True)
+                words = [programs[kind], folder / "image", str(seed + life), str(operations), "quiet"]
+                ended = subprocess.run(words, stdout=subprocess.PIPE)
+                told = ended.stdout.decode().strip() or f"status {ended.returncode}"
+                print(f"{name}, seed {seed + life}{', few entries' if kind[0] else ''}: {told}", flush=True)
                 failed += ended.returncode != 0
     print(f"{failed} lives failed" if failed else "no life failed")
     return 1 if failed else 0

@@ -1,10 +1,12 @@
 #!/usr/bin/env -S python3 -B
 """peer.py PROGRAM [CASES] [SEED]    Runs the program beside QEMU's riscv-iommu-pci device.
 
-First come the directed cases, one or more for each class of difference of the table in README.md, then random ones: CASES of them, 5,000
-where it isn't given, from SEED, else 1. Each program is compared with its model, step by step; where the models part, the case must have
-met a class. Prints how often each class was met, and each difference that isn't explained; the status is 1 where there is one.
+First come the directed cases, one or more for each class of difference of the table in README.md, then random ones:
+CASES of them, 5,000 if it isn't given, from SEED, else 1. Each program is compared with its model, step by step; if the
+models part, the case must have met a class. Prints how often each class was met, and each difference that isn't
+explained; the status is 1 if there is one.
 """
+import itertools
 import os
 import re
 import shutil
@@ -30,17 +32,18 @@ MOST_TOLD = 3
 
 def table():
     """The classes: the names in the first column of the table, and those of their directed cases."""
-    rows = [line.split("|")[1] for line in Path(__file__).with_name("README.md").read_text().splitlines() if line.startswith("| `")]
+    rows = re.findall(r"(?m)^\| (`[^|]*)\|", Path(__file__).with_name("README.md").read_text())
     return [name for row in rows for name in re.findall(r"`([^`]+)`", row)]
 
 
 def differing(rows):
-    """The rows whose answer is another than the wanted one, told; a row has its step, what was asked, the answer and the wanted one."""
-    return [f"step {number}: {asked!r} is {answer}, wanted {wanted}" for number, asked, answer, wanted in rows if answer != wanted][:MOST_TOLD]
+    """The rows whose answer isn't the wanted one; a row has its step, what was asked, the answer and the wanted one."""
+    others = itertools.islice((row for row in rows if row[2] != row[3]), MOST_TOLD)
+    return [f"step {number}: {asked!r} is {answer}, wanted {wanted}" for number, asked, answer, wanted in others]
 
 
 class Walk:
-    """One model carried through a case: for each step what it says, and at the end the words of memory that were changed."""
+    """One model carried through a case: its answers for each step, and at the end the words that it changed."""
 
     def __init__(self, case, others):
         self.model, self.ids = Model(others), IDS[case.bus]
@@ -160,7 +163,8 @@ class Program:
             file.write(image)
             file.flush()
             script = "".join(f"{line}\n" for line in lines).encode()
-            return subprocess.run([self.path, "run", file.name], input=script, capture_output=True).stdout.decode().splitlines()
+            ended = subprocess.run([self.path, "run", file.name], input=script, capture_output=True)
+            return ended.stdout.decode().splitlines()
 
 
 class Script:
@@ -233,7 +237,8 @@ class Session:
 
     def flush(self):
         answers = self.qemu.ask([command for _, command, _ in self.asked])
-        self.rows += [(number, command, answer, wanted) for (number, command, wanted), answer in zip(self.asked, answers) if wanted is not None]
+        rows = [(number, command, answer, wanted) for (number, command, wanted), answer in zip(self.asked, answers)]
+        self.rows += [row for row in rows if row[3] is not None]
         self.asked = []
 
     def register(self, number, offset, size, wanted):
@@ -259,7 +264,8 @@ class Session:
             self.bytes(number, walk.model, record, 32)
 
     def bytes(self, number, model, address, length):
-        self.ask(number, f"read {address:#x} {length}", f"0x{model.memory[address - BASE : address - BASE + length].hex()}")
+        wanted = model.memory[address - BASE : address - BASE + length]
+        self.ask(number, f"read {address:#x} {length}", f"0x{wanted.hex()}")
 
     def end(self, walk, touched):
         for address in touched:
@@ -285,14 +291,15 @@ def wants():
     """What is missing here, or None."""
     if shutil.which(QEMU) is None:
         return f"{QEMU} is not on the path (on Debian 12: package qemu-system-riscv of bookworm-backports)"
-    known, options = (subprocess.run([QEMU, "-device", words], capture_output=True).stdout.decode() for words in ("help", f"{DEVICE},help"))
-    missing = [f"device {device}" for device in (DEVICE, "edu") if f'"{device}"' not in known]
-    missing += [f"option {option} of {DEVICE}" for option in ("intremap", "ats", "hpm-counters") if f"{option}=" not in options]
+    told = (subprocess.run([QEMU, "-device", it], capture_output=True) for it in ("help", f"{DEVICE},help"))
+    known, options = (it.stdout.decode() for it in told)
+    missing = [f"device {it}" for it in (DEVICE, "edu") if f'"{it}"' not in known]
+    missing += [f"option {it} of {DEVICE}" for it in ("intremap", "ats", "hpm-counters") if f"{it}=" not in options]
     return f"{QEMU} has no {missing[0]}: version 10 or later is wanted" if missing else None
 
 
 def course(case, others):
-    """What a model says of each step of a case, and the memory at its end; None behind a step that reaches another device."""
+    """What a model says of each step of a case, None after one that reaches another device; and the memory at its end."""
     own, walk, said = Walk(case, ()), Walk(case, others), []
     try:
         for step in case.steps:
@@ -322,7 +329,9 @@ def main():
     met, bad = {name: 0 for name in names}, 0
     try:
         comparison = Comparison(program, qemus)
-        todo = [(f"{name}, directed case {at + 1}", case, name) for name, cases in directed.CASES.items() for at, case in enumerate(cases)]
+        todo = [
+            (f"{name}, directed case {at}", case, name)
+            for name, cases in directed.CASES.items() for at, case in enumerate(cases, 1)]
         for name in names:
             if name not in directed.CASES:
                 print(f"{name}: there is no directed case")
@@ -348,7 +357,8 @@ def main():
             print(f"{name} stands in no row of the table")
             bad += 1
         print(f"{met[name]:6} cases met {name}")
-    print(f"peer: {len(todo)} cases, {comparison.accesses} accesses, {bad} unexplained, {time.monotonic() - began:.0f} seconds")
+    seconds = time.monotonic() - began
+    print(f"peer: {len(todo)} cases, {comparison.accesses} accesses, {bad} unexplained, {seconds:.0f} seconds")
     sys.exit(1 if bad else 0)
 
 

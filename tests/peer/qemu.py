@@ -35,8 +35,9 @@ class Qtest:
 
     def __init__(self, *words):
         ours, its = socket.socketpair()
-        at = ["-chardev", f"socket,id=q,fd={its.fileno()}", "-qtest", "chardev:q", "-qtest-log", "none", "-accel", "tcg"]
-        words = [QEMU, "-M", "virt", "-nodefaults", "-display", "none", "-bios", "none", *at, *words]
+        at = ["-chardev", f"socket,id=q,fd={its.fileno()}", "-qtest", "chardev:q", "-qtest-log", "none"]
+        plain = ["-M", "virt", "-accel", "tcg", "-nodefaults", "-display", "none", "-bios", "none"]
+        words = [QEMU, *plain, *at, *words]
         quiet = {"stdin": subprocess.DEVNULL, "stderr": subprocess.DEVNULL}
         self.process = subprocess.Popen(words, pass_fds=[its.fileno()], **quiet)
         its.close()
@@ -79,7 +80,7 @@ class Qemu(Qtest):
             place, window = CONFIGURATION + (slot << 15), WINDOW + (at << 20)
             self.ask([f"writel {place + 0x10:#x} {window:#x}", f"writel {place + 4:#x} 6"])
         self.settle([(BASE, SIZE)])
-        self.ask([f"writeq {IOMMU + 16:#x} 1"])
+        self.write("q", (16, 1))
         for device in range(len(SLOTS)):
             self.ask([f"write {ROOM:#x} {HALF:#x} 0x{pattern(device).hex()}"])
             self.transfer(device, ROOM, BUFFER, HALF, FROM_MEMORY)
@@ -92,6 +93,10 @@ class Qemu(Qtest):
         while int(self.ask([f"readq {registers + COMMAND:#x}"])[0], 0) & 1:
             pass
 
+    def write(self, size, *values):
+        """Writes registers of the IOMMU, of 4 bytes for l and 8 for q."""
+        self.ask([f"write{size} {IOMMU + offset:#x} {value:#x}" for offset, value in values])
+
     def access(self, device, iova, length, place, is_write):
         if is_write:
             self.transfer(device, BUFFER + place * PLACE, iova, length, TO_MEMORY)
@@ -101,22 +106,26 @@ class Qemu(Qtest):
     def empty_caches(self):
         words = [0x3, 0, 0x1, 0, 0x81, 0]
         stores = [f"writeq {QUEUE + 8 * at:#x} {word:#x}" for at, word in enumerate(words)]
-        lines = [(24, "q", (QUEUE >> 12) << 10 | 3), (72, "l", 1), (36, "l", 3), (72, "l", 0), (72, "l", 1), (72, "l", 0), (24, "q", 0)]
-        self.ask(stores + [f"write{size} {IOMMU + offset:#x} {value:#x}" for offset, size, value in lines])
+        queue = QUEUE >> 12 << 10 | 3
+        self.ask(stores)
+        self.write("q", (24, queue))
+        self.write("l", (72, 1), (36, 3), (72, 0), (72, 1), (72, 0))
+        self.write("q", (24, 0))
 
     def settle(self, ranges):
         """Brings all to the state of a reset, with nothing cached, and memory to 0 in these ranges."""
-        self.ask([f"writel {IOMMU + 72:#x} 0", f"writel {IOMMU + 76:#x} 0"])
+        self.write("l", (72, 0), (76, 0))
         self.empty_caches()
-        lines = [(16, "q", 0), (40, "q", 0), (76, "l", 1), (76, "l", 0), (84, "l", 3), (8, "l", 0), (56, "q", 0), (0x2F8, "q", 0)]
-        self.ask([f"write{size} {IOMMU + offset:#x} {value:#x}" for offset, size, value in lines])
+        self.write("q", (16, 0), (40, 0))
+        self.write("l", (76, 1), (76, 0), (84, 3), (8, 0))
+        self.write("q", (56, 0), (0x2F8, 0))
         self.ask([f"memset {address:#x} {length:#x} 0" for address, length in [*ranges, (QUEUE, 64)]])
 
     def buffers(self, devices):
         """What the devices have read, place after place, for each of these."""
-        self.ask([f"writel {IOMMU + 72:#x} 0", f"writel {IOMMU + 76:#x} 0"])
+        self.write("l", (72, 0), (76, 0))
         self.empty_caches()
-        self.ask([f"writeq {IOMMU + 16:#x} 0", f"writeq {IOMMU + 16:#x} 1"])
+        self.write("q", (16, 0), (16, 1))
         found = {}
         for device in devices:
             self.transfer(device, BUFFER + HALF, ROOM, HALF, TO_MEMORY)
