@@ -1,4 +1,4 @@
--- Any entries that may be held are held by some machine that has done as the model.
+-- Any entries that may be held are held by some system that has done as the model.
 use Rattle.std.proofs.Common.{◌≡◌, ◌∙◌, ◌++◌, not, true, List, [], ◌∷◌, Option, None, refl, sym, ap, subst, inl, inr}
 use Rattle.std.specs.Prelude.{flat_map}
 use Rattle.std.specs.List.{AllByRecursion}
@@ -135,7 +135,7 @@ reached sys model caching start none (step ∷ steps) wanted h =
     (reached sys model caching start none steps (p.before ++ cached)
     (each_append _ p.before cached p.may (each_of _ cached (cache_may sys model caching start none steps))))
 
--- what the model caches is held by a machine that does as the model
+-- what the model caches is held by a system that does as the model
 pub own : {M S T R K E L A : Type 0} (sys : System S T R K E L A) (model : Model M S T K E A) → IsCaching sys model → (start : M) → model.uses start ≡ [] → (steps : List T) → DoesAlike sys model start steps (entries_in (model.uses (end_of model start steps)))
 own sys model caching start none steps =
     reached sys model caching start none steps _ (each_of _ (entries_in (model.uses (end_of model start steps))) (cache_may sys model caching start none steps))

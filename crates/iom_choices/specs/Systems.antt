@@ -1,4 +1,4 @@
--- A machine that walks tables in memory, as far as these definitions need it: its states S, its steps T, requests R, the look-ups K of a walk,
+-- A system that walks tables in memory, as far as these definitions need it: its states S, its steps T, requests R, the look-ups K of a walk,
 -- the entries E that walks read, the results L of a walk, and answers A. Nothing here is about memory, tables or commands.
 use Rattle.std.specs.Prelude.{◌≡◌, ◌⊎◌, Bool, List, [], ◌∷◌, Option, Some, None, if◌then◌else◌}
 
@@ -12,7 +12,7 @@ pub record System (S T R K E L A : Type 0) : Type 0 where
   pub asked : S → T → Option R
   -- the way of a request: these entries answer their look-ups, and memory answers all others
   pub way : S → List (K × E) → R → Way E L
-  -- whether a step drops an entry that is held; a machine may drop more
+  -- whether a step drops an entry that is held; a system may drop more
   pub drops : S → T → E → Bool
   -- the state after a step whose request has this result, and its answer
   pub after : S → T → Option L → S

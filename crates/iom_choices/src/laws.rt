@@ -5,9 +5,9 @@ ghost use Rattle.iom_choices.specs.Models.{IsCaching, Model, end_of, entries_in,
 ghost use Rattle.iom_choices.specs.Laws.{CanUse, DoesAlike};
 ghost use Rattle.iom_choices.specs.Settled.{AreSettled, EachUse, IsOwed, IsSaying, IsSettled, MayHold};
 
-/// If the access of each step is settled, a machine ends in the model's state and gives the model's answers, whatever it keeps, uses,
-/// forgets and walks again. M is the model's state, S the machine's, T a step, R a request, K a look-up of a walk, E an entry, L the
-/// result of a walk, A an answer. The model starts with empty caches, and the machine with nothing held.
+/// If the access of each step is settled, a system ends in the model's state and gives the model's answers, whatever it keeps, uses,
+/// forgets and walks again. M is the model's state, S the system's, T a step, R a request, K a look-up of a walk, E an entry, L the
+/// result of a walk, A an answer. The model starts with empty caches, and the system with nothing held.
 pub fn settled_runs_agree<M, S, T, R, K, E, L, A>()
     ensures state { (sys : System S T R K E L A) (model : Model M S T K E A) → IsCaching sys model →
         (start : M) → model.uses start ≡ [] → (chosen : List (T × Choice R K)) → AreSettled sys (view_at model start) (steps_of chosen) →
@@ -17,7 +17,7 @@ pub fn settled_runs_agree<M, S, T, R, K, E, L, A>()
         replies_as sys (model.view start) chosen ≡ replies model start (steps_of chosen) }
 {}
 
-/// The model is one of these machines: with some choices the machine does as the model, and holds exactly the entries that the model caches.
+/// The model is one of these systems: with some choices the system does as the model, and holds exactly the entries that the model caches.
 /// No access need be settled. So the model's caches lead a settled request where memory does.
 pub fn model_is_one<M, S, T, R, K, E, L, A>()
     ensures does { (sys : System S T R K E L A) (model : Model M S T K E A) → IsCaching sys model →
@@ -29,7 +29,7 @@ pub fn model_is_one<M, S, T, R, K, E, L, A>()
         led_of sys (view_at model start steps) (model.uses (end_of model start steps)) request ≡ led_of sys (view_at model start steps) [] request }
 {}
 
-/// Each source of entries that may be held is used by some machine: it did as the model until then, and leads each request by exactly this
+/// Each source of entries that may be held is used by some system: it did as the model until then, and leads each request by exactly this
 /// source.
 pub fn sources_are_used<M, S, T, R, K, E, L, A>()
     ensures { (sys : System S T R K E L A) (model : Model M S T K E A) → IsCaching sys model →

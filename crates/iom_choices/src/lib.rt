@@ -1,6 +1,6 @@
-//! Machines that read entries and keep whichever they choose, and laws that hold of all of them. A machine is given by its steps, its walks
+//! Systems that read entries and keep whichever they choose, and laws that hold of all of them. A system is given by its steps, its walks
 //! and the entries that a step drops at least; a model of one has caches of its own. This crate knows no memory, tables or commands:
-//! `iom_every` has the machine that is an IOMMU.
+//! `iom_every` has the system that is an IOMMU.
 #![tactic(auto)]
 
 pub use laws::{

@@ -1,4 +1,4 @@
--- Every IOMMU that the standard allows, as a machine that keeps whichever entries it chooses; and this model as one of them.
+-- Every IOMMU that the standard allows, as a system that keeps whichever entries it chooses; and this model as one of them.
 use Rattle.std.specs.Prelude.{ℕ, ◌++◌, Bool, List, [], ◌∷◌, Option, Some, None, Ok}
 use Rattle.iom_ddt.specs.declared.context.Context.{Context}
 use Rattle.iom_nested.specs.declared.translation.Hit.{Hit}
@@ -18,7 +18,7 @@ use Rattle.iom_every.specs.Uses.{Look, ForDevice, ForPage}
 use Rattle.iom_every.specs.Ways.{way_of}
 use Rattle.iom_every.specs.Rows.{bare, row}
 
--- the machine of every IOMMU; `ahead`: whether it also walks requests that no device makes
+-- the system of every IOMMU; `ahead`: whether it also walks requests that no device makes
 abbrev pub iommu : Bool → System State Step Request Look Entry Led Answer
 iommu ahead = record {
   asked = request_of_step;

@@ -1,4 +1,4 @@
-//! Every IOMMU that the standard allows (RISC-V IOMMU Architecture 1.0, "Caching in-memory data structures"): the machines of
+//! Every IOMMU that the standard allows (RISC-V IOMMU Architecture 1.0, "Caching in-memory data structures"): the systems of
 //! `iom_choices`, with the walks, the commands and the steps of this model. This crate has definitions and laws, but no code.
 #![tactic(auto)]
 
