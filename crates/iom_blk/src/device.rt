@@ -25,7 +25,7 @@ pub struct Blk {
     pub(crate) features_sel: u64,
     /// DriverFeaturesSel, 32 bits: which half of the accepted features DriverFeatures writes.
     pub(crate) driver_sel: u64,
-    /// The features that the driver accepts, 64 bits: what it wrote to DriverFeatures.
+    /// The features that the driver accepts, 64 bits, as it wrote them to DriverFeatures.
     pub(crate) features: u64,
     /// QueueSel, 32 bits. Only queue 0 exists.
     pub(crate) queue_sel: u64,

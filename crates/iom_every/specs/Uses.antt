@@ -28,7 +28,7 @@ abbrev pub used_by : {X : Type 0} → (Look → Entry → Option X) → List (Lo
 used_by fits [] = None
 used_by fits (used ∷ source) = or_else (fits used.0 used.1) (used_by fits source)
 
--- where a search of the directory begins: at a leaf that is held, or below a non-leaf entry of some level
+-- the beginning of a search of the directory: at a leaf that is held, or below a non-leaf entry of some level
 pub data Entered : Type 0 where
   AtLeaf : (said : Result Context Cause) → Entered
   Below : (level word : ℕ) → Entered

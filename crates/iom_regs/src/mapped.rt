@@ -107,7 +107,7 @@ impl MappedRegisters {
         self.features
     }
 
-    /// How devices reach memory: ddtp.iommu_mode ("Device-directory-table pointer (ddtp)").
+    /// The mode in which devices reach memory, ddtp.iommu_mode ("Device-directory-table pointer (ddtp)").
     pub fn mode(&self) -> Mode
         ensures mode { result ≡ mode_of self.now }
         ensures sound { IsSound self.now }

@@ -1,4 +1,4 @@
-/// How devices reach memory: ddtp.iommu_mode ("Device-directory-table pointer (ddtp)").
+/// The mode in which devices reach memory, ddtp.iommu_mode ("Device-directory-table pointer (ddtp)").
 #[derive(Clone, Copy, PartialEq)]
 pub enum Mode {
     /// Off, 0: all inbound transactions are disallowed.

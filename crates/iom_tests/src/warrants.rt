@@ -1,4 +1,4 @@
-//! The warrants of what a read used.
+//! The warrants of reads.
 
 use crate::devices::devices;
 use iom_account::{History, Origin, explain};

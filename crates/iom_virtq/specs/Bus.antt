@@ -1,15 +1,15 @@
--- What a device asks a bus for, and what a bus replies. Addresses are IOVAs: VIRTIO 1.2, "Reserved Feature Bits",
--- VIRTIO_F_ACCESS_PLATFORM. That an access has at most 64 bytes of one page is this model's.
+-- The accesses that a device asks a bus for, and the replies of a bus. Addresses are IOVAs: VIRTIO 1.2, "Reserved Feature Bits",
+-- VIRTIO_F_ACCESS_PLATFORM. The limit of 64 bytes within one page is this model's.
 use Rattle.std.specs.Prelude.{ℕ, ◌+◌, ◌%◌, ◌≤◌, Bool, true, false, List, [], length}
 use Rattle.iom_virtq.specs.declared.access.Access.{Access}
 use Rattle.iom_virtq.specs.declared.access.Access.TheVariants as access
 
--- some bytes from an address on, by their number; or these bytes to be written from an address on
+-- a read of a number of bytes from an address on, or a write of these bytes from an address on
 pub data Ask : Type 0 where
   Read : ℕ → ℕ → Ask
   Write : ℕ → List ℕ → Ask
 
--- the answer, and the bytes of a read that was granted
+-- the answer, and the bytes of a granted read
 pub record Reply : Type 0 where
   pub access : Access
   pub bytes : List ℕ

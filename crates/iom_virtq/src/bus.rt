@@ -1,4 +1,4 @@
-//! What a device reads and writes memory by.
+//! The bus by which a device reads and writes memory.
 
 ghost use Rattle.std.specs.Prelude.{◌≡◌, [], length};
 ghost use Rattle.std.specs.Bool.{OnFalse};
@@ -8,7 +8,7 @@ use crate::access::Access;
 
 /// A device's way to memory. Its addresses are IOVAs, in bytes. An access has 1 to 64 bytes within one page of 4096 bytes.
 pub trait Bus {
-    /// How a bus, what it is asked, what it replies and the bus afterwards go together.
+    /// The relation of a bus, an access that it is asked for, its reply, and the bus afterwards.
     ghost answers: { Self → Ask → Reply → Self → Type 0 };
 
     /// Reads the bytes from IOVA `iova` on into `out`, which is unchanged unless the answer is Ok.

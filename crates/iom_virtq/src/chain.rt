@@ -184,7 +184,7 @@ fn part_of(addr: u64, len: u32, flags: u16) -> Part
     Part { side, addr, len }
 }
 
-// What comes after a descriptor.
+// The continuation of a chain after a descriptor.
 fn more_of(flags: u16, next: u16) -> More
     ensures { result ≡ more_of flags next }
 {

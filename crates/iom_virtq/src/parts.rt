@@ -12,7 +12,7 @@ pub enum Side {
     Writable,
 }
 
-/// What comes after a descriptor.
+/// The continuation of a chain after a descriptor.
 #[derive(Clone, Copy, PartialEq)]
 pub enum More {
     /// The descriptor at this index, below the chain's limit.
