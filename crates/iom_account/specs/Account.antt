@@ -32,13 +32,17 @@ pub record IsReason (start : State) (steps : List Step) (numbers : List ℕ) (n 
   pub origin : IsUncached start → ComesFrom start steps numbers n reason.origin
   pub stale : reason.stale ≡ stale_in (moment start steps n) (request_at start steps n)
 
--- Of all these steps something is told, of each as it was carried out; the last 32 are kept.
+-- of how many steps the reasons are kept
+abbrev pub most_reasons : ℕ
+most_reasons = 32
+
+-- Of all these steps something is told, of each as it was carried out; the last ones are kept.
 pub record Tells (start : State) (steps : List Step) (numbers : List ℕ) (told : List Reason) : Type 0 where
   pub all : List Reason
   pub many : length all ≡ length steps
   pub each : (n : ℕ) (reason : Reason) → slice_get all n ≡ Some reason →
       IsReason start (take (suc n) steps) (take (suc n) numbers) n reason
-  pub kept : told ≡ keep_last 32 all
+  pub kept : told ≡ keep_last most_reasons all
 
 -- what is kept beside a platform: which steps filled its caches, and what is told of the last steps
 pub record Account : Type 0 where

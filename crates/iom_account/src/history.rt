@@ -112,7 +112,8 @@ impl History {
             ComesFrom start (steps ++ step.now ∷ []) (numbers ++ number ∷ []) (length steps) result.origin }
     {
         let request = platform.request_of(step);
-        let seen = take(platform, step, answer);
+        let mut seen = Seen::nothing();
+        platform.step_into(step, answer, &mut seen);
         let origin = self.note_step(platform, request, &seen, number);
         Taken {
             request,
@@ -244,17 +245,6 @@ impl History {
         let place = platform.contexts().place_of(did);
         number_at(self.contexts.as_slice(), place, number)
     }
-}
-
-// Carries out a step, and says what led its access.
-fn take(platform: &mut Platform, step: &Step, answer: &mut Answer) -> Seen
-    ensures answer { answer.new ≡ (next platform.old step.now).answer }
-    ensures state { platform.new ≡ (next platform.old step.now).state }
-    ensures seen { result ≡ told_by_step noticed nothing_seen platform.old.machine (asked platform.old step.now) }
-{
-    let mut seen = Seen::nothing();
-    platform.step_into(step, answer, &mut seen);
-    seen
 }
 
 // The number beside a place; `number` where there is none.

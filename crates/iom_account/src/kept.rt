@@ -1,5 +1,7 @@
 ghost use Rattle.std.specs.Prelude.{◌≡◌, ◌==◌, ◌≤◌, if◌then◌else◌};
+ghost use Rattle.iom_account.specs.Account.{most_reasons};
 
+use crate::notes::equal;
 use crate::reason::Reason;
 use arrayvec::ArrayVec;
 use std::marker::Model;
@@ -17,13 +19,14 @@ pub struct Kept {
 
 impl Model for Kept {
     ghost use Rattle.std.specs.Prelude.{◌≡◌, ◌≤◌, ◌++◌, drop, length, take, List};
+    ghost use Rattle.iom_account.specs.Account.{most_reasons};
     ghost use Rattle.iom_account.specs.declared.reason.Reason.{Reason};
 
     ghost Value = { List Reason };
 
     ghost view = { λ kept. drop kept.newer kept.ring.items ++ take kept.newer kept.ring.items };
 
-    ghost invariant = { λ kept. (kept.newer ≤ length kept.ring.items) × (length kept.ring.items ≤ 32) };
+    ghost invariant = { λ kept. (kept.newer ≤ length kept.ring.items) × (length kept.ring.items ≤ most_reasons) };
 }
 
 impl Kept {
@@ -79,7 +82,7 @@ impl Kept {
     /// Keeps one more. Of 32 the oldest leaves.
     #[tactic(auto, using(crate::proofs::Ring::turned_on, crate::proofs::Ring::grown))]
     pub fn keep(&mut self, reason: Reason)
-        ensures { self.new ≡ keep_last 32 (self.old ++ reason ∷ []) }
+        ensures { self.new ≡ keep_last most_reasons (self.old ++ reason ∷ []) }
     {
         if self.ring.is_full() {
             let oldest = oldest_place(self.newer);
@@ -94,17 +97,8 @@ impl Kept {
 
 // The place of the oldest one of 32, so many of which are newer and stand before the others.
 fn oldest_place(newer: usize) -> usize
-    requires { newer ≤ 32 }
-    ensures { result ≡ (if newer == 32 then 0 else newer) }
+    requires { newer ≤ most_reasons }
+    ensures { result ≡ (if newer == most_reasons then 0 else newer) }
 {
     if newer == MOST { 0 } else { newer }
-}
-
-// The same reasons, each at its place.
-fn equal(ring: &ArrayVec<Reason, 32>) -> ArrayVec<Reason, 32>
-    ensures { result.items ≡ ring.now.items }
-{
-    let mut same = ArrayVec::new();
-    let _fits = same.try_extend_from_slice(ring.as_slice());
-    same
 }

@@ -26,11 +26,11 @@ pub fn zeros<const N: usize>(count: usize) -> ArrayVec<u64, N>
     notes
 }
 
-/// The same numbers.
-pub fn equal<const N: usize>(notes: &ArrayVec<u64, N>) -> ArrayVec<u64, N>
-    ensures { result.items ≡ notes.now.items }
+/// The same items, each at its place.
+pub fn equal<T: Copy + Default, const N: usize>(items: &ArrayVec<T, N>) -> ArrayVec<T, N>
+    ensures { result.items ≡ items.now.items }
 {
     let mut same = ArrayVec::new();
-    let _fits = same.try_extend_from_slice(notes.as_slice());
+    let _fits = same.try_extend_from_slice(items.as_slice());
     same
 }
