@@ -124,8 +124,8 @@ class OfProgram:
 
     def answers(self, image, lines):
         model = self.model()
-        count = int.from_bytes(image[24:28], "little")
-        at = 32
+        at = image.index(BASE.to_bytes(8, "little")) + 24
+        count = int.from_bytes(image[at - 8 : at - 4], "little")
         for _ in range(count):
             address, length = int.from_bytes(image[at : at + 8], "little"), int.from_bytes(image[at + 8 : at + 12], "little")
             model.put(address, image[at + 12 : at + 12 + length])
