@@ -88,11 +88,12 @@ struct rviommu_page_place {
     uint32_t did;   /* the device id */
     uint32_t pscid; /* the process soft-context id; 0 where there is none */
     uint32_t gscid; /* the guest soft-context id; 0 where there is none */
-    uint32_t level; /* the level of the first stage's leaf; 0 where that stage is Bare */
+    uint32_t level; /* the level of the first stage's leaf, 0 to 4; 0 where that stage is Bare */
     bool has_pscid; /* the first stage isn't Bare */
     bool has_gscid; /* the second stage isn't Bare */
     bool is_write;  /* it serves writes; else it serves reads */
     bool is_global; /* the first stage's mapping is global */
+    bool is_napot;  /* the first stage's leaf maps 64 KiB (Svnapot) */
     uint64_t reserved[2]; /* room for more members; 0 */
 };
 
@@ -133,10 +134,11 @@ struct rviommu_way {
     uint64_t frame;                       /* the physical address of the page's frame divided by 4096, of BY_WALK */
     uint64_t iotval2;                     /* of a guest page fault its address, in the form of a fault record's iotval2 */
     uint32_t kind;                        /* an enum rviommu_way_kind */
-    uint32_t level;                       /* the level of the first stage's leaf, of BY_WALK; 0 where that stage is Bare */
+    uint32_t level;                       /* the level of the first stage's leaf, 0 to 4, of BY_WALK; 0 where that stage is Bare */
     uint32_t cause;                       /* the cause of the denial, of TO_NOWHERE */
     bool is_global;                       /* the first stage's mapping is global, of BY_WALK */
     bool is_reported;                     /* the denial makes a fault record, of TO_NOWHERE */
+    bool is_napot;                        /* the first stage's leaf maps 64 KiB (Svnapot), of BY_WALK */
     uint64_t reserved[2];                 /* room for more members; 0 */
 };
 
@@ -174,7 +176,7 @@ enum rviommu_ruling {
     RVIOMMU_ENTRY_GUEST = 1,               /* the second stage leads its guest-physical address nowhere */
     RVIOMMU_ENTRY_INVALID = 2,             /* V is 0 */
     RVIOMMU_ENTRY_WRITE_ONLY = 3,          /* R is 0 and W is 1 */
-    RVIOMMU_ENTRY_RESERVED = 4,            /* one of bits 63:54 is set */
+    RVIOMMU_ENTRY_RESERVED = 4,            /* one of bits 63:54 is set that is reserved */
     RVIOMMU_ENTRY_RESERVED_IN_POINTER = 5, /* A, D or U is set in a pointer */
     RVIOMMU_ENTRY_LAST_LEVEL = 6,          /* a pointer at level 0 */
     RVIOMMU_ENTRY_POINTER = 7,             /* it points to a table of the next level */
@@ -199,10 +201,11 @@ struct rviommu_walk_part {
     uint64_t fsc;           /* of CONTEXT */
     uint32_t kind;          /* an enum rviommu_part_kind */
     uint32_t mode;          /* ddtp.iommu_mode, of DDTP: 0 Off, 1 Bare, 2 to 4 for one to three levels */
-    uint32_t level;         /* the level of the entry's table, of FIRST and SECOND */
+    uint32_t level;         /* the level of the entry's table, 0 to 4, of FIRST and SECOND */
     uint32_t ruling;        /* an enum rviommu_ruling, of FIRST and SECOND */
     bool has_word;          /* there is a word: no byte of it is outside memory, and its place leads somewhere */
     bool has_read_at;       /* of FIRST and SECOND: there is a physical address that it was read at */
+    bool is_napot;          /* of FIRST and SECOND: a leaf that maps 64 KiB (Svnapot) */
     struct rviommu_way way; /* of END */
     uint64_t reserved[4];   /* room for more members; 0 */
 };
