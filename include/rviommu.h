@@ -89,11 +89,12 @@ struct rviommu_page_place {
     uint32_t did;   /* the device id */
     uint32_t pscid; /* the process soft-context id; 0 if there is none */
     uint32_t gscid; /* the guest soft-context id; 0 if there is none */
-    uint32_t level; /* the level of the first stage's leaf; 0 if that stage is Bare */
+    uint32_t level; /* the level of the first stage's leaf, 0 to 4; 0 if that stage is Bare */
     bool has_pscid; /* the first stage isn't Bare */
     bool has_gscid; /* the second stage isn't Bare */
     bool is_write;  /* it serves writes; else it serves reads */
     bool is_global; /* the first stage's mapping is global */
+    bool is_napot;  /* the first stage's leaf maps 64 KiB (Svnapot) */
     uint64_t reserved[2]; /* room for more members; 0 */
 };
 
@@ -134,10 +135,11 @@ struct rviommu_way {
     uint64_t frame;                       /* BY_WALK: the physical address of the page's frame divided by 4096 */
     uint64_t iotval2;                     /* TO_NOWHERE: the address of a guest page fault, in the form of a fault record's iotval2 */
     uint32_t kind;                        /* an enum rviommu_way_kind */
-    uint32_t level;                       /* BY_WALK: the level of the first stage's leaf; 0 if that stage is Bare */
+    uint32_t level;                       /* BY_WALK: the level of the first stage's leaf, 0 to 4; 0 if that stage is Bare */
     uint32_t cause;                       /* TO_NOWHERE: the cause of the denial */
     bool is_global;                       /* BY_WALK: the first stage's mapping is global */
     bool is_reported;                     /* TO_NOWHERE: the denial makes a fault record */
+    bool is_napot;                        /* BY_WALK: the first stage's leaf maps 64 KiB (Svnapot) */
     uint64_t reserved[2];                 /* room for more members; 0 */
 };
 
@@ -176,7 +178,7 @@ enum rviommu_ruling {
     RVIOMMU_ENTRY_GUEST = 1,               /* the second stage doesn't translate its guest-physical address */
     RVIOMMU_ENTRY_INVALID = 2,             /* V is 0 */
     RVIOMMU_ENTRY_WRITE_ONLY = 3,          /* R is 0 and W is 1 */
-    RVIOMMU_ENTRY_RESERVED = 4,            /* one of bits 63:54 is set */
+    RVIOMMU_ENTRY_RESERVED = 4,            /* one of bits 63:54 is set that is reserved */
     RVIOMMU_ENTRY_RESERVED_IN_POINTER = 5, /* A, D or U is set in a pointer */
     RVIOMMU_ENTRY_LAST_LEVEL = 6,          /* a pointer at level 0 */
     RVIOMMU_ENTRY_POINTER = 7,             /* it points to a table of the next level */
@@ -200,10 +202,11 @@ struct rviommu_walk_part {
     uint64_t fsc;           /* CONTEXT */
     uint32_t kind;          /* an enum rviommu_part_kind */
     uint32_t mode;          /* DDTP: ddtp.iommu_mode, which is 0 for Off, 1 for Bare, 2 to 4 for one to three levels */
-    uint32_t level;         /* FIRST, SECOND: the level of the entry's table */
+    uint32_t level;         /* FIRST, SECOND: the level of the entry's table, 0 to 4 */
     uint32_t ruling;        /* FIRST, SECOND: an enum rviommu_ruling */
     bool has_word;          /* there is a word: the entry's address is translated, and all of the entry is in memory */
     bool has_read_at;       /* FIRST, SECOND: the entry's address is translated */
+    bool is_napot;          /* FIRST, SECOND: a leaf that maps 64 KiB (Svnapot) */
     struct rviommu_way way; /* END */
     uint64_t reserved[4];   /* room for more members; 0 */
 };

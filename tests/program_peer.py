@@ -90,8 +90,8 @@ class OfProgram:
         self.model = model
 
     def answers(self, image, lines):
-        model, at = self.model(), 32
-        for _ in range(*struct.unpack_from("<I", image, 24)):
+        model, at = self.model(), image.index(struct.pack("<Q", BASE)) + 24
+        for _ in range(*struct.unpack_from("<I", image, at - 8)):
             address, length = struct.unpack_from("<QI", image, at)
             model.put(address, image[at + 12 : at + 12 + length])
             at += 12 + length

@@ -85,7 +85,7 @@ function showCaches(state, view) {
   const contextCells = (it) => [it.did, ...stages(it), it.pscid, it.gscid];
   showCache(at("contexts"), "context", contextHeads, contextCells, state.fillers.contexts, state.told, view);
   const pageHeads = ["device", "pscid", "gscid", "page", "kind", "frame", "level", "global"];
-  const pageCells = (it) => [it.did, it.pscid, it.gscid, it.page, it.kind, it.frame, Number(it.level), yesNo(it.global)];
+  const pageCells = (it) => [it.did, it.pscid, it.gscid, it.page, it.kind, it.frame, it.napot ? "0, of 64 KiB" : Number(it.level), yesNo(it.global)];
   showCache(at("pages"), "page", pageHeads, pageCells, state.fillers.pages, state.told, view);
 }
 

@@ -42,10 +42,11 @@ class Page(Value):
     has_gscid: bool
     is_write: bool
     is_global: bool
+    is_napot: bool
 
     _fields_ = [("page", c_uint64), ("frame", c_uint64)]
     _fields_ += [(name, c_uint32) for name in ("did", "pscid", "gscid", "level")]
-    _fields_ += [(name, c_bool) for name in ("has_pscid", "has_gscid", "is_write", "is_global")]
+    _fields_ += [(name, c_bool) for name in ("has_pscid", "has_gscid", "is_write", "is_global", "is_napot")]
     _fields_ += [("_reserved", c_uint64 * 2)]
 
 
@@ -81,10 +82,11 @@ class Way(Value):
     cause: int
     is_global: bool
     is_reported: bool
+    is_napot: bool
 
     _fields_ = [("context", Context), ("frame", c_uint64), ("iotval2", c_uint64)]
     _fields_ += [(name, c_uint32) for name in ("kind", "level", "cause")]
-    _fields_ += [("is_global", c_bool), ("is_reported", c_bool), ("_reserved", c_uint64 * 2)]
+    _fields_ += [("is_global", c_bool), ("is_reported", c_bool), ("is_napot", c_bool), ("_reserved", c_uint64 * 2)]
 
 
 class Located(Value):
@@ -117,11 +119,12 @@ class Part(Value):
     ruling: int
     has_word: bool
     has_read_at: bool
+    is_napot: bool
     way: Way
 
     _fields_ = [(name, c_uint64) for name in ("place", "read_at", "guest", "word", "iohgatp", "ta", "fsc")]
     _fields_ += [(name, c_uint32) for name in ("kind", "mode", "level", "ruling")]
-    _fields_ += [("has_word", c_bool), ("has_read_at", c_bool), ("way", Way), ("_reserved", c_uint64 * 4)]
+    _fields_ += [("has_word", c_bool), ("has_read_at", c_bool), ("is_napot", c_bool), ("way", Way), ("_reserved", c_uint64 * 4)]
 
 
 class Why(Value):

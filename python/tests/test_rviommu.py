@@ -16,9 +16,9 @@ ROOT, DATA, IOVA, DID = 0x80002000, 0x80010000, 0x40201000, 5
 DDTP, CQB, FQB, CQCSR, FQCSR = 0x10, 0x18, 0x28, 0x48, 0x4C
 
 
-def mapped(**context):
+def mapped(image=None, **context):
     """A platform in which device 5 is led by Sv39 from IOVA to DATA."""
-    platform = Platform()
+    platform = Platform(image)
     platform.reg_write(DDTP, 0x20000402)
     platform.put(0x80001000 + 32 * DID, Context(mode=forms.SV39, ppn=ROOT >> 12, **context))
     for table, index, entry in ((ROOT, 1, Pte(0x80003, "v")), (0x80003000, 1, Pte(0x80004, "v")), (0x80004000, 1, Pte(DATA >> 12, "vrwuad"))):
@@ -67,6 +67,20 @@ class Steps(unittest.TestCase):
         self.assertEqual((page.did, page.page, page.frame, page.pscid, page.has_pscid, page.has_gscid), (DID, IOVA >> 12, DATA >> 12, 9, True, False))
         self.assertEqual((page.is_write, page.is_global, page.level), (False, False, 0))
         self.assertEqual((context.did, context.mode, context.ppn, context.pscid, context.gmode), (DID, forms.SV39, ROOT >> 12, 9, forms.BARE))
+
+    def test_64_kib(self):
+        """Svnapot: a leaf whose PPN[3:0] is 8 leads page 1 of its 64 KiB to frame 1 of them."""
+        platform = mapped(assemble(f"ram {RAM:#x} 0x100000\ncapabilities\n"))
+        platform.store(0x80004008, 1 << 63 | (DATA >> 12 | 8) << 10 | 0xD7)
+        platform.store(DATA + 0x1000, 0x77)
+        self.assertEqual(platform.dma_read(DID, IOVA, 1), b"\x77")
+        (page,), walk = platform.pages(), platform.walk(DID, IOVA)
+        self.assertEqual((page.is_napot, page.level, page.frame), (True, 0, (DATA >> 12) + 1))
+        self.assertEqual([part.is_napot for part in walk], [False, False, False, False, True, False])
+        self.assertTrue(walk[5].way.is_napot)
+        platform.store(0x80004008, (DATA >> 12 | 1) << 10 | 0xD7)
+        way = platform.stale(DID, IOVA)
+        self.assertEqual((way.is_napot, way.frame), (False, page.frame))
 
     def test_queues(self):
         platform = with_queues(mapped(pscid=9))
@@ -235,7 +249,7 @@ class Values(unittest.TestCase):
         platform = mapped(pscid=9)
         platform.dma_read(DID, IOVA, 1)
         self.assertEqual(repr(platform.pages()[0]), f"Page(page={IOVA >> 12}, frame={DATA >> 12}, did=5, pscid=9, gscid=0, level=0, "
-                         "has_pscid=True, has_gscid=False, is_write=False, is_global=False)")
+                         "has_pscid=True, has_gscid=False, is_write=False, is_global=False, is_napot=False)")
         self.assertIn("pscid=9", repr(platform.contexts()[0]))
         self.assertIn("kind=WALK", repr(platform.why()))
         self.assertTrue(repr(platform.walk(DID, IOVA)[2]).startswith("Part(place="))
@@ -488,7 +502,7 @@ class Forms(unittest.TestCase):
             with self.subTest(form=form):
                 told = self.told("cmd", form)
                 self.assertFalse(told.startswith("u64"), told)
-                with Platform(assemble(f"ram {RAM:#x} 0x1000\nat {RAM:#x}\n{told}\n")) as platform:
+                with Platform(assemble(f"ram {RAM:#x} 0x1000\ncapabilities nl=1 s=1\n{told}\n")) as platform:
                     self.assertEqual(platform.memory(RAM, 16), form.bytes())
                 for name, value in vars(form).items():
                     if value and not isinstance(value, bool):

@@ -196,6 +196,40 @@ static void test_walk(rviommu_t *platform) {
     want("which is left", part.kind, RVIOMMU_PART_END);
 }
 
+/* Svnapot: a leaf whose PPN[3:0] is 8 leads page 1 of its 64 KiB to frame 1 of them. */
+static void test_64_kib(void) {
+    static const char machine[] = "ram 0x80000000 0x100000\ncapabilities\n";
+    rviommu_t platform = {NULL};
+    struct rviommu_walk_part part;
+    struct rviommu_page_place page;
+    struct rviommu_way way;
+    uint8_t bytes[128], byte;
+    uint64_t line, cause;
+    size_t length;
+    want("assembled", rviommu_assemble(machine, strlen(machine), bytes, sizeof bytes, &length, &line), RVIOMMU_OK);
+    want("opened", rviommu_open(bytes, length, &platform), RVIOMMU_OK);
+    map(&platform);
+    want("a read of 4 KiB", rviommu_dma_read(&platform, 5, 0x40201abc, &byte, 1, &cause), RVIOMMU_BYTES);
+    want("its place", rviommu_page(&platform, 0, &page), RVIOMMU_LIVE);
+    want("its leaf", page.is_napot, false);
+    want("a leaf of 64 KiB", rviommu_store(&platform, 0x80004008, 8, 0x80000000200060d7), RVIOMMU_DONE);
+    want("a stale read", rviommu_stale(&platform, 5, 0x40201abc, false, &way), RVIOMMU_STALE);
+    want("its leaf by the tables", way.is_napot, true);
+    want("its frame by the tables", way.frame, 0x80011);
+    want("a write", rviommu_dma_write(&platform, 5, 0x40201abc, &byte, 1, &cause), RVIOMMU_DONE);
+    want("its place", rviommu_page(&platform, 1, &page), RVIOMMU_LIVE);
+    want("its leaf", page.is_napot, true);
+    want("its level", page.level, 0);
+    want("its frame", page.frame, 0x80011);
+    want("a pointer", rviommu_part(&platform, 5, 0x40201abc, true, 3, &part), RVIOMMU_OK);
+    want("which is no leaf", part.is_napot, false);
+    want("the leaf", rviommu_part(&platform, 5, 0x40201abc, true, 4, &part), RVIOMMU_OK);
+    want("of 64 KiB", part.is_napot, true);
+    want("the end", rviommu_part(&platform, 5, 0x40201abc, true, 5, &part), RVIOMMU_OK);
+    want("its way", part.way.is_napot, true);
+    rviommu_close(&platform);
+}
+
 static void test_stale(rviommu_t *platform) {
     struct rviommu_way way;
     struct rviommu_located located;
@@ -531,6 +565,7 @@ int main(void) {
     test_lines();
     test_looks();
     test_reasons();
+    test_64_kib();
     test_account();
     test_kept_reasons();
     test_interrupt();

@@ -17,7 +17,7 @@ import tempfile
 import time
 from pathlib import Path
 
-from model import BASE, COMPARED, CQT, SIZE, Model, OtherDevice
+from model import BASE, COMPARED, CQT, FEATURES, SIZE, Model, OtherDevice
 import directed
 from cases import random_case
 from qemu import DEVICE, IOMMU, PLACE, QEMU, Qemu, ids_of, pattern
@@ -46,7 +46,7 @@ class Walk:
     """One model carried through a case: its answers for each step, and at the end the words that it changed."""
 
     def __init__(self, case, others):
-        self.model, self.ids = Model(others), IDS[case.bus]
+        self.model, self.ids = Model(others, case.features), IDS[case.bus]
         for address, word in case.words.items():
             self.model.put(address, word.to_bytes(8, "little"))
         for address, data in case.bytes.items():
@@ -167,13 +167,19 @@ class Program:
             return ended.stdout.decode().splitlines()
 
 
+def head_of(features):
+    """How an image begins whose machine has these features: with none of them it is of version 1, and bit 56 says without Svnapot."""
+    word = sum(FEATURES.get(name, 0) for name in features) | ("svnapot" not in features) << 56
+    return b"RVIOMMU3" + struct.pack("<Q", word) if features else b"RVIOMMU1"
+
+
 class Script:
     """A case as a script of rviommu, with the answers that its model gives."""
 
     def __init__(self, case):
         chunks = {address: word.to_bytes(8, "little") for address, word in case.words.items()}
         chunks.update(case.bytes)
-        self.image = b"RVIOMMU1" + struct.pack("<QQII", BASE, SIZE, len(chunks), 0)
+        self.image = head_of(case.features) + struct.pack("<QQII", BASE, SIZE, len(chunks), 0)
         self.image += b"".join(struct.pack("<QI", it, len(chunks[it])) + chunks[it] for it in sorted(chunks))
         self.lines, self.wanted, self.numbers = [], [], []
 

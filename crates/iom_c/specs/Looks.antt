@@ -59,6 +59,7 @@ page_of key hit = record {
   has_gscid = is_some key.gscid;
   is_write = is_write key.kind;
   is_global = hit.global;
+  is_napot = hit.napot;
   reserved = 0 ∷ 0 ∷ [];
 }
 

@@ -1,6 +1,7 @@
 -- Where a request is led, by which parts of a walk, and whether it is stale, as C is told.
-use Rattle.std.specs.Prelude.{ℕ, ◌≡◌, ◌⊎◌, ◌+◌, Bool, true, false, List, [], ◌∷◌, get_or, Option, Some, None, is_some}
+use Rattle.std.specs.Prelude.{ℕ, ◌≡◌, ◌⊎◌, ◌+◌, ◌==◌, ◌&&◌, Bool, true, false, List, [], ◌∷◌, get_or, Option, Some, None, is_some}
 use Rattle.std.specs.Option.{unwrap_or}
+use Rattle.iom_bits.specs.Bits.{has_bit}
 use Rattle.iom_bits.specs.Causes.{cause_number}
 use Rattle.iom_bits.specs.declared.causes.Kind.{Kind}
 use Rattle.iom_bits.specs.declared.causes.Kind.TheVariants.{Read, Write}
@@ -73,6 +74,7 @@ plain_way kind = record {
   cause = 0;
   is_global = false;
   is_reported = false;
+  is_napot = false;
   reserved = 0 ∷ 0 ∷ [];
 }
 
@@ -85,6 +87,7 @@ way_of did (way.Walked context hit) = record (plain_way 2) {
   frame = hit.frame;
   level = hit.level;
   is_global = hit.global;
+  is_napot = hit.napot;
 }
 way_of did (way.Denied denial) = record (plain_way 3) {
   cause = cause_number denial.cause;
@@ -128,6 +131,10 @@ word_in (got.Word word) = Some word
 word_in got.Outside = None
 word_in got.Guest = None
 
+-- an entry is a leaf that maps 64 KiB: one with N, bit 63 ("Svnapot")
+abbrev pub is_napot_leaf : PathEntry → Bool
+is_napot_leaf entry = ruling_number entry.ruling == 14 && has_bit (unwrap_or (word_in entry.got) 0) 63
+
 -- a part of which nothing but its kind is told
 abbrev pub plain_part : ℕ → WalkPart
 plain_part kind = record {
@@ -144,6 +151,7 @@ plain_part kind = record {
   ruling = 0;
   has_word = false;
   has_read_at = false;
+  is_napot = false;
   way = plain_way 0;
   reserved = 0 ∷ 0 ∷ 0 ∷ 0 ∷ [];
 }
@@ -171,6 +179,7 @@ entry_part kind entry = record (plain_part kind) {
   level = entry.level;
   ruling = ruling_number entry.ruling;
   has_word = is_some (word_in entry.got);
+  is_napot = is_napot_leaf entry;
 }
 
 -- what is too wide for a table: a device id, an IOVA, or a guest-physical address

@@ -30,6 +30,8 @@ pub struct PagePlace {
     pub is_write: bool,
     /// Whether the first stage's mapping is global.
     pub is_global: bool,
+    /// Whether the first stage's leaf maps 64 KiB ("Svnapot").
+    pub is_napot: bool,
     /// Room for more; 0.
     pub reserved: [u64; 2],
 }
@@ -78,6 +80,7 @@ pub fn page_of(key: Key, hit: Hit) -> PagePlace
         has_gscid: key.gscid.is_some(),
         is_write: matches!(key.kind, Kind::Write),
         is_global: hit.global,
+        is_napot: hit.napot,
         reserved: [0; 2],
     }
 }

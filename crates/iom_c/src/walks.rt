@@ -1,7 +1,8 @@
 ghost use Rattle.std.specs.Prelude.{◌≡◌};
-ghost use Rattle.iom_c.specs.Reasons.{entry_part, met_part, mode_number, part_of, plain_part, ruling_number, wide_part, word_in};
+ghost use Rattle.iom_c.specs.Reasons.{entry_part, is_napot_leaf, met_part, mode_number, part_of, plain_part, ruling_number, wide_part, word_in};
 
 use crate::ways::{RequestWay, plain_way, way_of};
+use iom_bits::has_bit;
 use iom_ddt::Met;
 use iom_regs::Mode;
 use iom_tables::{Part, Wide};
@@ -39,6 +40,8 @@ pub struct WalkPart {
     pub has_word: bool,
     /// Whether there is a physical address that an entry was read at.
     pub has_read_at: bool,
+    /// Whether it is a leaf that maps 64 KiB ("Svnapot"), of kinds 3 and 4.
+    pub is_napot: bool,
     /// The way that the request is led, of kind 5.
     pub way: RequestWay,
     /// Room for more; 0.
@@ -89,6 +92,16 @@ fn word_in(got: Got) -> Option<u64>
     }
 }
 
+// Whether an entry is a leaf that maps 64 KiB: one with N, bit 63 ("Svnapot").
+fn is_napot(entry: &PathEntry) -> bool
+    ensures { result ≡ is_napot_leaf entry.now }
+{
+    match (entry.ruling, entry.got) {
+        (Ruling::Leaf, Got::Word(word)) => has_bit(word, 63),
+        _ => false,
+    }
+}
+
 // A part of which nothing but its kind is told.
 fn plain_part(kind: u32) -> WalkPart
     ensures { result ≡ plain_part kind }
@@ -107,6 +120,7 @@ fn plain_part(kind: u32) -> WalkPart
         ruling: 0,
         has_word: false,
         has_read_at: false,
+        is_napot: false,
         way: plain_way(0),
         reserved: [0; 4],
     }
@@ -149,6 +163,7 @@ fn entry_part(kind: u32, entry: &PathEntry) -> WalkPart
         level: u32::from(entry.level),
         ruling: ruling_number(entry.ruling),
         has_word: word.is_some(),
+        is_napot: is_napot(entry),
         ..plain_part(kind)
     }
 }

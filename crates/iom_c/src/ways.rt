@@ -24,6 +24,8 @@ pub struct RequestWay {
     pub is_global: bool,
     /// Whether the denial makes a fault record, of kind 3.
     pub is_reported: bool,
+    /// Whether the first stage's leaf maps 64 KiB ("Svnapot"), of kind 2.
+    pub is_napot: bool,
     /// Room for more; 0.
     pub reserved: [u64; 2],
 }
@@ -74,6 +76,7 @@ pub fn plain_way(kind: u32) -> RequestWay
         cause: 0,
         is_global: false,
         is_reported: false,
+        is_napot: false,
         reserved: [0; 2],
     }
 }
@@ -93,6 +96,7 @@ pub fn way_of(did: u32, way: Way) -> RequestWay
             frame: hit.frame,
             level: u32::from(hit.level),
             is_global: hit.global,
+            is_napot: hit.napot,
             ..plain_way(2)
         },
         Way::Denied(denial) => RequestWay {

@@ -4,3 +4,4 @@ pub mod Drops
 pub mod Origins
 pub mod Buckets
 pub mod Index
+pub mod Ranges

@@ -5,6 +5,7 @@
 pub use contexts::ContextCache;
 pub use key::{Key, key_of};
 pub use place::Place;
+pub use ranges::ranges_meet_in_a_page;
 pub use translations::TransCache;
 
 mod contexts;
@@ -12,4 +13,5 @@ mod drops;
 mod index;
 mod key;
 mod place;
+mod ranges;
 mod translations;
