@@ -6,7 +6,7 @@ use Rattle.iom_cache.specs.Origins.{first_stamps}
 use Rattle.iom_core.specs.State.{State, context_room, page_room}
 use Rattle.iom_core.specs.Warrants.{context_filled, context_filled_at, moment, page_filled, page_filled_at, request_at}
 use Rattle.iom_core.specs.declared.step.Step.{Step}
-use Rattle.iom_account.specs.Following.{base_at, base_by, bases_at, contexts_at, notes_at, number_of, walks_at}
+use Rattle.iom_account.specs.Following.{base_at, base_by, bases_at, contexts_at, number_of, walks_at}
 use Rattle.iom_account.proofs.Beside.{noted_at-same}
 use Rattle.iom_account.proofs.Runs.{moment_below, request_below}
 

@@ -26,7 +26,7 @@ use Rattle.iom_core.proofs.Explained.{explained}
 use Rattle.iom_core.proofs.Moments.{context_filled-unused, moment-suc, next-contexts, next-pages, next_by, page_filled-unused}
 use Rattle.iom_core.proofs.Ways.{FilledPage, filled_page}
 use Rattle.iom_account.specs.Beside.{beside, noted_at}
-use Rattle.iom_account.specs.Following.{ComesFrom, Notes, base_at, base_by, bases_at, contexts_at, number_of, notes_at, origin_on, origin_so, told, walks_at}
+use Rattle.iom_account.specs.Following.{ComesFrom, base_at, base_by, contexts_at, number_of, notes_at, origin_on, origin_so}
 use Rattle.iom_account.specs.declared.origin.Origin.TheVariants as origin
 use Rattle.iom_account.proofs.Accessed.{accessed_contexts, accessed_pages, found_context, found_led, found_page, leading}
 use Rattle.iom_account.proofs.Noted.{LastNoted, Noted, Noted-always, last_noted}

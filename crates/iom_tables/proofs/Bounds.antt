@@ -122,22 +122,19 @@ behind_pointer true rest each = each
 behind_pointer false rest each = All-nil Within
 
 -- what holds of each shape: how many levels it has, and how wide its root is
-few_levels : (shape : Shape) → levels shape ≤ 5
-few_levels Sv39 = omega arith
-few_levels _ = omega arith
+pub record EachShape (shape : Shape) : Type 0 where
+  pub few : levels shape ≤ 5
+  pub least : 0 < levels shape
+  pub root : 2 ^ index_width shape (levels shape - 1) ≡ 2 ^ (9 + widening shape)
 
-pub some_level : (shape : Shape) → 0 < levels shape
-some_level Sv39 = omega arith
-some_level _ = omega arith
-
-root_width : (shape : Shape) → 2 ^ index_width shape (levels shape - 1) ≡ 2 ^ (9 + widening shape)
-root_width Sv39 = refl
-root_width _ = refl
+pub each_shape : (shape : Shape) → EachShape shape
+each_shape Sv39 = record { few = omega arith; least = omega arith; root = refl }
+each_shape _ = record { few = omega arith; least = omega arith; root = refl }
 
 root_index : (shape : Shape) (address : ℕ) → index_of shape address (levels shape - 1) < 2 ^ (9 + widening shape)
 unfolding index_of
 root_index shape address =
-    subst (λ n. index_of shape address (levels shape - 1) < n) (root_width shape)
+    subst (λ n. index_of shape address (levels shape - 1) < n) (each_shape shape).root
     (field_below address (12 + 9 * (levels shape - 1)) (index_width shape (levels shape - 1)))
 
 -- an entry that stands within bounds, and those behind it
@@ -149,7 +146,7 @@ entry_within at format address table count some place more =
     let entry : Entry = entry_at at format address table count in
     let pointer : Bool = is_pointer (verdict_on format.features Read entry) in
     let rest : List Entry = path_from at format address (next_table entry) count in
-    let level : count < 5 = omega (arith, few_levels format.shape) in
+    let level : count < 5 = omega (arith, (each_shape format.shape).few) in
     All-cons Within entry (if pointer then rest else []) (place, level) (behind_pointer pointer rest more)
 
 below_within : (at : ℕ → Got) (format : Format) (address table count : ℕ) → table < 2 ^ 44 → count < levels format.shape →
@@ -231,19 +228,16 @@ outcome_fits at format root address kind rooted =
       | false ↦ tt
     ]
 
--- the first stage
 abbrev FirstFits : Option Shape → ℕ → Type 0
 FirstFits None root = Unit {0}
 FirstFits (Some shape) root = RootFits shape root
 
-first_shape_plain : (context : Context) (shape : Shape) → first_shape_of context ≡ Some shape → widening shape ≡ 0
-first_shape_plain context shape is = grind arith
-
 first_root : (context : Context) (found : Option Shape) → first_shape_of context ≡ found → context.ppn < 2 ^ 44 → FirstFits found context.ppn
 first_root context None is low = tt
 first_root context (Some shape) is low = λ address.
+    let plain : widening shape ≡ 0 = grind arith in
     let index : index_of shape address (levels shape - 1) < 2 ^ (9 + 0) =
-    subst (λ n. index_of shape address (levels shape - 1) < 2 ^ (9 + n)) (first_shape_plain context shape is) (root_index shape address) in omega arith
+    subst (λ n. index_of shape address (levels shape - 1) < 2 ^ (9 + n)) plain (root_index shape address) in omega arith
 
 -- the second, whose root is aligned, and what it translates
 record SecondFits (shape : Shape) (root : ℕ) : Type 0 where
@@ -266,12 +260,11 @@ narrow address low width below none =
 aligned_stands : (root index : ℕ) → root < 2 ^ 44 → root % 4 ≡ 0 → index < 2048 → root * 4096 + index * 8 < 2 ^ 56
 aligned_stands root index low aligned below = omega (arith, shr_split root 2)
 
--- a guest-physical address that keeps the width rule
 guest_narrow : (shape : Shape) (address : ℕ) → widening shape ≡ 2 → address < 2 ^ 64 → is_in_width shape address ≡ true → address < 2 ^ 59
 unfolding is_in_width
 guest_narrow shape address wider below wide =
     let low : ℕ = 12 + page_width shape in
-    let most : low ≤ 59 = omega (arith, few_levels shape, wider) in
+    let most : low ≤ 59 = omega (arith, (each_shape shape).few, wider) in
     let none : (field_of address low (64 - low) == 0) ≡ true =
     subst (λ n. are_all (n == 0 && has_bit address (12 + (page_width shape - 1))) address low ≡ true) wider wide in
     let all : 64 ≡ 64 - low + low = omega arith in
@@ -279,13 +272,10 @@ guest_narrow shape address wider below wide =
     let power : 2 ^ low ≤ 2 ^ 59 = pow-le-pow_right (omega arith) most in
     omega (arith, small, power)
 
-second_shape_wider : (context : Context) (shape : Shape) → second_shape_of context ≡ Some shape → widening shape ≡ 2
-second_shape_wider context shape is = grind arith
-
 second_root : (context : Context) (found : Option Shape) → second_shape_of context ≡ found → IsWellFormed context → StageFits found context.gppn
 second_root context None is well = tt
 second_root context (Some shape) is well =
-    let wider : widening shape ≡ 2 = second_shape_wider context shape is in
+    let wider : widening shape ≡ 2 = grind arith in
     let staged : context.gmode ≢ 0 = λ bare. let none : second_shape_of context ≡ None = rw bare refl in cc in
     record {
       stands = λ address. aligned_stands context.gppn (index_of shape address (levels shape - 1)) well.second_root (well.second_root_aligned staged)

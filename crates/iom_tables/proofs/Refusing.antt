@@ -50,7 +50,7 @@ use Rattle.iom_tables.specs.declared.part.Part.TheVariants as part
 use Rattle.iom_tables.specs.declared.part.Wide.{Wide}
 use Rattle.iom_tables.specs.declared.part.Wide.TheVariants as wide
 use Rattle.iom_core.proofs.Uncached.{looked_none, used_uncached}
-use Rattle.iom_tables.proofs.Bounds.{some_level}
+use Rattle.iom_tables.proofs.Bounds.{each_shape}
 use Rattle.iom_tables.proofs.Passing.{under_where}
 use Rattle.iom_tables.proofs.Widths.{IsWide, each_is_wide}
 
@@ -216,7 +216,7 @@ outcome_stops at format root address kind =
     (is_in_width format.shape address ≡ false) ⊎ Occurs IsStop (if wide then map (told format.features kind) path else []) in
     let by_cases : (wide : Bool) → Goal wide = λ wide. elim wide as Goal [
       | true ↦ λ is no_leaf. inr (in_mapped (Stops format.features kind) IsStop (told format.features kind) (λ entry is. is) path
-          (root_stops at format kind _ address root (levels format.shape) (some_level format.shape) no_leaf))
+          (root_stops at format kind _ address root (levels format.shape) (each_shape format.shape).least no_leaf))
       | false ↦ λ is no_leaf. inl is
     ] in by_cases (is_in_width format.shape address) refl
 

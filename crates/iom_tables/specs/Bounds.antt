@@ -16,8 +16,7 @@ use Rattle.iom_tables.specs.declared.part.Wide.TheVariants as wide
 abbrev pub physical_end : ℕ
 physical_end = 2 ^ 56
 
--- how many levels a directory and a page table have at most, and a walk parts: ddtp, those of the directory, for each level of the first
--- stage an entry and those of the second, those of the second for the access, and the end
+-- how many levels a directory and a page table have at most, and how many parts a walk
 abbrev pub directory_levels : ℕ
 directory_levels = 3
 

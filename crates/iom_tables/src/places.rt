@@ -26,7 +26,6 @@ pub fn stale_context(platform: &Platform, i: u64) -> Standing<Located>
     context_at(platform, i)
 }
 
-// The same.
 fn context_at(platform: &Platform, i: u64) -> Standing<Located>
     ensures { IsStanding (IsContextNow platform.now.machine) (found_now platform.now.machine)
         (place_in (slice_get platform.now.machine.contexts i)) result }

@@ -9,7 +9,6 @@ use Rattle.iom_account.specs.Following.{origin_so}
 use Rattle.iom_account.proofs.Stepped.{follows_step, none_told, notes_of_step, origin_step}
 use Rattle.iom_account.proofs.history.History.step.Goals as goal
 
--- what a step is told that began with nothing
 from_nothing : (before : State) (taken : Step) (first seen : Seen) → first ≡ nothing_seen →
     seen ≡ told_by_step noticed first before.machine (asked before taken) → seen ≡ told_by_step noticed nothing_seen before.machine (asked before taken)
 from_nothing before taken first seen none told = told ∙ ap (λ (s : Seen). told_by_step noticed s before.machine (asked before taken)) none
