@@ -96,10 +96,7 @@ fn word_in(got: Got) -> Option<u64>
 fn is_napot(entry: &PathEntry) -> bool
     ensures { result ≡ is_napot_leaf entry.now }
 {
-    match (entry.ruling, entry.got) {
-        (Ruling::Leaf, Got::Word(word)) => has_bit(word, 63),
-        _ => false,
-    }
+    ruling_number(entry.ruling) == 14 && has_bit(word_in(entry.got).unwrap_or(0), 63)
 }
 
 // A part of which nothing but its kind is told.

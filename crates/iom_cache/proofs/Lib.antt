@@ -10,4 +10,4 @@ pub mod Indexed
 pub mod Apart
 pub mod Counted
 pub mod Tallied
-pub mod Ranges
+pub mod Meeting
