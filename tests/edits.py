@@ -226,7 +226,7 @@ class Crate:
 
     def __init__(self, name, kit):
         self.name, self.words = name, crates.words("check", name, kit)
-        self.sources = Sources(crates.texts(CRATES / name))
+        self.sources = Sources({**crates.texts(CRATES / name), **answers(name)})
         self.told, self.edits = [], []
         for path in edits_in(name):
             try:
@@ -293,6 +293,19 @@ class Crate:
                     again = [it for one in chosen for it in self.try_batch([one], one.applied(self.sources), kept)]
                 left = [*again, *(it for it in left if it not in chosen)]
         return self.told
+
+
+def answers(crate):
+    """The files of proofs/ that the lines `FUNCTION: GOAL ..` of edits/answers.txt stand for. Each goal is answered by
+    the tactic that the prover tries first: no proof needs that, but with an answer a wrong body is refused sooner."""
+    path, found = CRATES / crate / "edits/answers.txt", {}
+    lines = path.read_text(encoding="utf-8") if path.exists() else ""
+    for function, goals in re.findall(r"(?m)^(\S+): (.*)$", lines):
+        text = "use Rattle.std.proofs.Common.{rules}\n"
+        text += f"use Rattle.{crate}.proofs.{function.replace('::', '.')}.Goals as goal\n"
+        text += "".join(f"\npub {it} : goal.{it}\n{it} c = search rules\n" for it in goals.split())
+        found[f"proofs/{function.replace('::', '/')}/Answers.antt"] = text
+    return found
 
 
 def edits_in(name):

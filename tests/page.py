@@ -154,6 +154,7 @@ class Shown(Using):
             (*failed, counts), (*either, _) = told
             failed, either = ([int(re.match(r"line (\d+): ", it)[1]) for it in told] for told in (failed, either))
             self.show(name)
+            self.wait_for_stale()
             wrong, late = self.ask("marked", "wrong"), self.ask("marked", "stale")
             seen = wrong, sorted({*wrong, *late}), ", ".join(self.ask("counts")[:2])
             self.want(name, seen, (failed, either, counts))

@@ -72,7 +72,11 @@ class Using:
         self.ask("type", name, text)
         self.browser.wait("fresh === Infinity", 20)
 
-    def want(self, name, got, wanted=True):
+    def wait_for_stale(self, seconds=20):
+        """Waits until the page has found which lines made stale accesses."""
+        self.assertTrue(self.browser.wait('!/looking/.test(at("counts").textContent)', seconds))
+
+    def want(self, name, got, wanted):
         with self.subTest(name):
             self.assertEqual(got, wanted)
 
@@ -178,6 +182,7 @@ class Using:
         told = ["✓ denied 256", "denied 256", "✗ denied 256  (wanted done)", "0x3810060610", "✗ bad", "✓ bad"]
         self.assertEqual(self.ask("answers"), [*told, "✗ 0x3810060610  (wanted 0x38)", ""])
         self.assertEqual(len({tuple(it) for it in self.ask("looks", 4)}), 4, "how they look")
+        self.wait_for_stale()
         self.assertEqual(self.ask("counts"), ["2 passed", "3 failed", "0 stale"])
 
     def test_readable(self):
@@ -232,7 +237,7 @@ class Using:
         self.open_own(lines_of(lines), "", 1)
         self.browser.wait(LOOKED_AT, 4 * most)
         self.assertLess(time.monotonic() - start, most, "seconds until what holds at one is shown")
-        self.browser.wait('!/looking/.test(at("counts").textContent)', 4 * most)
+        self.wait_for_stale(4 * most)
         print(f"page: {self.browser.name}: {count} lines, and which are stale, after {time.monotonic() - start:.1f} s")
         self.assertLess(self.ask("elements"), 6000, "the page has the elements about what is seen")
         self.assertEqual(self.browser.run("script.answers.length"), count)

@@ -305,7 +305,8 @@ def wants():
 
 
 def course(case, others):
-    """What a model says of each step of a case, None after one that reaches another device; and the memory at its end."""
+    """What a model says of each step of a case, and the memory at its end. After one that reaches another device it
+    says None."""
     own, walk, said = Walk(case, ()), Walk(case, others), []
     try:
         for step in case.steps:
