@@ -63,10 +63,9 @@ def is_for_run(program, source, image, text, script):
     return play(program, ["run", image], given) == play(program, ["debug", image], given)
 
 
-def main():
-    program, count = str(Path(sys.argv[1]).resolve()), int(sys.argv[2]) if len(sys.argv) > 2 else 300
-    mutator = Mutator(int(sys.argv[3]) if len(sys.argv) > 3 else random.randrange(2**32))
-    played = answered = 0
+def compared(program, count, seed):
+    """Plays so many scripts made at random; returns what differs at the first difference, with that script, or None, and how many answers were compared."""
+    mutator, played, answered = Mutator(seed), 0, 0
     with tempfile.TemporaryDirectory() as here:
         source, image = Path(here, "source"), Path(here, "image")
         known = [(text, script) for text, script in cases().values() if is_for_run(program, source, image, text, script)]
@@ -81,11 +80,16 @@ def main():
             lines = [line for line in lines if len(line) < 400]
             found, more = difference(program, image, lines)
             if found:
-                print(found, b"\n".join(lines).decode("latin1"), sep="\n")
-                return 1
+                return f"{found}\n" + b"\n".join(lines).decode("latin1"), answered
             played, answered = played + 1, answered + more
-    print(f"{played} scripts, {answered} answers")
-    return 0
+    return None, answered
+
+
+def main():
+    program, count = str(Path(sys.argv[1]).resolve()), int(sys.argv[2]) if len(sys.argv) > 2 else 300
+    found, answered = compared(program, count, int(sys.argv[3]) if len(sys.argv) > 3 else random.randrange(2**32))
+    print(found or f"{count} scripts, {answered} answers")
+    return 1 if found else 0
 
 
 if __name__ == "__main__":
