@@ -3,7 +3,7 @@
 
 A case is a text for an image and a script, made by small changes from those of examples/ and crates/iom_rows/data:
 numbers moved to their neighbours, to limits and to other numbers of the case, bits turned over, lines left out,
-doubled, moved and taken from other cases, writable disks made read-only, stores into tables, rings and queues between
+doubled, moved, garbled and taken from other cases, writable disks made read-only, stores into tables, rings and queues between
 other lines, images of all versions cut short and with bytes replaced. What the programs write, the images, upgraded
 ones too, the statuses and the texts of faults are compared. Without OTHER, or with PROGRAM once more, the words of one
 program are compared: the answers of run have to be those of debug and of explain, and a script whose lines want them
@@ -126,6 +126,14 @@ class Mutator:
                     f"store {dice.choice([0x800010A8, 0x800010B8]):#x} 8 {stage:#x}",
                 ]))
         return out
+
+    def garbled(self, lines):
+        """The lines, now and then with one of any characters, but those that end a line or are blanks elsewhere."""
+        dice, lines = self.random, list(lines)
+        if lines and dice.random() < 0.3:
+            text = "".join(map(chr, dice.randbytes(dice.randrange(1, 200))))
+            lines[dice.randrange(len(lines))] = re.sub("[\\n\\v\\f\\r\\x1c-\\x1f\\x85\\xa0#]", "", text)
+        return lines
 
     def bytes(self, image):
         dice, image = self.random, bytearray(image)
@@ -253,7 +261,7 @@ def tried(pair, mutator, theme, found):
         text = mutator.lines(text, donor[0], dice.choice([1, 2, 3]))
     elif dice.random() < 0.3:
         text = mutator.lines(text, [], 1)
-    script = mutator.watched(mutator.lines(script, donor[1], dice.choice([0, 1, 2, 4, 8])))
+    script = mutator.garbled(mutator.watched(mutator.lines(script, donor[1], dice.choice([0, 1, 2, 4, 8]))))
     differs, lines = pair.difference(text, script)
     if not differs:
         return None, lines
