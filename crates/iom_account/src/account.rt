@@ -13,8 +13,8 @@ use iom_core::{Answer, Platform, Step, Way};
 use iom_tables::differing;
 use std::marker::Model;
 
-/// Which steps filled what the caches of a platform hold, and why each of its last 32 steps went as it did. A step is told by the number
-/// that the caller gave it. No call takes memory.
+/// The steps that filled the entries in a platform's caches, and the reasons of its last 32 steps. A step is named by the number that
+/// the caller gave it. No call takes memory.
 #[derive(Drop)]
 pub struct Account {
     history: History,
@@ -36,7 +36,7 @@ impl Account {
     ghost use Rattle.iom_core.specs.Table.{next};
     ghost use Rattle.iom_account.specs.Account.{Accounts, GoesAlong, IsReasonOf};
 
-    /// An account that begins at this platform, of no step yet. Where translations come from is told if both caches hold nothing now.
+    /// An empty account of this platform. Origins are known only if both caches are empty now.
     pub fn new(platform: &Platform) -> Account
         ensures begins { Accounts result platform.now platform.now [] [] }
         ensures empty { result.told ≡ [] }
@@ -47,7 +47,7 @@ impl Account {
         }
     }
 
-    /// An equal account, which goes its own way from here.
+    /// An equal account, independent of this one.
     pub fn copied(&self) -> Account
         ensures { result ≡ self.now }
     {
@@ -57,29 +57,29 @@ impl Account {
         }
     }
 
-    /// Which steps filled what the caches hold.
+    /// The steps that filled the entries in the caches.
     pub fn history(&self) -> &History
         ensures { result.now ≡ self.now.history }
     {
         &self.history
     }
 
-    /// Why step `i` of the last 32, any number, went as it did; the oldest is 0. None where there are so many steps or fewer.
+    /// The reason of step `i` of the last 32, any number; the oldest is 0. None if there is no such step.
     pub fn reason(&self, i: u64) -> Option<&Reason>
         ensures reason { option_copied result ≡ slice_get self.now.told i }
     {
         self.told.get(i as usize)
     }
 
-    /// Why the last step went as it did; None where there was none.
+    /// The reason of the last step; None if there was none.
     pub fn newest(&self) -> Option<&Reason>
         ensures reason { option_copied result ≡ last_item self.now.told }
     {
         self.told.newest()
     }
 
-    /// Carries out the next step on the platform, which has the caller's `number`, puts its answer in place of what `answer` holds, and
-    /// keeps what is told of it. Of 32 steps the oldest leaves.
+    /// Carries out the next step on the platform, under the caller's `number`, writes its answer to `answer`, and keeps its reason. After 32
+    /// steps the oldest reason is dropped.
     pub fn step(&mut self, platform: &mut Platform, step: &Step, number: u64, answer: &mut Answer)
         ensures answer { answer.new ≡ (next platform.old step.now).answer }
         ensures state { platform.new ≡ (next platform.old step.now).state }

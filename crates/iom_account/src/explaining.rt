@@ -12,9 +12,8 @@ use crate::origin::Origin;
 use iom_core::{Answer, Platform, Step, Warrant};
 use std::alloc::{AllocError, Global};
 
-/// Where the translation comes from that step `n` used, below the number of steps, if they are carried out from `start` on, whose
-/// caches hold nothing; None where the step makes no access or is denied. The fault is want of memory: it plays the steps on a copy
-/// of `start`.
+/// The warrant of the translation that step `n`, below the number of steps, uses in a run of them from `start`, whose caches are empty.
+/// None if the step makes no access or is denied. It runs the steps on a copy of `start`; the error is that there is no memory for it.
 pub fn explain(
     alloc: Global,
     start: &Platform,

@@ -15,7 +15,7 @@ use iom_cache::key_of;
 use iom_core::{Answer, Platform, Request, Seen, Step, Way};
 use std::marker::Model;
 
-/// Which steps filled what a platform's caches hold, each by the number that its caller gave it.
+/// The steps that filled the entries in a platform's caches, each by the number that the caller gave it.
 #[derive(Drop)]
 pub struct History {
     // Beside each place of the context cache, the number of the step that filled it.
@@ -34,14 +34,14 @@ impl Model for History {
     ghost view = { λ h. record { contexts = h.contexts.items; walks = h.walks.items; bases = h.bases.items } };
 }
 
-/// What a step did.
+/// A step's access.
 #[derive(Clone, Copy)]
 pub struct Taken {
-    /// What it asked of the IOMMU; None where it made no access.
+    /// The request; None if the step made no access.
     pub request: Option<Request>,
-    /// What led its access; nothing where it made none.
+    /// The context, page and way that it was led by; nothing if it made no access.
     pub seen: Seen,
-    /// Where the translation comes from that it used; None where it made no access, or was denied.
+    /// The origin of the translation that it used; None if it made no access, or was denied.
     pub origin: Option<Origin>,
 }
 
@@ -61,8 +61,7 @@ impl History {
     ghost use Rattle.iom_nested.specs.declared.translation.Hit.{Hit};
     ghost use Rattle.iom_cache.specs.declared.key.Key.{Key};
 
-    /// A history that begins at this platform. It tells where translations come from if both caches hold nothing now. It takes
-    /// no memory.
+    /// An empty history of this platform. Origins are known only if both caches are empty now. It takes no memory.
     pub fn new(platform: &Platform) -> History
         ensures { IsUncached platform.now → Follows result platform.now platform.now [] [] }
     {
@@ -74,7 +73,7 @@ impl History {
         }
     }
 
-    /// An equal history, which goes its own way from here. It takes no memory.
+    /// An equal history, independent of this one. It takes no memory.
     pub fn copied(&self) -> History
         ensures { result ≡ self.now }
     {
@@ -85,8 +84,8 @@ impl History {
         }
     }
 
-    /// Carries out the next step on the platform, which has the caller's `number`, puts its answer in place of what `answer` holds, and
-    /// says what it asked, what led it, and where the translation comes from that it used. It takes no memory.
+    /// Carries out the next step on the platform, under the caller's `number`, and writes its answer to `answer`. It returns the step's
+    /// access: the request, how it was led, and the origin of its translation. It takes no memory.
     pub fn step(
         &mut self,
         platform: &mut Platform,

@@ -9,7 +9,7 @@ use std::marker::Model;
 /// How many reasons are kept.
 const MOST: usize = 32;
 
-/// The last 32 reasons, the oldest first. They stand in a ring, so that none is moved where there are 32 and one more is kept.
+/// The last 32 reasons, the oldest first. They stand in a ring, so none is moved if there are 32 and one more is kept.
 #[derive(Drop)]
 pub struct Kept {
     ring: ArrayVec<Reason, 32>,
@@ -54,7 +54,7 @@ impl Kept {
         }
     }
 
-    /// The one at place `i`, any number; the oldest is at place 0. None where there are so many or fewer.
+    /// Reason `i`, any number; the oldest is 0. None if there is no such reason.
     #[tactic(auto, using(crate::proofs::Ring::turned_front, crate::proofs::Ring::turned_back))]
     pub fn get(&self, i: usize) -> Option<&Reason>
         ensures { option_copied result ≡ slice_get self.now i }
@@ -79,7 +79,7 @@ impl Kept {
         }
     }
 
-    /// Keeps one more. Of 32 the oldest leaves.
+    /// Keeps one more, and drops the oldest if there are 32.
     #[tactic(auto, using(crate::proofs::Ring::turned_on, crate::proofs::Ring::grown))]
     pub fn keep(&mut self, reason: Reason)
         ensures { self.new ≡ keep_last most_reasons (self.old ++ reason ∷ []) }
@@ -95,7 +95,7 @@ impl Kept {
     }
 }
 
-// The place of the oldest one of 32, so many of which are newer and stand before the others.
+// The index of the oldest of 32 reasons, if the `newer` newest stand before the others.
 fn oldest_place(newer: usize) -> usize
     requires { newer ≤ most_reasons }
     ensures { result ≡ (if newer == most_reasons then 0 else newer) }

@@ -5,7 +5,7 @@ ghost use Rattle.iom_cache.specs.Places.{made_room};
 
 use arrayvec::ArrayVec;
 
-/// Notes a number beside the last place of a cache of `N` places, which was filled; where it had all its places the oldest left.
+/// Appends the number of a fill of a cache of `N` places; if all places were taken, the oldest number is dropped.
 pub fn note<const N: usize>(notes: &mut ArrayVec<u64, N>, number: u64)
     requires { 0 < N }
     ensures { notes.new.items ≡ made_room N notes.old.items ++ number ∷ [] }
@@ -16,7 +16,7 @@ pub fn note<const N: usize>(notes: &mut ArrayVec<u64, N>, number: u64)
     notes.push(number);
 }
 
-/// As many zeros as a cache of `N` places has now.
+/// A zero for each of the `count` places that a cache of `N` has now.
 pub fn zeros<const N: usize>(count: usize) -> ArrayVec<u64, N>
     requires { count ≤ N }
     ensures { result.items ≡ replicate count 0 }

@@ -12,8 +12,8 @@ use iom_bits::Kind;
 use iom_blk::Want;
 
 impl Platform {
-    /// What a step asks of the IOMMU, if it is the next one: a device's access, a block device's too. Its device id is
-    /// below 2^24. None where it makes none.
+    /// The request that a step makes of the IOMMU if it is carried out next, a block device's too. Its device id is below 2^24. None if
+    /// the step makes no access.
     #[tactic(auto, unfolding(crate::specs::Table::asked))]
     pub fn request_of(&self, step: &Step) -> Option<Request>
         ensures request { result ≡ request_of_step self.now step.now }

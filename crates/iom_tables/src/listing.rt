@@ -32,13 +32,12 @@ use iom_walk::{Format, Outcome, PathEntries, walk_listed};
 /// second, and the end.
 pub type Parts = ArrayVec<Part, 40>;
 
-/// Puts all that is looked at to lead a request where nothing is cached, in order ("Process to translate an IOVA"), in place of what a
-/// list holds.
+/// Replaces the contents of a list by the parts of a request's walk if nothing is cached, in order ("Process to translate an IOVA").
 ///
 /// ddtp comes first, then the directory down to the device's context, then the first stage: before each of its entries those of the
 /// second stage that translate the entry's place, for a read. The second stage for the access itself is next, for the access's kind,
 /// and the end is the way that the request is led. A device id that is too wide stands in place of the directory, and an address that
-/// breaks the width rule of a stage in place of its entries. Where the request is granted no part refuses it; where it is denied one does.
+/// breaks the width rule of a stage in place of its entries. If the request is granted no part refuses it; if it is denied one does.
 /// Each PPN told is below 2^44, each address of an entry below 2^56, and each device id below 2^24. Any request has parts. No memory is taken.
 #[tactic(auto, unfolding(crate::specs::Parts::parts_of))]
 pub fn put_parts(out: &mut Parts, platform: &Platform, request: &Request)
@@ -61,8 +60,8 @@ pub fn put_parts(out: &mut Parts, platform: &Platform, request: &Request)
     out.push(Part::End(platform.seen_uncached(request).way));
 }
 
-/// Puts what is looked at to lead a request below this context of its device, which a cache has, where no page is cached, in order: both
-/// stages, as the tables stand now, and the end, which is the way that they lead it. It takes the place of what the list holds.
+/// Replaces the contents of a list by the parts of a request's walk under this context of its device, which a cache has, if no page is
+/// cached, in order: both stages, by the tables as they are now, and the way that they lead the request.
 #[tactic(auto, unfolding(crate::specs::Parts::parts_under))]
 pub fn put_parts_under(out: &mut Parts, platform: &Platform, request: &Request, context: &Context)
     ensures parts { out.new.items ≡ parts_under platform.now.machine.memory platform.now.machine.registers.features request.now context.now }

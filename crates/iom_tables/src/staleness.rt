@@ -6,8 +6,8 @@ use crate::Way;
 use crate::way::is_same;
 use iom_core::{Platform, Request};
 
-/// What the tables say now of a request whose way is another, since a cache has it otherwise; None where the request isn't
-/// stale. Nothing is cached, reported or changed.
+/// The way of a stale request by the tables as they are now, if a cache leads it otherwise; None if the request isn't stale. Nothing is
+/// cached, reported or changed.
 pub fn stale(platform: &Platform, request: &Request) -> Option<Way>
     ensures stale { IsTrue (is_some result) ↔ IsStale platform.now.machine request.now }
     ensures tables { IfSome result (λ way. way ≡ by_tables platform.now.machine request.now) }
@@ -17,7 +17,7 @@ pub fn stale(platform: &Platform, request: &Request) -> Option<Way>
     differing(&platform.seen(request).way, tables)
 }
 
-/// What the tables say, where it is another way than this one.
+/// The way by the tables, if it differs from `now`; else None.
 pub fn differing(now: &Way, tables: Way) -> Option<Way>
     ensures told { result ≡ differing now.now tables }
 {
