@@ -1,4 +1,4 @@
-//! Whether what explains past steps is what a history beside the platform told of them.
+//! Compares `explain`, which looks back at past steps, with a history that is kept beside the platform.
 
 ghost use Rattle.std.specs.Prelude.{◌<◌, IfOk, length};
 ghost use Rattle.iom_core.specs.Warrants.{IsUncached};
@@ -8,29 +8,29 @@ use iom_asm::LoadFault;
 use iom_core::{Answer, Platform, Step};
 use std::alloc::{AllocError, Global};
 
-/// A step that is explained otherwise than a history told it.
+/// A step at which `explain` and the history differ.
 #[derive(Clone, Copy)]
 pub struct Difference {
-    /// Which step it is, from 0.
+    /// The number of the step, from 0.
     pub step: usize,
-    /// Where its translation comes from by `explain`.
-    pub explained: Option<Origin>,
-    /// Where it comes from by the history.
-    pub told: Option<Origin>,
+    /// Its warrant by `explain`.
+    pub by_explain: Option<Origin>,
+    /// Its warrant by the history.
+    pub by_history: Option<Origin>,
 }
 
-/// How many accesses that were let through had which origin.
+/// How many granted accesses had each kind of warrant.
 #[derive(Drop)]
 pub struct Met {
-    /// How many were led by ddtp alone.
+    /// Granted by ddtp in mode Bare.
     pub register: u64,
-    /// How many by a context alone.
+    /// Granted by a context without page tables.
     pub context: u64,
-    /// How many by page tables that were walked at the access.
+    /// By page tables that were walked at the access.
     pub walked: u64,
-    /// How many by a translation of the cache, under the context under which it was walked.
+    /// By a cached translation, under the context under which it was walked.
     pub cached: u64,
-    /// How many by a translation of the cache, under a newer context.
+    /// By a cached translation, under a newer context.
     pub older: u64,
 }
 
@@ -46,9 +46,9 @@ impl Met {
         }
     }
 
-    // Counts an access of the step with this number.
-    fn count(&mut self, origin: Origin, number: u64) {
-        let met = match origin {
+    // Counts an access with this warrant, made by step `number`.
+    fn count(&mut self, warrant: Origin, number: u64) {
+        let met = match warrant {
             Origin::Register => &mut self.register,
             Origin::Context { .. } => &mut self.context,
             Origin::Walked { walk, .. } if walk == number => &mut self.walked,
@@ -62,7 +62,7 @@ impl Met {
         *met = met.saturating_add(1);
     }
 
-    /// Whether each origin was met.
+    /// Whether each kind was met.
     pub fn is_full(&self) -> bool {
         [
             self.register,
@@ -76,21 +76,21 @@ impl Met {
     }
 }
 
-// The number by which a history is given step n.
-fn numbered(n: usize) -> u64 {
+// The number that the history gets for step n.
+fn number_of(n: usize) -> u64 {
     (n as u64).wrapping_mul(3).wrapping_add(10)
 }
 
-// The platform that an image starts. Its caches hold nothing.
+// The platform that an image starts. Its caches are empty.
 #[tactic(auto, using(crate::proofs::Uncached::uncached))]
-fn started(alloc: Global, image: &[u8]) -> Result<Platform, LoadFault>
+fn load(alloc: Global, image: &[u8]) -> Result<Platform, LoadFault>
     ensures { IfOk result (λ platform. IsUncached platform) }
 {
     iom_asm::load(alloc, image)
 }
 
-// Where the translation of step n comes from, by what explains it.
-fn explained(
+// The warrant of step n by `explain`.
+fn warrant_by_explain(
     alloc: Global,
     start: &Platform,
     steps: &[Step],
@@ -106,8 +106,8 @@ fn explained(
     }
 }
 
-// The first of the steps from `start` on that is explained otherwise than a history tells it.
-fn compared(
+// The first of the steps from `start` on at which `explain` and a history differ.
+fn first_difference_from(
     alloc: Global,
     start: &Platform,
     steps: &[Step],
@@ -120,33 +120,34 @@ fn compared(
     let mut answer = Answer::Done;
     let mut numbers = Vec::new(alloc);
     for n in 0..steps.len() {
-        let number = numbered(n);
+        let number = number_of(n);
         numbers.push(number)?;
-        let taken = history.step(&mut platform, &steps[n], number, &mut answer);
-        let told = taken.origin;
-        let explained = explained(alloc, start, steps, &numbers, n)?;
-        if told != explained {
+        let by_history = history
+            .step(&mut platform, &steps[n], number, &mut answer)
+            .origin;
+        let by_explain = warrant_by_explain(alloc, start, steps, &numbers, n)?;
+        if by_history != by_explain {
             return Ok(Some(Difference {
                 step: n,
-                explained,
-                told,
+                by_explain,
+                by_history,
             }));
         }
-        if let Some(origin) = told {
-            met.count(origin, numbered(n));
+        if let Some(warrant) = by_history {
+            met.count(warrant, number);
         }
     }
     Ok(None)
 }
 
-/// The first of the steps from an image on that is explained otherwise than a history tells it; None where there is none. What
-/// they met is counted.
+/// The first of the steps from an image on at which `explain` and a history differ; None if there is none. Counts the warrants of the
+/// steps before it in `met`.
 pub fn first_difference(
     alloc: Global,
     image: &[u8],
     steps: &[Step],
     met: &mut Met,
 ) -> anyhow::Result<Option<Difference>> {
-    let start = started(alloc, image)?;
-    Ok(compared(alloc, &start, steps, met)?)
+    let start = load(alloc, image)?;
+    Ok(first_difference_from(alloc, &start, steps, met)?)
 }

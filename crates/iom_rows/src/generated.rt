@@ -1,4 +1,4 @@
-//! Steps at random from one image on, by which translations are filled, dropped and pushed out, and grow old.
+//! Random steps from one image on, by which translations are cached, dropped and displaced, and become stale.
 
 ghost use Rattle.std.specs.Prelude.{◌<◌};
 
@@ -11,7 +11,7 @@ use std::alloc::{AllocError, Global};
 /// How many lists of steps there are.
 pub const SCRIPTS: u64 = 200;
 
-// How many steps each has behind those that set the platform up.
+// How many steps each list has after those that set the platform up.
 const STEPS: usize = 120;
 
 // 64 KiB of memory, with the directory in its first page, and block device 11.
@@ -78,7 +78,7 @@ at 0x8000c010
 pte ppn=0x80000 flags=0xdf
 ";
 
-// What sets up the IOMMU: ddtp with a directory of one level, both queues' bases, and both queues on.
+// The register writes that set up the IOMMU: ddtp with a directory of one level, both queues' bases, and both queues on.
 const REGISTERS: [(u64, u64, u64); 5] = [
     (16, 8, 0x2000_0002),
     (24, 8, 0x2000_0403),
@@ -87,7 +87,7 @@ const REGISTERS: [(u64, u64, u64); 5] = [
     (76, 4, 1),
 ];
 
-// What a driver writes to the block device.
+// A driver's register writes to the block device.
 const DEVICE: [(u64, u64); 11] = [
     (0x70, 3),
     (0x24, 1),
@@ -102,13 +102,13 @@ const DEVICE: [(u64, u64); 11] = [
     (0x50, 0),
 ];
 
-// The four first words of an entry of a page table: none, two pages, and one that may only be read.
+// Four values of a page-table entry: none, two pages, and a read-only one.
 const ENTRIES: [u64; 4] = [0, 0x2000_24d7, 0x2000_28d7, 0x2000_2853];
 
-// Where entries of both first stages' last tables stand.
+// The addresses of entries in the last tables of both first stages.
 const LEAVES: [u64; 4] = [0x8000_5008, 0x8000_5010, 0x8000_8008, 0x8000_8010];
 
-// Both first stages, as a context has them, and a Bare one.
+// The field fsc of a context: both first stages, and a Bare one.
 const STAGES: [u64; 4] = [
     0x8000_0000_0008_0003,
     0x8000_0000_0008_0006,
@@ -116,7 +116,7 @@ const STAGES: [u64; 4] = [
     0,
 ];
 
-// Values of ddtp: mostly a directory of one level, else the modes Bare and Off.
+// Values of ddtp: twice a directory of one level, then the modes Bare and Off.
 const DDTP: [u64; 4] = [0x2000_0002, 0x2000_0002, 1, 0];
 
 /// The text of the image.
@@ -128,7 +128,7 @@ pub fn text(alloc: Global) -> Result<Vec<u8>, AllocError> {
     Ok(text)
 }
 
-// A number below a limit, at random.
+// A random number below a limit.
 fn below(limit: u64, random: &mut Pcg32) -> u64
     requires { 0 < limit }
     ensures { result < limit }
@@ -136,12 +136,12 @@ fn below(limit: u64, random: &mut Pcg32) -> u64
     random.next_word() as u64 % limit
 }
 
-// One of some values, at random.
+// One of four values, at random.
 fn one_of(values: &[u64; 4], random: &mut Pcg32) -> u64 {
     values[below(4, random) as usize]
 }
 
-// An address in one of the four pages, in those of one entry, or in memory.
+// A random IOVA: in one of four pages, in the pages of one superpage entry, or the physical address of a page.
 fn iova(random: &mut Pcg32) -> u64 {
     let page = match below(4, random) {
         0 | 1 => 0x4_0201 + below(4, random),
@@ -151,7 +151,7 @@ fn iova(random: &mut Pcg32) -> u64 {
     page * 4096 + 0xabc
 }
 
-// A write of a few bytes to a page of a device.
+// A device's write of one byte to a page.
 fn dma_write(random: &mut Pcg32) -> Step {
     let mut bytes = ArrayVec::new();
     let _fits = bytes.try_push(0x5a);
@@ -162,7 +162,8 @@ fn dma_write(random: &mut Pcg32) -> Step {
     }
 }
 
-fn stored(addr: u64, value: u64) -> Step {
+// The hart's store of eight bytes.
+fn store(addr: u64, value: u64) -> Step {
     Step::Store {
         addr,
         size: 8,
@@ -170,14 +171,14 @@ fn stored(addr: u64, value: u64) -> Step {
     }
 }
 
-// The place of a device's context.
+// The physical address of a random device's context.
 fn context(random: &mut Pcg32) -> u64
     ensures { result < 0x8000_1000 }
 {
     0x8000_0000 + 32 * below(24, random)
 }
 
-// A step of a device, of a command unit or of a driver. Without drivers nothing is dropped, and the oldest places leave.
+// A random step of a device, of the command unit or of a driver. Without a driver nothing is dropped, so the oldest places are displaced.
 fn step(is_driven: bool, random: &mut Pcg32) -> Step {
     let kinds = if is_driven { 18 } else { 10 };
     match below(kinds, random) {
@@ -194,9 +195,9 @@ fn step(is_driven: bool, random: &mut Pcg32) -> Step {
             size: 4,
             value: below(16, random),
         },
-        13 | 14 => stored(one_of(&LEAVES, random), one_of(&ENTRIES, random)),
-        15 => stored(context(random) + 24, one_of(&STAGES, random)),
-        16 => stored(context(random), below(8, random).min(1)),
+        13 | 14 => store(one_of(&LEAVES, random), one_of(&ENTRIES, random)),
+        15 => store(context(random) + 24, one_of(&STAGES, random)),
+        16 => store(context(random), below(8, random).min(1)),
         _ => Step::RegWrite {
             off: 16,
             size: 8,

@@ -1,7 +1,7 @@
-//! Plays whole scripts: for each file NAME.script of the folder that it is given, what the script writes on the image of
-//! NAME.asm, or on the built-in one where there is no such file, is to be what NAME.expect has. Of each step of these scripts,
-//! and of lists of steps at random, what explains it is to be what a history beside the platform tells. Prints each answer that is
-//! otherwise, and of each script the first step that is told otherwise.
+//! Plays whole scripts: for each file NAME.script of the given folder, the output of the script on the image of NAME.asm, or on the
+//! built-in one if there is no such file, must be the text of NAME.expect. At each step of these scripts, and of lists of random steps,
+//! `explain` must give the same warrant as a history that was kept beside the platform. Prints each answer that differs, and for each
+//! script the first step whose warrants differ.
 #![tactic(auto)]
 
 use agreement::Met;
@@ -15,8 +15,8 @@ mod agreement;
 mod generated;
 mod steps;
 
-// What a script writes on an image.
-fn written(alloc: Global, image: &[u8], script: &[u8]) -> anyhow::Result<Vec<u8>> {
+// The output of a script on an image.
+fn play(alloc: Global, image: &[u8], script: &[u8]) -> anyhow::Result<Vec<u8>> {
     let mut reader = script;
     let mut writer = Vec::new(alloc);
     let mut watched = WatchedReader::new(&mut reader);
@@ -43,9 +43,9 @@ fn scripts(rt: &HostRuntime, folder: &str) -> io::Result<Vec<String>> {
     Ok(scripts)
 }
 
-// Prints each answer that is not the expected one.
-fn compare(rt: &HostRuntime, name: &str, written: &[u8], expected: &[u8]) -> io::Result<()> {
-    let answers = written.split(|c| *c == b'\n');
+// Prints each answer that differs from the expected one.
+fn compare(rt: &HostRuntime, name: &str, output: &[u8], expected: &[u8]) -> io::Result<()> {
+    let answers = output.split(|c| *c == b'\n');
     let wanted = expected.split(|c| *c == b'\n');
     for (before, (answer, want)) in answers.zip(wanted).enumerate() {
         if answer != want {
@@ -56,7 +56,7 @@ fn compare(rt: &HostRuntime, name: &str, written: &[u8], expected: &[u8]) -> io:
     Ok(())
 }
 
-// The image that a script is played on.
+// The image for a script.
 fn image(rt: &HostRuntime, name: &str) -> anyhow::Result<Vec<u8>> {
     let source = format!(in rt.alloc(); "{name}.asm")?;
     if !fs::exists(rt, source.as_str())? {
@@ -68,7 +68,7 @@ fn image(rt: &HostRuntime, name: &str) -> anyhow::Result<Vec<u8>> {
     Ok(iom_asm::assemble(rt.alloc(), text.as_slice())?)
 }
 
-// Whether each step from an image on is explained as a history tells it.
+// Whether `explain` gives the warrant of the history at each step from an image on. Prints the first step at which it doesn't.
 fn is_agreed(
     rt: &HostRuntime,
     name: &str,
@@ -79,14 +79,14 @@ fn is_agreed(
     let Some(found) = agreement::first_difference(rt.alloc(), image, steps, met)? else {
         return Ok(true);
     };
-    let (step, explained, told) = (found.step, found.explained, found.told);
+    let (step, by_explain, by_history) = (found.step, found.by_explain, found.by_history);
     println!(rt;
-        "{name}: step {step} is explained by {explained:?}, and the history tells {told:?}"
+        "{name}: at step {step} explain gives {by_explain:?}, and the history {by_history:?}"
     )?;
     Ok(false)
 }
 
-// Whether each step of the lists at random is explained as a history tells it, and all was met there.
+// Whether `explain` and the history agree at each step of the random lists, and each kind of warrant was met there.
 fn is_agreed_at_random(rt: &HostRuntime) -> anyhow::Result<bool> {
     let alloc = rt.alloc();
     let text = generated::text(alloc)?;
@@ -105,25 +105,25 @@ fn is_agreed_at_random(rt: &HostRuntime) -> anyhow::Result<bool> {
         )?;
     }
     if !met.is_full() {
-        println!(rt; "the lists at random have no access of some kind")?;
+        println!(rt; "some kind of warrant was never met in the random lists")?;
     }
     Ok(is_well && met.is_full())
 }
 
-// Whether a script writes what is expected of it, and its steps are explained as a history tells them.
+// Whether the output of a script is the expected one, and `explain` and the history agree at each of its steps.
 fn is_as_expected(rt: &HostRuntime, name: &str) -> anyhow::Result<bool> {
     let script = fs::read(rt, format!(in rt.alloc(); "{name}.script")?)?;
     let expected = fs::read(rt, format!(in rt.alloc(); "{name}.expect")?)?;
     let image = image(rt, name)?;
-    let written = written(rt.alloc(), image.as_slice(), script.as_slice())?;
-    compare(rt, name, written.as_slice(), expected.as_slice())?;
-    let steps = steps::of_script(rt.alloc(), image.as_slice(), script.as_slice())?;
+    let output = play(rt.alloc(), image.as_slice(), script.as_slice())?;
+    compare(rt, name, output.as_slice(), expected.as_slice())?;
+    let steps = steps::of_script(rt.alloc(), script.as_slice())?;
     let mut met = Met::none();
     let is_agreed = is_agreed(rt, name, image.as_slice(), steps.as_slice(), &mut met)?;
-    Ok(written == expected && is_agreed)
+    Ok(output == expected && is_agreed)
 }
 
-// Plays the scripts of the folder that is given, and ends with status 0 where all answers are the expected ones.
+// Plays the scripts of the given folder, and ends with status 0 if all answers are the expected ones and all warrants agree.
 fn main(rt: HostRuntime) -> anyhow::Result<ExitCode> {
     let Some(folder) = env::args(&rt)?.nth(1) else {
         println!(rt; "usage: iom_rows FOLDER")?;
@@ -142,7 +142,7 @@ fn main(rt: HostRuntime) -> anyhow::Result<ExitCode> {
         return Ok(ExitCode::FAILURE);
     }
     println!(rt;
-        "all answers are the expected ones, and all steps are explained as they are told"
+        "all answers are the expected ones, and explain agrees with a history at each step"
     )?;
     Ok(ExitCode::SUCCESS)
 }
