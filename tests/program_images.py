@@ -36,7 +36,8 @@ FIRST_LINES = {
     "ram 0xfffffffffff000 0x1000": True, "ram 0xfffffffffff000 0x2000": False,
     "ram 0x100000000000000 0x1000": False, "u64 1\nram 0x80000000 0x1000": False,
 }
-THIRD_STAGE = {mode: mode in (0, 8, 9, 10) for mode in range(16)}
+# What can be named only after a line that offers it.
+OFFERED = {"sv57": "context mode=10", "sv57x4": "context gmode=10", "nl": "cmd vma nl=1", "s": "cmd gvma s=1"}
 STATED = {
     "disk 0xffffff 1": True, "disk 0x1000000 1": False, "disk 5 0": False, "disk 5 65536": True, "disk 5 65537": False,
     "".join(f"disk {it} 1\n" for it in range(8)): True, "".join(f"disk {it} 1\n" for it in range(9)): False,
@@ -45,7 +46,9 @@ STATED = {
     "disk 5 1 aabb": True, "disk 5 1 abc": False, "rodisk 5 1 aabb": True, "capabilities": True,
     "capabilities nl=1 vectors=3": False, "ram 0x90000000 0x1000": False,
     **{f"capabilities {key}=1": True for key in ("sv57", "sv57x4", "svpbmt", "nl", "s", "vectors")},
-    **{f"context {key}={mode}": is_one for mode, is_one in THIRD_STAGE.items() for key in ("mode", "gmode")},
+    **{f"context {key}={mode}": mode in (0, 8, 9) for mode in range(16) for key in ("mode", "gmode")},
+    **{f"capabilities {key}=1\n{it}": OFFERED[key] == it for key in OFFERED for it in OFFERED.values()},
+    **dict.fromkeys(OFFERED.values(), False),
 }
 # What the help of a word names, and how its example ends.
 HELPS = {

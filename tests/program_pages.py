@@ -186,12 +186,3 @@ class Facts(Case):
         shown = self.answers(text_of("examples/disk.asm"), script.splitlines(), "debug")
         self.assertEqual(bold("phase"), {it for line in shown for it in re.findall(r"phase=(\S+)", line)})
         self.assertEqual(bold("broken"), {it for _, line in played() for it in re.findall(r"broken=(\S+)", line)})
-
-    def test_offered(self):
-        """man page: mode 10, nl and s can be named only after a line that offers them"""
-        needs = {"sv57": "context mode=10", "sv57x4": "context gmode=10", "nl": "cmd vma nl=1", "s": "cmd gvma s=1"}
-        for offered in needs:
-            for key, statement in needs.items():
-                text = f"{IMAGE}capabilities {offered}=1\n{statement}\n"
-                self.assertEqual(self.is_assembled(text), key == offered, f"{statement} with {offered}")
-        self.assertEqual([it for it in needs.values() if self.is_assembled(f"{IMAGE}{it}\n")], [])
