@@ -2,6 +2,7 @@
 #![tactic(auto)]
 
 pub use access::{Denial, Request};
+pub use board::Board;
 pub use law::freshness;
 pub use looking::Seen;
 pub use platform::Platform;
@@ -13,13 +14,14 @@ pub use witness::{Event, Source, Witness};
 
 mod access;
 mod asking;
+mod board;
 mod caches;
 mod command;
 mod devices;
 mod hart;
+mod iommu;
 mod law;
 mod looking;
-mod machine;
 mod platform;
 mod port;
 mod step;
