@@ -14,3 +14,4 @@ pub mod Effects
 pub mod Moved
 pub mod Reaches
 pub mod Filled
+pub mod Stores

@@ -12,7 +12,7 @@ use Rattle.iom_queue.specs.declared.fetch.Fetch.{Fetch}
 use Rattle.iom_queue.specs.declared.fetch.Fetch.TheVariants as fetch
 use Rattle.iom_cache.specs.Drops.{drops_page, drops_context}
 use Rattle.iom_cache.specs.Places.{emptied_by}
-use Rattle.iom_core.specs.State.{Machine}
+use Rattle.iom_core.specs.State.{Iommu, Machine}
 
 -- what the command unit finds
 abbrev pub fetched : Machine → Fetch
@@ -68,10 +68,10 @@ is_for_contexts (Iodir dv did) = true
 is_for_contexts _ = false
 
 -- each cache loses the places that the command drops
-abbrev pub without_dropped : Machine → Option Command → Machine
-without_dropped m command = record m {
-  contexts = emptied_by drops_context command m.contexts;
-  pages = emptied_by drops_page command m.pages;
+abbrev pub without_dropped : Iommu → Option Command → Iommu
+without_dropped iommu command = record iommu {
+  contexts = emptied_by drops_context command iommu.contexts;
+  pages = emptied_by drops_page command iommu.pages;
 }
 
 -- where no command is executed: the queue's memory could not be read, or a fence's not be written, or the command is illegal

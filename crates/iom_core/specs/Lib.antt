@@ -6,3 +6,4 @@ pub mod Table
 pub mod Run
 pub mod Warrants
 pub mod Reach
+pub mod Others

@@ -17,10 +17,30 @@ pub record Machine : Type 0 where
   pub contexts : List (Option (ℕ × Context))
   pub pages : List (Option (Key × Hit))
 
+-- the IOMMU without the memory that it stands in front of
+pub record Iommu : Type 0 where
+  pub registers : Registers
+  pub contexts : List (Option (ℕ × Context))
+  pub pages : List (Option (Key × Hit))
+
+-- a memory with this IOMMU in front of it
+abbrev pub in_front_of : Memory → Iommu → Machine
+in_front_of memory iommu =
+    record { memory = memory; registers = iommu.registers; contexts = iommu.contexts; pages = iommu.pages }
+
 -- the machine, and the block devices with their ids, in the order in which they were handed in
 pub record State : Type 0 where
   pub machine : Machine
   pub devices : List (ℕ × Device)
+
+-- a platform without its memory: the IOMMU, and the block devices
+pub record Board : Type 0 where
+  pub iommu : Iommu
+  pub devices : List (ℕ × Device)
+
+-- a memory with this board
+abbrev pub state_on : Memory → Board → State
+state_on memory board = record { machine = in_front_of memory board.iommu; devices = board.devices }
 
 -- the disk of a device
 abbrev pub disk_of : ℕ × Device → List ℕ
@@ -71,6 +91,13 @@ context_room = 16
 
 abbrev pub page_room : ℕ
 page_room = 64
+
+-- an IOMMU of these features at reset, with nothing cached, and these block devices
+abbrev pub board_with : Features → List (ℕ × Device) → Board
+board_with features devices = record {
+  iommu = record { registers = reset features; contexts = []; pages = [] };
+  devices = devices;
+}
 
 -- a platform with an IOMMU of these features that nothing has happened to yet
 abbrev pub opening_with : Features → Memory → List (ℕ × Device) → State

@@ -10,18 +10,18 @@ ghost use Rattle.iom_cache.specs.Keys.{same_did, same_key};
 ghost use Rattle.iom_cache.specs.Places.{find, look};
 ghost use Rattle.iom_virtq.specs.Bus.{Read, Write, is_granted, reply_of};
 ghost use Rattle.iom_core.specs.Access.{address_on, context_look, filled_where, led, led_by_context, led_under, machine_of, page_told, plain, record_left, request_key, request_of, served, told, told_of, translating, under_told, with_delivery, with_fills};
-ghost use Rattle.iom_core.specs.State.{context_room, device_id_end, page_room};
+ghost use Rattle.iom_core.specs.State.{context_room, device_id_end, in_front_of, page_room};
 ghost use Rattle.iom_core.specs.declared.way.Way.TheVariants as way;
 ghost use Rattle.iom_core.specs.declared.witness.Event.TheVariants as event;
 
 use crate::caches::Caches;
-use crate::machine::Machine;
+use crate::iommu::Iommu;
 use crate::way::Way;
 use crate::witness::{Event, Source, Witness};
 use iom_bits::{Cause, Features, Kind};
 use iom_cache::{Key, key_of};
 use iom_ddt::{Context, is_too_wide, locate};
-use iom_mem::Ram;
+use iom_mem::{Region, WritableRegion};
 use iom_nested::{Fault, Hit, translate};
 use iom_queue::{Record, deliver, is_reported};
 use iom_regs::{Mode, Regs};
@@ -75,32 +75,37 @@ impl Denial {
     }
 }
 
-impl Machine {
+impl Iommu {
     /// Reads the bytes from IOVA `iova` on, within one page of 4096 bytes, for device `did`, below 2^24, into `out`, which is
     /// unchanged unless the answer is Ok. `Denied` where the IOMMU denies it, which may leave a fault record; `Outside` where a
     /// byte of it lies outside memory. A witness is told what leads it.
     #[tactic(auto, unfolding(crate::specs::Access::effect))]
-    pub fn read<W: Witness>(
+    pub fn read<M: WritableRegion, W: Witness>(
         &mut self,
+        ram: &mut M,
         did: u32,
         iova: u64,
         out: &mut [u8],
         witness: &mut W,
     ) -> Access
         requires { did < device_id_end }
-        ensures reply { reply_of result out.new ≡ (served self.old did (Read iova (length out.old))).reply }
-        ensures left { self.new ≡ (served self.old did (Read iova (length out.old))).machine }
+        ensures reply { reply_of result out.new
+            ≡ (served (in_front_of (M.memory ram.old) self.old) did (Read iova (length out.old))).reply }
+        ensures left { in_front_of (M.memory ram.new) self.new
+            ≡ (served (in_front_of (M.memory ram.old) self.old) did (Read iova (length out.old))).machine }
         ensures unchanged { OnFalse (is_granted result) (out.new ≡ out.old) }
-        ensures told { witness.new ≡ told_of W.next witness.old self.old (request_of did (Read iova (length out.old))) }
+        ensures told { witness.new ≡ told_of W.next witness.old (in_front_of (M.memory ram.old) self.old)
+            (request_of did (Read iova (length out.old))) }
+        ensures borrow { M.name ram.new ≡ M.name ram.old }
     {
         let request = Request {
             did,
             iova,
             kind: Kind::Read,
         };
-        match self.address(&request, witness) {
-            Err(denial) => self.deny(&request, denial),
-            Ok(addr) if self.ram.read(addr, out) => Access::Ok,
+        match self.address(ram, &request, witness) {
+            Err(denial) => self.deny(ram, &request, denial),
+            Ok(addr) if ram.read(addr, out) => Access::Ok,
             Ok(_) => Access::Outside,
         }
     }
@@ -108,57 +113,64 @@ impl Machine {
     /// Writes `bytes` from IOVA `iova` on, within one page of 4096 bytes, for device `did`, below 2^24. The answers are those of
     /// `read`; unless it is Ok none of the bytes is written. A witness is told what leads it.
     #[tactic(auto, unfolding(crate::specs::Access::effect))]
-    pub fn write<W: Witness>(
+    pub fn write<M: WritableRegion, W: Witness>(
         &mut self,
+        ram: &mut M,
         did: u32,
         iova: u64,
         bytes: &[u8],
         witness: &mut W,
     ) -> Access
         requires { did < device_id_end }
-        ensures reply { reply_of result [] ≡ (served self.old did (Write iova bytes.now)).reply }
-        ensures left { self.new ≡ (served self.old did (Write iova bytes.now)).machine }
-        ensures told { witness.new ≡ told_of W.next witness.old self.old (request_of did (Write iova bytes.now)) }
+        ensures reply { reply_of result [] ≡ (served (in_front_of (M.memory ram.old) self.old) did (Write iova bytes.now)).reply }
+        ensures left { in_front_of (M.memory ram.new) self.new
+            ≡ (served (in_front_of (M.memory ram.old) self.old) did (Write iova bytes.now)).machine }
+        ensures told { witness.new ≡ told_of W.next witness.old (in_front_of (M.memory ram.old) self.old)
+            (request_of did (Write iova bytes.now)) }
+        ensures borrow { M.name ram.new ≡ M.name ram.old }
     {
         let request = Request {
             did,
             iova,
             kind: Kind::Write,
         };
-        match self.address(&request, witness) {
-            Err(denial) => self.deny(&request, denial),
-            Ok(addr) if self.ram.write(addr, bytes) => Access::Ok,
+        match self.address(ram, &request, witness) {
+            Err(denial) => self.deny(ram, &request, denial),
+            Ok(addr) if ram.write(addr, bytes) => Access::Ok,
             Ok(_) => Access::Outside,
         }
     }
 
     // The physical address that a request leads to. What is read on the way is cached.
     #[inline(always)]
-    fn address<W: Witness>(&mut self, request: &Request, witness: &mut W) -> Result<u64, Denial>
-        ensures address { result ≡ address_on (led self.old request.now).way request.now.iova }
-        ensures filled { self.new ≡ with_fills self.old (led self.old request.now) }
-        ensures told { witness.new ≡ told_of W.next witness.old self.old request.now }
+    fn address<M: Region, W: Witness>(
+        &mut self,
+        ram: &M,
+        request: &Request,
+        witness: &mut W,
+    ) -> Result<u64, Denial>
+        ensures address { result
+            ≡ address_on (led (in_front_of (M.memory ram.now) self.old) request.now).way request.now.iova }
+        ensures filled { in_front_of (M.memory ram.now) self.new
+            ≡ with_fills (in_front_of (M.memory ram.now) self.old) (led (in_front_of (M.memory ram.now) self.old) request.now) }
+        ensures told { witness.new ≡ told_of W.next witness.old (in_front_of (M.memory ram.now) self.old) request.now }
     {
-        lead(
-            &self.ram,
-            &self.registers,
-            &mut self.lines,
-            request,
-            witness,
-        )
+        lead(ram, &self.registers, &mut self.lines, request, witness)
     }
 
     // Denies a request, and delivers its record where it makes one.
     #[tactic(auto, unfolding(crate::specs::Access::record_left))]
-    fn deny(&mut self, request: &Request, denial: Denial) -> Access
+    fn deny<M: WritableRegion>(&mut self, ram: &mut M, request: &Request, denial: Denial) -> Access
         requires { request.now.did < device_id_end }
         ensures answer { result ≡ Access.Denied denial.cause }
-        ensures left { self.new ≡ with_delivery self.old (record_left self.old.registers self.old.memory request.now denial) }
+        ensures left { in_front_of (M.memory ram.new) self.new ≡ with_delivery (in_front_of (M.memory ram.old) self.old)
+            (record_left self.old.registers (M.memory ram.old) request.now denial) }
+        ensures borrow { M.name ram.new ≡ M.name ram.old }
     {
         if denial.reported {
             let Request { did, iova, kind } = *request;
             let record = Record::of_denial(denial.cause, kind, did, iova, denial.iotval2);
-            deliver(&mut self.registers, &mut self.ram, &record);
+            deliver(&mut self.registers, ram, &record);
         }
         Access::Denied(denial.cause)
     }
@@ -168,21 +180,21 @@ impl Machine {
 /// leads it ("Process to translate an IOVA").
 #[inline(always)]
 #[tactic(auto, unfolding(crate::specs::Access::led))]
-pub(crate) fn lead<C: Caches, W: Witness>(
-    ram: &Ram,
+pub(crate) fn lead<M: Region, C: Caches, W: Witness>(
+    ram: &M,
     registers: &Regs,
     caches: &mut C,
     request: &Request,
     witness: &mut W,
 ) -> Result<u64, Denial>
     ensures address { result ≡ address_on
-        (led (machine_of ram.now registers.now (C.contexts caches.old) (C.pages caches.old)) request.now).way request.now.iova }
+        (led (machine_of (M.memory ram.now) registers.now (C.contexts caches.old) (C.pages caches.old)) request.now).way request.now.iova }
     ensures contexts { C.contexts caches.new ≡ filled_where C.fills context_room
-        (led (machine_of ram.now registers.now (C.contexts caches.old) (C.pages caches.old)) request.now).context (C.contexts caches.old) }
+        (led (machine_of (M.memory ram.now) registers.now (C.contexts caches.old) (C.pages caches.old)) request.now).context (C.contexts caches.old) }
     ensures pages { C.pages caches.new ≡ filled_where C.fills page_room
-        (led (machine_of ram.now registers.now (C.contexts caches.old) (C.pages caches.old)) request.now).page (C.pages caches.old) }
+        (led (machine_of (M.memory ram.now) registers.now (C.contexts caches.old) (C.pages caches.old)) request.now).page (C.pages caches.old) }
     ensures told { witness.new ≡ told W.next witness.old request.now
-        (led (machine_of ram.now registers.now (C.contexts caches.old) (C.pages caches.old)) request.now) }
+        (led (machine_of (M.memory ram.now) registers.now (C.contexts caches.old) (C.pages caches.old)) request.now) }
 {
     match registers.mode() {
         Mode::Off => refuse(Denial::plain(Cause::Off), witness),
@@ -197,23 +209,23 @@ pub(crate) fn lead<C: Caches, W: Witness>(
 // The same by the context of the device's id, from its live place or else from the directory.
 #[inline(always)]
 #[tactic(auto, unfolding(crate::specs::Access::context_look), using(crate::proofs::Wide::too_wide_located))]
-fn by_directory<C: Caches, W: Witness>(
-    ram: &Ram,
+fn by_directory<M: Region, C: Caches, W: Witness>(
+    ram: &M,
     registers: &Regs,
     caches: &mut C,
     request: &Request,
     witness: &mut W,
 ) -> Result<u64, Denial>
     requires directory { 1 ≤ levels_of (mode_of registers.now) }
-    ensures address { let m = machine_of ram.now registers.now (C.contexts caches.old) (C.pages caches.old) in
+    ensures address { let m = machine_of (M.memory ram.now) registers.now (C.contexts caches.old) (C.pages caches.old) in
         result ≡ address_on (led_by_context m request.now
         (context_look m request.now.did).filled (context_look m request.now.did).used).way request.now.iova }
-    ensures contexts { let m = machine_of ram.now registers.now (C.contexts caches.old) (C.pages caches.old) in
+    ensures contexts { let m = machine_of (M.memory ram.now) registers.now (C.contexts caches.old) (C.pages caches.old) in
         C.contexts caches.new ≡ filled_where C.fills context_room (context_look m request.now.did).filled (C.contexts caches.old) }
-    ensures pages { let m = machine_of ram.now registers.now (C.contexts caches.old) (C.pages caches.old) in
+    ensures pages { let m = machine_of (M.memory ram.now) registers.now (C.contexts caches.old) (C.pages caches.old) in
         C.pages caches.new ≡ filled_where C.fills page_room (led_by_context m request.now
         (context_look m request.now.did).filled (context_look m request.now.did).used).page (C.pages caches.old) }
-    ensures told { let m = machine_of ram.now registers.now (C.contexts caches.old) (C.pages caches.old) in
+    ensures told { let m = machine_of (M.memory ram.now) registers.now (C.contexts caches.old) (C.pages caches.old) in
         witness.new ≡ told W.next witness.old request.now (led_by_context m request.now
         (context_look m request.now.did).filled (context_look m request.now.did).used) }
 {
@@ -238,8 +250,8 @@ fn by_directory<C: Caches, W: Witness>(
 
 // The same by a context that the directory has. It is filled also where the walk fails.
 #[inline(never)]
-fn by_new_context<C: Caches, W: Witness>(
-    ram: &Ram,
+fn by_new_context<M: Region, C: Caches, W: Witness>(
+    ram: &M,
     registers: &Regs,
     caches: &mut C,
     request: &Request,
@@ -248,19 +260,19 @@ fn by_new_context<C: Caches, W: Witness>(
     requires directory { 1 ≤ levels_of (mode_of registers.now) }
     requires new { find (same_did request.now.did) (C.contexts caches.old) ≡ None }
     ensures address { result ≡ address_on (led_by_context
-        (machine_of ram.now registers.now (C.contexts caches.old) (C.pages caches.old)) request.now
-        (look request.now.did None (located ram.now registers.now request.now.did)).filled
-        (located ram.now registers.now request.now.did)).way request.now.iova }
+        (machine_of (M.memory ram.now) registers.now (C.contexts caches.old) (C.pages caches.old)) request.now
+        (look request.now.did None (located (M.memory ram.now) registers.now request.now.did)).filled
+        (located (M.memory ram.now) registers.now request.now.did)).way request.now.iova }
     ensures contexts { C.contexts caches.new ≡ filled_where C.fills context_room
-        (look request.now.did None (located ram.now registers.now request.now.did)).filled (C.contexts caches.old) }
+        (look request.now.did None (located (M.memory ram.now) registers.now request.now.did)).filled (C.contexts caches.old) }
     ensures pages { C.pages caches.new ≡ filled_where C.fills page_room (led_by_context
-        (machine_of ram.now registers.now (C.contexts caches.old) (C.pages caches.old)) request.now
-        (look request.now.did None (located ram.now registers.now request.now.did)).filled
-        (located ram.now registers.now request.now.did)).page (C.pages caches.old) }
+        (machine_of (M.memory ram.now) registers.now (C.contexts caches.old) (C.pages caches.old)) request.now
+        (look request.now.did None (located (M.memory ram.now) registers.now request.now.did)).filled
+        (located (M.memory ram.now) registers.now request.now.did)).page (C.pages caches.old) }
     ensures told { witness.new ≡ told W.next witness.old request.now (led_by_context
-        (machine_of ram.now registers.now (C.contexts caches.old) (C.pages caches.old)) request.now
-        (look request.now.did None (located ram.now registers.now request.now.did)).filled
-        (located ram.now registers.now request.now.did)) }
+        (machine_of (M.memory ram.now) registers.now (C.contexts caches.old) (C.pages caches.old)) request.now
+        (look request.now.did None (located (M.memory ram.now) registers.now request.now.did)).filled
+        (located (M.memory ram.now) registers.now request.now.did)) }
 {
     match locate(ram, registers, request.did) {
         Ok(context) => {
@@ -283,19 +295,19 @@ fn by_new_context<C: Caches, W: Witness>(
 // The same below a context, from the page's live place or else by the stages.
 #[inline(always)]
 #[tactic(auto, unfolding(crate::specs::Access::page_look))]
-pub(crate) fn by_context<C: Caches, W: Witness>(
-    ram: &Ram,
+pub(crate) fn by_context<M: Region, C: Caches, W: Witness>(
+    ram: &M,
     features: Features,
     caches: &mut C,
     request: &Request,
     context: &Context,
     witness: &mut W,
 ) -> Result<u64, Denial>
-    ensures address { result ≡ address_on (led_under ram.now features (C.pages caches.old) request.now context.now).way request.now.iova }
+    ensures address { result ≡ address_on (led_under (M.memory ram.now) features (C.pages caches.old) request.now context.now).way request.now.iova }
     ensures contexts { C.contexts caches.new ≡ C.contexts caches.old }
     ensures pages { C.pages caches.new ≡ filled_where C.fills page_room
-        (led_under ram.now features (C.pages caches.old) request.now context.now).page (C.pages caches.old) }
-    ensures told { witness.new ≡ under_told W.next witness.old request.now (led_under ram.now features (C.pages caches.old) request.now context.now) }
+        (led_under (M.memory ram.now) features (C.pages caches.old) request.now context.now).page (C.pages caches.old) }
+    ensures told { witness.new ≡ under_told W.next witness.old request.now (led_under (M.memory ram.now) features (C.pages caches.old) request.now context.now) }
 {
     if context.is_bare() {
         witness.tell(Event::Way(Way::Context(*context)));
@@ -315,8 +327,8 @@ pub(crate) fn by_context<C: Caches, W: Witness>(
 // The same by the stages of a context, where no live place has the page.
 #[inline(never)]
 #[tactic(auto, unfolding(crate::specs::Access::page_look))]
-fn by_walk<C: Caches, W: Witness>(
-    ram: &Ram,
+fn by_walk<M: Region, C: Caches, W: Witness>(
+    ram: &M,
     features: Features,
     caches: &mut C,
     request: &Request,
@@ -327,11 +339,11 @@ fn by_walk<C: Caches, W: Witness>(
     requires staged { is_bare context.now ≡ false }
     requires key { key ≡ request_key request.now context.now }
     requires new { find (same_key key) (C.pages caches.old) ≡ None }
-    ensures address { result ≡ address_on (led_under ram.now features (C.pages caches.old) request.now context.now).way request.now.iova }
+    ensures address { result ≡ address_on (led_under (M.memory ram.now) features (C.pages caches.old) request.now context.now).way request.now.iova }
     ensures contexts { C.contexts caches.new ≡ C.contexts caches.old }
     ensures pages { C.pages caches.new ≡ filled_where C.fills page_room
-        (led_under ram.now features (C.pages caches.old) request.now context.now).page (C.pages caches.old) }
-    ensures told { witness.new ≡ under_told W.next witness.old request.now (led_under ram.now features (C.pages caches.old) request.now context.now) }
+        (led_under (M.memory ram.now) features (C.pages caches.old) request.now context.now).page (C.pages caches.old) }
+    ensures told { witness.new ≡ under_told W.next witness.old request.now (led_under (M.memory ram.now) features (C.pages caches.old) request.now context.now) }
 {
     match translate(ram, features, context, request.iova, request.kind) {
         Ok(hit) => {

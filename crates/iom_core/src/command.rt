@@ -6,34 +6,39 @@ ghost use Rattle.iom_queue.specs.declared.fetch.Fetch.TheVariants.{Ready};
 ghost use Rattle.iom_bits.specs.Bytes.{bytes_of_number};
 ghost use Rattle.iom_cache.specs.Drops.{drops_context, drops_page};
 ghost use Rattle.iom_cache.specs.Places.{emptied_by};
+ghost use Rattle.iom_core.specs.State.{in_front_of};
 ghost use Rattle.iom_core.specs.Commands.{after_command, after_fence, can_execute, executed_of, fetched, is_for_contexts, is_for_pages, is_taken, left_by, without_dropped};
 
-use crate::machine::Machine;
+use crate::iommu::Iommu;
 use iom_cache::{ContextCache, TransCache};
+use iom_mem::WritableRegion;
 use iom_queue::{Command, Fetch, next_command};
 
-impl Machine {
+impl Iommu {
     /// Takes one command of the command queue and carries it out whole; false where there is none to take. One that can't be
     /// fetched or carried out sets cqmf, an illegal one cmd_ill, and stays at the head ("Command-queue CSR (cqcsr)").
     #[tactic(auto, unfolding(crate::specs::Commands::after_command, crate::specs::Commands::executed_by))]
-    pub fn command(&mut self) -> bool
-        ensures taken { result ≡ is_taken (fetched self.old) }
-        ensures left { self.new ≡ after_command self.old }
+    pub fn command<M: WritableRegion>(&mut self, ram: &mut M) -> bool
+        ensures taken { result ≡ is_taken (fetched (in_front_of (M.memory ram.old) self.old)) }
+        ensures left { in_front_of (M.memory ram.new) self.new ≡ after_command (in_front_of (M.memory ram.old) self.old) }
+        ensures borrow { M.name ram.new ≡ M.name ram.old }
     {
-        match next_command(&self.registers, &self.ram) {
+        match next_command(&self.registers, ram) {
             Fetch::Idle => return false,
             Fetch::Fault => self.registers.set_cqmf(),
             Fetch::Illegal => self.registers.set_cmd_ill(),
-            Fetch::Ready(command) => self.carry_out(&command),
+            Fetch::Ready(command) => self.carry_out(ram, &command),
         }
         true
     }
 
     // Executes a command; a fence whose store can't be done is a fault of the queue.
-    fn carry_out(&mut self, command: &Command)
-        ensures { self.new ≡ left_by self.old (Ready command.now) (executed_of self.old.memory (Ready command.now)) }
+    fn carry_out<M: WritableRegion>(&mut self, ram: &mut M, command: &Command)
+        ensures left { in_front_of (M.memory ram.new) self.new ≡ left_by (in_front_of (M.memory ram.old) self.old)
+            (Ready command.now) (executed_of (M.memory ram.old) (Ready command.now)) }
+        ensures borrow { M.name ram.new ≡ M.name ram.old }
     {
-        if !self.fence(command) {
+        if !self.fence(ram, command) {
             self.registers.set_cqmf();
             return;
         }
@@ -42,10 +47,13 @@ impl Machine {
     }
 
     // Stores a fence's data and notes its interrupt; false where the store can't be done, and then nothing changes.
-    fn fence(&mut self, command: &Command) -> bool
-        ensures can { result ≡ can_execute self.old.memory command.now }
-        ensures done { OnTrue result (self.new ≡ after_fence self.old command.now) }
+    fn fence<M: WritableRegion>(&mut self, ram: &mut M, command: &Command) -> bool
+        ensures can { result ≡ can_execute (M.memory ram.old) command.now }
+        ensures done { OnTrue result (in_front_of (M.memory ram.new) self.new
+            ≡ after_fence (in_front_of (M.memory ram.old) self.old) command.now) }
         ensures unchanged { OnFalse result (self.new ≡ self.old) }
+        ensures memory { OnFalse result (M.memory ram.new ≡ M.memory ram.old) }
+        ensures borrow { M.name ram.new ≡ M.name ram.old }
     {
         if let Command::Fence {
             av,
@@ -55,7 +63,7 @@ impl Machine {
             ..
         } = *command
         {
-            if av && !self.ram.write(addr, &data_bytes(value)) {
+            if av && !ram.write(addr, &data_bytes(value)) {
                 return false;
             }
             if wsi {

@@ -3,19 +3,21 @@
 ghost use Rattle.std.specs.Prelude.{◌≡◌, ◌<◌, slice_get, IfOk};
 ghost use Rattle.std.specs.Option.{option_map};
 ghost use Rattle.iom_blk.specs.Phases.{asks};
-ghost use Rattle.iom_core.specs.State.{device_id_end};
+ghost use Rattle.iom_mem.specs.Memory.{Memory};
+ghost use Rattle.iom_core.specs.State.{device_id_end, in_front_of, state_on};
 ghost use Rattle.iom_core.specs.Table.{answer_of, asked_by, asking_for, dev_read, dev_write, dev_written, device_step, moving, told_by_step};
 
-use crate::Platform;
+use crate::board::Board;
 use crate::hart::overflows;
-use crate::machine::Machine;
+use crate::iommu::Iommu;
 use crate::port::Port;
 use crate::step::Answer;
 use crate::witness::Witness;
 use iom_blk::{Blk, Moved};
+use iom_mem::WritableRegion;
 use std::alloc::{AllocError, Global};
 
-impl Platform {
+impl Board {
     /// What the hart's read of `size` bytes of the registers of block device `dev` at offset `off` answers: `Value`, `NoDevice`
     /// where there is no such device, or `BadAccess` where the registers don't take the access.
     pub(crate) fn dev_read(&self, dev: u64, off: u64, size: u64) -> Answer
@@ -33,8 +35,10 @@ impl Platform {
     /// What the hart's write of `value`, `size` bytes, to the registers of block device `dev` at offset `off` answers: `Done`, or
     /// without a change `NoDevice`, `Misuse` where the value is too wide for the size, or `BadAccess`.
     pub(crate) fn dev_write(&mut self, dev: u64, off: u64, size: u64, value: u64) -> Answer
-        ensures answer { result ≡ (dev_written self.old dev (slice_get self.old.devices dev) off size value).answer }
-        ensures state { self.new ≡ (dev_written self.old dev (slice_get self.old.devices dev) off size value).state }
+        ensures answer { (memory : Memory) →
+            result ≡ (dev_written (state_on memory self.old) dev (slice_get self.old.devices dev) off size value).answer }
+        ensures state { (memory : Memory) → state_on memory self.new
+            ≡ (dev_written (state_on memory self.old) dev (slice_get self.old.devices dev) off size value).state }
     {
         let n = dev as usize;
         if n < self.devices.len() {
@@ -47,17 +51,26 @@ impl Platform {
 
     /// What a step of block device `dev` answers: `Done` for an access that was granted, `Idle` where it had none to make,
     /// `Denied`, `BusError`, or `NoDevice` where there is no such device. A witness is told of the access.
-    pub(crate) fn device<W: Witness>(&mut self, dev: u64, witness: &mut W) -> Answer
-        ensures answer { result ≡ (device_step self.old dev (slice_get self.old.devices dev)).answer }
-        ensures state { self.new ≡ (device_step self.old dev (slice_get self.old.devices dev)).state }
-        ensures told { witness.new ≡ told_by_step W.next witness.old self.old.machine (asked_by (slice_get self.old.devices dev)) }
+    pub(crate) fn device<M: WritableRegion, W: Witness>(
+        &mut self,
+        ram: &mut M,
+        dev: u64,
+        witness: &mut W,
+    ) -> Answer
+        ensures answer { result
+            ≡ (device_step (state_on (M.memory ram.old) self.old) dev (slice_get self.old.devices dev)).answer }
+        ensures state { state_on (M.memory ram.new) self.new
+            ≡ (device_step (state_on (M.memory ram.old) self.old) dev (slice_get self.old.devices dev)).state }
+        ensures told { witness.new ≡ told_by_step W.next witness.old (in_front_of (M.memory ram.old) self.old.iommu)
+            (asked_by (slice_get self.old.devices dev)) }
+        ensures borrow { M.name ram.new ≡ M.name ram.old }
     {
         let n = dev as usize;
         if n >= self.devices.len() {
             return Answer::NoDevice;
         }
         let (did, device) = &mut self.devices[n];
-        moved(&mut self.machine, *did, device, witness)
+        moved(ram, &mut self.iommu, *did, device, witness)
     }
 }
 
@@ -77,17 +90,28 @@ fn written(device: &mut Blk, off: u64, size: u64, value: u64) -> Answer
     }
 }
 
-// The machine, lent to one device for its step.
+// Memory and the IOMMU in front of it, lent to one device for its step.
 #[tactic(auto, unfolding(crate::specs::Table::moving))]
-fn moved<W: Witness>(machine: &mut Machine, did: u32, device: &mut Blk, witness: &mut W) -> Answer
+fn moved<M: WritableRegion, W: Witness>(
+    ram: &mut M,
+    iommu: &mut Iommu,
+    did: u32,
+    device: &mut Blk,
+    witness: &mut W,
+) -> Answer
     requires { did < device_id_end }
-    ensures answer { result ≡ answer_of (moving machine.old did device.old (asks device.old)).told }
-    ensures machine { machine.new ≡ (moving machine.old did device.old (asks device.old)).machine }
-    ensures device { device.new ≡ (moving machine.old did device.old (asks device.old)).device }
-    ensures told { witness.new ≡ told_by_step W.next witness.old machine.old (option_map (asking_for did) (asks device.old)) }
+    ensures answer { result
+        ≡ answer_of (moving (in_front_of (M.memory ram.old) iommu.old) did device.old (asks device.old)).told }
+    ensures machine { in_front_of (M.memory ram.new) iommu.new
+        ≡ (moving (in_front_of (M.memory ram.old) iommu.old) did device.old (asks device.old)).machine }
+    ensures device { device.new ≡ (moving (in_front_of (M.memory ram.old) iommu.old) did device.old (asks device.old)).device }
+    ensures told { witness.new ≡ told_by_step W.next witness.old (in_front_of (M.memory ram.old) iommu.old)
+        (option_map (asking_for did) (asks device.old)) }
+    ensures borrow { M.name ram.new ≡ M.name ram.old }
 {
     let mut port = Port {
-        machine,
+        ram,
+        iommu,
         did,
         witness,
     };

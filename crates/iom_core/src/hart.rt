@@ -3,46 +3,48 @@
 ghost use Rattle.std.specs.Prelude.{◌≡◌, IsTrue};
 ghost use Rattle.iom_core.specs.Table.{is_size, is_aligned, fits, load, overflows, reg_read, reg_write, store};
 
-use crate::machine::Machine;
+use crate::iommu::Iommu;
 use crate::step::Answer;
 use iom_bits::le_u64;
+use iom_mem::{Region, WritableRegion};
 
-impl Machine {
-    /// The number of the `size` bytes of memory from physical address `addr` on, the lowest first, as `Value`. `Misuse` where the
-    /// size is none of 1, 2, 4 and 8 or the address no multiple of it; `BusError` where a byte is outside memory.
-    #[tactic(auto, unfolding(crate::specs::Table::load))]
-    pub fn load(&self, addr: u64, size: u64) -> Answer
-        ensures { result ≡ load self.now.memory addr size }
-    {
-        if !is_aligned(addr, size) {
-            return Answer::Misuse;
-        }
-        let mut bytes = [0; 8];
-        if self.ram.read(addr, &mut bytes[..size as usize]) {
-            Answer::Value(le_u64(bytes))
-        } else {
-            Answer::BusError
-        }
+/// The number of the `size` bytes of memory from physical address `addr` on, the lowest first, as `Value`. `Misuse` where the size is
+/// none of 1, 2, 4 and 8 or the address no multiple of it; `BusError` where a byte is outside memory.
+#[tactic(auto, unfolding(crate::specs::Table::load))]
+pub fn load<M: Region>(ram: &M, addr: u64, size: u64) -> Answer
+    ensures { result ≡ load (M.memory ram.now) addr size }
+{
+    if !is_aligned(addr, size) {
+        return Answer::Misuse;
     }
-
-    /// Writes the lowest `size` bytes of `value` to memory from physical address `addr` on, and answers `Done`. `Misuse` where the
-    /// size is none of 1, 2, 4 and 8, the address no multiple of it, or the value too wide for it; `BusError` where a byte is
-    /// outside memory. Then nothing is changed.
-    #[tactic(auto, unfolding(crate::specs::Table::store))]
-    pub fn store(&mut self, addr: u64, size: u64, value: u64) -> Answer
-        ensures answer { result ≡ (store self.old.memory addr size value).answer }
-        ensures left { self.new ≡ record self.old { memory = (store self.old.memory addr size value).memory } }
-    {
-        if !is_aligned(addr, size) || !fits(value, size) {
-            return Answer::Misuse;
-        }
-        if self.ram.write(addr, &value.to_le_bytes()[..size as usize]) {
-            Answer::Done
-        } else {
-            Answer::BusError
-        }
+    let mut bytes = [0; 8];
+    if ram.read(addr, &mut bytes[..size as usize]) {
+        Answer::Value(le_u64(bytes))
+    } else {
+        Answer::BusError
     }
+}
 
+/// Writes the lowest `size` bytes of `value` to memory from physical address `addr` on, and answers `Done`. `Misuse` where the size is
+/// none of 1, 2, 4 and 8, the address no multiple of it, or the value too wide for it; `BusError` where a byte is outside memory. Then
+/// nothing is changed.
+#[tactic(auto, unfolding(crate::specs::Table::store))]
+pub fn store<M: WritableRegion>(ram: &mut M, addr: u64, size: u64, value: u64) -> Answer
+    ensures answer { result ≡ (store (M.memory ram.old) addr size value).answer }
+    ensures left { M.memory ram.new ≡ (store (M.memory ram.old) addr size value).memory }
+    ensures borrow { M.name ram.new ≡ M.name ram.old }
+{
+    if !is_aligned(addr, size) || !fits(value, size) {
+        return Answer::Misuse;
+    }
+    if ram.write(addr, &value.to_le_bytes()[..size as usize]) {
+        Answer::Done
+    } else {
+        Answer::BusError
+    }
+}
+
+impl Iommu {
     /// The number of the `size` bytes of the IOMMU's registers from offset `off` on, as `Value`; `BadAccess` where the access isn't
     /// legal: `Regs::read` says what is.
     #[tactic(auto, unfolding(crate::specs::Table::reg_read))]

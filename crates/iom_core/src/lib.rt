@@ -2,8 +2,10 @@
 #![tactic(auto)]
 
 pub use access::{Denial, Request};
+pub use board::Board;
 pub use law::freshness;
 pub use looking::Seen;
+pub use others::others_write;
 pub use platform::Platform;
 pub use port::Port;
 pub use step::{Answer, Step};
@@ -13,13 +15,15 @@ pub use witness::{Event, Source, Witness};
 
 mod access;
 mod asking;
+mod board;
 mod caches;
 mod command;
 mod devices;
 mod hart;
+mod iommu;
 mod law;
 mod looking;
-mod machine;
+mod others;
 mod platform;
 mod port;
 mod step;

@@ -3,13 +3,16 @@
 ghost use Rattle.std.specs.Prelude.{◌≡◌, []};
 ghost use Rattle.iom_core.specs.Access.{led_under};
 ghost use Rattle.iom_core.specs.Looking.{nothing_seen, seen_in, uncached};
+ghost use Rattle.iom_core.specs.State.{in_front_of};
 
 use crate::access::{Request, by_context, lead};
+use crate::board::Board;
 use crate::caches::{Looking, Nothing};
 use crate::platform::Platform;
 use crate::way::Way;
 use crate::witness::{Event, Source, Witness};
 use iom_ddt::Context;
+use iom_mem::Region;
 
 /// What leads an access, as it was told of it.
 #[derive(Clone, Copy)]
@@ -85,49 +88,53 @@ impl Platform {
     pub fn seen(&self, request: &Request) -> Seen
         ensures seen { result ≡ seen_in self.now.machine request.now }
     {
-        let mut seen = Seen::nothing();
-        let machine = &self.machine;
-        let _ = lead(
-            &machine.ram,
-            &machine.registers,
-            &mut Looking(&machine.lines),
-            request,
-            &mut seen,
-        );
-        seen
+        self.board.seen(&self.ram, request)
     }
 
-    /// The same by the tables alone: what leads the request where nothing is cached.
+    /// What leads a request now by the tables alone, where nothing is cached.
     pub fn seen_uncached(&self, request: &Request) -> Seen
         ensures seen { result ≡ seen_in (uncached self.now.machine) request.now }
     {
-        let mut seen = Seen::nothing();
-        let machine = &self.machine;
-        let _ = lead(
-            &machine.ram,
-            &machine.registers,
-            &mut Nothing,
-            request,
-            &mut seen,
-        );
-        seen
+        self.board.seen_uncached(&self.ram, request)
     }
 
     /// The way of a request below this context of its device, as the tables lead it now.
     pub fn way_under(&self, request: &Request, context: &Context) -> Way
         ensures way { result ≡ (led_under self.now.machine.memory self.now.machine.registers.features [] request.now context.now).way }
     {
+        self.board.way_under(&self.ram, request, context)
+    }
+}
+
+impl Board {
+    /// What leads a request in front of this memory now, from the caches first and else from the tables, as a step leads it ("Process
+    /// to translate an IOVA"). Nothing is cached, reported or changed. The IOVA may be any.
+    pub fn seen<M: Region>(&self, ram: &M, request: &Request) -> Seen
+        ensures seen { result ≡ seen_in (in_front_of (M.memory ram.now) self.now.iommu) request.now }
+    {
         let mut seen = Seen::nothing();
-        let machine = &self.machine;
-        let mut none = Nothing;
-        let _ = by_context(
-            &machine.ram,
-            machine.registers.features(),
-            &mut none,
-            request,
-            context,
-            &mut seen,
-        );
+        let iommu = &self.iommu;
+        let mut looking = Looking(&iommu.lines);
+        let _ = lead(ram, &iommu.registers, &mut looking, request, &mut seen);
+        seen
+    }
+
+    /// What leads a request in front of this memory now by the tables alone, where nothing is cached.
+    pub fn seen_uncached<M: Region>(&self, ram: &M, request: &Request) -> Seen
+        ensures seen { result ≡ seen_in (uncached (in_front_of (M.memory ram.now) self.now.iommu)) request.now }
+    {
+        let mut seen = Seen::nothing();
+        let _ = lead(ram, &self.iommu.registers, &mut Nothing, request, &mut seen);
+        seen
+    }
+
+    /// The way of a request below this context of its device, as the tables in this memory lead it now.
+    pub fn way_under<M: Region>(&self, ram: &M, request: &Request, context: &Context) -> Way
+        ensures way { result ≡ (led_under (M.memory ram.now) self.now.iommu.registers.features [] request.now context.now).way }
+    {
+        let mut seen = Seen::nothing();
+        let features = self.iommu.registers.features();
+        let _ = by_context(ram, features, &mut Nothing, request, context, &mut seen);
         seen.way
     }
 }

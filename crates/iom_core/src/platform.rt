@@ -1,54 +1,43 @@
-ghost use Rattle.std.specs.Prelude.{ℕ, ◌≡◌, ◌+◌, true, false, length, Some, IfOk, IfSome, IfNone, slice_get};
+ghost use Rattle.std.specs.Prelude.{ℕ, ◌≡◌, ◌+◌, length, Some, IfOk, slice_get};
 ghost use Rattle.std.specs.Option.{option_map};
-ghost use Rattle.iom_core.specs.Access.{access_to};
-ghost use Rattle.iom_core.specs.Table.{is_device_access};
 
-use crate::access::Request;
-use crate::caches::Lines;
-use crate::devices::copied;
-use crate::machine::Machine;
-use crate::port::Port;
+use crate::board::Board;
 use crate::step::{Answer, Step};
 use crate::witness::Witness;
-use arrayvec::ArrayVec;
-use iom_bits::{Features, Kind};
+use iom_bits::Features;
 use iom_blk::Blk;
 use iom_cache::{ContextCache, TransCache};
 use iom_mem::Ram;
 use iom_regs::Regs;
-use iom_virtq::{Access, Bus};
 use std::alloc::{AllocError, Global};
 use std::marker::Model;
 
 /// One memory, one IOMMU, and up to eight block devices behind it.
 #[derive(Drop)]
 pub struct Platform {
-    /// Memory, and the IOMMU in front of it.
-    pub(crate) machine: Machine,
-    /// The block devices, at most 8: each with its id, below 2^24, in the order in which they were handed in.
-    pub(crate) devices: Vec<(u32, Blk)>,
+    /// Memory, at physical addresses.
+    pub(crate) ram: Ram,
+    /// The IOMMU in front of it, and the block devices.
+    pub(crate) board: Board,
 }
 
 impl Model for Platform {
-    ghost use Rattle.iom_core.specs.State.{EachFits, State};
+    ghost use Rattle.iom_core.specs.State.{State, state_on};
 
     ghost Value = { State };
 
-    ghost view = { λ p. record { machine = p.machine; devices = p.devices.items } };
-
-    ghost invariant = { λ p. EachFits p.devices.items };
+    ghost view = { λ p. state_on p.ram p.board };
 }
 
 impl Platform {
     ghost use Rattle.iom_core.specs.State.{AreDevices, disk_of, opening, opening_with};
-    ghost use Rattle.iom_core.specs.Table.{asked, asking_where, next, probed, told_by_step};
+    ghost use Rattle.iom_core.specs.Table.{asked, next, told_by_step};
     ghost use Rattle.iom_core.specs.declared.access.Request.{Request};
     ghost use Rattle.iom_core.specs.Reach.{Reaches, Refuses};
     ghost use Rattle.iom_core.specs.Run.{answers, states, end_of};
     ghost use Rattle.iom_core.specs.Warrants.{AreWarranted, IsExplained, IsUncached, IsUpToDate, IsWarrant, moment};
     ghost use Rattle.iom_core.specs.declared.step.Step.{Step};
     ghost use Rattle.iom_core.specs.declared.warrant.Warrant.{Warrant};
-    ghost use Rattle.iom_virtq.specs.Bus.{Read, Write};
 
     /// A platform with this memory and these block devices, at most 8, each with an id below 2^24 that no other has. Its IOMMU
     /// offers none of the features that `Features` names. Its registers are at reset and both caches empty. The fault is a refused
@@ -70,66 +59,59 @@ impl Platform {
         requires { AreDevices devices.items }
         ensures { IfOk result (λ platform. platform ≡ opening_with features ram devices.items) }
     {
-        let contexts = ContextCache::new(alloc)?;
-        let pages = TransCache::new(alloc)?;
-        let machine = Machine {
-            ram,
-            registers: Regs::with_features(features),
-            lines: Lines { contexts, pages },
-        };
-        Ok(Platform { machine, devices })
+        let board = Board::new(alloc, devices, features)?;
+        Ok(Platform { ram, board })
     }
 
     /// An equal platform, which goes its own way from here. The fault is a refused allocation, and then this one is as it was.
     pub fn try_clone(&self, alloc: Global) -> Result<Platform, AllocError>
         ensures { IfOk result (λ copy. copy ≡ self.now) }
     {
-        let machine = self.machine.try_clone(alloc)?;
-        let devices = copied(alloc, &self.devices)?;
-        Ok(Platform { machine, devices })
+        let ram = self.ram.try_clone(alloc)?;
+        let board = self.board.try_clone(alloc)?;
+        Ok(Platform { ram, board })
     }
 
     /// The memory, at physical addresses.
     pub fn ram(&self) -> &Ram
         ensures { result.now ≡ self.now.machine.memory }
     {
-        &self.machine.ram
+        &self.ram
     }
 
     /// The IOMMU's registers ("Memory-mapped register interface").
     pub fn registers(&self) -> &Regs
         ensures { result.now ≡ self.now.machine.registers }
     {
-        &self.machine.registers
+        self.board.registers()
     }
 
     /// The translation cache: in the standard the IOTLB.
     pub fn trans(&self) -> &TransCache
         ensures { result.now ≡ self.now.machine.pages }
     {
-        &self.machine.lines.pages
+        self.board.trans()
     }
 
     /// The context cache: in the standard the DDTC.
     pub fn contexts(&self) -> &ContextCache
         ensures { result.now ≡ self.now.machine.contexts }
     {
-        &self.machine.lines.contexts
+        self.board.contexts()
     }
 
     /// The bytes of the disk of block device `n`, counted from 0; None where there is no such device.
     pub fn disk(&self, n: usize) -> Option<&[u8]>
         ensures { option_map (λ disk. disk.now) result ≡ option_map disk_of (slice_get self.now.devices n) }
     {
-        let (_, device) = self.devices.get(n)?;
-        Some(device.disk())
+        self.board.disk(n)
     }
 
     /// The device id and the block device of number `n`, counted from 0; None where there is no such device.
     pub fn block_device(&self, n: usize) -> Option<&(u32, Blk)>
         ensures { option_map (λ own. own.now) result ≡ slice_get self.now.devices n }
     {
-        self.devices.get(n)
+        self.board.block_device(n)
     }
 
     /// Carries out one step, and answers what the step table says. It takes no memory.
@@ -156,7 +138,7 @@ impl Platform {
         ensures reach { Reaches self.old step.now answer.new self.new }
         ensures refused { Refuses answer.new self.old self.new }
     {
-        self.by_row(step, answer, witness);
+        self.board.step_into(&mut self.ram, step, answer, witness);
     }
 
     /// Carries out steps in their order, and puts the answer to each at its place in `out`.
@@ -188,136 +170,7 @@ impl Platform {
         ensures end { self.new ≡ end_of self.old steps.now }
     {
         for (i, step) in steps.iter().enumerate() {
-            self.by_row(step, &mut out[i], &mut ());
+            self.step_into(step, &mut out[i], &mut ());
         }
     }
-
-    // A step by its row of the step table, its answer put in place. A device's read puts its own, so that no bytes are moved.
-    #[inline(always)]
-    #[tactic(auto, unfolding(crate::specs::Table::next, crate::specs::Table::asked))]
-    fn by_row<W: Witness>(&mut self, step: &Step, answer: &mut Answer, witness: &mut W)
-        ensures answer { answer.new ≡ (next self.old step.now).answer }
-        ensures state { self.new ≡ (next self.old step.now).state }
-        ensures told { witness.new ≡ told_by_step W.next witness.old self.old.machine (asked self.old step.now) }
-    {
-        *answer = match step {
-            Step::Load { addr, size } => self.machine.load(*addr, *size),
-            Step::Store { addr, size, value } => self.machine.store(*addr, *size, *value),
-            Step::RegRead { off, size } => self.machine.reg_read(*off, *size),
-            Step::RegWrite { off, size, value } => self.machine.reg_write(*off, *size, *value),
-            Step::Command if self.machine.command() => Answer::Done,
-            Step::Command => Answer::Idle,
-            Step::DmaRead { did, iova, len } => {
-                return self.dma_read(*did, *iova, *len, answer, witness);
-            }
-            Step::DmaWrite { did, iova, bytes } => {
-                self.dma_write(*did, *iova, bytes.as_slice(), witness)
-            }
-            Step::DevRead { dev, off, size } => self.dev_read(*dev, *off, *size),
-            Step::DevWrite {
-                dev,
-                off,
-                size,
-                value,
-            } => self.dev_write(*dev, *off, *size, *value),
-            Step::Device { dev } => self.device(*dev, witness),
-        };
-    }
-
-    // Apart from the other steps, so that these needn't clear room for its bytes, which are read in the answer's place.
-    #[inline(never)]
-    fn dma_read<W: Witness>(
-        &mut self,
-        did: u64,
-        iova: u64,
-        len: u64,
-        answer: &mut Answer,
-        witness: &mut W,
-    )
-        ensures answer { answer.new
-            ≡ (probed self.old (asking_where (is_device_access did iova len) did (Read iova len))).answer }
-        ensures state { self.new
-            ≡ (probed self.old (asking_where (is_device_access did iova len) did (Read iova len))).state }
-        ensures told { witness.new
-            ≡ told_by_step W.next witness.old self.old.machine (asking_where (is_device_access did iova len) did (Read iova len)) }
-    {
-        let Some(request) = device_request(did, iova, len, Kind::Read) else {
-            *answer = Answer::Misuse;
-            return;
-        };
-        *answer = Answer::Bytes(ArrayVec::from([0; 64]));
-        let Answer::Bytes(bytes) = answer else {
-            unreachable!();
-        };
-        bytes.truncate(len as usize);
-        let mut port = Port {
-            machine: &mut self.machine,
-            did: request.did,
-            witness,
-        };
-        match port.read(request.iova, bytes.as_mut_slice()) {
-            Access::Ok => {}
-            Access::Denied(cause) => *answer = Answer::Denied(cause.number()),
-            Access::Outside => *answer = Answer::BusError,
-        }
-    }
-
-    // A device's write, which is no step where the device may not ask for it.
-    fn dma_write<W: Witness>(
-        &mut self,
-        did: u64,
-        iova: u64,
-        bytes: &[u8],
-        witness: &mut W,
-    ) -> Answer
-        ensures answer { result
-            ≡ (probed self.old (asking_where (is_device_access did iova (length bytes.now)) did (Write iova bytes.now))).answer }
-        ensures state { self.new
-            ≡ (probed self.old (asking_where (is_device_access did iova (length bytes.now)) did (Write iova bytes.now))).state }
-        ensures told { witness.new ≡ told_by_step W.next witness.old self.old.machine
-            (asking_where (is_device_access did iova (length bytes.now)) did (Write iova bytes.now)) }
-    {
-        let Some(request) = device_request(did, iova, bytes.len() as u64, Kind::Write) else {
-            return Answer::Misuse;
-        };
-        let mut port = Port {
-            machine: &mut self.machine,
-            did: request.did,
-            witness,
-        };
-        match port.write(request.iova, bytes) {
-            Access::Ok => Answer::Done,
-            Access::Denied(cause) => Answer::Denied(cause.number()),
-            Access::Outside => Answer::BusError,
-        }
-    }
-}
-
-// A device id has 24 bits.
-const DEVICE_ID_END: u64 = 1 << 24;
-
-// How many bytes a device's access has at most.
-const MOST_BYTES: u64 = 64;
-
-/// The request of device `did` for `len` bytes at IOVA `iova`; None where it may not ask so: its id is below 2^24, and the bytes are
-/// 1 to 64 within one page of 4096 bytes.
-pub(crate) fn device_request(did: u64, iova: u64, len: u64, kind: Kind) -> Option<Request>
-    ensures some { IfSome result (λ request. (request ≡ access_to did iova kind) × (is_device_access did iova len ≡ true)) }
-    ensures none { IfNone result (is_device_access did iova len ≡ false) }
-{
-    if !is_device_access(did, iova, len) {
-        return None;
-    }
-    Some(Request {
-        did: did as u32,
-        iova,
-        kind,
-    })
-}
-
-// Whether a device may ask for `len` bytes at IOVA `iova`.
-fn is_device_access(did: u64, iova: u64, len: u64) -> bool
-    ensures { result ≡ is_device_access did iova len }
-{
-    did < DEVICE_ID_END && len > 0 && len <= MOST_BYTES && iova % 4096 + len <= 4096
 }

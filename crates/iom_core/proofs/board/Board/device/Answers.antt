@@ -1,0 +1,51 @@
+use Rattle.std.proofs.Common.{◌≡◌, ◌∙◌, ◌<◌, ℕ, length, Some, refl, sym, ap, subst, arith}
+use Rattle.std.specs.Prelude.{slice_get}
+use Rattle.std.proofs.lemmas.Grind.{common_steps}
+use Rattle.std.proofs.lemmas.Option.{slice_get-get_or}
+use Rattle.iom_blk.specs.Device.{Device}
+use Rattle.iom_core.specs.State.{Board, in_front_of, state_on}
+use Rattle.iom_core.specs.Table.{asked_by, device_step, told_by_step}
+use Rattle.iom_core.proofs.Slots.{fits_at, fits_set}
+use Rattle.iom_core.proofs.board.Board.device.Goals as goal
+
+pub moved-requires : goal.moved-requires
+moved-requires g c =
+    let devices = c.self.inside.devices.items in
+    let own = c.index_mut.result.now in
+    let inside : c.args.dev < length devices = grind (arith, common_steps) in
+    let there : slice_get devices c.args.dev ≡ Some own = slice_get-get_or devices c.args.dev own inside ∙ ap (λ (o : ℕ × Device). Some o) (sym c.index_mut.ensures.value) in
+    fits_at devices c.args.dev own c.self.invariant there
+
+pub invariant_of-self : goal.invariant_of-self
+invariant_of-self g c =
+    let devices = c.self.inside.devices.items in
+    let own = c.index_mut.result.now in
+    let inside : c.args.dev < length devices = grind (arith, common_steps) in
+    let there : slice_get devices c.args.dev ≡ Some own = slice_get-get_or devices c.args.dev own inside ∙ ap (λ (o : ℕ × Device). Some o) (sym c.index_mut.ensures.value) in
+    fits_set devices c.args.dev (own.0, c.moved.new.device) c.self.invariant (fits_at devices c.args.dev own c.self.invariant there)
+
+pub returns-clause-answer : goal.returns-clause-answer
+returns-clause-answer g c =
+    let devices = c.self.inside.devices.items in
+    let own = c.index_mut.result.now in
+    let inside : c.args.dev < length devices = grind (arith, common_steps) in
+    let there : slice_get devices c.args.dev ≡ Some own = slice_get-get_or devices c.args.dev own inside ∙ ap (λ (o : ℕ × Device). Some o) (sym c.index_mut.ensures.value) in
+    subst (λ (b : Board). c.moved.result ≡ (device_step (state_on (g.M.Region.memory c.args.ram.now) b) c.args.dev (slice_get b.devices c.args.dev)).answer)
+    c.self.view_is (rw there c.moved.ensures.answer)
+
+pub returns-clause-state : goal.returns-clause-state
+returns-clause-state g c =
+    let devices = c.self.inside.devices.items in
+    let own = c.index_mut.result.now in
+    let inside : c.args.dev < length devices = grind (arith, common_steps) in
+    let there : slice_get devices c.args.dev ≡ Some own = slice_get-get_or devices c.args.dev own inside ∙ ap (λ (o : ℕ × Device). Some o) (sym c.index_mut.ensures.value) in
+    rw (sym c.self.view_is, there, c.moved.ensures.machine, c.moved.ensures.device) refl
+
+pub returns-clause-told : goal.returns-clause-told
+returns-clause-told g c =
+    let devices = c.self.inside.devices.items in
+    let own = c.index_mut.result.now in
+    let inside : c.args.dev < length devices = grind (arith, common_steps) in
+    let there : slice_get devices c.args.dev ≡ Some own = slice_get-get_or devices c.args.dev own inside ∙ ap (λ (o : ℕ × Device). Some o) (sym c.index_mut.ensures.value) in
+    subst (λ (b : Board). c.moved.new.witness ≡ told_by_step g.W.Witness.next c.args.witness.now (in_front_of (g.M.Region.memory c.args.ram.now) b.iommu) (asked_by (slice_get b.devices c.args.dev)))
+    c.self.view_is (rw there c.moved.ensures.told)

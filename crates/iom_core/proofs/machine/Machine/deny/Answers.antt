@@ -1,7 +1,0 @@
-use Rattle.std.proofs.Common.{rules}
-use Rattle.iom_core.specs.Access.{record_left}
-use Rattle.iom_core.proofs.machine.Machine.deny.Goals as goal
-
-pub returns-then-denial-clause-left : goal.returns-then-denial-clause-left
-unfolding record_left
-returns-then-denial-clause-left c = search rules

@@ -1,4 +1,0 @@
-use Rattle.iom_core.proofs.machine.Machine.try_clone.Goals as goal
-
-pub returns : goal.returns
-returns c = rw (c.in_ok-ram.ensures, c.in_ok-contexts.ensures, c.in_ok-pages.ensures) c.self.view_is

@@ -1,7 +1,0 @@
-use Rattle.std.proofs.Common.{rules}
-use Rattle.iom_core.specs.Table.{asked}
-use Rattle.iom_core.proofs.platform.Platform.request_of.Goals as goal
-
-pub returns-in-DmaWrite-clause-request : goal.returns-in-DmaWrite-clause-request
-unfolding asked
-returns-in-DmaWrite-clause-request c = search rules
