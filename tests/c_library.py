@@ -10,7 +10,6 @@ import functools
 import io
 import os
 import re
-import shutil
 import sys
 import tempfile
 from pathlib import Path
@@ -137,17 +136,6 @@ class OfC(Library):
         self.assertNotEqual(code, block, "no call has its answer beside it")
         text = f'#include "rviommu.h"\nint main(void) {{\n{code}\nreturn 0;\n}}\n'
         called([self.compiled("gcc", "top_readme", [self.put("top_readme.c", text)])])
-
-    def test_pkg_config(self):
-        """pkg-config finds the moved library, and the shared object is used"""
-        self.needs("pkg-config", "gcc")
-        moved, made = self.path("moved"), self.path("shared")
-        shutil.copytree(PREFIX, moved)
-        env = {**os.environ, "PKG_CONFIG_PATH": f"{moved}/lib/pkgconfig", "LD_LIBRARY_PATH": f"{moved}/lib"}
-        flags = called(["pkg-config", "--cflags", "--libs", "rviommu"], env=env).decode().split()
-        os.remove(f"{moved}/lib/librviommu.a")
-        called(["gcc", "-std=c11", "-o", made, *(TOP / it for it in DRIVER), *flags])
-        self.assertEqual(called([made], env=env), b"passed\n")
 
 
 class Played(Library):

@@ -14,7 +14,9 @@ import tempfile
 from pathlib import Path
 
 HERE = Path(__file__).resolve().parent
-TOP = HERE.parent.parent
+sys.path.insert(0, str(HERE.parents[1] / "packaging"))
+from crates import TOP  # noqa: E402
+
 IOMMU = "drivers/iommu"
 PARTS = (f"{IOMMU}/riscv/", f"{IOMMU}/generic_pt/", f"{IOMMU}/iommu-pages.h", "include/linux/generic_pt/")
 SOURCES = (f"{IOMMU}/riscv/iommu.c", f"{IOMMU}/riscv/iommu-platform.c", f"{IOMMU}/generic_pt/fmt/iommu_riscv64.c")

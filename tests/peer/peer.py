@@ -168,7 +168,8 @@ class Program:
 
 
 def head_of(features):
-    """How an image begins whose machine has these features: with none of them it is of version 1, and bit 56 says without Svnapot."""
+    """How an image begins whose machine has these features: with none of them it is of version 1. Bit 56 says that it
+    has no Svnapot."""
     word = sum(FEATURES.get(name, 0) for name in features) | ("svnapot" not in features) << 56
     return b"RVIOMMU3" + struct.pack("<Q", word) if features else b"RVIOMMU1"
 
