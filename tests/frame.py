@@ -184,6 +184,10 @@ class Case(unittest.TestCase):
         self.assertEqual((status, errors), WELL, f"status and standard error of {words}")
         return out.decode()
 
+    def want_within(self, some, others, where=None):
+        """Wants each of some to be among the others."""
+        self.assertEqual(sorted(set(some) - set(others)), [], where)
+
     def answers(self, text, lines, word="run"):
         """The answers to a script's lines on the image of a text."""
         script = "".join(f"{line}\n" for line in lines).encode()

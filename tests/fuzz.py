@@ -3,11 +3,11 @@
 
 A case is a text for an image and a script, made by small changes from those of examples/ and crates/iom_rows/data:
 numbers moved to their neighbours, to limits and to other numbers of the case, bits turned over, lines left out,
-doubled, moved, garbled and taken from other cases, writable disks made read-only, stores into tables, rings and queues between
-other lines, images of all versions cut short and with bytes replaced. What the programs write, the images, upgraded
-ones too, the statuses and the texts of faults are compared. Without OTHER, or with PROGRAM once more, the words of one
-program are compared: the answers of run have to be those of debug and of explain, and a script whose lines want them
-passes a check.
+doubled, moved, garbled and taken from other cases, writable disks made read-only, stores into tables, rings and queues
+between other lines, images of all versions cut short and with bytes replaced. What the programs write, the images,
+upgraded ones too, the statuses and the texts of faults are compared. Without OTHER, or with PROGRAM once more, the
+words of one program are compared: the answers of run have to be those of debug and of explain, and a script whose lines
+want them passes a check.
 
 Prints how many lines were compared on scripts, texts and images; at the first difference its line and the shortest
 script and text that show it, and the status is 1.

@@ -74,7 +74,7 @@ class Completions(Case):
         """completions: they know every word and every kind"""
         for name in ("rviommu.bash", "_rviommu"):
             words = set(re.findall(r"[-\w]+", text_of(f"completions/{name}")))
-            self.assertLessEqual({*commands(), "--help", "--version", *KINDS}, words, name)
+            self.want_within({*commands(), "--help", "--version", *KINDS}, words, name)
 
     def test_offered(self):
         """bash offers for the beginning of a line the words that may stand there, and no other"""

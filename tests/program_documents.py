@@ -110,7 +110,7 @@ class Readme(Case):
         """README and CHANGELOG.md: each target of make that they name is there"""
         targets = set(re.findall(r"(?m)^(\w+):", text_of("Makefile")))
         for name in ("README.md", "CHANGELOG.md"):
-            self.assertLessEqual(set(re.findall(r"(?m)(?:`|^    )make (\w+)", text_of(name))), targets, name)
+            self.want_within(set(re.findall(r"(?m)(?:`|^    )make (\w+)", text_of(name))), targets, name)
 
     def test_examples(self):
         """examples/README.md: its table names each of them, and in each example a comment explains each line"""
@@ -130,7 +130,7 @@ class Readme(Case):
     def test_words(self):
         """README names each word of the program, and the man page each with its operands, and no other"""
         helps = {word: self.written([word, "--help"]) for word in commands() if word != "help"}
-        self.assertLessEqual(set(helps), set(spans(text_of("README.md"))))
+        self.want_within(set(helps), set(spans(text_of("README.md"))))
         wanted = [" ".join([word, *operands(word, told)]) for word, told in helps.items()]
         shown = " ".join(plain(section("SYNOPSIS")).split()).split("rviommu")[1:]
         self.assertEqual(sorted(it.strip() for it in shown), sorted([*wanted, "", "help [WORD]"]))
@@ -138,7 +138,7 @@ class Readme(Case):
     def test_documents(self):
         """README: its table of documents has each"""
         there = {*names_there("docs/*.md"), "CHANGELOG.md"}
-        self.assertLessEqual(there, set(spans("".join(map("".join, table_with("README.md", "`docs/MAP.md`"))))))
+        self.want_within(there, set(spans("".join(map("".join, table_with("README.md", "`docs/MAP.md`"))))))
 
     def test_gate(self):
         """GATE: it names each part of `make test`, in their order"""
@@ -159,7 +159,7 @@ class Answers(Case):
                 seen = {it for it in ANSWERS | named for answer in given if re.fullmatch(pattern(it), answer)}
                 self.assertEqual(named, seen if named else set(), forms)
         wanted = {re.match("(?:[a-z]+ ?)+", form)[0].strip() for form in [*FORMS, *DEBUG_FORMS]}
-        self.assertLessEqual(wanted, set(told))
+        self.want_within(wanted, set(told))
 
     def test_capabilities(self):
         """README: the value of capabilities, and each feature that is offered or left out"""

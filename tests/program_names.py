@@ -210,13 +210,13 @@ class Names(Case):
             texts = map(text_of, files_of(crate, "src"))
             there = {name for it in texts for name in [*clauses(it), *re.findall(r"\bfn (\w+)", it)]}
             groups = re.findall(r"\((`[a-z_]+`(?:, `[a-z_]+`)*)\)", body)
-            self.assertLessEqual({name for it in groups for name in spans(it)}, there, crate)
+            self.want_within({name for it in groups for name in spans(it)}, there, crate)
 
     def test_tests(self):
         """PROMISES: the calls that take memory and their tests are there, and all tests stand in iom_tests"""
         refused = defined("crates/iom_tests/src/refused.rt")
         for calls, tests, *_ in table_with("docs/PROMISES.md", "Call that takes memory"):
-            self.assertLessEqual(set(spans(tests)), refused)
+            self.want_within(set(spans(tests)), refused)
             self.assertEqual([name for name in spans(calls) if not has(CRATES, name)], [])
         with_tests = {path.split("/")[1] for path in names_there("crates/*/src/**/*.rt") if "#[test]" in text_of(path)}
         self.assertEqual(with_tests, {"iom_tests"})
@@ -231,7 +231,7 @@ class Names(Case):
         """GLOSSARY: it has each public name of a library; those that look like names are there"""
         named = {word for _, names in glossary() for word in re.findall(r"\w+", " ".join(names))}
         for crate in set(CRATES) - {"iom_c"}:
-            self.assertLessEqual(public(crate), named, crate)
+            self.want_within(public(crate), named, crate)
         for crates, names in glossary():
             places = {low for it in crates for low in below(CRATES, it)} or CRATES
             looking = [it for it in names if re.fullmatch(r"\w+(::\w+)*", it) and re.search("[_A-Z]", it)]

@@ -168,7 +168,7 @@ class Facts(Case):
         for kind, line in zip(("context", "fault"), shown):
             keys = re.findall(r"(\w+)=", line)
             told = re.search(rf"(?ms)^\.BI {kind} .*?\n(.*?)(?=^\.TP)", section("IMAGE TEXTS"))[1]
-            self.assertLessEqual(set(keys), set(re.findall(r"\w+", told)), kind)
+            self.want_within(set(keys), set(re.findall(r"\w+", told)), kind)
             self.assertEqual([key for key in keys if not self.is_assembled(f"{IMAGE}{kind} {key}=0\n")], [])
             self.assertGreater(len(keys), 6)
 
