@@ -1,5 +1,0 @@
-use Rattle.std.proofs.Common.{rules}
-use Rattle.iom_blk.proofs.device.Blk.new_read_only.Goals as goal
-
-pub returns : goal.returns
-returns c = search rules

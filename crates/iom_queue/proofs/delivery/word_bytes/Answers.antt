@@ -1,5 +1,0 @@
-use Rattle.std.proofs.Common.{rules}
-use Rattle.iom_queue.proofs.delivery.word_bytes.Goals as goal
-
-pub returns : goal.returns
-returns c = search rules

@@ -1,5 +1,0 @@
-use Rattle.std.proofs.Common.{rules}
-use Rattle.iom_walk.proofs.shape.Shape.levels.Goals as goal
-
-pub returns-in-Sv39 : goal.returns-in-Sv39
-returns-in-Sv39 c = search rules
