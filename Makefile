@@ -46,7 +46,7 @@ $(player): crates.txt $(sources)
 	@packaging/build.py iom_player
 	@touch $@
 
-$(library): crates.txt $(sources) c/build.py c/guard.c include/rviommu.h include/rviommu_record.h
+$(library): crates.txt $(sources) c/build.py c/guard.c c/rviommu.pc.in include/rviommu.h include/rviommu_record.h
 	@$(has_rt)
 	@$(has_python)
 	@c/build.py >/dev/null

@@ -26,18 +26,6 @@ HEADER = INCLUDE / "rviommu.h"
 GUARD = TOP / "c/guard.c"
 COMPILED = ["-std=c11", "-O2", "-fPIC", "-pedantic", "-Wall", "-Wextra", "-Werror"]
 
-PKG_CONFIG = """\
-prefix=${{pcfiledir}}/../..
-libdir=${{prefix}}/lib
-includedir=${{prefix}}/include
-
-Name: rviommu
-Description: proved platform model of the RISC-V IOMMU
-Version: {version}
-Libs: -L${{libdir}} -lrviommu
-Cflags: -I${{includedir}}
-"""
-
 
 def is_current():
     """Whether the archive is no older than the sources of all crates."""
@@ -103,7 +91,9 @@ def main():
     share(lib / "librviommu.a", lib)
     for header in INCLUDE.glob("*.h"):
         shutil.copyfile(header, include / header.name)
-    (lib / "pkgconfig/rviommu.pc").write_text(PKG_CONFIG.format(version=defined('RVIOMMU_VERSION "(.*)"')))
+    flags = (TOP / "c/rviommu.pc.in").read_text(encoding="utf-8")
+    flags = flags.replace("@VERSION@", defined('RVIOMMU_VERSION "(.*)"'))
+    (lib / "pkgconfig/rviommu.pc").write_text(flags, encoding="utf-8")
     print(out)
 
 

@@ -30,60 +30,6 @@ DATE = datetime.datetime.fromisoformat(f"{DAY}T00:00:00+00:00")
 SECONDS = f"{DATE.timestamp():.0f}"
 LIB = "lib/x86_64-linux-gnu"
 
-CONTROL = """\
-Package: {name}
-Source: rviommu
-Version: {version}
-Section: {section}
-Priority: optional
-Architecture: amd64
-Depends: {depends}
-Maintainer: {maintainer}
-Installed-Size: {size}
-Description: {description}
-"""
-
-ABOUT_PROGRAM = """\
-proved platform model of the RISC-V IOMMU
- rviommu models physical memory, one RISC-V IOMMU (base-format contexts,
- Sv39 and Sv48, Sv39x4 and Sv48x4) and up to eight virtio block devices
- whose every memory access is translated. It takes an image and a script
- of hart accesses, command steps and device steps, and answers each line:
- which access a device is allowed, which fault record it leaves, and what
- stays cached until an invalidation."""
-
-ABOUT_LIBRARY = """\
-proved platform model of the RISC-V IOMMU, for C
- The model that the program rviommu plays scripts on, as a library: physical
- memory, one RISC-V IOMMU and up to eight virtio block devices, for tests of
- drivers and of hardware. This package has the shared object."""
-
-ABOUT_HEADER = """\
-proved platform model of the RISC-V IOMMU, to build against
- The model that the program rviommu plays scripts on, as a library for C and
- C++. This package has the header, the archive and the pkg-config file, and a
- driver with its test as an example."""
-
-COPYRIGHT = f"""\
-Format: https://www.debian.org/doc/packaging-manuals/copyright-format/1.0/
-Upstream-Name: rviommu
-
-Files: *
-Copyright: {DATE.year} the authors of rviommu
-License: none-given
- The repository that this package is made from has no licence. This package
- claims none: ask its authors what you may do with it.
-"""
-
-CHANGES = f"""\
-rviommu ({VERSION}) unstable; urgency=low
-
-  * See CHANGELOG.md.
-
- -- {MAINTAINER}  {DATE:%a, %d %b %Y %H:%M:%S +0000}
-"""
-
-
 class Link(str):
     """A symbolic link in a package, in place of a file's bytes: the name that it leads to."""
 
@@ -101,6 +47,12 @@ def read_all(folder, place, *endings):
 def page(place):
     """The files of the page, if it is built."""
     return read_all("web/out", place, ".html", ".css", ".js") if (TOP / "web/out/index.html").exists() else {}
+
+
+def template(file, **words):
+    """A text of packaging/debian with these words in it."""
+    text = (TOP / "packaging/debian" / file).read_text(encoding="utf-8")
+    return text.format(maintainer=MAINTAINER, version=VERSION, date=DATE, **words)
 
 
 def zipped(data):
@@ -176,17 +128,18 @@ def dist(program, library):
     return [made]
 
 
-def built(name, section, depends, description, files):
+def built(name, section, depends, about, files):
     """Builds one Debian package of its files."""
     doc = f"usr/share/doc/{name}"
-    files |= {f"{doc}/changelog.gz": zipped(CHANGES.encode()), f"{doc}/copyright": COPYRIGHT.encode()}
+    files[f"{doc}/changelog.gz"] = zipped(template("changelog").encode())
+    files[f"{doc}/copyright"] = template("copyright").encode()
     own = {path: data for path, data in files.items() if not isinstance(data, Link)}
     sums = {path: hashlib.md5(own[path]).hexdigest() for path in sorted(own) if not path.startswith("DEBIAN/")}
-    control = CONTROL.format(
-        name=name, version=VERSION, section=section, depends=depends, maintainer=MAINTAINER, description=description,
-        size=sum(-(-len(data) // 1024) for data in own.values()))
-    files |= {"DEBIAN/control": control.encode()}
-    files |= {"DEBIAN/md5sums": "".join(f"{it}  {path}\n" for path, it in sums.items()).encode()}
+    size = sum(-(-len(data) // 1024) for data in own.values())
+    words = {"name": name, "section": section, "depends": depends, "size": size}
+    control = template("control", about=template(f"{about}.about").rstrip(), **words)
+    files["DEBIAN/control"] = control.encode()
+    files["DEBIAN/md5sums"] = "".join(f"{it}  {path}\n" for path, it in sums.items()).encode()
     made = MADE / f"{name}_{VERSION}_amd64.deb"
     with tempfile.TemporaryDirectory() as room:
         put(Path(room), files)
@@ -203,7 +156,7 @@ def deb(program, library):
     number = library.soname.partition(".so.")[2]
     doc, dev = "usr/share/doc/rviommu", "librviommu-dev"
     return [
-        built("rviommu", "electronics", libc, ABOUT_PROGRAM, {
+        built("rviommu", "electronics", libc, "rviommu", {
             "usr/bin/rviommu": stripped(program),
             "usr/share/man/man1/rviommu.1.gz": zipped(read("man/rviommu.1")),
             "usr/share/bash-completion/completions/rviommu": read("completions/rviommu.bash"),
@@ -213,12 +166,12 @@ def deb(program, library):
             **read_all("examples", f"{doc}/examples"),
             **page("usr/share/rviommu/page"),
         }),
-        built(name, "libs", libc, ABOUT_LIBRARY, {
+        built(name, "libs", libc, "librviommu", {
             **library.shared(f"usr/{LIB}"),
             "DEBIAN/triggers": b"activate-noawait ldconfig\n",
             "DEBIAN/shlibs": f"librviommu {number} {name} (>= {VERSION})\n".encode(),
         }),
-        built(dev, "libdevel", f"{name} (= {VERSION})", ABOUT_HEADER, {
+        built(dev, "libdevel", f"{name} (= {VERSION})", dev, {
             **library.header("usr/", LIB),
             f"usr/share/doc/{dev}/README.md": read("c/README.md"),
             **read_all("examples/c", f"usr/share/doc/{dev}/examples/c"),

@@ -1,4 +1,5 @@
-"""What several files of tests use: the forms of lines and statements, and an image with scripts for it."""
+"""What several files of tests use: the forms of lines and statements, and scripts for the image of mapped.asm."""
+from frame import TESTS
 
 # The lines that a script may have.
 FORMS = [
@@ -20,26 +21,7 @@ STATEMENTS = [
 KINDS = ["cmd", "fault", "context", "dir", "pte", "u64"]
 IMAGE = "ram 0x80000000 0x80000\n"
 
-# Device 5 is a block device whose first stage maps the page 0x40201 to the frame 0x80010, and 0x40202 to 0x80011.
-MAPPED = b"""ram 0x80000000 0x100000
-disk 5 2 c0ffee
-at 0x800010a0
-context pscid=3 mode=8 ppn=0x80002
-at 0x80002008
-pte ppn=0x80003 flags=1
-at 0x80003008
-pte ppn=0x80004 flags=1
-at 0x80004008
-pte ppn=0x80010 flags=0xd7
-pte ppn=0x80011 flags=0xd7
-at 0x80010002
-bytes 0100
-at 0x80010abc
-bytes 11223344
-at 0x80090000
-cmd vma
-cmd iodir
-"""
+MAPPED = (TESTS / "mapped.asm").read_bytes()
 READ = b"dma read 5 0x40201abc 4"
 MAP = b"reg write ddtp 0x20000402\n" + READ + b"\n"
 UNMAP = b"store 0x80004008 8 0\n"
