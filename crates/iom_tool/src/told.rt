@@ -11,7 +11,8 @@ use iom_core::Answer;
 
 /// Puts a step of a trace and its answer in place of what a draft holds, as the question `trace` answers them: at most 320 bytes.
 pub fn put_entry(out: &mut Draft, entry: &Entry)
-    ensures { out.new ≡ entry_text (Some entry.now) }
+    ensures text { out.new ≡ entry_text (Some entry.now) }
+    ensures short { length out.new ≤ 320 }
 {
     out.clear();
     push_entry(out, Some(entry));
