@@ -73,9 +73,9 @@ class Shown(Using):
         self.browser.theme("light")
 
     def tearDown(self):
-        self.assertEqual(self.browser.told, [], "the console")
+        told = list(self.browser.told)
         self.browser.forget()
-        super().tearDown()
+        self.assertEqual(told, [], "the console")
 
     def image_of(self, name):
         """The words that name the image of an example, none if it has none."""

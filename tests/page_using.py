@@ -127,6 +127,7 @@ class Using:
     def test_own(self):
         """a script of one's own comes back, whatever was chosen or typed meanwhile"""
         mine = ["cmd # mine\ncmd\n", "ram 0x80000000 0x2000\n"]
+        self.browser.open(PAGE)
         self.browser.run("sessionStorage.clear()")
         self.open("example=first_stage")
         self.type("script", "cmd # mine\n")
