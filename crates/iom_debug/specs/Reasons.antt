@@ -1,7 +1,8 @@
 -- What is told of the steps of lines while they are carried out: where each access's translation came from, and where the tables led it
 -- then.
 use Rattle.std.specs.Prelude.{ℕ, ◌++◌, List, [], ◌∷◌, codes, Option, Some, None, Result, slice_get}
-use Rattle.std.specs.Option.{option_map}
+use Rattle.std.specs.Option.{option_and_then, option_map}
+use Rattle.circular_buffer.specs.Buffer.{last_item}
 use Rattle.iom_text.specs.Texts.{numeral}
 use Rattle.iom_core.specs.State.{State}
 use Rattle.iom_core.specs.Table.{next, request_of_step}
@@ -30,6 +31,13 @@ address_by (Some request) way = option_map (λ way. address_of way request.iova)
 -- where the tables led the access of a step that was stale, by what is told of it
 abbrev pub stale_of : Reason → Option (Result ℕ Denial)
 stale_of reason = address_by reason.request reason.stale
+
+-- where the translation came from that the access of the last step used
+abbrev pub origin_of : Reason → Option Origin
+origin_of reason = reason.origin
+
+abbrev pub newest_origin : Account → Option Origin
+newest_origin account = option_and_then origin_of (last_item account.told)
 
 -- what is kept beside a platform: the account of its steps, and where the tables led the last access of a line that was stale
 pub record Reasons : Type 0 where

@@ -1,21 +1,20 @@
 ghost use Rattle.std.specs.Prelude.{◌≡◌, ◌≢◌, [], None};
-ghost use Rattle.std.specs.Option.{unwrap_or};
+ghost use Rattle.std.specs.Option.{option_map, unwrap_or};
 ghost use Rattle.iom_core.specs.Run.{end_of};
-ghost use Rattle.iom_core.specs.Table.{next};
 ghost use Rattle.iom_tool.specs.Script.{Bad, line_of};
 ghost use Rattle.iom_tool.specs.Console.{console, trace_after};
 ghost use Rattle.iom_tool.specs.Output.{reply, steps_of};
 ghost use Rattle.iom_debug.specs.Reasons.{GoesAlong, last_stale, stale_only};
 ghost use Rattle.iom_debug.specs.Script.{debug_line_of};
+ghost use Rattle.iom_debug.specs.Forms.{step_by};
 ghost use Rattle.iom_debug.specs.Output.{IsAsRun, debug_reply, debug_steps_of, repeated_in};
-ghost use Rattle.iom_debug.specs.Taking.{Took, desk, is_done};
 
 use crate::answers::answer_to;
-use crate::form::{Form, form_of};
+use crate::form::{Actor, Form, form_of};
 use crate::reasons::Reasons;
-use crate::taking::{step_by, store_all, take, take_again, take_told};
+use crate::taking::{store_all, take_again, take_told};
 use crate::ways::address_line;
-use iom_core::{Platform, Step};
+use iom_core::Platform;
 use iom_tool::{Reply, Session, Trace, step_of};
 
 /// A script of `debug`, given a line at a time.
@@ -76,18 +75,6 @@ impl<'a> Debugger<'a> {
         answer_line(self.platform, self.trace, self.reasons, number, text)
     }
 
-    /// Carries out a step by itself, as one of the line of this number, and answers whether it was done. The trace has its answer.
-    pub fn take(&mut self, number: u64, step: Step) -> bool
-        ensures done { result ≡ is_done (next self.old.platform.now step).answer }
-        ensures took { Took (desk self.old.platform.now self.old.trace.now self.old.reasons.now) step number
-            (desk self.new.platform.now self.new.trace.now self.new.reasons.now) }
-        ensures same_platform { self.new.platform.ghost_name ≡ self.old.platform.ghost_name }
-        ensures same_trace { self.new.trace.ghost_name ≡ self.old.trace.ghost_name }
-        ensures same_reasons { self.new.reasons.ghost_name ≡ self.old.reasons.ghost_name }
-    {
-        take(self.platform, self.trace, self.reasons, number, step)
-    }
-
     /// Where the tables led the last access of the last line that was stale, before its step, as `stale` tells it (`denied 13`,
     /// `addr=0x80010abc`). Empty where no access of it was stale.
     pub fn stale_told(&self) -> Reply
@@ -100,14 +87,13 @@ impl<'a> Debugger<'a> {
     }
 }
 
-/// The step that a line `dev run N MAX` or `cmd run MAX` repeats while it is done, and how often at most, 1 to 2^20. None of any other
-/// line.
+/// Whose step a line `dev run N MAX` or `cmd run MAX` repeats while it is done, and how often at most, 1 to 2^20. None of any other line.
 #[tactic(auto, using(crate::proofs::Apart::as_run, crate::proofs::Apart::more))]
-pub fn repeated(text: &[u8]) -> Option<(Step, u64)>
-    ensures { result ≡ repeated_in (debug_line_of text.now) }
+pub fn repeated(text: &[u8]) -> Option<(Actor, u64)>
+    ensures { option_map (λ found. (step_by found.0, found.1)) result ≡ repeated_in (debug_line_of text.now) }
 {
     match form_of(text) {
-        Some(Form::Again(actor, most)) => Some((step_by(actor), most)),
+        Some(Form::Again(actor, most)) => Some((actor, most)),
         _ => None,
     }
 }

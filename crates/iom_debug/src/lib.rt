@@ -4,15 +4,17 @@
 pub use checking::{Checking, check};
 pub use debugger::{Debugger, repeated};
 pub use debugging::{Debugging, debug};
+pub use form::Actor;
 pub use iom_account::Reason;
 pub use iom_tool::Reply;
 pub use page::{Page, first_bytes, put, put_escaped, put_number, write_told};
 pub use parts::{is_told_alike, put_cached, put_part};
+pub use reason::origin_line;
 pub use reasons::Reasons;
 pub use summary::{Outcome, Summary};
-pub use taking::counted;
+pub use taking::{StepAnswer, counted, is_done, step_by};
 pub use wanting::{before_comment, wanted};
-pub use ways::address_of;
+pub use ways::{address_line, address_of};
 
 mod answers;
 mod checking;

@@ -3,7 +3,7 @@
 ghost use Rattle.std.specs.Prelude.{◌≡◌};
 
 use crate::reason::stale_of;
-use iom_account::{Account, History, Reason};
+use iom_account::{Account, History, Origin, Reason};
 use iom_core::{Answer, Denial, Platform, Step};
 use std::marker::Model;
 
@@ -29,7 +29,7 @@ impl Reasons {
     ghost use Rattle.circular_buffer.specs.Buffer.{last_item};
     ghost use Rattle.iom_account.specs.Account.{Accounts};
     ghost use Rattle.iom_core.specs.Table.{next, request_of_step};
-    ghost use Rattle.iom_debug.specs.Reasons.{GoesAlong, later, stale_in, stale_of};
+    ghost use Rattle.iom_debug.specs.Reasons.{GoesAlong, later, newest_origin, stale_in, stale_of};
 
     /// Reasons that begin at this platform, of no step yet. No call of theirs takes memory. Where translations come from is told if
     /// both caches hold nothing now.
@@ -66,6 +66,14 @@ impl Reasons {
         self.account.newest()
     }
 
+    /// Where the translation came from that the access of the last step used, each step told by its number; None where it made none or was
+    /// denied.
+    pub fn newest_origin(&self) -> Option<Origin>
+        ensures { result ≡ newest_origin self.now.account }
+    {
+        self.newest()?.origin
+    }
+
     /// Where the tables led the access of the last step before it, a physical address or a denial; None where it was not stale.
     pub fn newest_stale(&self) -> Option<Result<u64, Denial>>
         ensures { result ≡ option_and_then stale_of (last_item self.now.account.told) }
@@ -94,6 +102,8 @@ impl Reasons {
         ensures answer { answer.new ≡ (next platform.old step.now).answer }
         ensures state { platform.new ≡ (next platform.old step.now).state }
         ensures stale { self.new.stale ≡ later self.old.stale (stale_in platform.old (request_of_step platform.old step.now)) }
+        ensures newest { option_and_then stale_of (last_item self.new.account.told)
+            ≡ stale_in platform.old (request_of_step platform.old step.now) }
         ensures along { GoesAlong self.old platform.old (step.now ∷ []) number self.new platform.new }
     {
         self.account.step(platform, step, number, answer);

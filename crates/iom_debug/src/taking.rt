@@ -26,24 +26,6 @@ pub struct StepAnswer {
     pub text: Reply,
 }
 
-/// Carries out a step of the line of this number, and answers whether it was done.
-pub fn take(
-    platform: &mut Platform,
-    trace: &mut Trace,
-    reasons: &mut Reasons,
-    number: u64,
-    step: Step,
-) -> bool
-    ensures done { result ≡ is_done (next platform.old step).answer }
-    ensures took { Took (desk platform.old trace.old reasons.old) step number (desk platform.new trace.new reasons.new) }
-{
-    let mut answer = Answer::Done;
-    reasons.step(platform, &step, number, &mut answer);
-    let is_done = is_done(&answer);
-    trace.keep(step, answer);
-    is_done
-}
-
 /// Carries out a step of the line of this number, and answers whether it was done, and the text of its answer.
 pub fn take_told(
     platform: &mut Platform,
@@ -67,9 +49,9 @@ pub fn take_told(
     answered
 }
 
-// Whether a step was done.
+/// Whether a step was done.
 #[tactic(auto, unfolding(crate::specs::Taking::is_done))]
-fn is_done(answer: &Answer) -> bool
+pub fn is_done(answer: &Answer) -> bool
     ensures { result ≡ is_done answer.now }
 {
     matches!(answer, Answer::Done)

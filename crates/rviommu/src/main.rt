@@ -1,11 +1,11 @@
 //! The program `rviommu`: scripts on images, the assembler, listings and upgrades.
 #![tactic(auto)]
 
-use explaining::explain;
 use fault::Fault;
 use iom_asm::Item;
 use iom_cli::{How, Task, WordsFault, task_of};
 use iom_debug::{Checking, Debugger, Debugging, Reasons, check, debug};
+use iom_explain::{Explaining, explain};
 use iom_play::WRITE_BLOCK;
 use iom_reader::{RunFault, WatchedReader, WatchedWriter};
 use iom_tool::Trace;
@@ -18,14 +18,9 @@ use std::process::ExitCode;
 use std::rt::Env;
 use std::time::Clock;
 
-mod access;
-mod explaining;
 mod fault;
 mod files;
 mod progress;
-mod summary;
-mod text;
-mod walk;
 
 // What the program reads and writes.
 #[derive(Drop)]
@@ -61,7 +56,13 @@ fn play<'a, R: Read, W: Write>(
             }
             Ok(())
         }
-        How::Explain => explain(alloc, debugger, &mut reader, &mut writer),
+        How::Explain => {
+            let mut explaining = Explaining::new(alloc, debugger)?;
+            if !explain(&mut explaining, &mut reader, &mut writer)? {
+                return Err(Fault::OutOfMemory);
+            }
+            Ok(())
+        }
         _ => Ok(debug(&mut Debugging::new(debugger), &mut reader, &mut writer)?),
     }
 }

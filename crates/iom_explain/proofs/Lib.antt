@@ -1,0 +1,4 @@
+pub mod Sameness
+pub mod Chain
+pub mod Pieces
+pub mod Telling

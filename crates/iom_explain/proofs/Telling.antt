@@ -1,0 +1,137 @@
+-- What is told of lines.
+use Rattle.std.proofs.Common.{◌≡◌, ◌∙◌, ◌++◌, ◌∷◌, [], ℕ, Bool, List, Option, Some, None, true, false, Result, Ok, Err, OnOk, ◌+◌, take, replicate, sym, subst, ap, append_assoc, codes}
+use Rattle.std.specs.Io.KnownBytes.{Appends}
+use Rattle.std.proofs.KnownBytes.{Appends-nil, Appends-trans}
+use Rattle.iom_text.specs.Texts.{numeral}
+use Rattle.iom_core.specs.State.{State}
+use Rattle.iom_core.specs.Table.{next, request_of_step}
+use Rattle.iom_core.specs.declared.access.Request.{Request}
+use Rattle.iom_core.specs.declared.step.Step.{Step}
+use Rattle.iom_core.specs.declared.step.Answer.{Answer}
+use Rattle.iom_account.specs.declared.origin.Origin.{Origin}
+use Rattle.iom_reader.specs.Answering.{Progress, AnswersNext, IsAnswering}
+use Rattle.iom_reader.specs.declared.fault.RunFault.{RunFault}
+use Rattle.iom_reader.specs.Running.{Ends}
+use Rattle.iom_reader.proofs.Chains.{spoken, lawful as by_lines_lawful}
+use Rattle.iom_tool.specs.Console.{traced}
+use Rattle.iom_tool.specs.Script.{line_of, step_in}
+use Rattle.iom_tool.specs.declared.trace.Entry.{Entry}
+use Rattle.iom_debug.specs.Output.{repeated_in}
+use Rattle.iom_debug.specs.Script.{debug_line_of}
+use Rattle.iom_debug.specs.Telling.{Leaves, answer_at}
+use Rattle.iom_tool.specs.Texts.{entry_text}
+use Rattle.iom_debug.specs.Reasons.{Reasons, newest_origin}
+use Rattle.iom_debug.specs.Summary.{Counts, counts_of, up_to_64_bits}
+use Rattle.iom_debug.specs.Taking.{Desk, Took, run_text, taken}
+use Rattle.iom_debug.specs.declared.summary.Outcome.{Outcome}
+use Rattle.iom_explain.specs.Explaining.{Explained, ExplainSays, IsExplained, LineTold, Progressed, StepTold, StepsTold, access_by, by_explain, explained, explaining, line_told, outcomes_by, summary_text}
+
+pub lawful : IsAnswering by_explain
+lawful =
+    let l = by_lines_lawful explaining in
+    record {
+      none = l.none;
+      flushed = l.flushed;
+      cut = l.cut;
+      half_cut = λ start now lines line h. tt;
+    }
+
+pub whole : (unread left : Option (List ℕ)) (old new : Progress Progressed) (holds : Option (List ℕ)) →
+    Ends by_explain unread left old new (Ok tt) → new.console.is_short ≡ false →
+    Appends new.written holds (summary_text new.console.told.counts) → IsExplained old.console unread left old.written holds
+whole unread left old new holds h memory wrote = record {
+  script = h.text;
+  took = h.took;
+  all = h.all;
+  within = h.within;
+  text = h.answered.text;
+  end = new.console;
+  said = h.answered.said;
+  memory = memory;
+  written = Appends-trans _ _ _ _ _ h.answered.written wrote;
+}
+
+-- a step with its answer, and below it what is told of its access
+pub step_is : (before : Explained) (number : ℕ) (step : Step) (request : Option Request) (answer : Answer) (entry below page : List ℕ) (used : Option Origin)
+    (after : Desk) (counts : Counts) → Took before.desk step number after → request ≡ request_of_step before.desk.state step →
+    answer ≡ (next before.desk.state step).answer → entry ≡ entry_text (Some (record { step = step; answer = answer })) →
+    used ≡ newest_origin after.reasons.account → below ≡ access_by before.desk step request used →
+    page ≡ (numeral 10 number ++ codes ": " ++ entry ++ 10 ∷ []) ++ below →
+    ((earlier : List Outcome) → before.counts ≡ counts_of earlier → counts ≡ counts_of (earlier ++ outcomes_by before.desk number step request)) →
+    StepTold before number step page (record { desk = after; counts = counts })
+step_is before number step request answer entry below page used after counts took asked answered entry_is used_is below_is page_is counted = record {
+  took = took;
+  text = page_is
+      ∙ append_assoc (numeral 10 number) (codes ": " ++ entry ++ 10 ∷ []) below
+      ∙ ap (λ l. numeral 10 number ++ codes ": " ++ l) (append_assoc entry (10 ∷ []) below)
+      ∙ ap (λ e. numeral 10 number ++ codes ": " ++ e ++ 10 ∷ below)
+      (entry_is ∙ ap (λ (a : Answer). entry_text (Some (record { step = step; answer = a }))) answered)
+      ∙ ap (λ b. numeral 10 number ++ codes ": " ++ entry_text (Some (record { step = step; answer = (next before.desk.state step).answer })) ++ 10 ∷ b)
+      (below_is ∙ ap (λ (r : Option Request). access_by before.desk step r used) asked
+      ∙ ap (λ (u : Option Origin). access_by before.desk step (request_of_step before.desk.state step) u) used_is);
+  counts = λ earlier is. counted earlier is
+      ∙ ap (λ (r : Option Request). counts_of (earlier ++ outcomes_by before.desk number step r)) asked;
+}
+
+-- the trace keeps a step that was told
+pub kept : (before : Explained) (number : ℕ) (step own : Step) (page said : List ℕ) (state : State) (mid trace : List Entry) (answer : Answer)
+    (reasons : Reasons) (counts : Counts) →
+    StepTold before number step page (explained state (traced before.desk.trace step (next before.desk.state step).answer) reasons counts) →
+    mid ≡ before.desk.trace → own ≡ step → answer ≡ (next before.desk.state step).answer → trace ≡ traced mid own answer → said ≡ page →
+    StepTold before number step said (explained state trace reasons counts)
+kept before number step own page said state mid trace answer reasons counts told same its answered is said_is =
+    let there : trace ≡ traced before.desk.trace step (next before.desk.state step).answer =
+    is ∙ ap (λ (t : List Entry). traced t own answer) same ∙ ap (λ (s : Step). traced before.desk.trace s answer) its
+    ∙ ap (λ (a : Answer). traced before.desk.trace step a) answered in
+    subst (λ (t : List Entry). StepTold before number step said (explained state t reasons counts)) (sym there)
+    (subst (λ l. StepTold before number step l (explained state (traced before.desk.trace step (next before.desk.state step).answer) reasons counts))
+    (sym said_is) told)
+
+-- what was written is told of a line; of a refused memory nothing is known
+abbrev pub Wrote : Result (Unit {0}) RunFault → Option (List ℕ) → Option (List ℕ) → Bool → (List ℕ → Type 0) → Type 0
+Wrote result held holds short Told = OnOk result ((said : List ℕ) × Appends held holds said × (short ≡ false → Told said))
+
+pub line_again : (result : Result (Unit {0}) RunFault) (a b c : Option (List ℕ)) (short : Bool) (before after : Explained) (number most : ℕ)
+    (line : List ℕ) (step : Step) (page reply : List ℕ) →
+    ((said : List ℕ) × Appends a b said × (short ≡ false → StepsTold before number (taken before.desk.state (replicate most step)) said after
+    × (reply ≡ run_text before.desk.state (replicate most step)))) →
+    Wrote result b c short (λ said. said ≡ page) → page ≡ line_told number line reply →
+    Wrote result a c short (λ said. LineTold before number line None (Some (step, most)) said after)
+line_again (Ok done) a b c short before after number most line step page reply s w page_is =
+    (s.0 ++ w.0, Appends-trans _ _ _ _ _ s.1 w.1, λ m.
+    (s.0, (s.2 m).0, ap (λ l. s.0 ++ l) (w.2 m ∙ page_is ∙ ap (line_told number line) (s.2 m).1)))
+line_again (Err f) a b c short before after number most line step page reply s w page_is = tt
+
+pub line_other : (result : Result (Unit {0}) RunFault) (b c : Option (List ℕ)) (short : Bool) (before after : Explained) (number : ℕ)
+    (line : List ℕ) (page reply : List ℕ) → Leaves before.desk line number after.desk → after.counts ≡ before.counts →
+    reply ≡ answer_at before.desk line → Wrote result b c short (λ said. said ≡ page) → page ≡ line_told number line reply →
+    Wrote result b c short (λ said. LineTold before number line None None said after)
+line_other (Ok done) b c short before after number line page reply leaves same reply_is w page_is =
+    (w.0, w.1, λ m. (leaves, same, w.2 m ∙ page_is ∙ ap (line_told number line) reply_is))
+line_other (Err f) b c short before after number line page reply leaves same reply_is w page_is = tt
+
+-- nothing is told of a line after memory was refused
+pub unheard : (line : List ℕ) (now : Progress Progressed) → now.console.is_short ≡ true → AnswersNext by_explain line now now (Ok tt)
+unheard line now short =
+    spoken explaining line [] now now (record {
+      short = λ is. is;
+      number = λ other. absurd (cc (short, other));
+      told = λ other. absurd (cc (short, other));
+    }) (Appends-nil now.written)
+
+pub heard : (line cut : List ℕ) (old new : Progress Progressed) (result : Result (Unit {0}) RunFault) (step : Option Step) → cut ≡ take 513 line →
+    old.console.is_short ≡ false → new.console.number ≡ up_to_64_bits (old.console.number + 1) → step ≡ step_in (line_of cut) →
+    Wrote result old.written new.written new.console.is_short
+    (λ said. LineTold old.console.told new.console.number cut step (repeated_in (debug_line_of cut)) said new.console.told) →
+    AnswersNext by_explain line old new result
+heard line cut old new (Ok done) step is long number step_is w =
+    let told : new.console.is_short ≡ false → LineTold old.console.told new.console.number cut (step_in (line_of cut))
+    (repeated_in (debug_line_of cut)) w.0 new.console.told =
+    λ m. subst (λ (s : Option Step). LineTold old.console.told new.console.number cut s (repeated_in (debug_line_of cut)) w.0 new.console.told)
+    step_is (w.2 m) in
+    spoken explaining line w.0 old new (subst (λ l. ExplainSays old.console l w.0 new.console) is (record {
+      short = λ other. absurd (cc (long, other));
+      number = λ m. number;
+      told = told;
+    })) w.1
+heard line cut old new (Err f) step is long number step_is w = λ start lines h. tt

@@ -1,0 +1,14 @@
+use Rattle.std.proofs.Common.{◌≡◌, ◌++◌, ℕ, List, false, drop}
+use Rattle.std.specs.List.{flat_map}
+use Rattle.std.specs.Io.KnownBytes.{Appends}
+use Rattle.iom_explain.specs.Explaining.{denied_text}
+use Rattle.iom_explain.proofs.summary.write_denied.Given as goal
+
+-- what was written and what remains are all
+abbrev pub invariant-loop-cause : goal.invariant-loop-cause
+invariant-loop-cause g l = record {
+  can : l.writer.failed ≡ false;
+  same_writer : l.writer.inner.ghost_name ≡ l.initial.writer.inner.ghost_name;
+  wrote : (said : List ℕ) × Appends (g.W.Write.contents l.initial.writer.inner.now) (g.W.Write.contents l.writer.inner.now) said
+      × (said ++ flat_map denied_text (drop l.cause-index l.denied) ≡ flat_map denied_text l.denied);
+}

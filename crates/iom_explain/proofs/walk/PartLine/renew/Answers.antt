@@ -1,0 +1,20 @@
+use Rattle.std.proofs.Common.{◌≡◌, ◌∙◌, refl, ap, sym, subst}
+use Rattle.iom_tables.specs.Fetches.{IsRead}
+use Rattle.iom_tables.specs.declared.part.Part.{Part}
+use Rattle.iom_debug.specs.Walks.{part_text}
+use Rattle.iom_debug.proofs.Alike.{told_alike}
+use Rattle.iom_explain.specs.Walking.{walk_line}
+use Rattle.iom_explain.proofs.walk.PartLine.renew.Goals as goal
+
+pub invariant_of-self : goal.invariant_of-self
+invariant_of-self c = λ inner m request is.
+    c.line_of-self.ensures ∙ ap walk_line (c.put_part.ensures.text
+    ∙ told_alike c.args.platform.now.machine m c.args.request.now request c.args.part.now c.args.part.now inner refl c.requires.read is)
+
+pub returns-then-is_told_alike : goal.returns-then-is_told_alike
+returns-then-is_told_alike c =
+    let m = c.args.platform.now.machine in
+    let same = c.is_told_alike.ensures.same.0 c.if-is_told_alike.true in
+    let read = subst (λ (p : Part). IsRead m.memory p) (sym same.1) c.requires.read in
+    sym c.self.view_is ∙ c.self.invariant same.0 m c.args.request.now read
+    ∙ ap (λ (p : Part). walk_line (part_text m c.args.request.now p)) same.1

@@ -1,0 +1,118 @@
+-- What `explain` writes below a step that makes an access: what a block device asks, what the caches hold, and why it was let through.
+use Rattle.std.specs.Prelude.{ℕ, ◌++◌, ◌||◌, Bool, true, false, List, [], ◌∷◌, length, codes, slice_get, Option, Some, None, Result, Ok, Err}
+use Rattle.std.specs.Option.{unwrap_or}
+use Rattle.iom_text.specs.Texts.{hexed, numeral}
+use Rattle.iom_virtq.specs.Bus.{Ask, Read, Write}
+use Rattle.iom_blk.specs.Device.{Device}
+use Rattle.iom_blk.specs.Phases.{asks}
+use Rattle.iom_blk.specs.declared.phase.Phase.{Phase}
+use Rattle.iom_blk.specs.declared.phase.Phase.TheVariants as phase
+use Rattle.iom_ddt.specs.declared.context.Context.{Context}
+use Rattle.iom_cache.specs.Keys.{same_did}
+use Rattle.iom_cache.specs.Places.{place_of}
+use Rattle.iom_core.specs.State.{Machine, State}
+use Rattle.iom_core.specs.Looking.{is_cached}
+use Rattle.iom_core.specs.declared.access.Denial.{Denial}
+use Rattle.iom_core.specs.declared.looking.Seen.{Seen}
+use Rattle.iom_core.specs.declared.step.Step.{Step}
+use Rattle.iom_core.specs.declared.step.Step.TheVariants as step
+use Rattle.iom_core.specs.declared.way.Way.{Way}
+use Rattle.iom_core.specs.declared.way.Way.TheVariants as way
+use Rattle.iom_core.specs.declared.witness.Source.{Source}
+use Rattle.iom_core.specs.declared.witness.Source.TheVariants as source
+use Rattle.iom_account.specs.Following.{Notes}
+use Rattle.iom_account.specs.declared.origin.Origin.{Origin}
+use Rattle.iom_account.specs.declared.origin.Origin.TheVariants as origin
+use Rattle.iom_items.specs.Lines.{operand}
+use Rattle.iom_debug.specs.Reasons.{origin_text}
+use Rattle.iom_debug.specs.Ways.{address_of, address_text}
+
+-- what an access of a block device is for: VIRTIO 1.2, "Split Virtqueues" and "Block Device"
+unfoldable pub phase_text : Phase → List ℕ
+phase_text phase.Index = codes "available index"
+phase_text phase.Ring = codes "available ring"
+phase_text (phase.Descriptor i) = codes "descriptor " ++ numeral 10 i
+phase_text phase.Header = codes "header"
+phase_text (phase.Data position) = codes "data"
+phase_text phase.Status = codes "status"
+phase_text phase.UsedId = codes "used id"
+phase_text phase.UsedLen = codes "used length"
+phase_text phase.UsedIdx = codes "used index"
+
+-- an IOVA, and how many bytes
+abbrev pub ask_text : ℕ → Ask → List ℕ
+ask_text did (Read iova count) =
+    codes ", read" ++ operand (codes "did") did ++ operand (codes "iova") iova ++ operand (codes "len") count
+ask_text did (Write iova bytes) =
+    codes ", write" ++ operand (codes "did") did ++ operand (codes "iova") iova ++ operand (codes "len") (length bytes)
+
+abbrev pub asks_by : ℕ → Phase → Option Ask → List ℕ
+asks_by did phase None = []
+asks_by did phase (Some ask) = codes "    asks: " ++ phase_text phase ++ ask_text did ask ++ 10 ∷ []
+
+abbrev pub device_asks : Option (ℕ × Device) → List ℕ
+device_asks None = []
+device_asks (Some own) = asks_by own.0 own.1.phase (asks own.1)
+
+-- what the block device of a step asks of the IOMMU; nothing of any other step
+unfoldable pub asks_text : State → Step → List ℕ
+asks_text state (step.Device dev) = device_asks (slice_get state.devices dev)
+asks_text state _ = []
+
+-- the line that filled the live context of a device id
+abbrev pub filler : Notes → Machine → ℕ → ℕ
+filler history m did = unwrap_or (slice_get history.contexts (place_of (same_did did) m.contexts)) 0
+
+abbrev pub context_text : Source → ℕ → List ℕ
+context_text source.Found line = codes "context of line " ++ numeral 10 line
+context_text source.Read line = codes "no context"
+
+-- the line whose walk found the page that an access used
+abbrev pub walk_of : Option Origin → Option ℕ
+walk_of None = None
+walk_of (Some origin.Register) = None
+walk_of (Some (origin.Context context)) = None
+walk_of (Some (origin.Walked context walk current)) = Some walk
+
+abbrev pub is_found : Option Source → Bool
+is_found None = false
+is_found (Some source.Found) = true
+is_found (Some source.Read) = false
+
+-- no page is cached for an access that the stages of a context lead
+abbrev pub no_page : Way → List ℕ
+no_page (way.Context context) = []
+no_page way.Register = codes ", no page"
+no_page (way.Walked context hit) = codes ", no page"
+no_page (way.Denied denial) = codes ", no page"
+
+abbrev pub page_text : Bool → Option ℕ → Way → List ℕ
+page_text true (Some walk) way = codes ", page of line " ++ numeral 10 walk
+page_text true None way = no_page way
+page_text false walk way = no_page way
+
+-- the physical address that what is cached leads an access to
+abbrev pub addr_text : Bool → Result ℕ Denial → List ℕ
+addr_text true (Ok addr) = codes ", addr=" ++ hexed addr
+addr_text true (Err denial) = []
+addr_text false address = []
+
+-- what the caches hold for an access to an IOVA that is seen so before its step, if a context leads it. Its live context is that of `line`
+abbrev pub caches_by : Option (Source × Context) → Seen → ℕ → ℕ → Option Origin → List ℕ
+caches_by None seen line iova used = []
+caches_by (Some context) seen line iova used =
+    codes "    caches: " ++ context_text context.0 line ++ page_text (is_found seen.page) (walk_of used) seen.way
+    ++ addr_text (is_found seen.page || is_cached seen) (address_of seen.way iova) ++ 10 ∷ []
+
+-- where the translation came from that an access used
+abbrev pub used_text : Option Origin → List ℕ
+used_text None = codes "none, it is denied"
+used_text (Some used) = origin_text used
+
+abbrev pub warrant_text : Option Origin → List ℕ
+warrant_text used = codes "    warrant: " ++ used_text used ++ 10 ∷ []
+
+-- where the tables led an access that was stale, before its step
+abbrev pub stale_text : Option (Result ℕ Denial) → List ℕ
+stale_text None = []
+stale_text (Some address) = codes "    stale: the tables now say " ++ address_text address ++ 10 ∷ []

@@ -1,0 +1,162 @@
+-- What the word `explain` writes for the lines of a script: each line with its number and its answer, below each step that makes an access
+-- the reasons of that, and at the end how the accesses went.
+use Rattle.std.specs.Prelude.{ℕ, ◌≡◌, ◌+◌, ◌==◌, ◌++◌, Bool, false, true, nat_lt, List, [], ◌∷◌, length, replicate, codes, Option, Some, None, is_some, if◌then◌else◌}
+use Rattle.std.specs.List.{flat_map}
+use Rattle.std.specs.Option.{option_and_then}
+use Rattle.std.specs.Io.KnownBytes.{Appends, Consumes, IsAtEnd}
+use Rattle.circular_buffer.specs.Buffer.{last_item}
+use Rattle.iom_text.specs.Texts.{numeral}
+use Rattle.iom_core.specs.Looking.{is_cached, seen_in}
+use Rattle.iom_core.specs.State.{State}
+use Rattle.iom_core.specs.Table.{next, request_of_step}
+use Rattle.iom_core.specs.declared.access.Request.{Request}
+use Rattle.iom_core.specs.declared.looking.Seen.{Seen}
+use Rattle.iom_core.specs.declared.step.Step.{Step}
+use Rattle.iom_core.specs.declared.step.Answer.{Answer}
+use Rattle.iom_core.specs.declared.step.Answer.TheVariants as answer
+use Rattle.iom_account.specs.Account.{Account}
+use Rattle.iom_account.specs.declared.origin.Origin.{Origin}
+use Rattle.iom_account.specs.declared.reason.Reason.{Reason}
+use Rattle.iom_reader.specs.Answering.{Answering}
+use Rattle.iom_reader.specs.Lines.{lines_of}
+use Rattle.iom_reader.specs.Running.{IsWithinLimits}
+use Rattle.iom_reader.specs.Speaking.{Speaking, Speaks, Spoken}
+use Rattle.iom_tool.specs.Script.{line_of, step_in}
+use Rattle.iom_tool.specs.Texts.{entry_text}
+use Rattle.iom_tool.specs.declared.trace.Entry.{Entry}
+use Rattle.iom_debug.specs.Output.{repeated_in}
+use Rattle.iom_debug.specs.Reasons.{Reasons, newest_origin}
+use Rattle.iom_debug.specs.Script.{debug_line_of}
+use Rattle.iom_debug.specs.Summary.{Counts, counts_of, up_to_64_bits}
+use Rattle.iom_debug.specs.Taking.{Desk, Took, desk, run_text, taken}
+use Rattle.iom_debug.specs.Telling.{Leaves, answer_at, before_comment, escaped}
+use Rattle.iom_debug.specs.Ways.{stale_address}
+use Rattle.iom_debug.specs.declared.summary.Outcome.{Outcome}
+use Rattle.iom_explain.specs.Accesses.{asks_text, caches_by, filler, stale_text, warrant_text}
+use Rattle.iom_explain.specs.Walking.{walk_text}
+
+-- what is told below a step that makes an access, by what stood before it and where the translation came from that it used
+abbrev pub access_text : Desk → Step → Request → Seen → Option Origin → List ℕ
+access_text now step request seen used =
+    asks_text now.state step
+    ++ caches_by seen.context seen (filler now.reasons.account.history now.state.machine request.did) request.iova used
+    ++ walk_text seen now.state.machine request ++ warrant_text used ++ stale_text (stale_address now.state.machine request)
+
+abbrev pub access_by : Desk → Step → Option Request → Option Origin → List ℕ
+access_by now step None used = []
+access_by now step (Some request) used = access_text now step request (seen_in now.state.machine request) used
+
+-- a step of the line of this number, with its answer
+abbrev pub step_told : Desk → ℕ → Step → Option Origin → List ℕ
+step_told now number step used =
+    numeral 10 number ++ codes ": " ++ entry_text (Some (record { step = step; answer = (next now.state step).answer })) ++ 10 ∷ []
+    ++ access_by now step (request_of_step now.state step) used
+
+-- the cause that an answer is a denial for
+abbrev pub denied_for : Answer → Option ℕ
+denied_for (answer.Denied cause) = Some cause
+denied_for _ = None
+
+-- how the access went that a step made
+abbrev pub outcomes_by : Desk → ℕ → Step → Option Request → List Outcome
+outcomes_by now number step None = []
+outcomes_by now number step (Some request) = record {
+  number = number;
+  denied = denied_for (next now.state step).answer;
+  is_cached = is_cached (seen_in now.state.machine request);
+  is_stale = is_some (stale_address now.state.machine request);
+} ∷ []
+
+-- what lines drive, and how many accesses went how
+pub record Explained : Type 0 where
+  pub desk : Desk
+  pub counts : Counts
+
+abbrev pub explained : State → List Entry → Reasons → Counts → Explained
+explained state trace reasons counts = record { desk = desk state trace reasons; counts = counts }
+
+-- a step of the line of this number was taken, told and counted. Where its translation came from is what the account keeps of it
+pub record StepTold (before : Explained) (number : ℕ) (step : Step) (said : List ℕ) (after : Explained) : Type 0 where
+  pub took : Took before.desk step number after.desk
+  pub text : said ≡ step_told before.desk number step (newest_origin after.desk.reasons.account)
+  pub counts : (earlier : List Outcome) → before.counts ≡ counts_of earlier
+      → after.counts ≡ counts_of (earlier ++ outcomes_by before.desk number step (request_of_step before.desk.state step))
+
+-- steps one after the other
+abbrev pub StepsTold : Explained → ℕ → List Step → List ℕ → Explained → Type 0
+StepsTold now number [] text later = (text ≡ []) × (later ≡ now)
+StepsTold now number (step ∷ steps) text later =
+    (said : List ℕ) × (rest : List ℕ) × (mid : Explained) × (text ≡ said ++ rest) × StepTold now number step said mid
+    × StepsTold mid number steps rest later
+
+-- a line that is no step by itself, with its answer; nothing where it has none
+abbrev pub line_told : ℕ → List ℕ → List ℕ → List ℕ
+line_told number line answer =
+    if nat_lt 0 (length answer)
+    then numeral 10 number ++ codes ": " ++ escaped (before_comment line) ++ codes " -> " ++ escaped answer ++ 10 ∷ []
+    else []
+
+-- a line of this number: a step; a step again and again, and after them the line; or any other
+abbrev pub LineTold : Explained → ℕ → List ℕ → Option Step → Option (Step × ℕ) → List ℕ → Explained → Type 0
+LineTold before number line (Some step) again said after = StepTold before number step said after
+LineTold before number line None (Some (step, most)) said after =
+    (text : List ℕ) × StepsTold before number (taken before.desk.state (replicate most step)) text after
+    × (said ≡ text ++ line_told number line (run_text before.desk.state (replicate most step)))
+LineTold before number line None None said after =
+    Leaves before.desk line number after.desk × (after.counts ≡ before.counts)
+    × (said ≡ line_told number line (answer_at before.desk line))
+
+-- the same, how many lines were read, and whether memory was refused
+pub record Progressed : Type 0 where
+  pub told : Explained
+  pub number : ℕ
+  pub is_short : Bool
+
+-- `explain` tells each line, while there is memory for the numbers of the lines that are stale
+pub record ExplainSays (before : Progressed) (line said : List ℕ) (after : Progressed) : Type 0 where
+  pub short : before.is_short ≡ true → after.is_short ≡ true
+  pub number : after.is_short ≡ false → after.number ≡ up_to_64_bits (before.number + 1)
+  pub told : after.is_short ≡ false
+      → LineTold before.told after.number line (step_in (line_of line)) (repeated_in (debug_line_of line)) said after.told
+
+abbrev pub explaining : Speaking
+explaining = record { State = Progressed; says = ExplainSays; breaks = λ before line front after. Unit {0} }
+
+-- where a write fails nothing is said of what was written
+abbrev pub by_explain : Answering
+by_explain = record { State = Progressed; whole = Spoken explaining; half = λ old new lines. Unit {0} }
+
+-- how many accesses were denied for a cause
+abbrev pub denied_text : ℕ × ℕ → List ℕ
+denied_text entry =
+    if nat_lt 0 entry.1 then codes "denied " ++ numeral 10 entry.0 ++ codes ": " ++ numeral 10 entry.1 ++ 10 ∷ [] else []
+
+-- one more of the numbers of the lines that are stale, and all of them
+abbrev pub more_text : ℕ → List ℕ
+more_text number = codes ", " ++ numeral 10 number
+
+abbrev pub lines_text : List ℕ → List ℕ
+lines_text [] = 10 ∷ []
+lines_text (first ∷ more) =
+    (if length more == 0 then codes " (line " else codes " (lines ") ++ numeral 10 first
+    ++ flat_map more_text more ++ 41 ∷ 10 ∷ []
+
+-- how the accesses went
+abbrev pub summary_text : Counts → List ℕ
+summary_text counts =
+    (codes "accesses: " ++ numeral 10 counts.accesses ++ 10 ∷ [] ++ (codes "granted: " ++ numeral 10 counts.granted ++ 10 ∷ []))
+    ++ flat_map denied_text counts.denied
+    ++ (codes "from the caches: " ++ numeral 10 counts.cached ++ 10 ∷ [] ++ (codes "stale: " ++ numeral 10 counts.stale))
+    ++ lines_text counts.lines
+
+-- A whole script was explained: what was written is what is told of its lines, one after the other, and how the accesses went.
+pub record IsExplained (start : Progressed) (unread left held holds : Option (List ℕ)) : Type 0 where
+  pub script : List ℕ
+  pub took : Consumes unread left script
+  pub all : IsAtEnd left
+  pub within : IsWithinLimits script
+  pub text : List ℕ
+  pub end : Progressed
+  pub said : Speaks explaining start (lines_of script) text end
+  pub memory : end.is_short ≡ false
+  pub written : Appends held holds (text ++ summary_text end.told.counts)

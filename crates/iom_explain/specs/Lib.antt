@@ -1,0 +1,3 @@
+pub mod Accesses
+pub mod Walking
+pub mod Explaining

@@ -1,0 +1,143 @@
+//! What the caches hold for an access, and why it was let through.
+
+ghost use Rattle.std.specs.Prelude.{◌≡◌, ◌+◌, ◌++◌, ◌||◌, ◌∷◌, [], ◌≤◌, codes, length};
+ghost use Rattle.iom_core.specs.Looking.{is_cached};
+ghost use Rattle.iom_debug.specs.Ways.{address_of};
+ghost use Rattle.iom_explain.specs.Accesses.{addr_text, caches_by, context_text, is_found, no_page, page_text, stale_text, used_text, walk_of, warrant_text};
+
+use crate::text::put_decimal;
+use iom_account::Origin;
+use iom_core::{Denial, Seen, Source, Way};
+use iom_debug::{Page, address_line, address_of, origin_line, put};
+use iom_text::hexed;
+
+// Appends where a context comes from.
+fn put_context(out: &mut Page, source: Source, line: u64)
+    requires { length out.old.items ≤ 1000 }
+    ensures text { out.new.items ≡ out.old.items ++ context_text source line }
+    ensures room { length out.new.items ≤ length out.old.items + 40 }
+{
+    match source {
+        Source::Found => put_decimal(out, b"context of line ", line),
+        Source::Read => put(out, b"no context"),
+    }
+}
+
+// The line whose walk found the page that an access used.
+fn walk_of(used: Option<Origin>) -> Option<u64>
+    ensures { result ≡ walk_of used }
+{
+    match used {
+        Some(Origin::Walked { walk, .. }) => Some(walk),
+        Some(Origin::Register | Origin::Context { .. }) | None => None,
+    }
+}
+
+// Whether a page is found in its cache.
+fn is_found(page: Option<Source>) -> bool
+    ensures { result ≡ is_found page }
+{
+    match page {
+        Some(Source::Found) => true,
+        Some(Source::Read) | None => false,
+    }
+}
+
+// Appends that no page is cached, but of stages that are Bare.
+fn put_no_page(out: &mut Page, way: &Way)
+    requires { length out.old.items ≤ 1000 }
+    ensures text { out.new.items ≡ out.old.items ++ no_page way.now }
+    ensures room { length out.new.items ≤ length out.old.items + 40 }
+{
+    match way {
+        Way::Context(_) => {}
+        Way::Register | Way::Walked(..) | Way::Denied(_) => put(out, b", no page"),
+    }
+}
+
+// Appends the line whose walk found the page that is cached.
+fn put_page(out: &mut Page, is_found: bool, walk: Option<u64>, way: &Way)
+    requires { length out.old.items ≤ 1000 }
+    ensures text { out.new.items ≡ out.old.items ++ page_text is_found walk way.now }
+    ensures room { length out.new.items ≤ length out.old.items + 40 }
+{
+    match (is_found, walk) {
+        (true, Some(walk)) => put_decimal(out, b", page of line ", walk),
+        (true, None) => put_no_page(out, way),
+        (false, _) => put_no_page(out, way),
+    }
+}
+
+// Whether what is cached leads an access that is seen so.
+fn is_led(seen: &Seen) -> bool
+    ensures { result ≡ (is_found seen.now.page || is_cached seen.now) }
+{
+    is_found(seen.page) || seen.is_cached()
+}
+
+// Appends the physical address that what is cached leads to.
+fn put_addr(out: &mut Page, is_led: bool, address: Result<u64, Denial>)
+    requires { length out.old.items ≤ 1000 }
+    ensures text { out.new.items ≡ out.old.items ++ addr_text is_led address }
+    ensures room { length out.new.items ≤ length out.old.items + 40 }
+{
+    match (is_led, address) {
+        (true, Ok(addr)) => {
+            put(out, b", addr=");
+            put(out, hexed(addr).as_slice());
+        }
+        (true, Err(_)) => {}
+        (false, _) => {}
+    }
+}
+
+/// Appends what the caches hold for an access to `iova` that is seen so before its step, as a line; nothing if no context leads it. The live
+/// context of its device is that of `line`, and its translation comes from `used`.
+pub fn put_caches(out: &mut Page, seen: &Seen, line: u64, iova: u64, used: Option<Origin>)
+    requires { length out.old.items ≤ 700 }
+    ensures text { out.new.items ≡ out.old.items ++ caches_by seen.now.context seen.now line iova used }
+    ensures room { length out.new.items ≤ length out.old.items + 150 }
+{
+    if let Some((source, _)) = seen.context {
+        put(out, b"    caches: ");
+        put_context(out, source, line);
+        put_page(out, is_found(seen.page), walk_of(used), &seen.way);
+        put_addr(out, is_led(seen), address_of(&seen.way, iova));
+        put(out, b"\n");
+    }
+}
+
+// Appends where a translation came from.
+fn put_used(out: &mut Page, used: Option<Origin>)
+    requires { length out.old.items ≤ 15000 }
+    ensures text { out.new.items ≡ out.old.items ++ used_text used }
+    ensures room { length out.new.items ≤ length out.old.items + 320 }
+{
+    match used {
+        None => put(out, b"none, it is denied"),
+        Some(used) => put(out, origin_line(used).as_slice()),
+    }
+}
+
+/// Appends why an access was let through, as a line.
+pub fn put_warrant(out: &mut Page, used: Option<Origin>)
+    requires { length out.old.items ≤ 14900 }
+    ensures text { out.new.items ≡ out.old.items ++ warrant_text used }
+    ensures room { length out.new.items ≤ length out.old.items + 340 }
+{
+    put(out, b"    warrant: ");
+    put_used(out, used);
+    put(out, b"\n");
+}
+
+/// Appends where the tables led an access that was stale, as a line; nothing of another.
+pub fn put_stale(out: &mut Page, stale: Option<Result<u64, Denial>>)
+    requires { length out.old.items ≤ 15300 }
+    ensures text { out.new.items ≡ out.old.items ++ stale_text stale }
+{
+    if let Some(address) = stale {
+        put(out, b"    stale: the tables now say ");
+        put(out, address_line(address).as_slice());
+        put(out, b"\n");
+    }
+}

@@ -1,0 +1,228 @@
+//! A step, told with its answer and the reasons of its access.
+
+ghost use Rattle.std.specs.Prelude.{◌≡◌, ◌++◌, ◌∷◌, [], ◌≤◌, List, Some, false, true, codes, is_some, length, IfSome, OnOk};
+ghost use Rattle.std.specs.Option.{option_map};
+ghost use Rattle.iom_core.specs.Looking.{is_cached, seen_in};
+ghost use Rattle.iom_core.specs.Table.{next, request_of_step};
+ghost use Rattle.iom_text.specs.Texts.{numeral};
+ghost use Rattle.iom_tool.specs.Console.{traced};
+ghost use Rattle.iom_debug.specs.Summary.{counts_of};
+ghost use Rattle.iom_debug.specs.declared.summary.Outcome.{Outcome};
+ghost use Rattle.iom_explain.specs.Accesses.{asks_text, caches_by, filler, stale_text, warrant_text};
+ghost use Rattle.iom_explain.specs.Explaining.{StepTold, denied_for, explained};
+ghost use Rattle.iom_explain.specs.Walking.{walk_text};
+
+use crate::accesses::{put_caches, put_stale, put_warrant};
+use crate::asking::put_asks;
+use crate::text::put_decimal;
+use crate::walk::Walk;
+use iom_account::{History, Origin};
+use iom_core::{Answer, Denial, Platform, Request, Seen, Step};
+use iom_debug::{Debugger, Outcome, Page, Summary, put};
+use iom_tool::{Draft, Entry, put_entry};
+use std::alloc::{AllocError, Global};
+
+/// What is told of a script's accesses.
+#[derive(Drop)]
+pub struct Teller {
+    /// What is told of a step or a line.
+    pub page: Page,
+    // what a block device asks, and the walk, told before the step
+    asks: Page,
+    walk: Page,
+    last_walk: Walk,
+    // one text of either
+    draft: Draft,
+    /// How many accesses went how.
+    pub summary: Summary,
+    /// Whether memory was refused: then nothing more is told.
+    pub is_short: bool,
+}
+
+// What is known of an access before its step.
+#[derive(Clone, Copy)]
+struct Known {
+    request: Request,
+    seen: Seen,
+    // the line that filled its live context
+    line: u64,
+}
+
+// The line that filled the live context of a device.
+fn filler(history: &History, platform: &Platform, did: u32) -> u64
+    ensures { result ≡ filler history.now platform.now.machine did }
+{
+    history.context_of(platform, did).unwrap_or(0)
+}
+
+// The cause that an answer is a denial for, if it is one.
+fn denied_for(answer: &Answer) -> Option<u16>
+    ensures { result ≡ denied_for answer.now }
+{
+    match answer {
+        Answer::Denied(cause) => Some(*cause),
+        _ => None,
+    }
+}
+
+// What is known of the access that a step is about to make, and puts what is told of that before it is made.
+fn look(
+    asks: &mut Page,
+    walk: &mut Page,
+    last_walk: &mut Walk,
+    draft: &mut Draft,
+    debugger: &Debugger<'_>,
+    step: &Step,
+) -> Option<Known>
+    ensures request { option_map (λ known. known.request) result ≡ request_of_step debugger.now.platform.now step.now }
+    ensures known { IfSome result (λ known. (known.seen ≡ seen_in debugger.now.platform.now.machine known.request)
+        × (known.line ≡ filler debugger.now.reasons.now.account.history debugger.now.platform.now.machine known.request.did)) }
+    ensures asks { IfSome result (λ known. asks.new.items ≡ asks_text debugger.now.platform.now step.now) }
+    ensures walk { IfSome result (λ known. walk.new.items ≡ walk_text known.seen debugger.now.platform.now.machine known.request) }
+    ensures room { IfSome result (λ known. (length asks.new.items ≤ 200) × (length walk.new.items ≤ 13900)) }
+{
+    let platform = &*debugger.platform;
+    let request = platform.request_of(step)?;
+    let seen = platform.seen(&request);
+    asks.clear();
+    put_asks(asks, platform, step);
+    walk.clear();
+    last_walk.put(walk, draft, platform, &request, &seen);
+    Some(Known {
+        request,
+        seen,
+        line: filler(debugger.reasons.history(), platform, request.did),
+    })
+}
+
+// Puts a step's line.
+fn put_step(out: &mut Page, number: u64, entry: &[u8])
+    requires empty { length out.old.items ≡ 0 }
+    requires short { length entry.now ≤ 320 }
+    ensures text { out.new.items ≡ out.old.items ++ (numeral 10 number ++ codes ": " ++ entry.now ++ 10 ∷ []) }
+    ensures room { length out.new.items ≤ 343 }
+{
+    put_decimal(out, b"", number);
+    put(out, b": ");
+    put(out, entry);
+    put(out, b"\n");
+}
+
+// Appends what is told below a step's line of the access that it made.
+fn put_access(
+    out: &mut Page,
+    asks: &[u8],
+    walk: &[u8],
+    known: &Known,
+    used: Option<Origin>,
+    stale: Option<Result<u64, Denial>>,
+)
+    requires room { length out.old.items ≤ 343 }
+    requires asks { length asks.now ≤ 200 }
+    requires walk { length walk.now ≤ 13900 }
+    ensures { out.new.items ≡ out.old.items ++ (asks.now ++ caches_by known.now.seen.context known.now.seen known.now.line known.now.request.iova used
+        ++ walk.now ++ warrant_text used ++ stale_text stale) }
+{
+    put(out, asks);
+    put_caches(out, &known.seen, known.line, known.request.iova, used);
+    put(out, walk);
+    put_warrant(out, used);
+    put_stale(out, stale);
+}
+
+impl Teller {
+    /// Nothing was told yet. The fault is want of memory.
+    pub fn new(alloc: Global) -> Result<Teller, AllocError> {
+        Ok(Teller {
+            page: Page::new(),
+            asks: Page::new(),
+            walk: Page::new(),
+            last_walk: Walk::new(alloc)?,
+            draft: Draft::new(),
+            summary: Summary::new(alloc),
+            is_short: false,
+        })
+    }
+}
+
+// Puts and counts what is told of the access that a step made, of which this is known. The fault is want of memory.
+fn tell_access(
+    teller: &mut Teller,
+    number: u64,
+    known: &Known,
+    denied: Option<u16>,
+    used: Option<Origin>,
+    stale: Option<Result<u64, Denial>>,
+) -> Result<(), AllocError>
+    requires room { length teller.old.page.items ≤ 343 }
+    requires asks { length teller.old.asks.items ≤ 200 }
+    requires walk { length teller.old.walk.items ≤ 13900 }
+    ensures text { teller.new.page.items ≡ teller.old.page.items
+        ++ (teller.old.asks.items ++ caches_by known.now.seen.context known.now.seen known.now.line known.now.request.iova used
+        ++ teller.old.walk.items ++ warrant_text used ++ stale_text stale) }
+    ensures counts { OnOk result ((earlier : List Outcome) → teller.old.summary ≡ counts_of earlier
+        → teller.new.summary ≡ counts_of (earlier ++ record {
+          number = number;
+          denied = denied;
+          is_cached = is_cached known.now.seen;
+          is_stale = is_some stale;
+        } ∷ [])) }
+    ensures short { teller.new.is_short ≡ teller.old.is_short }
+{
+    put_access(
+        &mut teller.page,
+        teller.asks.as_slice(),
+        teller.walk.as_slice(),
+        known,
+        used,
+        stale,
+    );
+    teller.summary.count(&Outcome {
+        number,
+        denied,
+        is_cached: known.seen.is_cached(),
+        is_stale: stale.is_some(),
+    })
+}
+
+/// Carries out a step of the line of this number, whose answer comes into its entry, and tells it, and the reasons of its access if it makes
+/// one. The trace doesn't have it yet.
+pub fn take(debugger: &mut Debugger<'_>, teller: &mut Teller, number: u64, entry: &mut Entry)
+    ensures step { entry.new.step ≡ entry.old.step }
+    ensures answer { entry.new.answer ≡ (next debugger.old.platform.now entry.old.step).answer }
+    ensures told { teller.new.is_short ≡ false → StepTold
+        (explained debugger.old.platform.now debugger.old.trace.now debugger.old.reasons.now teller.old.summary)
+        number entry.old.step teller.new.page.items
+        (explained debugger.new.platform.now
+        (traced debugger.old.trace.now entry.old.step (next debugger.old.platform.now entry.old.step).answer)
+        debugger.new.reasons.now teller.new.summary) }
+    ensures short { teller.old.is_short ≡ true → teller.new.is_short ≡ true }
+    ensures trace { debugger.new.trace.now ≡ debugger.old.trace.now }
+    ensures same_platform { debugger.new.platform.ghost_name ≡ debugger.old.platform.ghost_name }
+    ensures same_trace { debugger.new.trace.ghost_name ≡ debugger.old.trace.ghost_name }
+    ensures same_reasons { debugger.new.reasons.ghost_name ≡ debugger.old.reasons.ghost_name }
+{
+    let known = look(
+        &mut teller.asks,
+        &mut teller.walk,
+        &mut teller.last_walk,
+        &mut teller.draft,
+        debugger,
+        &entry.step,
+    );
+    debugger
+        .reasons
+        .step(debugger.platform, &entry.step, number, &mut entry.answer);
+    put_entry(&mut teller.draft, entry);
+    teller.page.clear();
+    put_step(&mut teller.page, number, teller.draft.as_slice());
+    let Some(known) = known else {
+        return;
+    };
+    let denied = denied_for(&entry.answer);
+    let used = debugger.reasons.newest_origin();
+    let stale = debugger.reasons.newest_stale();
+    if tell_access(teller, number, &known, denied, used, stale).is_err() {
+        teller.is_short = true;
+    }
+}
