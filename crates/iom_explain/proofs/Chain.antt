@@ -69,5 +69,6 @@ module _ (held holds later : Option (List ℕ)) (start : Explained) (number : �
 
 -- where none is left
 pub ends : (held holds : Option (List ℕ)) (start : Explained) (number : ℕ) (all : List Step) (here : Explained) (count : ℕ) →
-    (along : Along held holds start number all here [] count) → StepsTold start number (taken start.desk.state all) (along.said ++ []) here
-ends held holds start number all here count along = along.told [] here (refl, refl)
+    (along : Along held holds start number all here [] count) → StepsTold start number (taken start.desk.state all) along.said here
+ends held holds start number all here count along =
+    subst (λ t. StepsTold start number (taken start.desk.state all) t here) (append-nil along.said) (along.told [] here (refl, refl))

@@ -1,11 +1,16 @@
 -- What is told of lines.
-use Rattle.std.proofs.Common.{◌≡◌, ◌∙◌, ◌++◌, ◌∷◌, [], ℕ, Bool, List, Option, Some, None, true, false, Result, Ok, Err, OnOk, ◌+◌, take, replicate, sym, subst, ap, append_assoc, codes}
+use Rattle.std.proofs.Common.{◌≡◌, ◌∙◌, ◌++◌, ◌∷◌, [], ℕ, Bool, List, Option, Some, None, true, false, Result, Ok, Err, OnOk, ◌+◌, take, replicate, is_some, refl, sym, subst, ap, codes}
+use Rattle.std.specs.Result.{is_err}
+use Rattle.std.specs.declared.alloc.AllocError.{AllocError}
 use Rattle.std.specs.Io.KnownBytes.{Appends}
 use Rattle.std.proofs.KnownBytes.{Appends-nil, Appends-trans}
 use Rattle.iom_text.specs.Texts.{numeral}
 use Rattle.iom_core.specs.State.{State}
 use Rattle.iom_core.specs.Table.{next, request_of_step}
+use Rattle.iom_core.specs.Looking.{is_cached, seen_in}
+use Rattle.iom_core.specs.declared.access.Denial.{Denial}
 use Rattle.iom_core.specs.declared.access.Request.{Request}
+use Rattle.iom_core.specs.declared.looking.Seen.{Seen}
 use Rattle.iom_core.specs.declared.step.Step.{Step}
 use Rattle.iom_core.specs.declared.step.Answer.{Answer}
 use Rattle.iom_account.specs.declared.origin.Origin.{Origin}
@@ -20,11 +25,14 @@ use Rattle.iom_debug.specs.Output.{repeated_in}
 use Rattle.iom_debug.specs.Script.{debug_line_of}
 use Rattle.iom_debug.specs.Telling.{Leaves, answer_at}
 use Rattle.iom_tool.specs.Texts.{entry_text}
-use Rattle.iom_debug.specs.Reasons.{Reasons, newest_origin}
+use Rattle.iom_debug.specs.Reasons.{Reasons, newest_origin, stale_in}
+use Rattle.iom_debug.specs.Ways.{stale_address}
+use Rattle.iom_explain.specs.Accesses.{asks_text, caches_by, filler, stale_text, warrant_text}
+use Rattle.iom_explain.specs.Walking.{walk_text}
 use Rattle.iom_debug.specs.Summary.{Counts, counts_of, up_to_64_bits}
 use Rattle.iom_debug.specs.Taking.{Desk, Took, run_text, taken}
 use Rattle.iom_debug.specs.declared.summary.Outcome.{Outcome}
-use Rattle.iom_explain.specs.Explaining.{Explained, ExplainSays, IsExplained, LineTold, Progressed, StepTold, StepsTold, access_by, by_explain, explained, explaining, line_told, outcomes_by, summary_text}
+use Rattle.iom_explain.specs.Explaining.{Explained, ExplainSays, IsExplained, LineTold, Progressed, StepTold, StepsTold, access_by, access_text, by_explain, denied_for, explained, explaining, line_told, outcomes_by, summary_text}
 
 pub lawful : IsAnswering by_explain
 lawful =
@@ -62,16 +70,58 @@ pub step_is : (before : Explained) (number : ℕ) (step : Step) (request : Optio
 step_is before number step request answer entry below page used after counts took asked answered entry_is used_is below_is page_is counted = record {
   took = took;
   text = page_is
-      ∙ append_assoc (numeral 10 number) (codes ": " ++ entry ++ 10 ∷ []) below
-      ∙ ap (λ l. numeral 10 number ++ codes ": " ++ l) (append_assoc entry (10 ∷ []) below)
-      ∙ ap (λ e. numeral 10 number ++ codes ": " ++ e ++ 10 ∷ below)
+      ∙ ap (λ (e : List ℕ). (numeral 10 number ++ codes ": " ++ e ++ 10 ∷ []) ++ below)
       (entry_is ∙ ap (λ (a : Answer). entry_text (Some (record { step = step; answer = a }))) answered)
-      ∙ ap (λ b. numeral 10 number ++ codes ": " ++ entry_text (Some (record { step = step; answer = (next before.desk.state step).answer })) ++ 10 ∷ b)
+      ∙ ap (λ (b : List ℕ). (numeral 10 number ++ codes ": "
+      ++ entry_text (Some (record { step = step; answer = (next before.desk.state step).answer })) ++ 10 ∷ []) ++ b)
       (below_is ∙ ap (λ (r : Option Request). access_by before.desk step r used) asked
       ∙ ap (λ (u : Option Origin). access_by before.desk step (request_of_step before.desk.state step) u) used_is);
   counts = λ earlier is. counted earlier is
       ∙ ap (λ (r : Option Request). counts_of (earlier ++ outcomes_by before.desk number step r)) asked;
 }
+
+access_is : (now : Desk) (step : Step) (request : Request) (seen : Seen) (line : ℕ) (used : Option Origin) (stale : Option (Result ℕ Denial))
+    (asks walk : List ℕ) → asks ≡ asks_text now.state step → seen ≡ seen_in now.state.machine request →
+    line ≡ filler now.reasons.account.history now.state.machine request.did → walk ≡ walk_text seen now.state.machine request →
+    stale ≡ stale_address now.state.machine request →
+    asks ++ caches_by seen.context seen line request.iova used ++ walk ++ warrant_text used ++ stale_text stale
+    ≡ access_text now step request (seen_in now.state.machine request) used
+access_is now step request seen line used stale asks walk asks_is seen_is line_is walk_is stale_is =
+    rw (asks_is, walk_is, stale_is, line_is, seen_is) refl
+
+outcome_is : (now : Desk) (number : ℕ) (step : Step) (request : Request) (seen : Seen) (denied : Option ℕ) (stale : Option (Result ℕ Denial)) →
+    denied ≡ denied_for (next now.state step).answer → seen ≡ seen_in now.state.machine request → stale ≡ stale_address now.state.machine request →
+    record { number = number; denied = denied; is_cached = is_cached seen; is_stale = is_some stale } ∷ []
+    ≡ outcomes_by now number step (Some request)
+outcome_is now number step request seen denied stale denied_is seen_is stale_is = rw (denied_is, stale_is, seen_is) refl
+
+on_ok : {A : Type 0} (result : Result (Unit {0}) AllocError) → is_err result ≡ false → OnOk result A → A
+on_ok (Ok done) is holds = holds
+on_ok (Err f) is holds = absurd (cc is)
+
+-- a step that made an access, by what is known of that
+pub accessed : (before : Explained) (number : ℕ) (step : Step) (request : Request) (seen : Seen) (line : ℕ) (denied : Option ℕ) (used : Option Origin)
+    (stale : Option (Result ℕ Denial)) (answer : Answer) (asks walk entry page : List ℕ) (after : Desk) (counts : Counts)
+    (result : Result (Unit {0}) AllocError) → Took before.desk step number after → Some request ≡ request_of_step before.desk.state step →
+    answer ≡ (next before.desk.state step).answer → entry ≡ entry_text (Some (record { step = step; answer = answer })) →
+    used ≡ newest_origin after.reasons.account → asks ≡ asks_text before.desk.state step → seen ≡ seen_in before.desk.state.machine request →
+    line ≡ filler before.desk.reasons.account.history before.desk.state.machine request.did →
+    walk ≡ walk_text seen before.desk.state.machine request →
+    stale ≡ stale_in before.desk.state (request_of_step before.desk.state step) → denied ≡ denied_for answer → is_err result ≡ false →
+    OnOk result ((earlier : List Outcome) → before.counts ≡ counts_of earlier → counts ≡ counts_of (earlier
+    ++ record { number = number; denied = denied; is_cached = is_cached seen; is_stale = is_some stale } ∷ [])) →
+    page ≡ (numeral 10 number ++ codes ": " ++ entry ++ 10 ∷ [])
+    ++ (asks ++ caches_by seen.context seen line request.iova used ++ walk ++ warrant_text used ++ stale_text stale) →
+    StepTold before number step page (record { desk = after; counts = counts })
+accessed before number step request seen line denied used stale answer asks walk entry page after counts result took asked answered entry_is
+    used_is asks_is seen_is line_is walk_is stale_is denied_is well counted page_is =
+    let told : stale ≡ stale_address before.desk.state.machine request =
+    stale_is ∙ ap (λ (r : Option Request). stale_in before.desk.state r) (sym asked) in
+    step_is before number step (Some request) answer entry _ page used after counts took asked answered entry_is used_is
+    (access_is before.desk step request seen line used stale asks walk asks_is seen_is line_is walk_is told) page_is
+    (λ earlier is. on_ok result well counted earlier is
+    ∙ ap (λ (os : List Outcome). counts_of (earlier ++ os))
+    (outcome_is before.desk number step request seen denied stale (denied_is ∙ ap denied_for answered) seen_is told))
 
 -- the trace keeps a step that was told
 pub kept : (before : Explained) (number : ℕ) (step own : Step) (page said : List ℕ) (state : State) (mid trace : List Entry) (answer : Answer)
@@ -97,9 +147,12 @@ pub line_again : (result : Result (Unit {0}) RunFault) (a b c : Option (List ℕ
     × (reply ≡ run_text before.desk.state (replicate most step)))) →
     Wrote result b c short (λ said. said ≡ page) → page ≡ line_told number line reply →
     Wrote result a c short (λ said. LineTold before number line None (Some (step, most)) said after)
-line_again (Ok done) a b c short before after number most line step page reply s w page_is =
-    (s.0 ++ w.0, Appends-trans _ _ _ _ _ s.1 w.1, λ m.
-    (s.0, (s.2 m).0, ap (λ l. s.0 ++ l) (w.2 m ∙ page_is ∙ ap (line_told number line) (s.2 m).1)))
+line_again (Ok done) a b c short before after number most line step page reply s w page_is = (
+  s.0 ++ w.0,
+  Appends-trans _ _ _ _ _ s.1 w.1,
+  λ m.
+      (s.0, (s.2 m).0, ap (λ l. s.0 ++ l) (w.2 m ∙ page_is ∙ ap (line_told number line) (s.2 m).1)),
+)
 line_again (Err f) a b c short before after number most line step page reply s w page_is = tt
 
 pub line_other : (result : Result (Unit {0}) RunFault) (b c : Option (List ℕ)) (short : Bool) (before after : Explained) (number : ℕ)
@@ -135,3 +188,9 @@ heard line cut old new (Ok done) step is long number step_is w =
       told = told;
     })) w.1
 heard line cut old new (Err f) step is long number step_is w = λ start lines h. tt
+
+pub four_written : (result : Result (Unit {0}) RunFault) (a b c d e : Option (List ℕ)) (s t u v : List ℕ) → Appends a b s → Appends b c t →
+    Appends c d u → OnOk result (Appends d e v) → OnOk result (Appends a e (s ++ t ++ u ++ v))
+four_written (Ok done) a b c d e s t u v first second third fourth =
+    Appends-trans _ _ _ _ _ (Appends-trans _ _ _ _ _ (Appends-trans _ _ _ _ _ first second) third) fourth
+four_written (Err f) a b c d e s t u v first second third fourth = tt

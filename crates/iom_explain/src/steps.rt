@@ -131,8 +131,14 @@ fn put_access(
 }
 
 impl Teller {
+    ghost use Rattle.std.specs.Prelude.{◌≡◌, [], false, IfOk};
+    ghost use Rattle.iom_debug.specs.Summary.{counts_of};
+
     /// Nothing was told yet. The fault is want of memory.
-    pub fn new(alloc: Global) -> Result<Teller, AllocError> {
+    pub fn new(alloc: Global) -> Result<Teller, AllocError>
+        ensures counts { IfOk result (λ teller. teller.summary ≡ counts_of []) }
+        ensures short { IfOk result (λ teller. teller.is_short ≡ false) }
+    {
         Ok(Teller {
             page: Page::new(),
             asks: Page::new(),

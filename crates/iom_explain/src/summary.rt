@@ -14,11 +14,12 @@ use iom_reader::{RunFault, WatchedWriter};
 use std::io::Write;
 
 // Appends how many accesses were denied for a cause, if any was.
-fn put_denied(out: &mut Page, cause: u16, count: u64)
+fn put_denied(out: &mut Page, entry: (u16, u64))
     requires { length out.old.items ≤ 15000 }
-    ensures text { out.new.items ≡ out.old.items ++ denied_text (cause, count) }
+    ensures text { out.new.items ≡ out.old.items ++ denied_text entry }
     ensures room { length out.new.items ≤ length out.old.items + 60 }
 {
+    let (cause, count) = entry;
     if count > 0 {
         put_decimal(out, b"denied ", u64::from(cause));
         put_decimal(out, b": ", count);
@@ -51,9 +52,9 @@ fn write_denied<W: Write>(
     ensures told { write_failed writer.new ≡ is_write result }
     ensures same_writer { writer.new.inner.ghost_name ≡ writer.old.inner.ghost_name }
 {
-    for (cause, count) in denied {
+    for cause in denied {
         page.clear();
-        put_denied(page, *cause, *count);
+        put_denied(page, *cause);
         write_told(writer, page.as_slice())?;
     }
     Ok(())

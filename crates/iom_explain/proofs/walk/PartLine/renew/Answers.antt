@@ -8,7 +8,7 @@ use Rattle.iom_explain.proofs.walk.PartLine.renew.Goals as goal
 
 pub invariant_of-self : goal.invariant_of-self
 invariant_of-self c = λ inner m request is.
-    c.line_of-self.ensures ∙ ap walk_line (c.put_part.ensures.text
+    c.line_of-self-inside.ensures ∙ ap walk_line (c.put_part.ensures.text
     ∙ told_alike c.args.platform.now.machine m c.args.request.now request c.args.part.now c.args.part.now inner refl c.requires.read is)
 
 pub returns-then-is_told_alike : goal.returns-then-is_told_alike
