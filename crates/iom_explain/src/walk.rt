@@ -4,10 +4,11 @@ ghost use Rattle.std.specs.Prelude.{◌≡◌, ◌↔◌, ◌+◌, ◌++◌, ◌
 ghost use Rattle.iom_tables.specs.Bounds.{PartFits};
 ghost use Rattle.iom_tables.specs.Fetches.{IsRead};
 ghost use Rattle.iom_tables.specs.Stale.{is_same_context};
-ghost use Rattle.iom_debug.specs.Walks.{part_text};
+ghost use Rattle.iom_debug.specs.Walks.{IsBeforeEnd, part_text};
 ghost use Rattle.iom_explain.specs.Walking.{is_still, walk_by, walk_line, walk_lines, walk_text, walk_under};
 
 use arrayvec::ArrayVec;
+use iom_bits::{Features, Vectors};
 use iom_core::{Platform, Request, Seen, Source};
 use iom_ddt::{Context, locate};
 use iom_debug::{Page, is_told_alike, put, put_cached, put_part};
@@ -29,9 +30,10 @@ pub struct Walk {
     ghost all: { length lines.items ≡ 40 },
 }
 
-// A part of a walk, and its line.
+// A part of a walk, and its line on an IOMMU with these features.
 #[derive(Drop)]
 struct PartLine {
+    features: Features,
     part: Part,
     text: ArrayVec<u8, 336>,
 }
@@ -49,14 +51,15 @@ impl Model for PartLine {
     ghost view = { λ line. line.text.items };
 
     // It is the part's line in any walk that has the part, but of the end, which is told by its request too.
-    ghost invariant = { λ line. IsBeforeEnd line.part → (m : Machine) (request : Request) → IsRead m.memory line.part
-        → line.text.items ≡ walk_line (part_text m request line.part) };
+    ghost invariant = { λ line. IsBeforeEnd line.part → (m : Machine) (request : Request) → m.registers.features ≡ line.features
+        → IsRead m.memory line.part → line.text.items ≡ walk_line (part_text m request line.part) };
 }
 
 impl PartLine {
     // No line: it stands for that of an end.
     fn new() -> PartLine {
         PartLine {
+            features: Features::none(),
             part: Part::End(Way::Register),
             text: ArrayVec::new(),
         }
@@ -68,10 +71,12 @@ impl PartLine {
         requires read { IsRead platform.now.machine.memory part.now }
         ensures { self.new ≡ walk_line (part_text platform.now.machine request.now part.now) }
     {
-        if is_told_alike(&self.part, part) {
+        let features = platform.registers().features();
+        if stands(&self.features, &self.part, &features, part) {
             return;
         }
         put_part(draft, platform, request, part);
+        self.features = features;
         self.part = *part;
         self.text = line_of(draft);
     }
@@ -103,6 +108,38 @@ fn put_part_line(
 {
     line.renew(draft, platform, request, part);
     line.put(out);
+}
+
+// Whether the line of a part on an IOMMU with its features is that of another part on one with these.
+fn stands(its: &Features, part: &Part, features: &Features, other: &Part) -> bool
+    ensures { IsTrue result → (its.now ≡ features.now) × IsBeforeEnd part.now × (part.now ≡ other.now) }
+{
+    are_same(its, features) && is_told_alike(part, other)
+}
+
+// Whether features are the same.
+fn are_same(features: &Features, other: &Features) -> bool
+    ensures { IsTrue result → features.now ≡ other.now }
+{
+    features.svnapot == other.svnapot
+        && features.svpbmt == other.svpbmt
+        && features.sv57 == other.sv57
+        && features.sv57x4 == other.sv57x4
+        && features.nl == other.nl
+        && features.s == other.s
+        && are_as_many(features.vectors, other.vectors)
+}
+
+// Whether numbers of interrupt vectors are the same.
+fn are_as_many(vectors: Vectors, other: Vectors) -> bool
+    ensures { IsTrue result → vectors ≡ other }
+{
+    match (vectors, other) {
+        (Vectors::One, Vectors::One) => true,
+        (Vectors::Two, Vectors::Two) => true,
+        (Vectors::Four, Vectors::Four) => true,
+        _ => false,
+    }
 }
 
 // The line of a part whose text is this.
