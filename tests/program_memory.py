@@ -14,8 +14,8 @@ RUNS = [
 ]
 # These take none themselves. What `Summary::new` makes takes memory for a line that is stale, in `explain` alone.
 KEEP_AN_ALLOCATOR = {"Summary::new"}
-# Tests, and the words of the command line, whose allocations are refused above.
-NO_LIBRARY = {"iom_tests", "iom_cli"}
+# Tests, and crates that only the program uses, whose allocations are refused above.
+NO_LIBRARY = {"iom_tests", "iom_cli", "iom_explain"}
 
 
 class Refused(Case):

@@ -154,12 +154,12 @@ class Facts(Case):
                 value = ones * 4 if key == "addr" else ones
                 wanted = [number, 0]
                 wanted[at] += ones << low
-                image = self.image(f"{IMAGE}cmd {name} {key}={value}\n")
+                image = self.image(f"{IMAGE}capabilities nl=1 s=1\ncmd {name} {key}={value}\n")
                 seen = self.written(["list", image, "u64", "0x80000000", "2"]).splitlines()
                 self.assertEqual(seen, [f"u64 {word:#x}" for word in wanted])
                 if value == ones:
-                    is_wider = self.is_assembled(f"{IMAGE}cmd {name} {key}={2 * ones + 2}\n")
-                    self.assertFalse(is_wider, f"{key} one bit wider")
+                    text = f"{IMAGE}capabilities nl=1 s=1\ncmd {name} {key}={2 * ones + 2}\n"
+                    self.assertFalse(self.is_assembled(text), f"{key} one bit wider")
 
     def test_keys(self):
         """man page: the keys of a context and of a fault record are those that the program shows and takes"""

@@ -166,7 +166,7 @@ const VERBS: [Verb; 7] = [
             },
             Operand {
                 name: KIND,
-                help: "The kind of the items",
+                help: "Kind of item",
                 need: Need::Required,
             },
             Operand {
