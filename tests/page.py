@@ -114,7 +114,7 @@ class Shown(Using):
             got = self.browser.run('script.answers.filter((it) => it !== "")')
             if "check" in lines[0].split():
                 got = self.verdicts(lines)
-            self.want(name, got, read(name, "answers").splitlines())
+            self.want_equal(name, got, read(name, "answers").splitlines())
 
     def verdicts(self, lines):
         """What `check --stale` tells of the lines, by what the page shows at each."""
@@ -157,7 +157,7 @@ class Shown(Using):
             self.wait_for_stale()
             wrong, late = self.ask("marked", "wrong"), self.ask("marked", "stale")
             seen = wrong, sorted({*wrong, *late}), ", ".join(self.ask("counts")[:2])
-            self.want(name, seen, (failed, either, counts))
+            self.want_equal(name, seen, (failed, either, counts))
             stale += len(set(either) - set(failed))
         self.assertGreater(stale, 2)
 
@@ -206,7 +206,7 @@ class Shown(Using):
                 seen = self.ask("picture", number)
                 parts = seen["parts"]
                 wanted = {"parts": parts, "boxes": parts, "apart": True, "within": True, "decides": min(parts, 1)}
-                self.want((name, number), seen, wanted)
+                self.want_equal((name, number), seen, wanted)
 
     def test_fillers(self):
         """the lines that are told to have filled what an access used are those that `why` tells of it"""

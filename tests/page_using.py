@@ -76,7 +76,7 @@ class Using:
         """Waits until the page has found which lines made stale accesses."""
         self.assertTrue(self.browser.wait('!/looking/.test(at("counts").textContent)', seconds))
 
-    def want(self, name, got, wanted):
+    def want_equal(self, name, got, wanted):
         with self.subTest(name):
             self.assertEqual(got, wanted)
 
@@ -175,7 +175,7 @@ class Using:
         self.browser.open(PAGE)
         for name in NAMES:
             self.show(name)
-            self.want(name, self.ask("carets"), {"bad": [], "wide": False, "high": False})
+            self.want_equal(name, self.ask("carets"), {"bad": [], "wide": False, "high": False})
 
     def test_marks(self):
         """a denial that is wanted, one that isn't told of, and a wish that fails look each another way"""
