@@ -7,6 +7,7 @@ for each life, and ends with status 1 if one failed, 2 if there is no source.
 """
 import glob
 import os
+import shutil
 import subprocess
 import sys
 import tarfile
@@ -45,7 +46,13 @@ MACHINES = [
 def extracted(folder):
     """The folder with the driver's source, or None."""
     if "LINUX_SOURCE" in os.environ:
-        return Path(os.environ["LINUX_SOURCE"])
+        # Only these parts: other headers of the kernel would be found in place of the C library's.
+        source = Path(os.environ["LINUX_SOURCE"])
+        for path in (it for part in PARTS for it in source.glob(f"{part}*")):
+            copy = shutil.copytree if path.is_dir() else shutil.copy
+            (folder / path.relative_to(source)).parent.mkdir(parents=True, exist_ok=True)
+            copy(path, folder / path.relative_to(source))
+        return folder
     packed = sorted(glob.glob("/usr/src/linux-source-*.tar.xz"))
     if not packed:
         return None
