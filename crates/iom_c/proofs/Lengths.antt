@@ -4,8 +4,8 @@ use Rattle.std.specs.Prelude.{IfSome}
 use Rattle.iom_mem.specs.Memory.{Memory, before, byte, bytes_at}
 use Rattle.iom_virtq.specs.Bus.{Read}
 use Rattle.iom_core.specs.State.{State}
-use Rattle.iom_core.specs.Reach.{Reaches, Takes, TakesAt, TakesBy, address_in}
-use Rattle.iom_core.specs.Table.{asked, asking_where, is_device_access, next, probed}
+use Rattle.iom_core.specs.Reach.{Reaches, Takes, TakesAt, TakesBy}
+use Rattle.iom_core.specs.Table.{address_in, asked, asking_where, is_device_access, next, probed}
 use Rattle.iom_core.proofs.Reaches.{reaches}
 use Rattle.iom_core.specs.declared.access.Denial.{Denial}
 use Rattle.iom_core.specs.declared.step.Step.TheVariants as step

@@ -47,6 +47,13 @@ impl ContextCache {
         })
     }
 
+    /// Takes all places away, live and empty ones.
+    pub fn clear(&mut self)
+        ensures { self.new ≡ [] }
+    {
+        self.places.clear();
+    }
+
     /// A copy, which takes the memory of all places; where it is refused the original stands as it was.
     pub fn try_clone(&self, alloc: Global) -> Result<ContextCache, AllocError>
         ensures { IfOk result (λ copy. copy ≡ self.now) }

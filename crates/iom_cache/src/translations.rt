@@ -60,6 +60,15 @@ impl TransCache {
         })
     }
 
+    /// Takes all places away, live and empty ones.
+    pub fn clear(&mut self)
+        ensures { self.new ≡ [] }
+    {
+        self.places.clear();
+        self.index = Index::new();
+        self.hints = [0; TAGS];
+    }
+
     /// A copy, which takes the memory of all places; where it is refused the original stands as it was.
     pub fn try_clone(&self, alloc: Global) -> Result<TransCache, AllocError>
         ensures { IfOk result (λ copy. copy ≡ self.now) }

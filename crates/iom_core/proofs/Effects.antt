@@ -13,7 +13,7 @@ use Rattle.iom_core.specs.State.{State, Machine, with_machine}
 use Rattle.iom_core.specs.Access.{Effect, effect_at, granted, outside, read_there, record_left}
 use Rattle.iom_core.specs.declared.access.Denial.{Denial}
 use Rattle.iom_core.specs.declared.access.Request.{Request}
-use Rattle.iom_core.specs.Table.{answer_by_reply}
+use Rattle.iom_core.specs.Table.{answer_by_address, answer_by_reply}
 use Rattle.iom_core.specs.Reach.{ChangesOnly, Refuses, Span, TakesBy, nothing, record_span, span_to}
 use Rattle.iom_core.proofs.Puts.{put_changes_only, same_memory}
 
@@ -147,3 +147,10 @@ effect_refuses state request (Write iova bytes) (Ok addr) left =
     ]
 effect_refuses state request (Read iova count) (Err denial) left = λ memory registers. denied_refuses state request denial left memory registers
 effect_refuses state request (Write iova bytes) (Err denial) left = λ memory registers. denied_refuses state request denial left memory registers
+
+-- so does a request for a translation
+pub address_refuses : (state : State) (request : Request) (ask : Ask) (led_to : Result ℕ Denial) (left : Machine) →
+    left.memory ≡ (effect_at state.machine request ask led_to).memory → left.registers ≡ (effect_at state.machine request ask led_to).registers →
+    Refuses (answer_by_address led_to) state (with_machine state left)
+address_refuses state request ask (Ok addr) left memory registers = tt
+address_refuses state request ask (Err denial) left memory registers = denied_refuses state request denial left memory registers

@@ -14,4 +14,5 @@ pub mod Effects
 pub mod Moved
 pub mod Reaches
 pub mod Filled
+pub mod Translated
 pub mod Stores

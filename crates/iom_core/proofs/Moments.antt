@@ -17,7 +17,7 @@ use Rattle.iom_blk.specs.Phases.{asks}
 use Rattle.iom_core.specs.State.{State, Machine, context_room, page_room}
 use Rattle.iom_core.specs.declared.access.Request.{Request}
 use Rattle.iom_core.specs.Commands.{after_command}
-use Rattle.iom_core.specs.Table.{Asking, asked, asked_by, asking_for, dev_written, device_step, executed, moving, next, probed, request_in, request_of_step}
+use Rattle.iom_core.specs.Table.{Asking, asked, asked_by, asking_for, dev_written, device_step, executed, moving, next, probed, request_in, request_of_step, translated}
 use Rattle.iom_core.specs.Warrants.{context_filled, context_filled_at, executed_at, moment, page_filled, page_filled_at, request_at}
 use Rattle.iom_core.specs.declared.step.Step.{Step}
 use Rattle.iom_core.specs.declared.step.Step.TheVariants as step
@@ -45,6 +45,17 @@ probed-pages : (state : State) (asking : Option Asking) →
     (probed state asking).state.machine.pages ≡ filled_by page_room (page_filled state (option_map request_in asking)) state.machine.pages
 probed-pages state None = refl
 probed-pages state (Some asking) = refl
+
+-- so does a request for a translation
+translated-contexts : (state : State) (asking : Option Asking) →
+    (translated state asking).state.machine.contexts ≡ filled_by context_room (context_filled state (option_map request_in asking)) state.machine.contexts
+translated-contexts state None = refl
+translated-contexts state (Some asking) = refl
+
+translated-pages : (state : State) (asking : Option Asking) →
+    (translated state asking).state.machine.pages ≡ filled_by page_room (page_filled state (option_map request_in asking)) state.machine.pages
+translated-pages state None = refl
+translated-pages state (Some asking) = refl
 
 -- so does a block device's step
 moved-contexts : (state : State) (dev : ℕ) (slot : Option (ℕ × Device)) → (device_step state dev slot).state.machine.contexts
@@ -83,6 +94,7 @@ next-contexts state (step.RegWrite off size value) = refl
 next-contexts state step.Command = refl
 next-contexts state (step.DmaRead did iova len) = probed-contexts state (asked state (step.DmaRead did iova len))
 next-contexts state (step.DmaWrite did iova bytes) = probed-contexts state (asked state (step.DmaWrite did iova bytes))
+next-contexts state (step.Translate did iova kind) = translated-contexts state (asked state (step.Translate did iova kind))
 next-contexts state (step.DevRead dev off size) = refl
 next-contexts state (step.DevWrite dev off size value) = ap (λ (m : Machine). m.contexts) (written-machine state dev (slice_get state.devices dev) off size value)
 next-contexts state (step.Device dev) = moved-contexts state dev (slice_get state.devices dev)
@@ -97,6 +109,7 @@ next-pages state (step.RegWrite off size value) = refl
 next-pages state step.Command = refl
 next-pages state (step.DmaRead did iova len) = probed-pages state (asked state (step.DmaRead did iova len))
 next-pages state (step.DmaWrite did iova bytes) = probed-pages state (asked state (step.DmaWrite did iova bytes))
+next-pages state (step.Translate did iova kind) = translated-pages state (asked state (step.Translate did iova kind))
 next-pages state (step.DevRead dev off size) = refl
 next-pages state (step.DevWrite dev off size value) = ap (λ (m : Machine). m.pages) (written-machine state dev (slice_get state.devices dev) off size value)
 next-pages state (step.Device dev) = moved-pages state dev (slice_get state.devices dev)

@@ -14,8 +14,8 @@ use Rattle.iom_core.specs.State.{State, Machine, with_device}
 use Rattle.iom_core.specs.Access.{effect, effect_at, outside, read_there, served}
 use Rattle.iom_core.specs.declared.access.Denial.{Denial}
 use Rattle.iom_core.specs.declared.access.Request.{Request}
-use Rattle.iom_core.specs.Table.{Asking, Handled, answer_of, asked_by, asking_for, dev_read, dev_write, dev_written, device_step, fits, is_size, moving, request_in, value_or_bad}
-use Rattle.iom_core.specs.Reach.{BreaksBy, Carries, ChangesDevice, ChangesOnly, GoesOnIn, IsBroken, Refuses, Takes, TakesBy, address_in, nothing, span_of_access}
+use Rattle.iom_core.specs.Table.{Asking, Handled, address_in, answer_of, asked_by, asking_for, dev_read, dev_write, dev_written, device_step, fits, is_size, moving, request_in, value_or_bad}
+use Rattle.iom_core.specs.Reach.{BreaksBy, Carries, ChangesDevice, ChangesOnly, GoesOnIn, IsBroken, Refuses, Takes, TakesBy, nothing, span_of_access}
 use Rattle.iom_core.specs.declared.step.Answer.TheVariants.{Done, BadAccess, Misuse}
 use Rattle.iom_core.proofs.Effects.{denied_refuses, effect_changes, granted_effect}
 use Rattle.iom_core.proofs.Puts.{same_memory}

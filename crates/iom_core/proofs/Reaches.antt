@@ -1,5 +1,5 @@
 -- What a step changes, takes and refuses, row by row of the step table.
-use Rattle.std.proofs.Common.{◌≡◌, ◌&&◌, ℕ, length, Bool, true, false, not, Option, Some, None, if◌then◌else◌, refl, sym, subst}
+use Rattle.std.proofs.Common.{◌≡◌, ◌&&◌, ℕ, length, Bool, true, false, not, Option, Some, None, Ok, Err, if◌then◌else◌, refl, sym, subst}
 use Rattle.std.specs.Prelude.{is_some, slice_get}
 use Rattle.iom_bits.specs.Bytes.{bytes_of_number}
 use Rattle.iom_bits.proofs.Bytes.{length_of_number}
@@ -11,13 +11,13 @@ use Rattle.iom_queue.specs.declared.fetch.Fetch.TheVariants as fetch
 use Rattle.iom_core.specs.State.{State, Machine, with_machine}
 use Rattle.iom_core.specs.Access.{effect, served}
 use Rattle.iom_core.specs.Commands.{after_command, executed_by, executed_of, fetched, is_taken, memory_left}
-use Rattle.iom_core.specs.Table.{Asking, Stored, Written, asked, executed, fits, idle_or_done, is_aligned, is_size, load, next, probed, put_inside, reg_read, reg_write, request_in, store, value_of, value_or_bad, with_memory, with_registers}
-use Rattle.iom_core.specs.Reach.{Breaks, ChangesOnly, DeviceGoesOn, KeepsDevices, Reaches, Refuses, Span, Takes, address_in, nothing, span_of, span_of_access, span_of_command}
+use Rattle.iom_core.specs.Table.{Asking, Stored, Written, address_in, answer_by_address, asked, executed, fits, idle_or_done, is_aligned, is_size, load, next, probed, put_inside, reg_read, reg_write, request_in, store, translated, value_of, value_or_bad, with_memory, with_registers}
+use Rattle.iom_core.specs.Reach.{Breaks, ChangesOnly, DeviceGoesOn, KeepsDevices, Reaches, Refuses, Span, Takes, TakesBy, nothing, span_of, span_of_access, span_of_command}
 use Rattle.iom_core.specs.declared.step.Step.{Step}
 use Rattle.iom_core.specs.declared.step.Step.TheVariants as step
 use Rattle.iom_core.specs.declared.step.Answer.TheVariants.{Done, BusError, BadAccess, Misuse}
 use Rattle.iom_core.proofs.Puts.{put_changes_only, same_memory}
-use Rattle.iom_core.proofs.Effects.{effect_changes, effect_refuses, effect_takes}
+use Rattle.iom_core.proofs.Effects.{address_refuses, effect_changes, effect_refuses, effect_takes}
 use Rattle.iom_core.proofs.Moments.{written-machine}
 use Rattle.iom_core.proofs.Moved.{dev_read_refuses, dev_write_refuses, moved_breaks, moved_changes, moved_devices, moved_goes_on, moved_refuses, moved_takes, written_devices}
 
@@ -28,9 +28,19 @@ unfolding effect
 probed_changes state None = same_memory state.machine.memory nothing
 probed_changes state (Some asking) = effect_changes state.machine (request_in asking) asking.ask (address_in state asking)
 
+translated_changes : (state : State) (asking : Option Asking) →
+    ChangesOnly (span_of_access state asking) state.machine.memory (translated state asking).state.machine.memory
+unfolding effect
+translated_changes state None = same_memory state.machine.memory nothing
+translated_changes state (Some asking) = effect_changes state.machine (request_in asking) asking.ask (address_in state asking)
+
 probed_devices : (state : State) (asking : Option Asking) → (probed state asking).state.devices ≡ state.devices
 probed_devices state None = refl
 probed_devices state (Some asking) = refl
+
+translated_devices : (state : State) (asking : Option Asking) → (translated state asking).state.devices ≡ state.devices
+translated_devices state None = refl
+translated_devices state (Some asking) = refl
 
 store_changes : (memory : Memory) (addr size value : ℕ) → ChangesOnly (record { addr = addr; count = size }) memory (store memory addr size value).memory
 unfolding store
@@ -81,6 +91,7 @@ changes state (step.RegWrite off size value) = same_memory state.machine.memory 
 changes state step.Command = command_changes state.machine
 changes state (step.DmaRead did iova len) = probed_changes state (asked state (step.DmaRead did iova len))
 changes state (step.DmaWrite did iova bytes) = probed_changes state (asked state (step.DmaWrite did iova bytes))
+changes state (step.Translate did iova kind) = translated_changes state (asked state (step.Translate did iova kind))
 changes state (step.DevRead dev off size) = same_memory state.machine.memory nothing
 changes state (step.DevWrite dev off size value) =
     subst (λ (m : Machine). ChangesOnly nothing state.machine.memory m.memory) (sym (written-machine state dev (slice_get state.devices dev) off size value))
@@ -92,6 +103,14 @@ unfolding effect
 probed_takes state None = tt
 probed_takes state (Some asking) = effect_takes state.machine (request_in asking) asking.ask (address_in state asking)
 
+translated_takes : (state : State) (asking : Option Asking) → Takes state asking (translated state asking).answer
+translated_takes state None = tt
+translated_takes state (Some asking) =
+    elim (address_in state asking) as (λ led_to. TakesBy state.machine.memory asking.ask (address_in state asking) (answer_by_address led_to)) [
+      | Ok addr ↦ tt
+      | Err denial ↦ tt
+    ]
+
 pub takes : (state : State) (taken : Step) → Takes state (asked state taken) (next state taken).answer
 unfolding next asked
 takes state (step.Load addr size) = tt
@@ -101,6 +120,7 @@ takes state (step.RegWrite off size value) = tt
 takes state step.Command = tt
 takes state (step.DmaRead did iova len) = probed_takes state (asked state (step.DmaRead did iova len))
 takes state (step.DmaWrite did iova bytes) = probed_takes state (asked state (step.DmaWrite did iova bytes))
+takes state (step.Translate did iova kind) = translated_takes state (asked state (step.Translate did iova kind))
 takes state (step.DevRead dev off size) = tt
 takes state (step.DevWrite dev off size value) = tt
 takes state (step.Device dev) = moved_takes state dev (slice_get state.devices dev)
@@ -110,6 +130,12 @@ unfolding effect
 probed_refuses state None = refl
 probed_refuses state (Some asking) =
     effect_refuses state (request_in asking) asking.ask (address_in state asking) (served state.machine asking.did asking.ask).machine refl refl
+
+translated_refuses : (state : State) (asking : Option Asking) → Refuses (translated state asking).answer state (translated state asking).state
+unfolding effect
+translated_refuses state None = refl
+translated_refuses state (Some asking) =
+    address_refuses state (request_in asking) asking.ask (address_in state asking) (served state.machine asking.did asking.ask).machine refl refl
 
 load_refuses : (state : State) (addr size : ℕ) → Refuses (load state.machine.memory addr size) state state
 unfolding load
@@ -174,6 +200,7 @@ refuses state step.Command = elim (is_taken (fetched state.machine)) as (λ b. R
 ]
 refuses state (step.DmaRead did iova len) = probed_refuses state (asked state (step.DmaRead did iova len))
 refuses state (step.DmaWrite did iova bytes) = probed_refuses state (asked state (step.DmaWrite did iova bytes))
+refuses state (step.Translate did iova kind) = translated_refuses state (asked state (step.Translate did iova kind))
 refuses state (step.DevRead dev off size) = dev_read_refuses state (slice_get state.devices dev) off size
 refuses state (step.DevWrite dev off size value) = dev_write_refuses state dev off size value
 refuses state (step.Device dev) = moved_refuses state dev (slice_get state.devices dev)
@@ -187,6 +214,7 @@ devices state (step.RegWrite off size value) = refl
 devices state step.Command = refl
 devices state (step.DmaRead did iova len) = probed_devices state (asked state (step.DmaRead did iova len))
 devices state (step.DmaWrite did iova bytes) = probed_devices state (asked state (step.DmaWrite did iova bytes))
+devices state (step.Translate did iova kind) = translated_devices state (asked state (step.Translate did iova kind))
 devices state (step.DevRead dev off size) = refl
 devices state (step.DevWrite dev off size value) = written_devices state dev off size value
 devices state (step.Device dev) = moved_devices state dev
@@ -200,6 +228,7 @@ breaks state (step.RegWrite off size value) = tt
 breaks state step.Command = tt
 breaks state (step.DmaRead did iova len) = tt
 breaks state (step.DmaWrite did iova bytes) = tt
+breaks state (step.Translate did iova kind) = tt
 breaks state (step.DevRead dev off size) = tt
 breaks state (step.DevWrite dev off size value) = tt
 breaks state (step.Device dev) = moved_breaks state dev
@@ -213,6 +242,7 @@ goes_on state (step.RegWrite off size value) = tt
 goes_on state step.Command = tt
 goes_on state (step.DmaRead did iova len) = tt
 goes_on state (step.DmaWrite did iova bytes) = tt
+goes_on state (step.Translate did iova kind) = tt
 goes_on state (step.DevRead dev off size) = tt
 goes_on state (step.DevWrite dev off size value) = tt
 goes_on state (step.Device dev) = moved_goes_on state dev

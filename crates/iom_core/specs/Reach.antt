@@ -10,9 +10,8 @@ use Rattle.iom_virtq.specs.Bus.{Ask, Read, Write, Reply, is_granted}
 use Rattle.iom_blk.specs.Device.{Device}
 use Rattle.iom_blk.specs.Phases.{is_broken, moved_of, took}
 use Rattle.iom_core.specs.State.{State, Machine}
-use Rattle.iom_core.specs.Access.{address_on, led}
 use Rattle.iom_core.specs.declared.access.Denial.{Denial}
-use Rattle.iom_core.specs.Table.{Asking, answer_of, asked, executed, request_in}
+use Rattle.iom_core.specs.Table.{Asking, address_in, answer_of, asked, executed}
 use Rattle.iom_core.specs.declared.step.Step.{Step}
 use Rattle.iom_core.specs.declared.step.Step.TheVariants as step
 use Rattle.iom_core.specs.declared.step.Answer.{Answer}
@@ -33,10 +32,6 @@ pub record ChangesOnly (span : Span) (old new : Memory) : Type 0 where
   pub size : size_of new ≡ size_of old
   pub below : (a : ℕ) → a < span.addr → byte new a ≡ byte old a
   pub above : (a : ℕ) → span.addr + span.count ≤ a → byte new a ≡ byte old a
-
--- the physical address that an access is led to, or why it is denied
-abbrev pub address_in : State → Asking → Result ℕ Denial
-address_in state asking = address_on (led state.machine (request_in asking)).way (request_in asking).iova
 
 -- the fault queue's next record, of 32 bytes
 abbrev pub record_span : Registers → Span

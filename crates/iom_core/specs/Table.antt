@@ -1,8 +1,10 @@
 -- What a step asks of the bus and executes; what it answers and what it leaves, one row a step, the tests of a row in their order.
-use Rattle.std.specs.Prelude.{ℕ, ◌+◌, ◌*◌, ◌%◌, ◌^◌, ◌==◌, ◌&&◌, ◌||◌, Bool, true, false, not, Option, Some, None, List, length, slice_get, is_some, nat_lt, nat_le, if◌then◌else◌}
+use Rattle.std.specs.Prelude.{ℕ, ◌+◌, ◌*◌, ◌%◌, ◌^◌, ◌==◌, ◌&&◌, ◌||◌, Bool, true, false, not, Option, Some, None, Result, Ok, Err, List, [], length, slice_get, is_some, nat_lt, nat_le, if◌then◌else◌}
 use Rattle.std.specs.Option.{option_map}
 use Rattle.iom_bits.specs.Bytes.{number_of_bytes, bytes_of_number}
 use Rattle.iom_bits.specs.Causes.{cause_number}
+use Rattle.iom_bits.specs.declared.causes.Kind.{Kind}
+use Rattle.iom_bits.specs.declared.causes.Kind.TheVariants as kind
 use Rattle.iom_mem.specs.Memory.{Memory, bytes_at, put}
 use Rattle.iom_regs.specs.Table.{Registers, read, after_write, is_legal}
 use Rattle.iom_queue.specs.declared.command.Command.{Command}
@@ -15,7 +17,8 @@ use Rattle.iom_blk.specs.Registers.{is_legal as is_device_register, read as devi
 use Rattle.iom_blk.specs.declared.want.Moved.{Moved}
 use Rattle.iom_blk.specs.declared.want.Moved.TheVariants as moved
 use Rattle.iom_core.specs.State.{State, Machine, device_id_end, with_device, with_machine}
-use Rattle.iom_core.specs.Access.{request_of, served, told_of}
+use Rattle.iom_core.specs.Access.{address_on, led, request_of, served, told_of}
+use Rattle.iom_core.specs.declared.access.Denial.{Denial}
 use Rattle.iom_core.specs.declared.access.Request.{Request}
 use Rattle.iom_core.specs.Commands.{after_command, executed_by, fetched, is_taken}
 use Rattle.iom_core.specs.declared.step.Step.{Step}
@@ -53,6 +56,11 @@ most_bytes = 64
 abbrev pub is_device_access : ℕ → ℕ → ℕ → Bool
 is_device_access did iova len = nat_lt did device_id_end && nat_lt 0 len && nat_le len most_bytes && nat_le (iova % 4096 + len) 4096
 
+-- an access of no byte, by which a device asks for the translation and nothing else
+abbrev pub access_of_none : ℕ → Kind → Ask
+access_of_none iova kind.Read = Read iova 0
+access_of_none iova kind.Write = Write iova []
+
 -- what a device asks of the bus
 pub record Asking : Type 0 where
   pub did : ℕ
@@ -74,6 +82,7 @@ unfoldable pub asked : State → Step → Option Asking
 asked state (step.DmaRead did iova len) = asking_where (is_device_access did iova len) did (Read iova len)
 asked state (step.DmaWrite did iova bytes) =
     asking_where (is_device_access did iova (length bytes.items)) did (Write iova bytes.items)
+asked state (step.Translate did iova kind) = asking_where (nat_lt did device_id_end) did (access_of_none iova kind)
 asked state (step.Device dev) = asked_by (slice_get state.devices dev)
 asked state _ = None
 
@@ -157,6 +166,22 @@ probed state (Some asking) = record {
   state = with_machine state (served state.machine asking.did asking.ask).machine;
 }
 probed state None = stays state answer.Misuse
+
+-- the physical address that an access is led to, or why it is denied
+abbrev pub address_in : State → Asking → Result ℕ Denial
+address_in state asking = address_on (led state.machine (request_in asking)).way (request_in asking).iova
+
+-- a request for a translation is answered the address, also where that lies outside memory
+abbrev pub answer_by_address : Result ℕ Denial → Answer
+answer_by_address (Ok addr) = answer.Value addr
+answer_by_address (Err denial) = answer.Denied (cause_number denial.cause)
+
+abbrev pub translated : State → Option Asking → Outcome
+translated state (Some asking) = record {
+  answer = answer_by_address (address_in state asking);
+  state = with_machine state (served state.machine asking.did asking.ask).machine;
+}
+translated state None = stays state answer.Misuse
 
 -- a step of the command unit is done, also where it stops the queue
 abbrev pub idle_or_done : Bool → Answer
@@ -243,6 +268,7 @@ next state step.Command = record {
 }
 next state (step.DmaRead did iova len) = probed state (asked state (step.DmaRead did iova len))
 next state (step.DmaWrite did iova bytes) = probed state (asked state (step.DmaWrite did iova bytes))
+next state (step.Translate did iova kind) = translated state (asked state (step.Translate did iova kind))
 next state (step.DevRead dev off size) = stays state (dev_read (slice_get state.devices dev) off size)
 next state (step.DevWrite dev off size value) = dev_written state dev (slice_get state.devices dev) off size value
 next state (step.Device dev) = device_step state dev (slice_get state.devices dev)

@@ -11,6 +11,7 @@ ghost use Rattle.iom_cache.specs.Places.{find, look};
 ghost use Rattle.iom_virtq.specs.Bus.{Read, Write, is_granted, reply_of};
 ghost use Rattle.iom_core.specs.Access.{address_on, context_look, filled_where, led, led_by_context, led_under, machine_of, page_told, plain, record_left, request_key, request_of, served, told, told_of, translating, under_told, with_delivery, with_fills};
 ghost use Rattle.iom_core.specs.State.{context_room, device_id_end, in_front_of, page_room};
+ghost use Rattle.iom_core.specs.Table.{access_of_none};
 ghost use Rattle.iom_core.specs.declared.way.Way.TheVariants as way;
 ghost use Rattle.iom_core.specs.declared.witness.Event.TheVariants as event;
 
@@ -139,6 +140,29 @@ impl Iommu {
             Ok(addr) if ram.write(addr, bytes) => Access::Ok,
             Ok(_) => Access::Outside,
         }
+    }
+
+    /// The physical address that a request is led to, also if it lies outside memory; or why it is denied, which may leave a fault
+    /// record. No byte is accessed. A witness is told what leads it.
+    #[tactic(auto, using(crate::proofs::Translated::served_none))]
+    pub fn translate<M: WritableRegion, W: Witness>(
+        &mut self,
+        ram: &mut M,
+        request: &Request,
+        witness: &mut W,
+    ) -> Result<u64, Denial>
+        requires { request.now.did < device_id_end }
+        ensures address { result ≡ address_on (led (in_front_of (M.memory ram.old) self.old) request.now).way request.now.iova }
+        ensures left { in_front_of (M.memory ram.new) self.new ≡ (served (in_front_of (M.memory ram.old) self.old)
+            request.now.did (access_of_none request.now.iova request.now.kind)).machine }
+        ensures told { witness.new ≡ told_of W.next witness.old (in_front_of (M.memory ram.old) self.old) request.now }
+        ensures borrow { M.name ram.new ≡ M.name ram.old }
+    {
+        let led = self.address(ram, request, witness);
+        if let Err(denial) = led {
+            let _ = self.deny(ram, request, denial);
+        }
+        led
     }
 
     // The physical address that a request leads to. What is read on the way is cached.

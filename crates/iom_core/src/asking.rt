@@ -6,7 +6,7 @@ ghost use Rattle.iom_core.specs.Table.{request_of_step};
 ghost use Rattle.iom_core.specs.declared.step.Step.TheVariants as step;
 
 use crate::access::Request;
-use crate::board::{Board, device_request};
+use crate::board::{Board, device_request, translation_request};
 use crate::{Platform, Step};
 use iom_bits::Kind;
 use iom_blk::Want;
@@ -36,6 +36,7 @@ impl Board {
             Step::DmaWrite { did, iova, bytes } => {
                 device_request(*did, *iova, bytes.len() as u64, Kind::Write)
             }
+            Step::Translate { did, iova, kind } => translation_request(*did, *iova, *kind),
             Step::Device { dev } => self.request_of_device(ram, *dev),
             _ => None,
         }

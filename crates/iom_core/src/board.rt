@@ -1,10 +1,10 @@
 //! A platform without its memory: the IOMMU and the block devices, and the steps that they take in front of a memory.
 
-ghost use Rattle.std.specs.Prelude.{ℕ, ◌≡◌, ◌*◌, true, false, IsTrue, length, Some, IfOk, IfSome, IfNone, slice_get};
+ghost use Rattle.std.specs.Prelude.{ℕ, ◌≡◌, ◌*◌, true, false, IsTrue, length, Some, IfOk, IfSome, IfNone, nat_lt, slice_get};
 ghost use Rattle.std.specs.Option.{option_map};
 ghost use Rattle.iom_mem.specs.Lent.{is_lendable, memory_of};
 ghost use Rattle.iom_core.specs.Access.{access_to};
-ghost use Rattle.iom_core.specs.State.{in_front_of, state_on};
+ghost use Rattle.iom_core.specs.State.{device_id_end, in_front_of, state_on};
 ghost use Rattle.iom_core.specs.Table.{is_device_access};
 
 use crate::access::Request;
@@ -47,7 +47,7 @@ impl Model for Board {
 
 impl Board {
     ghost use Rattle.iom_core.specs.State.{AreDevices, board_with, disk_of};
-    ghost use Rattle.iom_core.specs.Table.{asked, asking_where, next, probed, told_by_step};
+    ghost use Rattle.iom_core.specs.Table.{access_of_none, asked, asking_where, next, probed, told_by_step, translated};
     ghost use Rattle.iom_core.specs.Reach.{Reaches, Refuses};
     ghost use Rattle.iom_virtq.specs.Bus.{Read, Write};
 
@@ -77,6 +77,15 @@ impl Board {
         let iommu = self.iommu.try_clone(alloc)?;
         let devices = copied(alloc, &self.devices)?;
         Ok(Board { iommu, devices })
+    }
+
+    /// Resets the IOMMU: its registers are as at reset, and both caches are empty. The block devices stay as they are.
+    pub fn reset(&mut self)
+        ensures { self.new ≡ record self.old { iommu = (board_with self.old.iommu.registers.features self.old.devices).iommu } }
+    {
+        self.iommu.registers = Regs::with_features(self.iommu.registers.features());
+        self.iommu.lines.contexts.clear();
+        self.iommu.lines.pages.clear();
     }
 
     /// The IOMMU's registers ("Memory-mapped register interface").
@@ -189,6 +198,9 @@ impl Board {
             Step::DmaWrite { did, iova, bytes } => {
                 self.dma_write(ram, *did, *iova, bytes.as_slice(), witness)
             }
+            Step::Translate { did, iova, kind } => {
+                self.translate(ram, *did, *iova, *kind, witness)
+            }
             Step::DevRead { dev, off, size } => self.dev_read(*dev, *off, *size),
             Step::DevWrite {
                 dev,
@@ -273,6 +285,32 @@ impl Board {
             Access::Outside => Answer::BusError,
         }
     }
+
+    // A device's request for a translation, which is no step if the id is too wide.
+    fn translate<M: WritableRegion, W: Witness>(
+        &mut self,
+        ram: &mut M,
+        did: u64,
+        iova: u64,
+        kind: Kind,
+        witness: &mut W,
+    ) -> Answer
+        ensures answer { result ≡ (translated (state_on (M.memory ram.old) self.old)
+            (asking_where (nat_lt did device_id_end) did (access_of_none iova kind))).answer }
+        ensures state { state_on (M.memory ram.new) self.new ≡ (translated (state_on (M.memory ram.old) self.old)
+            (asking_where (nat_lt did device_id_end) did (access_of_none iova kind))).state }
+        ensures told { witness.new ≡ told_by_step W.next witness.old (in_front_of (M.memory ram.old) self.old.iommu)
+            (asking_where (nat_lt did device_id_end) did (access_of_none iova kind)) }
+        ensures borrow { M.name ram.new ≡ M.name ram.old }
+    {
+        let Some(request) = translation_request(did, iova, kind) else {
+            return Answer::Misuse;
+        };
+        match self.iommu.translate(ram, &request, witness) {
+            Ok(addr) => Answer::Value(addr),
+            Err(denial) => Answer::Denied(denial.cause.number()),
+        }
+    }
 }
 
 // A device id has 24 bits.
@@ -288,6 +326,21 @@ pub(crate) fn device_request(did: u64, iova: u64, len: u64, kind: Kind) -> Optio
     ensures none { IfNone result (is_device_access did iova len ≡ false) }
 {
     if !is_device_access(did, iova, len) {
+        return None;
+    }
+    Some(Request {
+        did: did as u32,
+        iova,
+        kind,
+    })
+}
+
+/// The request of device `did` for a translation of IOVA `iova`; None if its id isn't below 2^24.
+pub(crate) fn translation_request(did: u64, iova: u64, kind: Kind) -> Option<Request>
+    ensures some { IfSome result (λ request. (request ≡ access_to did iova kind) × (nat_lt did device_id_end ≡ true)) }
+    ensures none { IfNone result (nat_lt did device_id_end ≡ false) }
+{
+    if did >= DEVICE_ID_END {
         return None;
     }
     Some(Request {

@@ -16,9 +16,9 @@ use std::marker::Model;
 #[derive(Drop)]
 pub struct Platform {
     /// Memory, at physical addresses.
-    pub(crate) ram: Ram,
+    pub ram: Ram,
     /// The IOMMU in front of it, and the block devices.
-    pub(crate) board: Board,
+    pub board: Board,
 }
 
 impl Model for Platform {

@@ -1,4 +1,5 @@
 use arrayvec::ArrayVec;
+use iom_bits::Kind;
 
 /// One event of the platform. Every number is 64 bits wide; one that doesn't fit is answered `Misuse`.
 #[derive(Drop)]
@@ -41,6 +42,13 @@ pub enum Step {
         iova: u64,
         bytes: ArrayVec<u8, 64>,
     },
+    /// A device with id `did`, below 2^24, asks for the translation of IOVA `iova`, any of 64 bits, and accesses no memory. It fills
+    /// the caches and leaves a fault record as an access of this kind does.
+    Translate {
+        did: u64,
+        iova: u64,
+        kind: Kind,
+    },
     /// The hart reads `size` bytes, 1, 2 or 4, of the registers of block device `dev`, counted from 0, at offset `off`, in bytes
     /// (VIRTIO 1.2, "MMIO Device Register Layout").
     DevRead {
@@ -65,7 +73,7 @@ pub enum Step {
 /// What a step answers.
 #[derive(Drop, PartialEq)]
 pub enum Answer {
-    /// The number that was read, the lowest byte first.
+    /// The number that was read, the lowest byte first; of `Translate` the physical address, also if it lies outside memory.
     Value(u64),
     /// The step was carried out.
     Done,
