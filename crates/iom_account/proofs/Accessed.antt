@@ -41,6 +41,7 @@ no_command state (step.RegWrite off size value) request is = refl
 no_command state step.Command request is = absurd (cc)
 no_command state (step.DmaRead did iova len) request is = refl
 no_command state (step.DmaWrite did iova bytes) request is = refl
+no_command state (step.Translate did iova kind) request is = refl
 no_command state (step.DevRead dev off size) request is = refl
 no_command state (step.DevWrite dev off size value) request is = refl
 no_command state (step.Device dev) request is = refl

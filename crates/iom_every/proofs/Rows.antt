@@ -1,15 +1,16 @@
 -- This model's step is the row for the way that it leads the access, but for its own caches.
 use Rattle.std.proofs.Common.{◌≡◌, ◌∙◌, ℕ, Bool, slice_get, Option, Some, None, Result, Ok, Err, refl, ap, sym, subst}
 use Rattle.std.specs.Option.{option_map}
+use Rattle.iom_bits.specs.declared.causes.Kind.{Kind}
 use Rattle.iom_mem.specs.Memory.{bytes_at}
 use Rattle.iom_blk.specs.Device.{Device}
 use Rattle.iom_blk.specs.Phases.{asks}
 use Rattle.iom_virtq.specs.Bus.{Ask, Read, Write}
 use Rattle.iom_choices.specs.Systems.{led_of}
-use Rattle.iom_core.specs.Access.{Effect, effect, effect_at, granted, led, read_there, request_of}
+use Rattle.iom_core.specs.Access.{Effect, address_on, effect, effect_at, granted, led, read_there, request_of}
 use Rattle.iom_core.specs.Looking.{uncached}
 use Rattle.iom_core.specs.State.{Machine, State, with_device, with_machine}
-use Rattle.iom_core.specs.Table.{Asking, Outcome, answer_of, asked, asked_by, asking_for, dev_written, device_step, moving, next, probed, request_in}
+use Rattle.iom_core.specs.Table.{Asking, Outcome, answer_by_address, answer_of, asked, asked_by, asking_for, dev_written, device_step, moving, next, probed, request_in, translated}
 use Rattle.iom_core.specs.Commands.{after_command, executed_by}
 use Rattle.iom_core.specs.declared.access.Denial.{Denial}
 use Rattle.iom_core.specs.declared.access.Request.{Request}
@@ -17,7 +18,7 @@ use Rattle.iom_core.specs.declared.step.Step.{Step}
 use Rattle.iom_core.specs.declared.step.Step.TheVariants as step
 use Rattle.iom_core.specs.declared.way.Way.{Way as Led}
 use Rattle.iom_every.specs.Every.{cached, iommu}
-use Rattle.iom_every.specs.Rows.{bare, device_row, device_row_of, dma_row, effect_by, row, row_of}
+use Rattle.iom_every.specs.Rows.{bare, device_row, device_row_of, dma_row, effect_by, machine_by, row, row_of, translation_row}
 use Rattle.iom_every.specs.Ways.{way_of}
 use Rattle.iom_every.proofs.Led.{led_is}
 
@@ -69,6 +70,20 @@ unfolding next
 write_is ahead state did iova bytes None is = subst (IsAs (probed state None)) (sym (ap (probed (bare state)) is)) (record { left = refl; answered = refl })
 write_is ahead state did iova bytes (Some asking) is = dma_some state asking
 
+-- a request for a translation
+translate_some : (state : State) (asking : Asking) →
+    IsAs (translated state (Some asking)) (translation_row (bare state) asking (way_of (bare state) (cached state) (request_in asking)).led)
+translate_some state asking = record {
+  left = ap (λ (e : Effect). bare (with_machine (bare state) (machine_by (bare state).machine e))) (our_effect state asking);
+  answered = ap (λ (led : Led). answer_by_address (address_on led (request_in asking).iova)) (sym (led_is state (request_in asking)));
+}
+
+translate_is : (ahead : Bool) (state : State) (did iova : ℕ) (kind : Kind) → (o : Option Asking) → asked (bare state) (step.Translate did iova kind) ≡ o →
+    IsAs (translated state o) (row_of (bare state) (step.Translate did iova kind) o (our_led ahead state o))
+unfolding next
+translate_is ahead state did iova kind None is = subst (IsAs (translated state None)) (sym (ap (translated (bare state)) is)) (record { left = refl; answered = refl })
+translate_is ahead state did iova kind (Some asking) is = translate_some state asking
+
 -- a step of a block device, by what it asks
 abbrev pub moved_by : State → ℕ → ℕ × Device → Option Ask → Outcome
 moved_by state dev own ask = record {
@@ -111,6 +126,7 @@ row_is ahead state (step.RegWrite off size value) = record { left = refl; answer
 row_is ahead state step.Command = record { left = refl; answered = refl }
 row_is ahead state (step.DmaRead did iova len) = read_is ahead state did iova len (asked (bare state) (step.DmaRead did iova len)) refl
 row_is ahead state (step.DmaWrite did iova bytes) = write_is ahead state did iova bytes (asked (bare state) (step.DmaWrite did iova bytes)) refl
+row_is ahead state (step.Translate did iova kind) = translate_is ahead state did iova kind (asked (bare state) (step.Translate did iova kind)) refl
 row_is ahead state (step.DevRead dev off size) = record { left = refl; answered = refl }
 row_is ahead state (step.DevWrite dev off size value) = written_is state dev (slice_get state.devices dev) off size value
 row_is ahead state (step.Device dev) = device_is ahead state dev (slice_get state.devices dev) refl

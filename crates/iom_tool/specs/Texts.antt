@@ -3,6 +3,7 @@ use Rattle.std.specs.Prelude.{ℕ, ◌++◌, List, [], ◌∷◌, codes, Option,
 use Rattle.std.specs.List.{flat_map}
 use Rattle.hex.specs.Hex.{encode_lower}
 use Rattle.iom_text.specs.Texts.{numeral, hexed}
+use Rattle.iom_bits.specs.declared.causes.Kind.TheVariants as kind
 use Rattle.iom_core.specs.declared.step.Step.{Step}
 use Rattle.iom_core.specs.declared.step.Step.TheVariants as step
 use Rattle.iom_core.specs.declared.step.Answer.{Answer}
@@ -33,6 +34,8 @@ step_text (step.RegWrite off size value) = codes "reg write" ++ operands (off �
 step_text step.Command = codes "cmd"
 step_text (step.DmaRead did iova len) = codes "dma read" ++ operands (did ∷ iova ∷ len ∷ [])
 step_text (step.DmaWrite did iova bytes) = codes "dma write" ++ operands (did ∷ iova ∷ []) ++ codes " " ++ encode_lower bytes.items
+step_text (step.Translate did iova kind.Read) = codes "translate read" ++ operands (did ∷ iova ∷ [])
+step_text (step.Translate did iova kind.Write) = codes "translate write" ++ operands (did ∷ iova ∷ [])
 step_text (step.DevRead dev off size) = codes "dev read" ++ operands (dev ∷ off ∷ size ∷ [])
 step_text (step.DevWrite dev off size value) = codes "dev write" ++ operands (dev ∷ off ∷ size ∷ value ∷ [])
 step_text (step.Device dev) = codes "dev step" ++ operands (dev ∷ [])

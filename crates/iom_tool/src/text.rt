@@ -6,6 +6,7 @@ ghost use Rattle.iom_tool.specs.Texts.{text_of, operands, step_text, entry_text}
 
 use crate::draft::Draft;
 use crate::trace::Entry;
+use iom_bits::Kind;
 use iom_core::{Answer, Step};
 
 /// Appends bytes, for which there is room.
@@ -108,6 +109,16 @@ fn push_step(out: &mut Draft, step: &Step)
         Step::DmaWrite { did, iova, bytes } => {
             push_device_write(out, *did, *iova, bytes.as_slice())
         }
+        Step::Translate {
+            did,
+            iova,
+            kind: Kind::Read,
+        } => push_form(out, b"translate read", &[*did, *iova]),
+        Step::Translate {
+            did,
+            iova,
+            kind: Kind::Write,
+        } => push_form(out, b"translate write", &[*did, *iova]),
         Step::DevRead { dev, off, size } => push_form(out, b"dev read", &[*dev, *off, *size]),
         Step::DevWrite {
             dev,
