@@ -1,17 +1,17 @@
 -- What others write, a hart could have stored.
 use Rattle.std.proofs.Common.{◌≡◌, ◌∙◌, ◌+◌, ◌-◌, ◌%◌, ◌<◌, ◌≤◌, ℕ, zero, suc, List, [], ◌∷◌, ◌++◌, length, take, drop, Some, true, map, refl, sym, ap, subst, arith, append_assoc, length-append}
 use Rattle.std.specs.Prelude.{slice_get}
-use Rattle.std.specs.Option.{option_and_then}
+use Rattle.std.specs.Option.{option_and_then, option_map}
 use Rattle.std.proofs.Math.Seq.{take-append_seam, drop-append-add}
 use Rattle.iom_mem.specs.Memory.{Memory, bytes_at}
 use Rattle.iom_mem.proofs.Bytes.{bytes_at_inside}
 use Rattle.iom_core.specs.State.{State}
 use Rattle.iom_core.specs.Access.{led}
 use Rattle.iom_core.specs.Table.{fits, next, request_of_step, store, with_memory}
-use Rattle.iom_core.specs.Run.{end_of}
+use Rattle.iom_core.specs.Run.{answers, end_of}
 use Rattle.iom_core.specs.Warrants.{IsDenied, IsUncached, moment, request_at}
 use Rattle.iom_core.specs.declared.step.Step.{Step}
-use Rattle.iom_core.specs.Others.{AreBytes, AreWritten, Happening, IsWarranted, IsWritten, Took, Wrote, end_after, place_of, steps_of, stores_of}
+use Rattle.iom_core.specs.Others.{AreBytes, AreWritten, Happening, IsAnswered, IsWarranted, IsWritten, Took, Wrote, end_after, place_of, steps_of, stores_of}
 use Rattle.iom_core.proofs.Warranted.{warranted}
 
 -- a memory with other bytes
@@ -118,6 +118,18 @@ same_step (Wrote memory ∷ more) (suc n) taken is =
     let stores : List Step = stores_of memory.base memory.bytes in
     ap (slice_get (stores ++ steps_of more)) (length-append stores (steps_of (take n more)))
     ∙ behind stores (steps_of more) (place_of more n) ∙ same_step more n taken is
+
+answer_at : (start : State) (steps : List Step) (k : ℕ) (taken : Step) → slice_get steps k ≡ Some taken →
+    slice_get (answers start steps) k ≡ Some (next (moment start steps k) taken).answer
+unfolding moment
+answer_at start [] k taken is = absurd (cc)
+answer_at start (own ∷ steps) zero taken is = ap (option_map (λ (step : Step). (next start step).answer)) is
+answer_at start (own ∷ steps) (suc k) taken is = answer_at (next start own).state steps k taken is
+
+pub answered_among : (start : State) (happenings : List Happening) (n : ℕ) → AreWritten start happenings → IsAnswered start happenings n
+answered_among start happenings n w taken is =
+    answer_at start (steps_of happenings) (place_of happenings n) taken (same_step happenings n taken is)
+    ∙ ap (λ (s : State). Some (next s taken).answer) (sym (same_moment start happenings n w))
 
 pub warranted_among : (start : State) (happenings : List Happening) (n : ℕ) → AreWritten start happenings → IsUncached start →
     IsWarranted start happenings n

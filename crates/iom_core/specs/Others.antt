@@ -4,6 +4,7 @@ use Rattle.iom_mem.specs.Memory.{Memory, size_of}
 use Rattle.iom_core.specs.State.{State}
 use Rattle.iom_core.specs.Access.{led}
 use Rattle.iom_core.specs.declared.access.Request.{Request}
+use Rattle.iom_core.specs.Run.{answers}
 use Rattle.iom_core.specs.Table.{next, request_of_step, with_memory}
 use Rattle.iom_core.specs.Warrants.{HasWarrant, IsDenied, moment}
 use Rattle.iom_core.specs.declared.step.Step.{Step}
@@ -52,6 +53,12 @@ steps_of (Wrote memory ∷ more) = stores_of memory.base memory.bytes ++ steps_o
 -- the step at which happening n stands
 abbrev pub place_of : List Happening → ℕ → ℕ
 place_of happenings n = length (steps_of (take n happenings))
+
+-- A step at happening n is answered what it is answered among the steps that stand for all that happens.
+abbrev pub IsAnswered : State → List Happening → ℕ → Type 0
+IsAnswered start happenings n =
+    (taken : Step) → slice_get happenings n ≡ Some (Took taken) →
+    slice_get (answers start (steps_of happenings)) (place_of happenings n) ≡ Some (next (end_after start (take n happenings)) taken).answer
 
 -- Whatever a device asks at happening n, it is denied or has a warrant.
 pub record IsWarranted (start : State) (happenings : List Happening) (n : ℕ) : Type 0 where

@@ -164,6 +164,8 @@ impl Board {
             ≡ (next (state_on (memory_of base words.old) self.old) step.now).state }
         ensures told { witness.new ≡ told_by_step W.next witness.old (in_front_of (memory_of base words.old) self.old.iommu)
             (asked (state_on (memory_of base words.old) self.old) step.now) }
+        ensures reach { Reaches (state_on (memory_of base words.old) self.old) step.now answer.new (state_on (memory_of base words.new) self.new) }
+        ensures refused { Refuses answer.new (state_on (memory_of base words.old) self.old) (state_on (memory_of base words.new) self.new) }
     {
         let mut lent = LentRam::new(base, words);
         self.step_into(&mut lent, step, answer, witness);
