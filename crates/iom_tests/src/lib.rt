@@ -20,6 +20,10 @@ mod devices;
 #[cfg(test)]
 mod harmed;
 #[cfg(test)]
+mod lent;
+#[cfg(test)]
+mod listings;
+#[cfg(test)]
 mod mem;
 #[cfg(test)]
 mod nested;
