@@ -3,3 +3,4 @@ pub mod Numbers
 pub mod Alike
 pub mod Reached
 pub mod Owed
+pub mod Trees

@@ -2,4 +2,5 @@ pub mod Systems
 pub mod Choices
 pub mod Models
 pub mod Settled
+pub mod Trees
 pub mod Laws

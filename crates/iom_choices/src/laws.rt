@@ -1,9 +1,10 @@
-ghost use Rattle.std.specs.Prelude.{◌≡◌, Bool, true, false, List, [], Option, Some, None};
-ghost use Rattle.iom_choices.specs.Systems.{System, aimed, led_of};
+ghost use Rattle.std.specs.Prelude.{◌≡◌, ◌↔◌, Bool, true, false, List, [], Option, Some, None};
+ghost use Rattle.iom_choices.specs.Systems.{IsAmong, System, aimed, led_of};
 ghost use Rattle.iom_choices.specs.Choices.{Choice, end_as, replies_as, steps_of};
 ghost use Rattle.iom_choices.specs.Models.{IsCaching, Model, end_of, entries_in, replies, view_at};
 ghost use Rattle.iom_choices.specs.Laws.{CanUse, DoesAlike};
 ghost use Rattle.iom_choices.specs.Settled.{AreSettled, EachUse, IsOwed, IsSaying, IsSettled, MayHold};
+ghost use Rattle.iom_choices.specs.Trees.{AreLedAlike, AreTrees, Tree, held_after};
 
 /// If the access of each step is settled, a system ends in the model's state and gives the model's answers, whatever it keeps, uses,
 /// forgets and walks again. M is the model's state, S the system's, T a step, R a request, K a look-up of a walk, E an entry, L the
@@ -51,4 +52,14 @@ pub fn walks_are_allowed<S, T, R, K, E, L, A>()
         aimed sys state step (Some request) ≡ None }
     ensures ahead { (sys : System S T R K E L A) (state : S) (step : T) (request : R) → sys.ahead ≡ true →
         aimed sys state step (Some request) ≡ Some request }
+{}
+
+/// If a system's walks are trees of look-ups and nothing is read ahead, what may be held is a list that is computed step by step, with no
+/// entry too few and none too many; and a request is settled exactly if each way that this list allows leads where memory leads.
+pub fn held_entries_are_listed<S, T, R, K, E, L, A>()
+    ensures held { (sys : System S T R K E L A) (tree : S → R → Tree K E L) → AreTrees sys tree → sys.ahead ≡ false →
+        (at : List T → S) (steps : List T) (entry : E) → IsAmong (held_after sys tree at steps) entry ↔ MayHold sys at steps entry }
+    ensures settled { (sys : System S T R K E L A) (tree : S → R → Tree K E L) → AreTrees sys tree → sys.ahead ≡ false →
+        (at : List T → S) (steps : List T) (request : R) →
+        AreLedAlike sys tree (at steps) (held_after sys tree at steps) request ↔ IsSettled sys (MayHold sys at steps) (at steps) (Some request) }
 {}

@@ -4,8 +4,8 @@
 #![tactic(auto)]
 
 pub use laws::{
-    model_is_one, settled_runs_agree, sources_are_used, unowed_requests_are_settled,
-    walks_are_allowed,
+    held_entries_are_listed, model_is_one, settled_runs_agree, sources_are_used,
+    unowed_requests_are_settled, walks_are_allowed,
 };
 
 mod laws;
