@@ -10,3 +10,4 @@ pub mod Runs
 pub mod Reading
 pub mod Midway
 pub mod Below
+pub mod Trees

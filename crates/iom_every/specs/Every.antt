@@ -1,5 +1,5 @@
 -- Every IOMMU that the standard allows, as a system that keeps whichever entries it chooses; and this model as one of them.
-use Rattle.std.specs.Prelude.{ℕ, ◌++◌, Bool, List, [], ◌∷◌, Option, Some, None, Ok}
+use Rattle.std.specs.Prelude.{ℕ, ◌++◌, Bool, false, List, [], ◌∷◌, Option, Some, None, Ok}
 use Rattle.iom_ddt.specs.declared.context.Context.{Context}
 use Rattle.iom_nested.specs.declared.translation.Hit.{Hit}
 use Rattle.iom_cache.specs.declared.key.Key.{Key}
@@ -12,11 +12,13 @@ use Rattle.iom_core.specs.declared.way.Way.{Way as Led}
 use Rattle.iom_choices.specs.Systems.{System}
 use Rattle.iom_choices.specs.Models.{Model, end_of}
 use Rattle.iom_choices.specs.Settled.{MayHold}
+use Rattle.iom_choices.specs.Trees.{AreLedAlike, held_after}
 use Rattle.iom_every.specs.Entries.{Entry, OfDevice, OfPage}
 use Rattle.iom_every.specs.Drops.{drops_by}
 use Rattle.iom_every.specs.Uses.{Look, ForDevice, ForPage}
 use Rattle.iom_every.specs.Ways.{way_of}
 use Rattle.iom_every.specs.Rows.{bare, row}
+use Rattle.iom_every.specs.Trees.{tree_of}
 
 -- the system of every IOMMU; `ahead`: whether it also walks requests that no device makes
 abbrev pub iommu : Bool → System State Step Request Look Entry Led Answer
@@ -63,3 +65,11 @@ platform = record {
 -- the entries that may be held after steps of this model's run, newest first
 abbrev pub May : Bool → State → List Step → Entry → Type 0
 May ahead start steps = MayHold (iommu ahead) (λ steps. bare (end_of platform start steps)) steps
+
+-- The entries that may be held, as a list, if nothing is read ahead: computed from step to step by the walks' trees.
+abbrev pub held_entries : State → List Step → List Entry
+held_entries start steps = held_after (iommu false) tree_of (λ steps. bare (end_of platform start steps)) steps
+
+-- each way that they allow leads the request where the tables lead it
+abbrev pub AreWaysAlike : State → List Step → Request → Type 0
+AreWaysAlike start steps request = AreLedAlike (iommu false) tree_of (bare (end_of platform start steps)) (held_entries start steps) request

@@ -1,8 +1,10 @@
-ghost use Rattle.std.specs.Prelude.{◌≡◌, Bool, List, [], reverse, Some};
+ghost use Rattle.std.specs.Prelude.{◌≡◌, ◌↔◌, Bool, false, List, [], reverse, Some};
 ghost use Rattle.iom_choices.specs.Choices.{Choice, end_as, replies_as, steps_of};
 ghost use Rattle.iom_choices.specs.Laws.{CanUse, DoesAlike};
 ghost use Rattle.iom_choices.specs.Models.{end_of, entries_in, replies};
 ghost use Rattle.iom_choices.specs.Settled.{AreSettled, EachUse, IsSettled};
+ghost use Rattle.iom_choices.specs.Systems.{IsAmong};
+ghost use Rattle.iom_choices.specs.Trees.{IsApart, way_over};
 ghost use Rattle.iom_core.specs.Access.{led};
 ghost use Rattle.iom_core.specs.Looking.{by_tables};
 ghost use Rattle.iom_core.specs.Run.{answers, end_of as run_of};
@@ -11,8 +13,9 @@ ghost use Rattle.iom_core.specs.Warrants.{IsUncached};
 ghost use Rattle.iom_core.specs.declared.access.Request.{Request};
 ghost use Rattle.iom_core.specs.declared.step.Step.{Step};
 ghost use Rattle.iom_every.specs.Entries.{Entry};
-ghost use Rattle.iom_every.specs.Every.{May, cached, iommu, platform};
+ghost use Rattle.iom_every.specs.Every.{AreWaysAlike, May, cached, held_entries, iommu, platform};
 ghost use Rattle.iom_every.specs.Rows.{bare};
+ghost use Rattle.iom_every.specs.Trees.{tree_of};
 ghost use Rattle.iom_every.specs.Uses.{Look};
 ghost use Rattle.iom_every.specs.Ways.{way_of};
 
@@ -55,4 +58,18 @@ pub fn tables_lead()
 pub fn runs_are_this_models()
     ensures state { (start : State) (steps : List Step) → end_of platform start steps ≡ run_of start (reverse steps) }
     ensures answers { (start : State) (steps : List Step) → replies platform start steps ≡ reverse (answers start (reverse steps)) }
+{}
+
+/// What an IOMMU may hold after some steps, if it reads nothing ahead, is a list: it is computed from step to step, with no entry too few and
+/// none too many. A request is settled exactly if each way that the list allows leads where the tables lead.
+pub fn held_entries_are_listed()
+    ensures held { (start : State) (steps : List Step) (entry : Entry) → IsAmong (held_entries start steps) entry ↔ May false start steps entry }
+    ensures settled { (start : State) (steps : List Step) (request : Request) → AreWaysAlike start steps request
+        ↔ IsSettled (iommu false) (May false start steps) (bare (end_of platform start steps)) (Some request) }
+{}
+
+/// The tree of a request has the way of each source, and looks up nothing twice.
+pub fn walks_are_trees()
+    ensures way { (state : State) (source : List (Look × Entry)) (request : Request) → way_over source (tree_of state request) ≡ way_of state source request }
+    ensures apart { (state : State) (request : Request) → IsApart [] (tree_of state request) }
 {}

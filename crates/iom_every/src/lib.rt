@@ -5,7 +5,8 @@
 pub use drops::{drops_of_directory_entries, drops_of_stage_entries, drops_of_this_models_entries};
 pub use entering::fresh_entries_lead_alike;
 pub use laws::{
-    answers_are_settled, model_is_one, runs_are_this_models, sources_are_used, tables_lead,
+    answers_are_settled, held_entries_are_listed, model_is_one, runs_are_this_models,
+    sources_are_used, tables_lead, walks_are_trees,
 };
 pub use reads::{met_entries_are_read, requests_read, valid_entries_alone};
 
