@@ -9,13 +9,14 @@ use Rattle.iom_core.specs.State.{State}
 use Rattle.iom_core.specs.Looking.{by_tables, nothing_seen, noticed}
 use Rattle.iom_core.specs.Table.{Asking, asked, next, request_in, request_of_step, told_by_step}
 use Rattle.iom_core.specs.Warrants.{IsUncached, moment, request_at}
+use Rattle.iom_core.specs.declared.access.Request.{Request}
 use Rattle.iom_core.specs.declared.looking.Seen.{Seen}
 use Rattle.iom_core.specs.declared.step.Step.{Step}
 use Rattle.iom_core.specs.declared.way.Way.{Way}
 use Rattle.iom_tables.specs.Stale.{differing, stale_way}
 use Rattle.iom_account.specs.Following.{ComesFrom, Follows, Notes, number_of}
 use Rattle.iom_account.proofs.Runs.{end_more, length_more, moment_last, request_last}
-use Rattle.iom_account.specs.Account.{Account, Accounts, GoesAlong, IsReason, IsReasonOf, Tells, stale_in}
+use Rattle.iom_account.specs.Account.{Account, Accounts, GoesAlong, IsReason, IsReasonOf, Tells, address_by, address_in, stale_in}
 use Rattle.iom_account.specs.declared.reason.Reason.{Reason}
 
 -- an item stands before the last one, or is it
@@ -110,6 +111,8 @@ along_step before state step number after left reason left_is told_is own follow
       number = own.number ∙ sym (number_last numbers number (length steps) h.numbered);
       request = own.request ∙ sym asked;
       origin = λ uncached. origin start steps numbers (h.follows uncached);
+      address = own.address ∙ ap (address_in state) (sym asked)
+          ∙ ap (λ (s : State). address_in s (request_at start more (length steps))) (sym here);
       stale = own.stale ∙ ap (stale_in state) (sym asked)
           ∙ ap (λ (s : State). stale_in s (request_at start more (length steps))) (sym here);
     } in
@@ -176,9 +179,28 @@ stale_asked state None seen is = refl
 stale_asked state (Some asking) seen is =
     ap (λ (s : Seen). differing s.way (by_tables state.machine (request_in asking))) is
 
-pub stale_told : (state : State) (step : Step) (seen : Seen) (tables found : Option Way) →
+stale_told : (state : State) (step : Step) (seen : Seen) (tables found : Option Way) →
     seen ≡ told_by_step noticed nothing_seen state.machine (asked state step) →
     tables ≡ option_map (by_tables state.machine) (request_of_step state step) → found ≡ option_and_then (differing seen.way) tables →
     found ≡ stale_in state (request_of_step state step)
 stale_told state step seen tables found is tables_are told =
     told ∙ ap (option_and_then (differing seen.way)) tables_are ∙ stale_asked state (asked state step) seen is
+
+-- where an access was led, by the way that it was told to be led
+address_asked : (state : State) (asking : Option Asking) (seen : Seen) → seen ≡ told_by_step noticed nothing_seen state.machine asking →
+    address_by (option_map request_in asking) seen.way ≡ address_in state (option_map request_in asking)
+address_asked state None seen is = refl
+address_asked state (Some asking) seen is = ap (λ (s : Seen). address_by (Some (request_in asking)) s.way) is
+
+-- a reason of what was asked, seen and found before the step
+pub own_reason : (state : State) (step : Step) (number : ℕ) (request : Option Request) (seen : Seen) (tables : Option Way) (reason : Reason) →
+    request ≡ request_of_step state step → seen ≡ told_by_step noticed nothing_seen state.machine (asked state step) →
+    tables ≡ option_map (by_tables state.machine) request → reason.number ≡ number → reason.request ≡ request →
+    reason.address ≡ address_by request seen.way → reason.stale ≡ option_and_then (differing seen.way) tables →
+    IsReasonOf state step number reason
+own_reason state step number request seen tables reason own is tables_are number_is request_is address_is stale_is = record {
+  number = number_is;
+  request = request_is ∙ own;
+  address = address_is ∙ ap (λ (r : Option Request). address_by r seen.way) own ∙ address_asked state (asked state step) seen is;
+  stale = stale_told state step seen tables reason.stale is (tables_are ∙ ap (option_map (by_tables state.machine)) own) stale_is;
+}

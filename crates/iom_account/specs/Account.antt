@@ -1,7 +1,8 @@
--- What is told of the steps of a platform while they are carried out: which steps filled what its caches hold, and why each of the last
--- went as it did.
+-- An account of the steps of a platform: which steps filled what its caches hold, and why each of the last steps was answered as it was.
 use Rattle.std.specs.Prelude.{ℕ, suc, ◌≡◌, ◌++◌, List, length, replicate, take, slice_get, Option, Some, None}
+use Rattle.std.specs.Result.{result_ok}
 use Rattle.circular_buffer.specs.Buffer.{keep_last}
+use Rattle.iom_core.specs.Access.{address_on, led}
 use Rattle.iom_core.specs.State.{State}
 use Rattle.iom_core.specs.Run.{end_of}
 use Rattle.iom_core.specs.Table.{request_of_step}
@@ -18,11 +19,22 @@ abbrev pub stale_in : State → Option Request → Option Way
 stale_in state None = None
 stale_in state (Some request) = stale_way state.machine request
 
+-- the physical address that a way leads a request to; None: it is denied, or there is none
+abbrev pub address_by : Option Request → Way → Option ℕ
+address_by None way = None
+address_by (Some request) way = result_ok (address_on way request.iova)
+
+-- the physical address that a request is led to
+abbrev pub address_in : State → Option Request → Option ℕ
+address_in state None = None
+address_in state (Some request) = address_by (Some request) (led state.machine request).way
+
 -- what is told of a step of its own number that this platform carries out, but for where its translation comes from: that is told by the
 -- steps before it too
 pub record IsReasonOf (state : State) (step : Step) (own : ℕ) (reason : Reason) : Type 0 where
   pub number : reason.number ≡ own
   pub request : reason.request ≡ request_of_step state step
+  pub address : reason.address ≡ address_in state (request_of_step state step)
   pub stale : reason.stale ≡ stale_in state (request_of_step state step)
 
 -- what is told of step n, the last of these
@@ -30,6 +42,7 @@ pub record IsReason (start : State) (steps : List Step) (numbers : List ℕ) (n 
   pub number : reason.number ≡ number_of numbers n
   pub request : reason.request ≡ request_at start steps n
   pub origin : IsUncached start → ComesFrom start steps numbers n reason.origin
+  pub address : reason.address ≡ address_in (moment start steps n) (request_at start steps n)
   pub stale : reason.stale ≡ stale_in (moment start steps n) (request_at start steps n)
 
 -- of how many steps the reasons are kept

@@ -1,15 +1,18 @@
-//! What is told of the steps of a platform.
+//! The steps that filled the caches, and the reasons of the last steps.
 
-ghost use Rattle.std.specs.Prelude.{◌≡◌, IfSome};
+ghost use Rattle.std.specs.Prelude.{◌≡◌};
 ghost use Rattle.std.specs.Option.{option_and_then, option_map};
+ghost use Rattle.iom_mem.specs.Memory.{Memory};
 ghost use Rattle.iom_core.specs.Looking.{by_tables};
-ghost use Rattle.iom_core.specs.Table.{request_of_step};
+ghost use Rattle.iom_core.specs.State.{in_front_of, state_on};
 ghost use Rattle.iom_tables.specs.Stale.{differing};
+ghost use Rattle.iom_account.specs.Account.{address_by};
 
 use crate::history::History;
 use crate::kept::Kept;
 use crate::reason::Reason;
-use iom_core::{Answer, Platform, Step, Way};
+use iom_core::{Answer, Board, Platform, Request, Step, Way};
+use iom_mem::{Region, WritableRegion};
 use iom_tables::differing;
 use std::marker::Model;
 
@@ -30,9 +33,9 @@ impl Model for Account {
 }
 
 impl Account {
-    ghost use Rattle.std.specs.Prelude.{◌≡◌, ◌++◌, [], ◌∷◌, IfSome, IsSomeAnd, slice_get};
+    ghost use Rattle.std.specs.Prelude.{◌≡◌, [], ◌∷◌, IsSomeAnd, slice_get};
     ghost use Rattle.std.specs.Option.{option_copied};
-    ghost use Rattle.circular_buffer.specs.Buffer.{keep_last, last_item};
+    ghost use Rattle.circular_buffer.specs.Buffer.{last_item};
     ghost use Rattle.iom_core.specs.Table.{next};
     ghost use Rattle.iom_account.specs.Account.{Accounts, GoesAlong, IsReasonOf};
 
@@ -41,8 +44,17 @@ impl Account {
         ensures begins { Accounts result platform.now platform.now [] [] }
         ensures empty { result.told ≡ [] }
     {
+        Account::new_on(&platform.board)
+    }
+
+    /// As `new`, of this board, whatever memory it stands in front of.
+    pub fn new_on(board: &Board) -> Account
+        ensures begins { (memory : Memory) →
+            Accounts result (state_on memory board.now) (state_on memory board.now) [] [] }
+        ensures empty { result.told ≡ [] }
+    {
         Account {
-            history: History::new(platform),
+            history: History::new_on(board),
             told: Kept::new(),
         }
     }
@@ -88,29 +100,63 @@ impl Account {
         // It goes along with the platform's steps: from a start whose caches hold nothing it tells of each what explains it.
         ensures along { GoesAlong self.old platform.old (step.now ∷ []) number self.new platform.new }
     {
-        let tables = tables_for(platform, step);
-        let taken = self.history.step(platform, step, number, answer);
-        let stale = stale_by(&taken.seen.way, tables);
+        self.step_on(&mut platform.board, &mut platform.ram, step, number, answer);
+    }
+
+    /// As `step`, of this board in front of a memory that is handed to it for the step, as one that its owner lends. Between steps others
+    /// may write that memory; `others_are_not_counted` says what the account then means.
+    pub fn step_on<M: WritableRegion>(
+        &mut self,
+        board: &mut Board,
+        ram: &mut M,
+        step: &Step,
+        number: u64,
+        answer: &mut Answer,
+    )
+        ensures answer { answer.new ≡ (next (state_on (M.memory ram.old) board.old) step.now).answer }
+        ensures state { state_on (M.memory ram.new) board.new ≡ (next (state_on (M.memory ram.old) board.old) step.now).state }
+        ensures borrow { M.name ram.new ≡ M.name ram.old }
+        ensures newest { IsSomeAnd (last_item self.new.told) (IsReasonOf (state_on (M.memory ram.old) board.old) step.now number) }
+        ensures along { GoesAlong self.old (state_on (M.memory ram.old) board.old) (step.now ∷ []) number
+            self.new (state_on (M.memory ram.new) board.new) }
+    {
+        let request = board.request_of(ram, step);
+        let tables = tables_for(board, ram, request);
+        let taken = self.history.take(board, ram, step, request, number, answer);
+        let way = taken.seen.way;
         self.told.keep(Reason {
             number,
-            request: taken.request,
+            request,
             origin: taken.origin,
-            stale,
+            address: address_by(request, &way),
+            stale: stale_by(&way, tables),
         });
     }
 }
 
-// The way that the tables say of the access that a step makes.
-fn tables_for(platform: &Platform, step: &Step) -> Option<Way>
-    ensures told { result ≡ option_map (by_tables platform.now.machine) (request_of_step platform.now step.now) }
+// The way that the tables lead a request.
+fn tables_for<M: Region>(board: &Board, ram: &M, request: Option<Request>) -> Option<Way>
+    ensures way { result ≡ option_map (by_tables (in_front_of (M.memory ram.now) board.now.iommu)) request }
 {
-    let request = platform.request_of(step)?;
-    Some(platform.seen_uncached(&request).way)
+    let request = request?;
+    Some(board.seen_uncached(ram, &request).way)
 }
 
-// What the tables say of an access that was led this way, where they say otherwise.
+// The physical address that a way leads a request to; None if it is denied.
+fn address_by(request: Option<Request>, way: &Way) -> Option<u64>
+    ensures address { result ≡ address_by request way.now }
+{
+    let iova = request?.iova;
+    match *way {
+        Way::Register | Way::Context(_) => Some(iova),
+        Way::Walked(_, hit) => Some(hit.frame * 4096 + iova % 4096),
+        Way::Denied(_) => None,
+    }
+}
+
+// The way of the tables, if the access was led another way.
 fn stale_by(now: &Way, tables: Option<Way>) -> Option<Way>
-    ensures told { result ≡ option_and_then (differing now.now) tables }
+    ensures way { result ≡ option_and_then (differing now.now) tables }
 {
     differing(now, tables?)
 }

@@ -1,8 +1,11 @@
-ghost use Rattle.std.specs.Prelude.{◌≡◌, ◌↔◌, ◌<◌, ◌^◌, ℕ, List, replicate, [], ◌∷◌, ◌++◌, IfSome, IsSomeAnd, Some, None, get_or, slice_get, length};
+//! Which steps filled what the caches hold, beside a platform that takes its steps.
+
+ghost use Rattle.std.specs.Prelude.{◌≡◌, ◌↔◌, ℕ, List, [], ◌∷◌, ◌++◌, IsSomeAnd, Some, None, get_or, slice_get, length};
+ghost use Rattle.iom_mem.specs.Memory.{Memory};
 ghost use Rattle.iom_cache.specs.Keys.{same_did};
-ghost use Rattle.iom_cache.specs.Origins.{first_stamps};
 ghost use Rattle.iom_cache.specs.Places.{place_of};
 ghost use Rattle.iom_core.specs.Looking.{noticed, nothing_seen};
+ghost use Rattle.iom_core.specs.State.{in_front_of, state_on};
 ghost use Rattle.iom_core.specs.Table.{asked, next, request_of_step, told_by_step};
 ghost use Rattle.iom_core.specs.Warrants.{IsUncached};
 ghost use Rattle.iom_account.specs.Beside.{beside};
@@ -12,7 +15,8 @@ use crate::notes::{equal, note, zeros};
 use crate::origin::Origin;
 use arrayvec::ArrayVec;
 use iom_cache::key_of;
-use iom_core::{Answer, Platform, Request, Seen, Step, Way};
+use iom_core::{Answer, Board, Platform, Request, Seen, Step, Way};
+use iom_mem::WritableRegion;
 use std::marker::Model;
 
 /// The steps that filled the entries in a platform's caches, each by the number that the caller gave it.
@@ -65,9 +69,17 @@ impl History {
     pub fn new(platform: &Platform) -> History
         ensures { IsUncached platform.now → Follows result platform.now platform.now [] [] }
     {
-        let pages = platform.trans().len();
+        History::new_on(&platform.board)
+    }
+
+    /// As `new`, of this board, whatever memory it stands in front of.
+    pub fn new_on(board: &Board) -> History
+        ensures { (memory : Memory) → IsUncached (state_on memory board.now) →
+            Follows result (state_on memory board.now) (state_on memory board.now) [] [] }
+    {
+        let pages = board.trans().len();
         History {
-            contexts: zeros(platform.contexts().len()),
+            contexts: zeros(board.contexts().len()),
             walks: zeros(pages),
             bases: zeros(pages),
         }
@@ -110,10 +122,65 @@ impl History {
             Follows self.old platform.old start steps numbers →
             ComesFrom start (steps ++ step.now ∷ []) (numbers ++ number ∷ []) (length steps) result.origin }
     {
-        let request = platform.request_of(step);
+        self.step_on(&mut platform.board, &mut platform.ram, step, number, answer)
+    }
+
+    /// As `step`, of this board in front of a memory that is handed to it for the step, as one that its owner lends. Between steps others
+    /// may write that memory; `others_are_not_counted` says what the history then means.
+    pub fn step_on<M: WritableRegion>(
+        &mut self,
+        board: &mut Board,
+        ram: &mut M,
+        step: &Step,
+        number: u64,
+        answer: &mut Answer,
+    ) -> Taken
+        ensures answer { answer.new ≡ (next (state_on (M.memory ram.old) board.old) step.now).answer }
+        ensures state { state_on (M.memory ram.new) board.new ≡ (next (state_on (M.memory ram.old) board.old) step.now).state }
+        ensures borrow { M.name ram.new ≡ M.name ram.old }
+        ensures request { result.request ≡ request_of_step (state_on (M.memory ram.old) board.old) step.now }
+        ensures seen { result.seen ≡ told_by_step noticed nothing_seen (in_front_of (M.memory ram.old) board.old.iommu)
+            (asked (state_on (M.memory ram.old) board.old) step.now) }
+        ensures noted { let before = state_on (M.memory ram.old) board.old in
+            self.new ≡ noted before (state_on (M.memory ram.new) board.new) (request_of_step before step.now) number self.old }
+        ensures told { result.origin ≡ origin_so self.new (state_on (M.memory ram.new) board.new)
+            (request_of_step (state_on (M.memory ram.old) board.old) step.now) number result.seen.way }
+        ensures none { let before = state_on (M.memory ram.old) board.old in
+            (result.origin ≡ None) ↔ HasNoAccess before (request_of_step before step.now) }
+        ensures follows { (start : State) (steps : List Step) (numbers : List ℕ) →
+            Follows self.old (state_on (M.memory ram.old) board.old) start steps numbers →
+            Follows self.new (state_on (M.memory ram.new) board.new) start (steps ++ step.now ∷ []) (numbers ++ number ∷ []) }
+        ensures origin { (start : State) (steps : List Step) (numbers : List ℕ) →
+            Follows self.old (state_on (M.memory ram.old) board.old) start steps numbers →
+            ComesFrom start (steps ++ step.now ∷ []) (numbers ++ number ∷ []) (length steps) result.origin }
+    {
+        let request = board.request_of(ram, step);
+        self.take(board, ram, step, request, number, answer)
+    }
+
+    /// As `step_on`, of a step that makes this request.
+    pub(crate) fn take<M: WritableRegion>(
+        &mut self,
+        board: &mut Board,
+        ram: &mut M,
+        step: &Step,
+        request: Option<Request>,
+        number: u64,
+        answer: &mut Answer,
+    ) -> Taken
+        requires asked { request ≡ request_of_step (state_on (M.memory ram.old) board.old) step.now }
+        ensures answer { answer.new ≡ (next (state_on (M.memory ram.old) board.old) step.now).answer }
+        ensures state { state_on (M.memory ram.new) board.new ≡ (next (state_on (M.memory ram.old) board.old) step.now).state }
+        ensures borrow { M.name ram.new ≡ M.name ram.old }
+        ensures request { result.request ≡ request }
+        ensures seen { result.seen ≡ told_by_step noticed nothing_seen (in_front_of (M.memory ram.old) board.old.iommu)
+            (asked (state_on (M.memory ram.old) board.old) step.now) }
+        ensures noted { self.new ≡ noted_so (state_on (M.memory ram.new) board.new) request result.seen number self.old }
+        ensures told { result.origin ≡ origin_so self.new (state_on (M.memory ram.new) board.new) request number result.seen.way }
+    {
         let mut seen = Seen::nothing();
-        platform.step_into(step, answer, &mut seen);
-        let origin = self.note_step(platform, request, &seen, number);
+        board.step_into(ram, step, answer, &mut seen);
+        let origin = self.note_step(board, request, &seen, number);
         Taken {
             request,
             seen,
@@ -149,7 +216,14 @@ impl History {
     pub fn context_of(&self, platform: &Platform, did: u32) -> Option<u64>
         ensures { result ≡ slice_get self.now.contexts (place_of (same_did did) platform.now.machine.contexts) }
     {
-        self.context_beside(platform.contexts().place_of(did) as u64)
+        self.context_on(&platform.board, did)
+    }
+
+    /// As `context_of`, of this board.
+    pub fn context_on(&self, board: &Board, did: u32) -> Option<u64>
+        ensures { result ≡ slice_get self.now.contexts (place_of (same_did did) board.now.iommu.contexts) }
+    {
+        self.context_beside(board.contexts().place_of(did) as u64)
     }
 
     // The number beside place `i` of the context cache.
@@ -172,20 +246,20 @@ impl History {
     // Notes what a step read that asked this, by what it told, and says where the translation comes from that it used.
     fn note_step(
         &mut self,
-        platform: &Platform,
+        board: &Board,
         request: Option<Request>,
         seen: &Seen,
         number: u64,
     ) -> Option<Origin>
-        ensures noted { self.new ≡ noted_so platform.now request seen.now number self.old }
-        ensures origin { result ≡ origin_so self.new platform.now request number seen.now.way }
+        ensures noted { (memory : Memory) → self.new ≡ noted_so (state_on memory board.now) request seen.now number self.old }
+        ensures origin { (memory : Memory) → result ≡ origin_so self.new (state_on memory board.now) request number seen.now.way }
     {
         let Some(request) = request else {
             return None;
         };
         self.note_context(seen.is_context_read(), number);
-        self.note_walk(platform, seen.is_page_read(), request.did, number);
-        self.origin(platform, &request, number, &seen.way)
+        self.note_walk(board, seen.is_page_read(), request.did, number);
+        self.origin(board, &request, number, &seen.way)
     }
 
     // Notes a context that a step read.
@@ -198,50 +272,44 @@ impl History {
     }
 
     // Notes a page that a step of device `did` read, and its context's number.
-    fn note_walk(&mut self, platform: &Platform, read: bool, did: u32, number: u64)
-        ensures { self.new ≡ walk_noted read number (beside (same_did did) platform.now.machine.contexts self.old.contexts number) self.old }
+    fn note_walk(&mut self, board: &Board, read: bool, did: u32, number: u64)
+        ensures { self.new ≡ walk_noted read number (beside (same_did did) board.now.iommu.contexts self.old.contexts number) self.old }
     {
         if read {
-            let base = self.context_number(platform, did, number);
+            let base = self.context_number(board, did, number);
             note(&mut self.walks, number);
             note(&mut self.bases, base);
         }
     }
 
     // Where the translation comes from that the last step used for this request, which was led this way.
-    fn origin(
-        &self,
-        platform: &Platform,
-        request: &Request,
-        number: u64,
-        way: &Way,
-    ) -> Option<Origin>
-        ensures { result ≡ origin_on self.now platform.now request.now number way.now }
+    fn origin(&self, board: &Board, request: &Request, number: u64, way: &Way) -> Option<Origin>
+        ensures { (memory : Memory) → result ≡ origin_on self.now (state_on memory board.now) request.now number way.now }
     {
         match way {
             Way::Denied(_) => None,
             Way::Register => Some(Origin::Register),
             Way::Context(_) => {
-                let context = self.context_number(platform, request.did, number);
+                let context = self.context_number(board, request.did, number);
                 Some(Origin::Context { context })
             }
             Way::Walked(context, _) => {
                 let key = key_of(context, request.did, request.iova, request.kind);
-                let place = platform.trans().place_of(&key);
+                let place = board.trans().place_of(&key);
                 Some(Origin::Walked {
                     context: number_at(self.bases.as_slice(), place, number),
                     walk: number_at(self.walks.as_slice(), place, number),
-                    current: self.context_number(platform, request.did, number),
+                    current: self.context_number(board, request.did, number),
                 })
             }
         }
     }
 
     // The number beside the live context of a device id, 24 bits.
-    fn context_number(&self, platform: &Platform, did: u32, number: u64) -> u64
-        ensures { result ≡ beside (same_did did) platform.now.machine.contexts self.now.contexts number }
+    fn context_number(&self, board: &Board, did: u32, number: u64) -> u64
+        ensures { result ≡ beside (same_did did) board.now.iommu.contexts self.now.contexts number }
     {
-        let place = platform.contexts().place_of(did);
+        let place = board.contexts().place_of(did);
         number_at(self.contexts.as_slice(), place, number)
     }
 }

@@ -1,15 +1,19 @@
+//! Why a step was answered as it was.
+
 use crate::origin::Origin;
 use iom_core::{Request, Way};
 
-/// What is told of a step that was carried out.
+/// Why a step was answered as it was.
 #[derive(Clone, Copy, Default)]
 pub struct Reason {
-    /// The number that the caller gave it.
+    /// The number that the caller gave the step.
     pub number: u64,
-    /// What it asked of the IOMMU; None where it made no access.
+    /// The request that the step made of the IOMMU; None if it made no access.
     pub request: Option<Request>,
-    /// Where the translation came from that it used, each step told by its number; None where it made no access, or was denied.
+    /// The origin of the translation that its access used, by the numbers of steps; None if it made no access, or was denied.
     pub origin: Option<Origin>,
-    /// The way that the tables said of its access before the step, where something cached led it otherwise.
+    /// The physical address that its access was led to, also if memory doesn't reach there; None if it made no access, or was denied.
+    pub address: Option<u64>,
+    /// If something cached led its access, and the tables in memory said otherwise before the step, the way that the tables said.
     pub stale: Option<Way>,
 }
