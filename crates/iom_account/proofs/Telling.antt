@@ -16,7 +16,7 @@ use Rattle.iom_core.specs.declared.way.Way.{Way}
 use Rattle.iom_tables.specs.Stale.{differing, stale_way}
 use Rattle.iom_account.specs.Following.{ComesFrom, Follows, Notes, number_of}
 use Rattle.iom_account.proofs.Runs.{end_more, length_more, moment_last, request_last}
-use Rattle.iom_account.specs.Account.{Account, Accounts, GoesAlong, IsReason, IsReasonOf, Tells, address_by, address_in, stale_in}
+use Rattle.iom_account.specs.Account.{Account, Accounts, GoesAlong, IsReason, IsReasonOf, Tells, address_by, granted_address, stale_in}
 use Rattle.iom_account.specs.declared.reason.Reason.{Reason}
 
 -- an item stands before the last one, or is it
@@ -111,8 +111,8 @@ along_step before state step number after left reason left_is told_is own follow
       number = own.number ∙ sym (number_last numbers number (length steps) h.numbered);
       request = own.request ∙ sym asked;
       origin = λ uncached. origin start steps numbers (h.follows uncached);
-      address = own.address ∙ ap (address_in state) (sym asked)
-          ∙ ap (λ (s : State). address_in s (request_at start more (length steps))) (sym here);
+      address = own.address ∙ ap (granted_address state) (sym asked)
+          ∙ ap (λ (s : State). granted_address s (request_at start more (length steps))) (sym here);
       stale = own.stale ∙ ap (stale_in state) (sym asked)
           ∙ ap (λ (s : State). stale_in s (request_at start more (length steps))) (sym here);
     } in
@@ -188,7 +188,7 @@ stale_told state step seen tables found is tables_are told =
 
 -- where an access was led, by the way that it was told to be led
 address_asked : (state : State) (asking : Option Asking) (seen : Seen) → seen ≡ told_by_step noticed nothing_seen state.machine asking →
-    address_by (option_map request_in asking) seen.way ≡ address_in state (option_map request_in asking)
+    address_by (option_map request_in asking) seen.way ≡ granted_address state (option_map request_in asking)
 address_asked state None seen is = refl
 address_asked state (Some asking) seen is = ap (λ (s : Seen). address_by (Some (request_in asking)) s.way) is
 

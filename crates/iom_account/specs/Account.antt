@@ -25,16 +25,16 @@ address_by None way = None
 address_by (Some request) way = result_ok (address_on way request.iova)
 
 -- the physical address that a request is led to
-abbrev pub address_in : State → Option Request → Option ℕ
-address_in state None = None
-address_in state (Some request) = address_by (Some request) (led state.machine request).way
+abbrev pub granted_address : State → Option Request → Option ℕ
+granted_address state None = None
+granted_address state (Some request) = address_by (Some request) (led state.machine request).way
 
 -- what is told of a step of its own number that this platform carries out, but for where its translation comes from: that is told by the
 -- steps before it too
 pub record IsReasonOf (state : State) (step : Step) (own : ℕ) (reason : Reason) : Type 0 where
   pub number : reason.number ≡ own
   pub request : reason.request ≡ request_of_step state step
-  pub address : reason.address ≡ address_in state (request_of_step state step)
+  pub address : reason.address ≡ granted_address state (request_of_step state step)
   pub stale : reason.stale ≡ stale_in state (request_of_step state step)
 
 -- what is told of step n, the last of these
@@ -42,7 +42,7 @@ pub record IsReason (start : State) (steps : List Step) (numbers : List ℕ) (n 
   pub number : reason.number ≡ number_of numbers n
   pub request : reason.request ≡ request_at start steps n
   pub origin : IsUncached start → ComesFrom start steps numbers n reason.origin
-  pub address : reason.address ≡ address_in (moment start steps n) (request_at start steps n)
+  pub address : reason.address ≡ granted_address (moment start steps n) (request_at start steps n)
   pub stale : reason.stale ≡ stale_in (moment start steps n) (request_at start steps n)
 
 -- of how many steps the reasons are kept

@@ -1,19 +1,14 @@
 //! The steps that filled the caches, and the reasons of the last steps.
 
 ghost use Rattle.std.specs.Prelude.{◌≡◌};
-ghost use Rattle.std.specs.Option.{option_and_then, option_map};
 ghost use Rattle.iom_mem.specs.Memory.{Memory};
-ghost use Rattle.iom_core.specs.Looking.{by_tables};
-ghost use Rattle.iom_core.specs.State.{in_front_of, state_on};
-ghost use Rattle.iom_tables.specs.Stale.{differing};
-ghost use Rattle.iom_account.specs.Account.{address_by};
+ghost use Rattle.iom_core.specs.State.{state_on};
 
 use crate::history::History;
 use crate::kept::Kept;
 use crate::reason::Reason;
-use iom_core::{Answer, Board, Platform, Request, Step, Way};
-use iom_mem::{Region, WritableRegion};
-use iom_tables::differing;
+use iom_core::{Answer, Board, Platform, Step};
+use iom_mem::WritableRegion;
 use std::marker::Model;
 
 /// The steps that filled the entries in a platform's caches, and the reasons of its last 32 steps. A step is named by the number that
@@ -120,43 +115,9 @@ impl Account {
         ensures along { GoesAlong self.old (state_on (M.memory ram.old) board.old) (step.now ∷ []) number
             self.new (state_on (M.memory ram.new) board.new) }
     {
-        let request = board.request_of(ram, step);
-        let tables = tables_for(board, ram, request);
-        let taken = self.history.take(board, ram, step, request, number, answer);
-        let way = taken.seen.way;
-        self.told.keep(Reason {
-            number,
-            request,
-            origin: taken.origin,
-            address: address_by(request, &way),
-            stale: stale_by(&way, tables),
-        });
+        let reason = self
+            .history
+            .step_with_reason(board, ram, step, number, answer);
+        self.told.keep(reason);
     }
-}
-
-// The way that the tables lead a request.
-fn tables_for<M: Region>(board: &Board, ram: &M, request: Option<Request>) -> Option<Way>
-    ensures way { result ≡ option_map (by_tables (in_front_of (M.memory ram.now) board.now.iommu)) request }
-{
-    let request = request?;
-    Some(board.seen_uncached(ram, &request).way)
-}
-
-// The physical address that a way leads a request to; None if it is denied.
-fn address_by(request: Option<Request>, way: &Way) -> Option<u64>
-    ensures address { result ≡ address_by request way.now }
-{
-    let iova = request?.iova;
-    match *way {
-        Way::Register | Way::Context(_) => Some(iova),
-        Way::Walked(_, hit) => Some(hit.frame * 4096 + iova % 4096),
-        Way::Denied(_) => None,
-    }
-}
-
-// The way of the tables, if the access was led another way.
-fn stale_by(now: &Way, tables: Option<Way>) -> Option<Way>
-    ensures way { result ≡ option_and_then (differing now.now) tables }
-{
-    differing(now, tables?)
 }

@@ -13,6 +13,7 @@ ghost use Rattle.iom_account.specs.Following.{ComesFrom, ContextFrom, Follows, H
 
 use crate::notes::{equal, note, zeros};
 use crate::origin::Origin;
+use crate::reason::{Reason, address_by, stale_by, tables_for};
 use arrayvec::ArrayVec;
 use iom_cache::key_of;
 use iom_core::{Answer, Board, Platform, Request, Seen, Step, Way};
@@ -64,6 +65,7 @@ impl History {
     ghost use Rattle.iom_ddt.specs.declared.context.Context.{Context};
     ghost use Rattle.iom_nested.specs.declared.translation.Hit.{Hit};
     ghost use Rattle.iom_cache.specs.declared.key.Key.{Key};
+    ghost use Rattle.iom_account.specs.Account.{IsReasonOf};
 
     /// An empty history of this platform. Origins are known only if both caches are empty now. It takes no memory.
     pub fn new(platform: &Platform) -> History
@@ -158,8 +160,46 @@ impl History {
         self.take(board, ram, step, request, number, answer)
     }
 
-    /// As `step_on`, of a step that makes this request.
-    pub(crate) fn take<M: WritableRegion>(
+    /// As `step_on`, and returns the step's reason. It walks the tables once more before the step, to see whether something cached leads the
+    /// access otherwise.
+    pub fn step_with_reason<M: WritableRegion>(
+        &mut self,
+        board: &mut Board,
+        ram: &mut M,
+        step: &Step,
+        number: u64,
+        answer: &mut Answer,
+    ) -> Reason
+        ensures answer { answer.new ≡ (next (state_on (M.memory ram.old) board.old) step.now).answer }
+        ensures state { state_on (M.memory ram.new) board.new ≡ (next (state_on (M.memory ram.old) board.old) step.now).state }
+        ensures borrow { M.name ram.new ≡ M.name ram.old }
+        ensures reason { IsReasonOf (state_on (M.memory ram.old) board.old) step.now number result }
+        ensures noted { let before = state_on (M.memory ram.old) board.old in
+            self.new ≡ noted before (state_on (M.memory ram.new) board.new) (request_of_step before step.now) number self.old }
+        ensures none { let before = state_on (M.memory ram.old) board.old in
+            (result.origin ≡ None) ↔ HasNoAccess before (request_of_step before step.now) }
+        ensures follows { (start : State) (steps : List Step) (numbers : List ℕ) →
+            Follows self.old (state_on (M.memory ram.old) board.old) start steps numbers →
+            Follows self.new (state_on (M.memory ram.new) board.new) start (steps ++ step.now ∷ []) (numbers ++ number ∷ []) }
+        ensures origin { (start : State) (steps : List Step) (numbers : List ℕ) →
+            Follows self.old (state_on (M.memory ram.old) board.old) start steps numbers →
+            ComesFrom start (steps ++ step.now ∷ []) (numbers ++ number ∷ []) (length steps) result.origin }
+    {
+        let request = board.request_of(ram, step);
+        let tables = tables_for(board, ram, request);
+        let taken = self.take(board, ram, step, request, number, answer);
+        let way = taken.seen.way;
+        Reason {
+            number,
+            request,
+            origin: taken.origin,
+            address: address_by(request, &way),
+            stale: stale_by(&way, tables),
+        }
+    }
+
+    // As `step_on`, of a step that makes this request.
+    fn take<M: WritableRegion>(
         &mut self,
         board: &mut Board,
         ram: &mut M,
