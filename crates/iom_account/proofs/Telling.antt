@@ -14,9 +14,9 @@ use Rattle.iom_core.specs.declared.looking.Seen.{Seen}
 use Rattle.iom_core.specs.declared.step.Step.{Step}
 use Rattle.iom_core.specs.declared.way.Way.{Way}
 use Rattle.iom_tables.specs.Stale.{differing, stale_way}
-use Rattle.iom_account.specs.Following.{ComesFrom, Follows, Notes, number_of}
+use Rattle.iom_account.specs.Following.{Follows, Notes, number_of}
 use Rattle.iom_account.proofs.Runs.{end_more, length_more, moment_last, request_last}
-use Rattle.iom_account.specs.Account.{Account, Accounts, GoesAlong, IsReason, IsReasonOf, Tells, address_by, granted_address, stale_in}
+use Rattle.iom_account.specs.Account.{Account, Accounts, CountsStep, GoesAlong, IsReason, IsReasonOf, Tells, address_by, granted_address, stale_in}
 use Rattle.iom_account.specs.declared.reason.Reason.{Reason}
 
 -- an item stands before the last one, or is it
@@ -29,7 +29,7 @@ placed Goal (z ∷ xs) x y (suc n) at below last =
     placed Goal xs x y n at (λ low is. below (omega (arith, low)) is) (λ end is. last (ap suc end) is)
 
 -- of those that are kept the last are the last of all
-kept_more : {X : Type 0} (n : ℕ) (xs : List X) (x : X) → keep_last n (keep_last n xs ++ x ∷ []) ≡ keep_last n (xs ++ x ∷ [])
+pub kept_more : {X : Type 0} (n : ℕ) (xs : List X) (x : X) → keep_last n (keep_last n xs ++ x ∷ []) ≡ keep_last n (xs ++ x ∷ [])
 kept_more n xs x =
     let k = length xs - n in
     let all = xs ++ x ∷ [] in
@@ -95,14 +95,11 @@ number_last numbers number n end =
     ap (number_of (numbers ++ number ∷ [])) (sym end) ∙ get_or-append_seam numbers number [] 0
 
 -- one step
-pub along_step : (before : Account) (state : State) (step : Step) (number : ℕ) (after : Account) (left : State) (reason : Reason) →
-    left ≡ (next state step).state → after.told ≡ keep_last 32 (before.told ++ reason ∷ []) → IsReasonOf state step number reason →
-    ((start : State) (steps : List Step) (numbers : List ℕ) → Follows before.history state start steps numbers →
-    Follows after.history left start (steps ++ step ∷ []) (numbers ++ number ∷ [])) →
-    ((start : State) (steps : List Step) (numbers : List ℕ) → Follows before.history state start steps numbers →
-    ComesFrom start (steps ++ step ∷ []) (numbers ++ number ∷ []) (length steps) reason.origin) →
-    GoesAlong before state (step ∷ []) number after left
-along_step before state step number after left reason left_is told_is own follows origin start steps numbers h =
+pub along_step : (before : Account) (state : State) (step : Step) (number : ℕ) (after : Account) (left : State) →
+    left ≡ (next state step).state → CountsStep before state step number after left → GoesAlong before state (step ∷ []) number after left
+along_step before state step number after left left_is c start steps numbers h =
+    let reason = c.reason in
+    let own = c.own in
     let more = steps ++ step ∷ [] in
     let here : moment start more (length steps) ≡ state = moment_last start steps step ∙ sym h.reached in
     let asked : request_at start more (length steps) ≡ request_of_step state step =
@@ -110,7 +107,7 @@ along_step before state step number after left reason left_is told_is own follow
     let is : IsReason start more (numbers ++ number ∷ []) (length steps) reason = record {
       number = own.number ∙ sym (number_last numbers number (length steps) h.numbered);
       request = own.request ∙ sym asked;
-      origin = λ uncached. origin start steps numbers (h.follows uncached);
+      origin = λ uncached. c.origin start steps numbers (h.follows uncached);
       address = own.address ∙ ap (granted_address state) (sym asked)
           ∙ ap (λ (s : State). granted_address s (request_at start more (length steps))) (sym here);
       stale = own.stale ∙ ap (stale_in state) (sym asked)
@@ -119,8 +116,8 @@ along_step before state step number after left reason left_is told_is own follow
     record {
       reached = left_is ∙ ap (λ (s : State). (next s step).state) h.reached ∙ sym (end_more start steps step);
       numbered = length_more numbers number ∙ ap suc h.numbered ∙ sym (length_more steps step);
-      follows = λ uncached. follows start steps numbers (h.follows uncached);
-      tells = subst (Tells start more (numbers ++ number ∷ [])) (sym told_is)
+      follows = λ uncached. c.follows start steps numbers (h.follows uncached);
+      tells = subst (Tells start more (numbers ++ number ∷ [])) (sym c.told)
           (told_more start steps numbers step number h.numbered before.told reason h.tells is);
     }
 

@@ -1,5 +1,5 @@
 -- An account of the steps of a platform: which steps filled what its caches hold, and why each of the last steps was answered as it was.
-use Rattle.std.specs.Prelude.{ℕ, suc, ◌≡◌, ◌++◌, List, length, replicate, take, slice_get, Option, Some, None}
+use Rattle.std.specs.Prelude.{ℕ, suc, ◌≡◌, ◌++◌, List, [], ◌∷◌, length, replicate, take, slice_get, Option, Some, None}
 use Rattle.std.specs.Result.{result_ok}
 use Rattle.circular_buffer.specs.Buffer.{keep_last}
 use Rattle.iom_core.specs.Access.{address_on, led}
@@ -74,3 +74,14 @@ abbrev pub GoesAlong : Account → State → List Step → ℕ → Account → S
 GoesAlong before state more number after left =
     (start : State) (steps : List Step) (numbers : List ℕ) → Accounts before state start steps numbers →
     Accounts after left start (steps ++ more) (numbers ++ replicate (length more) number)
+
+-- What a step under this number leaves of an account: its reason is kept after the others, and the history and the origin that the reason
+-- has go along with any steps before it.
+pub record CountsStep (before : Account) (state : State) (step : Step) (number : ℕ) (after : Account) (left : State) : Type 0 where
+  pub reason : Reason
+  pub own : IsReasonOf state step number reason
+  pub told : after.told ≡ keep_last most_reasons (before.told ++ reason ∷ [])
+  pub follows : (start : State) (steps : List Step) (numbers : List ℕ) → Follows before.history state start steps numbers →
+      Follows after.history left start (steps ++ step ∷ []) (numbers ++ number ∷ [])
+  pub origin : (start : State) (steps : List Step) (numbers : List ℕ) → Follows before.history state start steps numbers →
+      ComesFrom start (steps ++ step ∷ []) (numbers ++ number ∷ []) (length steps) reason.origin

@@ -32,7 +32,7 @@ impl Account {
     ghost use Rattle.std.specs.Option.{option_copied};
     ghost use Rattle.circular_buffer.specs.Buffer.{last_item};
     ghost use Rattle.iom_core.specs.Table.{next};
-    ghost use Rattle.iom_account.specs.Account.{Accounts, GoesAlong, IsReasonOf};
+    ghost use Rattle.iom_account.specs.Account.{Accounts, CountsStep, GoesAlong, IsReasonOf};
 
     /// An empty account of this platform. Origins are known only if both caches are empty now.
     pub fn new(platform: &Platform) -> Account
@@ -92,6 +92,9 @@ impl Account {
         ensures state { platform.new ≡ (next platform.old step.now).state }
         ensures newest { IsSomeAnd (last_item self.new.told) (IsReasonOf platform.old step.now number) }
 
+        // What it leaves is known whatever it was, so also after others wrote memory.
+        ensures counted { CountsStep self.old platform.old step.now number self.new platform.new }
+
         // It goes along with the platform's steps: from a start whose caches hold nothing it tells of each what explains it.
         ensures along { GoesAlong self.old platform.old (step.now ∷ []) number self.new platform.new }
     {
@@ -112,6 +115,8 @@ impl Account {
         ensures state { state_on (M.memory ram.new) board.new ≡ (next (state_on (M.memory ram.old) board.old) step.now).state }
         ensures borrow { M.name ram.new ≡ M.name ram.old }
         ensures newest { IsSomeAnd (last_item self.new.told) (IsReasonOf (state_on (M.memory ram.old) board.old) step.now number) }
+        ensures counted { CountsStep self.old (state_on (M.memory ram.old) board.old) step.now number
+            self.new (state_on (M.memory ram.new) board.new) }
         ensures along { GoesAlong self.old (state_on (M.memory ram.old) board.old) (step.now ∷ []) number
             self.new (state_on (M.memory ram.new) board.new) }
     {

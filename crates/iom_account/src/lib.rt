@@ -7,6 +7,7 @@ pub use account::Account;
 pub use explaining::explain;
 pub use history::{Filled, History, Taken};
 pub use origin::Origin;
+pub use others::others_are_not_counted;
 pub use reason::Reason;
 
 mod account;
@@ -15,4 +16,5 @@ mod history;
 mod kept;
 mod notes;
 mod origin;
+mod others;
 mod reason;
