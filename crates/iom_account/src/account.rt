@@ -95,7 +95,7 @@ impl Account {
         // What it leaves is known whatever it was, so also after others wrote memory.
         ensures counted { CountsStep self.old platform.old step.now number self.new platform.new }
 
-        // It goes along with the platform's steps: from a start whose caches hold nothing it tells of each what explains it.
+        // The account goes along with the platform's steps; from a start whose caches are empty the origin of each is its warrant.
         ensures along { GoesAlong self.old platform.old (step.now ∷ []) number self.new platform.new }
     {
         self.step_on(&mut platform.board, &mut platform.ram, step, number, answer);

@@ -113,10 +113,10 @@ impl History {
         ensures seen { result.seen ≡ told_by_step noticed nothing_seen platform.old.machine (asked platform.old step.now) }
         ensures noted { self.new ≡ noted platform.old platform.new (request_of_step platform.old step.now) number self.old }
         ensures told { result.origin ≡ origin_so self.new platform.new (request_of_step platform.old step.now) number result.seen.way }
-        // Whatever the caches held, it tells no origin of a step that made no access or was denied, and one of every other.
+        // Whatever the caches held at the start: no origin if the step made no access or was denied, else one.
         ensures none { (result.origin ≡ None) ↔ HasNoAccess platform.old (request_of_step platform.old step.now) }
 
-        // From a start whose caches hold nothing it goes along with the steps, and tells of each what explains it.
+        // From a start whose caches are empty the history follows the steps, and the origin is the step's warrant, by numbers.
         ensures follows { (start : State) (steps : List Step) (numbers : List ℕ) →
             Follows self.old platform.old start steps numbers →
             Follows self.new platform.new start (steps ++ step.now ∷ []) (numbers ++ number ∷ []) }
@@ -156,8 +156,8 @@ impl History {
             Follows self.old (state_on (M.memory ram.old) board.old) start steps numbers →
             ComesFrom start (steps ++ step.now ∷ []) (numbers ++ number ∷ []) (length steps) result.origin }
     {
-        let request = board.request_of(ram, step);
-        self.take(board, ram, step, request, number, answer)
+        let asked = board.request_of(ram, step);
+        self.take(board, ram, step, asked, number, answer)
     }
 
     /// As `step_on`, and returns the step's reason. It walks the tables once more before the step, to see whether something cached leads the
@@ -228,8 +228,8 @@ impl History {
         }
     }
 
-    /// The number of the step that filled place `i` of the context cache, whose oldest is place 0; 0 where it was empty from the
-    /// start on, and None where it is beyond the last place.
+    /// The number of the step that filled place `i` of the context cache; the oldest place is 0. The number is 0 if the place was empty
+    /// from the start on. None if there is no such place.
     pub fn context(&self, i: u64) -> Option<u64>
         ensures number { result ≡ slice_get self.now.contexts i }
         ensures from { (platform start : State) (steps : List Step) (numbers : List ℕ) (did : ℕ) (context : Context) →
@@ -240,8 +240,8 @@ impl History {
         self.context_beside(i)
     }
 
-    /// The numbers of the steps that filled place `i` of the translation cache, whose oldest is place 0, and its context; 0 twice
-    /// where it was empty from the start on, and None where it is beyond the last place.
+    /// The numbers of the steps that filled place `i` of the translation cache, and the context of its walk; the oldest place is 0. Both
+    /// are 0 if the place was empty from the start on. None if there is no such place.
     pub fn page(&self, i: u64) -> Option<Filled>
         ensures numbers { result ≡ numbers_of (slice_get self.now.bases i) (slice_get self.now.walks i) }
         ensures from { (platform start : State) (steps : List Step) (numbers : List ℕ) (key : Key) (hit : Hit) →
@@ -252,7 +252,7 @@ impl History {
         self.page_beside(i)
     }
 
-    /// The number of the step that filled the live context of a device id, 24 bits; None where there is none.
+    /// The number of the step that filled the live context of a device id, 24 bits; None if there is none.
     pub fn context_of(&self, platform: &Platform, did: u32) -> Option<u64>
         ensures { result ≡ slice_get self.now.contexts (place_of (same_did did) platform.now.machine.contexts) }
     {
@@ -283,7 +283,7 @@ impl History {
         Some(Filled { context, walk })
     }
 
-    // Notes what a step read that asked this, by what it told, and says where the translation comes from that it used.
+    // Notes what a step with this request read, as it was seen, and returns the origin of the translation that it used.
     fn note_step(
         &mut self,
         board: &Board,
@@ -302,7 +302,7 @@ impl History {
         self.origin(board, &request, number, &seen.way)
     }
 
-    // Notes a context that a step read.
+    // Notes the step's number beside a context that it read.
     fn note_context(&mut self, read: bool, number: u64)
         ensures { self.new ≡ context_noted read number self.old }
     {
@@ -311,7 +311,7 @@ impl History {
         }
     }
 
-    // Notes a page that a step of device `did` read, and its context's number.
+    // Notes the step's number, and that of its context, beside a page that a step of device `did` read.
     fn note_walk(&mut self, board: &Board, read: bool, did: u32, number: u64)
         ensures { self.new ≡ walk_noted read number (beside (same_did did) board.now.iommu.contexts self.old.contexts number) self.old }
     {
@@ -322,7 +322,7 @@ impl History {
         }
     }
 
-    // Where the translation comes from that the last step used for this request, which was led this way.
+    // The origin of the translation that the last step used for this request, which was led this way.
     fn origin(&self, board: &Board, request: &Request, number: u64, way: &Way) -> Option<Origin>
         ensures { (memory : Memory) → result ≡ origin_on self.now (state_on memory board.now) request.now number way.now }
     {

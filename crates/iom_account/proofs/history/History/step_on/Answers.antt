@@ -5,13 +5,13 @@ use Rattle.iom_account.proofs.history.History.step_on.Goals as goal
 pub returns-clause-noted : goal.returns-clause-noted
 returns-clause-noted g c =
     notes_of_step c.args.self.now c.take.new.self (state_on (g.M.Region.memory c.args.ram.now) c.args.board.now)
-    (state_on (g.M.Region.memory c.take.new.ram) c.take.new.board) c.args.step.now c.request_of-request.result c.take.result.seen
-    c.args.number c.request_of-request.ensures.request c.take.ensures.seen c.take.ensures.noted
+    (state_on (g.M.Region.memory c.take.new.ram) c.take.new.board) c.args.step.now c.request_of-asked.result c.take.result.seen
+    c.args.number c.request_of-asked.ensures.request c.take.ensures.seen c.take.ensures.noted
 
 pub returns-clause-told : goal.returns-clause-told
 returns-clause-told g c =
-    origin_of_step c.take.new.self (state_on (g.M.Region.memory c.take.new.ram) c.take.new.board) c.request_of-request.result _ c.args.number
-    c.take.result.seen c.take.result.origin c.take.ensures.told c.request_of-request.ensures.request
+    origin_of_step c.take.new.self (state_on (g.M.Region.memory c.take.new.ram) c.take.new.board) c.request_of-asked.result _ c.args.number
+    c.take.result.seen c.take.result.origin c.take.ensures.told c.request_of-asked.ensures.request
 
 pub returns-clause-none : goal.returns-clause-none
 returns-clause-none g c =
