@@ -9,3 +9,5 @@ pub mod Placed
 pub mod Counted
 pub mod Telling
 pub mod Ring
+pub mod Passed
+pub mod PassedAccount

@@ -52,6 +52,10 @@ pub notes_of_step : (history new : Notes) (platform after : State) (taken : Step
 notes_of_step history new platform after taken request seen number own is kept =
     kept ∙ ap (λ (r : Option Request). noted_so after r seen number history) own ∙ noted_is platform after (asked platform taken) seen number history is
 
+pub origin_of_step : (new : Notes) (after : State) (request asked : Option Request) (number : ℕ) (seen : Seen) (found : Option Origin) →
+    found ≡ origin_so new after request number seen.way → request ≡ asked → found ≡ origin_so new after asked number seen.way
+origin_of_step new after request asked number seen found told own = told ∙ ap (λ (r : Option Request). origin_so new after r number seen.way) own
+
 way_seen : (state : State) (asking : Option Asking) (seen : Seen) → seen ≡ told_by_step noticed nothing_seen state.machine asking →
     IfSome (option_map request_in asking) (λ request. (led state.machine request).way ≡ seen.way)
 way_seen state None seen is = tt

@@ -9,13 +9,14 @@ use Rattle.iom_core.specs.State.{State}
 use Rattle.iom_core.specs.Looking.{by_tables, nothing_seen, noticed}
 use Rattle.iom_core.specs.Table.{Asking, asked, next, request_in, request_of_step, told_by_step}
 use Rattle.iom_core.specs.Warrants.{IsUncached, moment, request_at}
+use Rattle.iom_core.specs.declared.access.Request.{Request}
 use Rattle.iom_core.specs.declared.looking.Seen.{Seen}
 use Rattle.iom_core.specs.declared.step.Step.{Step}
 use Rattle.iom_core.specs.declared.way.Way.{Way}
 use Rattle.iom_tables.specs.Stale.{differing, stale_way}
-use Rattle.iom_account.specs.Following.{ComesFrom, Follows, Notes, number_of}
+use Rattle.iom_account.specs.Following.{Follows, Notes, number_of}
 use Rattle.iom_account.proofs.Runs.{end_more, length_more, moment_last, request_last}
-use Rattle.iom_account.specs.Account.{Account, Accounts, GoesAlong, IsReason, IsReasonOf, Tells, stale_in}
+use Rattle.iom_account.specs.Account.{Account, Accounts, CountsStep, GoesAlong, IsReason, IsReasonOf, Tells, address_by, granted_address, stale_in}
 use Rattle.iom_account.specs.declared.reason.Reason.{Reason}
 
 -- an item stands before the last one, or is it
@@ -28,7 +29,7 @@ placed Goal (z ∷ xs) x y (suc n) at below last =
     placed Goal xs x y n at (λ low is. below (omega (arith, low)) is) (λ end is. last (ap suc end) is)
 
 -- of those that are kept the last are the last of all
-kept_more : {X : Type 0} (n : ℕ) (xs : List X) (x : X) → keep_last n (keep_last n xs ++ x ∷ []) ≡ keep_last n (xs ++ x ∷ [])
+pub kept_more : {X : Type 0} (n : ℕ) (xs : List X) (x : X) → keep_last n (keep_last n xs ++ x ∷ []) ≡ keep_last n (xs ++ x ∷ [])
 kept_more n xs x =
     let k = length xs - n in
     let all = xs ++ x ∷ [] in
@@ -94,14 +95,11 @@ number_last numbers number n end =
     ap (number_of (numbers ++ number ∷ [])) (sym end) ∙ get_or-append_seam numbers number [] 0
 
 -- one step
-pub along_step : (before : Account) (state : State) (step : Step) (number : ℕ) (after : Account) (left : State) (reason : Reason) →
-    left ≡ (next state step).state → after.told ≡ keep_last 32 (before.told ++ reason ∷ []) → IsReasonOf state step number reason →
-    ((start : State) (steps : List Step) (numbers : List ℕ) → Follows before.history state start steps numbers →
-    Follows after.history left start (steps ++ step ∷ []) (numbers ++ number ∷ [])) →
-    ((start : State) (steps : List Step) (numbers : List ℕ) → Follows before.history state start steps numbers →
-    ComesFrom start (steps ++ step ∷ []) (numbers ++ number ∷ []) (length steps) reason.origin) →
-    GoesAlong before state (step ∷ []) number after left
-along_step before state step number after left reason left_is told_is own follows origin start steps numbers h =
+pub along_step : (before : Account) (state : State) (step : Step) (number : ℕ) (after : Account) (left : State) →
+    left ≡ (next state step).state → CountsStep before state step number after left → GoesAlong before state (step ∷ []) number after left
+along_step before state step number after left left_is c start steps numbers h =
+    let reason = c.reason in
+    let own = c.own in
     let more = steps ++ step ∷ [] in
     let here : moment start more (length steps) ≡ state = moment_last start steps step ∙ sym h.reached in
     let asked : request_at start more (length steps) ≡ request_of_step state step =
@@ -109,15 +107,17 @@ along_step before state step number after left reason left_is told_is own follow
     let is : IsReason start more (numbers ++ number ∷ []) (length steps) reason = record {
       number = own.number ∙ sym (number_last numbers number (length steps) h.numbered);
       request = own.request ∙ sym asked;
-      origin = λ uncached. origin start steps numbers (h.follows uncached);
+      origin = λ uncached. c.origin start steps numbers (h.follows uncached);
+      address = own.address ∙ ap (granted_address state) (sym asked)
+          ∙ ap (λ (s : State). granted_address s (request_at start more (length steps))) (sym here);
       stale = own.stale ∙ ap (stale_in state) (sym asked)
           ∙ ap (λ (s : State). stale_in s (request_at start more (length steps))) (sym here);
     } in
     record {
       reached = left_is ∙ ap (λ (s : State). (next s step).state) h.reached ∙ sym (end_more start steps step);
       numbered = length_more numbers number ∙ ap suc h.numbered ∙ sym (length_more steps step);
-      follows = λ uncached. follows start steps numbers (h.follows uncached);
-      tells = subst (Tells start more (numbers ++ number ∷ [])) (sym told_is)
+      follows = λ uncached. c.follows start steps numbers (h.follows uncached);
+      tells = subst (Tells start more (numbers ++ number ∷ [])) (sym c.told)
           (told_more start steps numbers step number h.numbered before.told reason h.tells is);
     }
 
@@ -176,9 +176,28 @@ stale_asked state None seen is = refl
 stale_asked state (Some asking) seen is =
     ap (λ (s : Seen). differing s.way (by_tables state.machine (request_in asking))) is
 
-pub stale_told : (state : State) (step : Step) (seen : Seen) (tables found : Option Way) →
+stale_told : (state : State) (step : Step) (seen : Seen) (tables found : Option Way) →
     seen ≡ told_by_step noticed nothing_seen state.machine (asked state step) →
     tables ≡ option_map (by_tables state.machine) (request_of_step state step) → found ≡ option_and_then (differing seen.way) tables →
     found ≡ stale_in state (request_of_step state step)
 stale_told state step seen tables found is tables_are told =
     told ∙ ap (option_and_then (differing seen.way)) tables_are ∙ stale_asked state (asked state step) seen is
+
+-- where an access was led, by the way that it was told to be led
+address_asked : (state : State) (asking : Option Asking) (seen : Seen) → seen ≡ told_by_step noticed nothing_seen state.machine asking →
+    address_by (option_map request_in asking) seen.way ≡ granted_address state (option_map request_in asking)
+address_asked state None seen is = refl
+address_asked state (Some asking) seen is = ap (λ (s : Seen). address_by (Some (request_in asking)) s.way) is
+
+-- a reason of what was asked, seen and found before the step
+pub own_reason : (state : State) (step : Step) (number : ℕ) (request : Option Request) (seen : Seen) (tables : Option Way) (reason : Reason) →
+    request ≡ request_of_step state step → seen ≡ told_by_step noticed nothing_seen state.machine (asked state step) →
+    tables ≡ option_map (by_tables state.machine) request → reason.number ≡ number → reason.request ≡ request →
+    reason.address ≡ address_by request seen.way → reason.stale ≡ option_and_then (differing seen.way) tables →
+    IsReasonOf state step number reason
+own_reason state step number request seen tables reason own is tables_are number_is request_is address_is stale_is = record {
+  number = number_is;
+  request = request_is ∙ own;
+  address = address_is ∙ ap (λ (r : Option Request). address_by r seen.way) own ∙ address_asked state (asked state step) seen is;
+  stale = stale_told state step seen tables reason.stale is (tables_are ∙ ap (option_map (by_tables state.machine)) own) stale_is;
+}

@@ -1,7 +1,8 @@
--- What is told of the steps of a platform while they are carried out: which steps filled what its caches hold, and why each of the last
--- went as it did.
-use Rattle.std.specs.Prelude.{ℕ, suc, ◌≡◌, ◌++◌, List, length, replicate, take, slice_get, Option, Some, None}
+-- An account of the steps of a platform: which steps filled what its caches hold, and why each of the last steps was answered as it was.
+use Rattle.std.specs.Prelude.{ℕ, suc, ◌≡◌, ◌++◌, List, [], ◌∷◌, length, replicate, take, slice_get, Option, Some, None}
+use Rattle.std.specs.Result.{result_ok}
 use Rattle.circular_buffer.specs.Buffer.{keep_last}
+use Rattle.iom_core.specs.Access.{address_on, led}
 use Rattle.iom_core.specs.State.{State}
 use Rattle.iom_core.specs.Run.{end_of}
 use Rattle.iom_core.specs.Table.{request_of_step}
@@ -13,30 +14,41 @@ use Rattle.iom_core.specs.declared.way.Way.{Way}
 use Rattle.iom_account.specs.Following.{ComesFrom, Follows, Notes, number_of}
 use Rattle.iom_account.specs.declared.reason.Reason.{Reason}
 
--- the way that the tables say of an access that is stale, before the step that makes it; None: it isn't, or there is none
+-- the way that the tables lead an access that is stale, before the step that makes it; None: it isn't stale, or there is none
 abbrev pub stale_in : State → Option Request → Option Way
 stale_in state None = None
 stale_in state (Some request) = stale_way state.machine request
 
--- what is told of a step of its own number that this platform carries out, but for where its translation comes from: that is told by the
--- steps before it too
+-- the physical address that a way leads a request to; None: it is denied, or there is none
+abbrev pub address_by : Option Request → Way → Option ℕ
+address_by None way = None
+address_by (Some request) way = result_ok (address_on way request.iova)
+
+-- the physical address that a request is led to
+abbrev pub granted_address : State → Option Request → Option ℕ
+granted_address state None = None
+granted_address state (Some request) = address_by (Some request) (led state.machine request).way
+
+-- the reason of a step that this platform takes under this number, all but its origin, which depends on the steps before too
 pub record IsReasonOf (state : State) (step : Step) (own : ℕ) (reason : Reason) : Type 0 where
   pub number : reason.number ≡ own
   pub request : reason.request ≡ request_of_step state step
+  pub address : reason.address ≡ granted_address state (request_of_step state step)
   pub stale : reason.stale ≡ stale_in state (request_of_step state step)
 
--- what is told of step n, the last of these
+-- the reason of step n, the last of these
 pub record IsReason (start : State) (steps : List Step) (numbers : List ℕ) (n : ℕ) (reason : Reason) : Type 0 where
   pub number : reason.number ≡ number_of numbers n
   pub request : reason.request ≡ request_at start steps n
   pub origin : IsUncached start → ComesFrom start steps numbers n reason.origin
+  pub address : reason.address ≡ granted_address (moment start steps n) (request_at start steps n)
   pub stale : reason.stale ≡ stale_in (moment start steps n) (request_at start steps n)
 
 -- of how many steps the reasons are kept
 abbrev pub most_reasons : ℕ
 most_reasons = 32
 
--- Of all these steps something is told, of each as it was carried out; the last ones are kept.
+-- Each of these steps has its reason; the last ones are kept.
 pub record Tells (start : State) (steps : List Step) (numbers : List ℕ) (told : List Reason) : Type 0 where
   pub all : List Reason
   pub many : length all ≡ length steps
@@ -44,20 +56,31 @@ pub record Tells (start : State) (steps : List Step) (numbers : List ℕ) (told 
       IsReason start (take (suc n) steps) (take (suc n) numbers) n reason
   pub kept : told ≡ keep_last most_reasons all
 
--- what is kept beside a platform: which steps filled its caches, and what is told of the last steps
+-- which steps filled the caches, and the reasons of the last steps
 pub record Account : Type 0 where
   pub history : Notes
   pub told : List Reason
 
--- It goes along with the platform: since the start these steps were carried out, with these numbers.
+-- The account goes along with the platform: since the start these steps were taken, under these numbers.
 pub record Accounts (account : Account) (platform start : State) (steps : List Step) (numbers : List ℕ) : Type 0 where
   pub reached : platform ≡ end_of start steps
   pub numbered : length numbers ≡ length steps
   pub follows : IsUncached start → Follows account.history platform start steps numbers
   pub tells : Tells start steps numbers account.told
 
--- It went along with these steps of one number.
+-- It went along with these steps, all under one number.
 abbrev pub GoesAlong : Account → State → List Step → ℕ → Account → State → Type 0
 GoesAlong before state more number after left =
     (start : State) (steps : List Step) (numbers : List ℕ) → Accounts before state start steps numbers →
     Accounts after left start (steps ++ more) (numbers ++ replicate (length more) number)
+
+-- What a step under this number leaves of an account: its reason is kept after the others, and the history and the origin that the reason
+-- has go along with any steps before it.
+pub record CountsStep (before : Account) (state : State) (step : Step) (number : ℕ) (after : Account) (left : State) : Type 0 where
+  pub reason : Reason
+  pub own : IsReasonOf state step number reason
+  pub told : after.told ≡ keep_last most_reasons (before.told ++ reason ∷ [])
+  pub follows : (start : State) (steps : List Step) (numbers : List ℕ) → Follows before.history state start steps numbers →
+      Follows after.history left start (steps ++ step ∷ []) (numbers ++ number ∷ [])
+  pub origin : (start : State) (steps : List Step) (numbers : List ℕ) → Follows before.history state start steps numbers →
+      ComesFrom start (steps ++ step ∷ []) (numbers ++ number ∷ []) (length steps) reason.origin

@@ -1,4 +1,4 @@
--- A history beside a platform: which steps filled what its caches hold, each told by the number that the caller gave it.
+-- A history beside a platform: which steps filled what its caches hold, each by the number that the caller gave it.
 use Rattle.std.specs.Prelude.{ℕ, zero, suc, ◌≡◌, ◌++◌, Bool, true, false, List, [], ◌∷◌, length, get_or, Option, Some, None}
 use Rattle.std.specs.Option.{option_map}
 use Rattle.iom_ddt.specs.declared.context.Context.{Context}
@@ -28,14 +28,14 @@ use Rattle.iom_account.specs.declared.origin.Origin.TheVariants as origin
 abbrev pub number_of : List ℕ → ℕ → ℕ
 number_of numbers k = get_or numbers k 0
 
--- a warrant whose moments are told by the numbers of their steps
+-- a warrant with each moment replaced by the number of that step
 abbrev pub told : List ℕ → Warrant → Origin
 told numbers warrant.Register = origin.Register
 told numbers (warrant.Context context) = origin.Context (number_of numbers context)
 told numbers (warrant.Walked context walk current) =
     origin.Walked (number_of numbers context) (number_of numbers walk) (number_of numbers current)
 
--- numbers that count the steps from 0, and a warrant whose moments are told by these
+-- numbers that count the steps from 0, and the warrant of an origin that has these
 abbrev pub counted : ℕ → List ℕ
 counted zero = []
 counted (suc n) = counted n ++ n ∷ []
@@ -50,8 +50,7 @@ abbrev pub HasNoAccess : State → Option Request → Type 0
 HasNoAccess state None = Unit {0}
 HasNoAccess state (Some request) = IsDenied (led state.machine request).way
 
--- Where the translation comes from that step n used: what explains the step, told by numbers; None: it made no access, or one
--- that was denied.
+-- The origin of the translation that step n used: what explains the step, by numbers; None: it made no access, or was denied.
 pub record ComesFrom (start : State) (steps : List Step) (numbers : List ℕ) (n : ℕ) (found : Option Origin) : Type 0 where
   pub warrant : Option Warrant
   pub explains : Explains start steps n warrant

@@ -1,3 +1,4 @@
 pub mod Beside
 pub mod Following
 pub mod Account
+pub mod Others

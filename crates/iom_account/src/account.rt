@@ -1,16 +1,14 @@
-//! What is told of the steps of a platform.
+//! The steps that filled the caches, and the reasons of the last steps.
 
-ghost use Rattle.std.specs.Prelude.{◌≡◌, IfSome};
-ghost use Rattle.std.specs.Option.{option_and_then, option_map};
-ghost use Rattle.iom_core.specs.Looking.{by_tables};
-ghost use Rattle.iom_core.specs.Table.{request_of_step};
-ghost use Rattle.iom_tables.specs.Stale.{differing};
+ghost use Rattle.std.specs.Prelude.{◌≡◌};
+ghost use Rattle.iom_mem.specs.Memory.{Memory};
+ghost use Rattle.iom_core.specs.State.{state_on};
 
 use crate::history::History;
 use crate::kept::Kept;
 use crate::reason::Reason;
-use iom_core::{Answer, Platform, Step, Way};
-use iom_tables::differing;
+use iom_core::{Answer, Board, Platform, Step};
+use iom_mem::WritableRegion;
 use std::marker::Model;
 
 /// The steps that filled the entries in a platform's caches, and the reasons of its last 32 steps. A step is named by the number that
@@ -30,19 +28,28 @@ impl Model for Account {
 }
 
 impl Account {
-    ghost use Rattle.std.specs.Prelude.{◌≡◌, ◌++◌, [], ◌∷◌, IfSome, IsSomeAnd, slice_get};
+    ghost use Rattle.std.specs.Prelude.{◌≡◌, [], ◌∷◌, IsSomeAnd, slice_get};
     ghost use Rattle.std.specs.Option.{option_copied};
-    ghost use Rattle.circular_buffer.specs.Buffer.{keep_last, last_item};
+    ghost use Rattle.circular_buffer.specs.Buffer.{last_item};
     ghost use Rattle.iom_core.specs.Table.{next};
-    ghost use Rattle.iom_account.specs.Account.{Accounts, GoesAlong, IsReasonOf};
+    ghost use Rattle.iom_account.specs.Account.{Accounts, CountsStep, GoesAlong, IsReasonOf};
 
     /// An empty account of this platform. Origins are known only if both caches are empty now.
     pub fn new(platform: &Platform) -> Account
         ensures begins { Accounts result platform.now platform.now [] [] }
         ensures empty { result.told ≡ [] }
     {
+        Account::new_on(&platform.board)
+    }
+
+    /// As `new`, of this board, whatever memory it stands in front of.
+    pub fn new_on(board: &Board) -> Account
+        ensures begins { (memory : Memory) →
+            Accounts result (state_on memory board.now) (state_on memory board.now) [] [] }
+        ensures empty { result.told ≡ [] }
+    {
         Account {
-            history: History::new(platform),
+            history: History::new_on(board),
             told: Kept::new(),
         }
     }
@@ -85,32 +92,37 @@ impl Account {
         ensures state { platform.new ≡ (next platform.old step.now).state }
         ensures newest { IsSomeAnd (last_item self.new.told) (IsReasonOf platform.old step.now number) }
 
-        // It goes along with the platform's steps: from a start whose caches hold nothing it tells of each what explains it.
+        // What it leaves is known whatever it was, so also after others wrote memory.
+        ensures counted { CountsStep self.old platform.old step.now number self.new platform.new }
+
+        // The account goes along with the platform's steps; from a start whose caches are empty the origin of each is its warrant.
         ensures along { GoesAlong self.old platform.old (step.now ∷ []) number self.new platform.new }
     {
-        let tables = tables_for(platform, step);
-        let taken = self.history.step(platform, step, number, answer);
-        let stale = stale_by(&taken.seen.way, tables);
-        self.told.keep(Reason {
-            number,
-            request: taken.request,
-            origin: taken.origin,
-            stale,
-        });
+        self.step_on(&mut platform.board, &mut platform.ram, step, number, answer);
     }
-}
 
-// The way that the tables say of the access that a step makes.
-fn tables_for(platform: &Platform, step: &Step) -> Option<Way>
-    ensures told { result ≡ option_map (by_tables platform.now.machine) (request_of_step platform.now step.now) }
-{
-    let request = platform.request_of(step)?;
-    Some(platform.seen_uncached(&request).way)
-}
-
-// What the tables say of an access that was led this way, where they say otherwise.
-fn stale_by(now: &Way, tables: Option<Way>) -> Option<Way>
-    ensures told { result ≡ option_and_then (differing now.now) tables }
-{
-    differing(now, tables?)
+    /// As `step`, of this board in front of a memory that is handed to it for the step, as one that its owner lends. Between steps others
+    /// may write that memory; `others_are_not_counted` says what the account then means.
+    pub fn step_on<M: WritableRegion>(
+        &mut self,
+        board: &mut Board,
+        ram: &mut M,
+        step: &Step,
+        number: u64,
+        answer: &mut Answer,
+    )
+        ensures answer { answer.new ≡ (next (state_on (M.memory ram.old) board.old) step.now).answer }
+        ensures state { state_on (M.memory ram.new) board.new ≡ (next (state_on (M.memory ram.old) board.old) step.now).state }
+        ensures borrow { M.name ram.new ≡ M.name ram.old }
+        ensures newest { IsSomeAnd (last_item self.new.told) (IsReasonOf (state_on (M.memory ram.old) board.old) step.now number) }
+        ensures counted { CountsStep self.old (state_on (M.memory ram.old) board.old) step.now number
+            self.new (state_on (M.memory ram.new) board.new) }
+        ensures along { GoesAlong self.old (state_on (M.memory ram.old) board.old) (step.now ∷ []) number
+            self.new (state_on (M.memory ram.new) board.new) }
+    {
+        let reason = self
+            .history
+            .step_with_reason(board, ram, step, number, answer);
+        self.told.keep(reason);
+    }
 }

@@ -1,11 +1,9 @@
-//! Where the translation comes from that a step used, of steps that are carried out anew.
+//! The warrant of a step, found by running the steps again.
 
 ghost use Rattle.std.specs.Prelude.{◌≡◌, ◌<◌, length, IfOk};
 ghost use Rattle.std.specs.Option.{option_map};
-ghost use Rattle.iom_core.specs.Run.{end_of};
-ghost use Rattle.iom_core.specs.State.{State};
 ghost use Rattle.iom_core.specs.Warrants.{Explains, IsUncached};
-ghost use Rattle.iom_account.specs.Following.{counted, notes_at, warrant_of};
+ghost use Rattle.iom_account.specs.Following.{warrant_of};
 
 use crate::history::History;
 use crate::origin::Origin;
@@ -34,7 +32,7 @@ pub fn explain(
     Ok(warrant_of(taken.origin))
 }
 
-// The warrant that is told by the numbers of steps that are counted from 0.
+// The warrant of an origin whose numbers count the steps from 0.
 fn warrant_of(origin: Option<Origin>) -> Option<Warrant>
     ensures { result ≡ option_map warrant_of origin }
 {

@@ -1,8 +1,11 @@
-ghost use Rattle.std.specs.Prelude.{◌≡◌, ◌↔◌, ◌<◌, ◌^◌, ℕ, List, replicate, [], ◌∷◌, ◌++◌, IfSome, IsSomeAnd, Some, None, get_or, slice_get, length};
+//! Which steps filled what the caches hold, beside a platform that takes its steps.
+
+ghost use Rattle.std.specs.Prelude.{◌≡◌, ◌↔◌, ℕ, List, [], ◌∷◌, ◌++◌, IsSomeAnd, Some, None, get_or, slice_get, length};
+ghost use Rattle.iom_mem.specs.Memory.{Memory};
 ghost use Rattle.iom_cache.specs.Keys.{same_did};
-ghost use Rattle.iom_cache.specs.Origins.{first_stamps};
 ghost use Rattle.iom_cache.specs.Places.{place_of};
 ghost use Rattle.iom_core.specs.Looking.{noticed, nothing_seen};
+ghost use Rattle.iom_core.specs.State.{in_front_of, state_on};
 ghost use Rattle.iom_core.specs.Table.{asked, next, request_of_step, told_by_step};
 ghost use Rattle.iom_core.specs.Warrants.{IsUncached};
 ghost use Rattle.iom_account.specs.Beside.{beside};
@@ -10,9 +13,11 @@ ghost use Rattle.iom_account.specs.Following.{ComesFrom, ContextFrom, Follows, H
 
 use crate::notes::{equal, note, zeros};
 use crate::origin::Origin;
+use crate::reason::{Reason, address_by, stale_by, tables_for};
 use arrayvec::ArrayVec;
 use iom_cache::key_of;
-use iom_core::{Answer, Platform, Request, Seen, Step, Way};
+use iom_core::{Answer, Board, Platform, Request, Seen, Step, Way};
+use iom_mem::WritableRegion;
 use std::marker::Model;
 
 /// The steps that filled the entries in a platform's caches, each by the number that the caller gave it.
@@ -60,14 +65,23 @@ impl History {
     ghost use Rattle.iom_ddt.specs.declared.context.Context.{Context};
     ghost use Rattle.iom_nested.specs.declared.translation.Hit.{Hit};
     ghost use Rattle.iom_cache.specs.declared.key.Key.{Key};
+    ghost use Rattle.iom_account.specs.Account.{IsReasonOf};
 
     /// An empty history of this platform. Origins are known only if both caches are empty now. It takes no memory.
     pub fn new(platform: &Platform) -> History
         ensures { IsUncached platform.now → Follows result platform.now platform.now [] [] }
     {
-        let pages = platform.trans().len();
+        History::new_on(&platform.board)
+    }
+
+    /// As `new`, of this board, whatever memory it stands in front of.
+    pub fn new_on(board: &Board) -> History
+        ensures { (memory : Memory) → IsUncached (state_on memory board.now) →
+            Follows result (state_on memory board.now) (state_on memory board.now) [] [] }
+    {
+        let pages = board.trans().len();
         History {
-            contexts: zeros(platform.contexts().len()),
+            contexts: zeros(board.contexts().len()),
             walks: zeros(pages),
             bases: zeros(pages),
         }
@@ -99,10 +113,10 @@ impl History {
         ensures seen { result.seen ≡ told_by_step noticed nothing_seen platform.old.machine (asked platform.old step.now) }
         ensures noted { self.new ≡ noted platform.old platform.new (request_of_step platform.old step.now) number self.old }
         ensures told { result.origin ≡ origin_so self.new platform.new (request_of_step platform.old step.now) number result.seen.way }
-        // Whatever the caches held, it tells no origin of a step that made no access or was denied, and one of every other.
+        // Whatever the caches held at the start: no origin if the step made no access or was denied, else one.
         ensures none { (result.origin ≡ None) ↔ HasNoAccess platform.old (request_of_step platform.old step.now) }
 
-        // From a start whose caches hold nothing it goes along with the steps, and tells of each what explains it.
+        // From a start whose caches are empty the history follows the steps, and the origin is the step's warrant, by numbers.
         ensures follows { (start : State) (steps : List Step) (numbers : List ℕ) →
             Follows self.old platform.old start steps numbers →
             Follows self.new platform.new start (steps ++ step.now ∷ []) (numbers ++ number ∷ []) }
@@ -110,10 +124,103 @@ impl History {
             Follows self.old platform.old start steps numbers →
             ComesFrom start (steps ++ step.now ∷ []) (numbers ++ number ∷ []) (length steps) result.origin }
     {
-        let request = platform.request_of(step);
+        self.step_on(&mut platform.board, &mut platform.ram, step, number, answer)
+    }
+
+    /// As `step`, of this board in front of a memory that is handed to it for the step, as one that its owner lends. Between steps others
+    /// may write that memory; `others_are_not_counted` says what the history then means.
+    pub fn step_on<M: WritableRegion>(
+        &mut self,
+        board: &mut Board,
+        ram: &mut M,
+        step: &Step,
+        number: u64,
+        answer: &mut Answer,
+    ) -> Taken
+        ensures answer { answer.new ≡ (next (state_on (M.memory ram.old) board.old) step.now).answer }
+        ensures state { state_on (M.memory ram.new) board.new ≡ (next (state_on (M.memory ram.old) board.old) step.now).state }
+        ensures borrow { M.name ram.new ≡ M.name ram.old }
+        ensures request { result.request ≡ request_of_step (state_on (M.memory ram.old) board.old) step.now }
+        ensures seen { result.seen ≡ told_by_step noticed nothing_seen (in_front_of (M.memory ram.old) board.old.iommu)
+            (asked (state_on (M.memory ram.old) board.old) step.now) }
+        ensures noted { let before = state_on (M.memory ram.old) board.old in
+            self.new ≡ noted before (state_on (M.memory ram.new) board.new) (request_of_step before step.now) number self.old }
+        ensures told { result.origin ≡ origin_so self.new (state_on (M.memory ram.new) board.new)
+            (request_of_step (state_on (M.memory ram.old) board.old) step.now) number result.seen.way }
+        ensures none { let before = state_on (M.memory ram.old) board.old in
+            (result.origin ≡ None) ↔ HasNoAccess before (request_of_step before step.now) }
+        ensures follows { (start : State) (steps : List Step) (numbers : List ℕ) →
+            Follows self.old (state_on (M.memory ram.old) board.old) start steps numbers →
+            Follows self.new (state_on (M.memory ram.new) board.new) start (steps ++ step.now ∷ []) (numbers ++ number ∷ []) }
+        ensures origin { (start : State) (steps : List Step) (numbers : List ℕ) →
+            Follows self.old (state_on (M.memory ram.old) board.old) start steps numbers →
+            ComesFrom start (steps ++ step.now ∷ []) (numbers ++ number ∷ []) (length steps) result.origin }
+    {
+        let asked = board.request_of(ram, step);
+        self.take(board, ram, step, asked, number, answer)
+    }
+
+    /// As `step_on`, and returns the step's reason. It walks the tables once more before the step, to see whether something cached leads the
+    /// access otherwise.
+    pub fn step_with_reason<M: WritableRegion>(
+        &mut self,
+        board: &mut Board,
+        ram: &mut M,
+        step: &Step,
+        number: u64,
+        answer: &mut Answer,
+    ) -> Reason
+        ensures answer { answer.new ≡ (next (state_on (M.memory ram.old) board.old) step.now).answer }
+        ensures state { state_on (M.memory ram.new) board.new ≡ (next (state_on (M.memory ram.old) board.old) step.now).state }
+        ensures borrow { M.name ram.new ≡ M.name ram.old }
+        ensures reason { IsReasonOf (state_on (M.memory ram.old) board.old) step.now number result }
+        ensures noted { let before = state_on (M.memory ram.old) board.old in
+            self.new ≡ noted before (state_on (M.memory ram.new) board.new) (request_of_step before step.now) number self.old }
+        ensures none { let before = state_on (M.memory ram.old) board.old in
+            (result.origin ≡ None) ↔ HasNoAccess before (request_of_step before step.now) }
+        ensures follows { (start : State) (steps : List Step) (numbers : List ℕ) →
+            Follows self.old (state_on (M.memory ram.old) board.old) start steps numbers →
+            Follows self.new (state_on (M.memory ram.new) board.new) start (steps ++ step.now ∷ []) (numbers ++ number ∷ []) }
+        ensures origin { (start : State) (steps : List Step) (numbers : List ℕ) →
+            Follows self.old (state_on (M.memory ram.old) board.old) start steps numbers →
+            ComesFrom start (steps ++ step.now ∷ []) (numbers ++ number ∷ []) (length steps) result.origin }
+    {
+        let request = board.request_of(ram, step);
+        let tables = tables_for(board, ram, request);
+        let taken = self.take(board, ram, step, request, number, answer);
+        let way = taken.seen.way;
+        Reason {
+            number,
+            request,
+            origin: taken.origin,
+            address: address_by(request, &way),
+            stale: stale_by(&way, tables),
+        }
+    }
+
+    // As `step_on`, of a step that makes this request.
+    fn take<M: WritableRegion>(
+        &mut self,
+        board: &mut Board,
+        ram: &mut M,
+        step: &Step,
+        request: Option<Request>,
+        number: u64,
+        answer: &mut Answer,
+    ) -> Taken
+        requires asked { request ≡ request_of_step (state_on (M.memory ram.old) board.old) step.now }
+        ensures answer { answer.new ≡ (next (state_on (M.memory ram.old) board.old) step.now).answer }
+        ensures state { state_on (M.memory ram.new) board.new ≡ (next (state_on (M.memory ram.old) board.old) step.now).state }
+        ensures borrow { M.name ram.new ≡ M.name ram.old }
+        ensures request { result.request ≡ request }
+        ensures seen { result.seen ≡ told_by_step noticed nothing_seen (in_front_of (M.memory ram.old) board.old.iommu)
+            (asked (state_on (M.memory ram.old) board.old) step.now) }
+        ensures noted { self.new ≡ noted_so (state_on (M.memory ram.new) board.new) request result.seen number self.old }
+        ensures told { result.origin ≡ origin_so self.new (state_on (M.memory ram.new) board.new) request number result.seen.way }
+    {
         let mut seen = Seen::nothing();
-        platform.step_into(step, answer, &mut seen);
-        let origin = self.note_step(platform, request, &seen, number);
+        board.step_into(ram, step, answer, &mut seen);
+        let origin = self.note_step(board, request, &seen, number);
         Taken {
             request,
             seen,
@@ -121,8 +228,8 @@ impl History {
         }
     }
 
-    /// The number of the step that filled place `i` of the context cache, whose oldest is place 0; 0 where it was empty from the
-    /// start on, and None where it is beyond the last place.
+    /// The number of the step that filled place `i` of the context cache; the oldest place is 0. The number is 0 if the place was empty
+    /// from the start on. None if there is no such place.
     pub fn context(&self, i: u64) -> Option<u64>
         ensures number { result ≡ slice_get self.now.contexts i }
         ensures from { (platform start : State) (steps : List Step) (numbers : List ℕ) (did : ℕ) (context : Context) →
@@ -133,8 +240,8 @@ impl History {
         self.context_beside(i)
     }
 
-    /// The numbers of the steps that filled place `i` of the translation cache, whose oldest is place 0, and its context; 0 twice
-    /// where it was empty from the start on, and None where it is beyond the last place.
+    /// The numbers of the steps that filled place `i` of the translation cache, and the context of its walk; the oldest place is 0. Both
+    /// are 0 if the place was empty from the start on. None if there is no such place.
     pub fn page(&self, i: u64) -> Option<Filled>
         ensures numbers { result ≡ numbers_of (slice_get self.now.bases i) (slice_get self.now.walks i) }
         ensures from { (platform start : State) (steps : List Step) (numbers : List ℕ) (key : Key) (hit : Hit) →
@@ -145,11 +252,18 @@ impl History {
         self.page_beside(i)
     }
 
-    /// The number of the step that filled the live context of a device id, 24 bits; None where there is none.
+    /// The number of the step that filled the live context of a device id, 24 bits; None if there is none.
     pub fn context_of(&self, platform: &Platform, did: u32) -> Option<u64>
         ensures { result ≡ slice_get self.now.contexts (place_of (same_did did) platform.now.machine.contexts) }
     {
-        self.context_beside(platform.contexts().place_of(did) as u64)
+        self.context_on(&platform.board, did)
+    }
+
+    /// As `context_of`, of this board.
+    pub fn context_on(&self, board: &Board, did: u32) -> Option<u64>
+        ensures { result ≡ slice_get self.now.contexts (place_of (same_did did) board.now.iommu.contexts) }
+    {
+        self.context_beside(board.contexts().place_of(did) as u64)
     }
 
     // The number beside place `i` of the context cache.
@@ -169,26 +283,26 @@ impl History {
         Some(Filled { context, walk })
     }
 
-    // Notes what a step read that asked this, by what it told, and says where the translation comes from that it used.
+    // Notes what a step with this request read, as it was seen, and returns the origin of the translation that it used.
     fn note_step(
         &mut self,
-        platform: &Platform,
+        board: &Board,
         request: Option<Request>,
         seen: &Seen,
         number: u64,
     ) -> Option<Origin>
-        ensures noted { self.new ≡ noted_so platform.now request seen.now number self.old }
-        ensures origin { result ≡ origin_so self.new platform.now request number seen.now.way }
+        ensures noted { (memory : Memory) → self.new ≡ noted_so (state_on memory board.now) request seen.now number self.old }
+        ensures origin { (memory : Memory) → result ≡ origin_so self.new (state_on memory board.now) request number seen.now.way }
     {
         let Some(request) = request else {
             return None;
         };
         self.note_context(seen.is_context_read(), number);
-        self.note_walk(platform, seen.is_page_read(), request.did, number);
-        self.origin(platform, &request, number, &seen.way)
+        self.note_walk(board, seen.is_page_read(), request.did, number);
+        self.origin(board, &request, number, &seen.way)
     }
 
-    // Notes a context that a step read.
+    // Notes the step's number beside a context that it read.
     fn note_context(&mut self, read: bool, number: u64)
         ensures { self.new ≡ context_noted read number self.old }
     {
@@ -197,51 +311,45 @@ impl History {
         }
     }
 
-    // Notes a page that a step of device `did` read, and its context's number.
-    fn note_walk(&mut self, platform: &Platform, read: bool, did: u32, number: u64)
-        ensures { self.new ≡ walk_noted read number (beside (same_did did) platform.now.machine.contexts self.old.contexts number) self.old }
+    // Notes the step's number, and that of its context, beside a page that a step of device `did` read.
+    fn note_walk(&mut self, board: &Board, read: bool, did: u32, number: u64)
+        ensures { self.new ≡ walk_noted read number (beside (same_did did) board.now.iommu.contexts self.old.contexts number) self.old }
     {
         if read {
-            let base = self.context_number(platform, did, number);
+            let base = self.context_number(board, did, number);
             note(&mut self.walks, number);
             note(&mut self.bases, base);
         }
     }
 
-    // Where the translation comes from that the last step used for this request, which was led this way.
-    fn origin(
-        &self,
-        platform: &Platform,
-        request: &Request,
-        number: u64,
-        way: &Way,
-    ) -> Option<Origin>
-        ensures { result ≡ origin_on self.now platform.now request.now number way.now }
+    // The origin of the translation that the last step used for this request, which was led this way.
+    fn origin(&self, board: &Board, request: &Request, number: u64, way: &Way) -> Option<Origin>
+        ensures { (memory : Memory) → result ≡ origin_on self.now (state_on memory board.now) request.now number way.now }
     {
         match way {
             Way::Denied(_) => None,
             Way::Register => Some(Origin::Register),
             Way::Context(_) => {
-                let context = self.context_number(platform, request.did, number);
+                let context = self.context_number(board, request.did, number);
                 Some(Origin::Context { context })
             }
             Way::Walked(context, _) => {
                 let key = key_of(context, request.did, request.iova, request.kind);
-                let place = platform.trans().place_of(&key);
+                let place = board.trans().place_of(&key);
                 Some(Origin::Walked {
                     context: number_at(self.bases.as_slice(), place, number),
                     walk: number_at(self.walks.as_slice(), place, number),
-                    current: self.context_number(platform, request.did, number),
+                    current: self.context_number(board, request.did, number),
                 })
             }
         }
     }
 
     // The number beside the live context of a device id, 24 bits.
-    fn context_number(&self, platform: &Platform, did: u32, number: u64) -> u64
-        ensures { result ≡ beside (same_did did) platform.now.machine.contexts self.now.contexts number }
+    fn context_number(&self, board: &Board, did: u32, number: u64) -> u64
+        ensures { result ≡ beside (same_did did) board.now.iommu.contexts self.now.contexts number }
     {
-        let place = platform.contexts().place_of(did);
+        let place = board.contexts().place_of(did);
         number_at(self.contexts.as_slice(), place, number)
     }
 }

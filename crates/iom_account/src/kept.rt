@@ -1,3 +1,5 @@
+//! The last reasons.
+
 ghost use Rattle.std.specs.Prelude.{◌≡◌, ◌==◌, ◌≤◌, if◌then◌else◌};
 ghost use Rattle.iom_account.specs.Account.{most_reasons};
 

@@ -1,12 +1,13 @@
-//! An account of the steps of a platform: which steps filled what its caches hold, so that of each step it is known where the
-//! translation comes from that it used, and why each of the last 32 went as it did (RISC-V IOMMU Architecture 1.0, "Caching in-memory
-//! data structures").
+//! An account of the steps of a platform, or of a board in front of a memory that is handed to it: which steps filled the entries in the
+//! caches, so that the origin of each translation is known, and why each of the last 32 steps was answered as it was (RISC-V IOMMU
+//! Architecture 1.0, "Caching in-memory data structures").
 #![tactic(auto)]
 
 pub use account::Account;
 pub use explaining::explain;
 pub use history::{Filled, History, Taken};
 pub use origin::Origin;
+pub use others::others_are_not_counted;
 pub use reason::Reason;
 
 mod account;
@@ -15,4 +16,5 @@ mod history;
 mod kept;
 mod notes;
 mod origin;
+mod others;
 mod reason;

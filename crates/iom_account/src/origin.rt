@@ -1,9 +1,11 @@
+//! Where a translation comes from.
+
 ghost use Rattle.std.specs.Prelude.{◌≡◌};
 ghost use Rattle.iom_account.specs.Following.{number_of, told};
 
 use iom_core::Warrant;
 
-/// Where the translation comes from that a device's access used, each step told by the number that its caller gave it.
+/// The origin of the translation that a device's access used: the steps that it comes from, by the numbers that their caller gave them.
 #[derive(Clone, Copy, Debug, PartialEq)]
 pub enum Origin {
     /// ddtp's mode was Bare: the physical address was the IOVA.
@@ -23,7 +25,7 @@ pub enum Origin {
 }
 
 impl Origin {
-    /// A warrant each of whose steps is told by its number, of these numbers of the steps from 0 on; by 0 where they have none of it.
+    /// The origin that names the steps of a warrant by these numbers, the first of which is that of step 0. A step beyond them gets 0.
     pub fn told(warrant: Warrant, numbers: &[u64]) -> Origin
         ensures { result ≡ told numbers.now warrant }
     {
@@ -45,7 +47,7 @@ impl Origin {
     }
 }
 
-// The number of step k; 0 where these have none of it.
+// The number of step k; 0 if there is none.
 fn number_of(numbers: &[u64], k: usize) -> u64
     ensures { result ≡ number_of numbers.now k }
 {

@@ -1,0 +1,41 @@
+//! What a history and an account mean if others write memory between steps.
+
+ghost use Rattle.std.specs.Prelude.{ℕ, ◌≡◌, ◌++◌, [], ◌∷◌, List, Option, length};
+ghost use Rattle.iom_mem.specs.Memory.{Memory};
+ghost use Rattle.iom_core.specs.Others.{IsWritten};
+ghost use Rattle.iom_core.specs.State.{State};
+ghost use Rattle.iom_core.specs.Table.{next, with_memory};
+ghost use Rattle.iom_core.specs.declared.step.Step.{Step};
+ghost use Rattle.iom_account.specs.Account.{Account, Accounts, CountsStep};
+ghost use Rattle.iom_account.specs.Following.{ComesFrom, Follows, Notes};
+ghost use Rattle.iom_account.specs.Others.{AccountsAmong, ComesFromPassed, Counted, Event, FollowsAmong, Written, numbers_among, steps_among};
+ghost use Rattle.iom_account.specs.declared.origin.Origin.{Origin};
+
+/// The law of a history and an account of steps between which others write memory, any bytes at any moments. Both begin as without
+/// them. A step goes on by what `History::step_on` ensures in `follows`, or `Account::step_on` in `state` and `counted`. What others write
+/// leaves them as they are, and takes no number. So the origin of each step, as `step_on` ensures it in `origin`, is a warrant in the
+/// states that were really passed, and each number in it is one that the caller gave to a step; the same holds of each reason that an
+/// account has. The function does nothing.
+pub fn others_are_not_counted()
+    ensures begins { (history : Notes) (platform : State) → Follows history platform platform [] [] →
+        FollowsAmong history platform platform [] }
+    ensures counted { (history after : Notes) (platform left start : State) (events : List Event) (step : Step) (number : ℕ) →
+        FollowsAmong history platform start events →
+        Follows after left start (steps_among events ++ step ∷ []) (numbers_among events ++ number ∷ []) →
+        FollowsAmong after left start (events ++ Counted step number ∷ []) }
+    ensures written { (history : Notes) (platform start : State) (events : List Event) (memory : Memory) →
+        FollowsAmong history platform start events → IsWritten platform.machine.memory memory →
+        FollowsAmong history (with_memory platform memory) start (events ++ Written memory ∷ []) }
+    ensures origin { (history : Notes) (platform start : State) (events : List Event) (step : Step) (number : ℕ) (found : Option Origin) →
+        FollowsAmong history platform start events →
+        ComesFrom start (steps_among events ++ step ∷ []) (numbers_among events ++ number ∷ []) (length (steps_among events)) found →
+        ComesFromPassed start (events ++ Counted step number ∷ []) (length events) found }
+    ensures account_begins { (account : Account) (platform : State) → Accounts account platform platform [] [] →
+        AccountsAmong account platform platform [] }
+    ensures account_counted { (before left : Account) (state new start : State) (events : List Event) (step : Step) (number : ℕ) →
+        AccountsAmong before state start events → new ≡ (next state step).state → CountsStep before state step number left new →
+        AccountsAmong left new start (events ++ Counted step number ∷ []) }
+    ensures account_written { (account : Account) (platform start : State) (events : List Event) (memory : Memory) →
+        AccountsAmong account platform start events → IsWritten platform.machine.memory memory →
+        AccountsAmong account (with_memory platform memory) start (events ++ Written memory ∷ []) }
+{}
