@@ -14,7 +14,7 @@ use Rattle.iom_cache.specs.Origins.{stamped_by}
 use Rattle.iom_cache.specs.Places.{Look, emptied_by, filled_by, find}
 use Rattle.iom_cache.specs.declared.key.Key.{Key}
 use Rattle.iom_cache.proofs.Same.{same_did_exact, same_did_itself, same_key_exact, same_key_itself}
-use Rattle.iom_core.specs.Access.{Led, context_look, led, page_look, request_key, source_of, told}
+use Rattle.iom_core.specs.Access.{Led, context_look, context_told, led, page_look, page_told, request_key, source_of, told}
 use Rattle.iom_core.specs.Looking.{is_context_read, is_page_read, is_read, is_read_context, nothing_seen, noticed, seen_in}
 use Rattle.iom_core.specs.declared.way.Way.{Way}
 use Rattle.iom_core.specs.declared.way.Way.TheVariants.{Register as ByRegister, Context as ByContext, Walked, Denied}
@@ -24,12 +24,17 @@ use Rattle.iom_core.specs.Warrants.{context_filled, page_filled}
 use Rattle.iom_core.specs.declared.access.Request.{Request}
 use Rattle.iom_core.specs.declared.looking.Seen.{Seen}
 use Rattle.iom_core.specs.declared.step.Step.{Step}
+use Rattle.iom_core.specs.declared.witness.Event.{Event}
+use Rattle.iom_core.specs.declared.witness.Event.TheVariants as event
+use Rattle.iom_core.specs.declared.witness.Source.TheVariants as source
 use Rattle.iom_core.specs.declared.step.Step.TheVariants as step
 use Rattle.iom_core.proofs.Filled.{found_after}
 use Rattle.iom_core.proofs.Moments.{next-contexts, next-pages}
 use Rattle.iom_core.proofs.Ways.{WasOff, WasByRegister, WasNowhere, WasByContext, WasWalked, WasFault, context_refused, context_used-cached, how_led, look_of_context, page_refused}
 use Rattle.iom_account.specs.Beside.{beside}
-use Rattle.iom_account.specs.Following.{Notes, context_noted, noted, noted_so, walk_noted}
+use Rattle.iom_account.specs.Following.{Notes, context_noted, noted, noted_reading, noted_so, walk_noted}
+use Rattle.iom_account.specs.Reads.{nothing_read, read_noticed, reads_of}
+use Rattle.iom_account.specs.declared.reads.Reads.{Reads}
 
 -- such a step executes no command
 no_command : (state : State) (taken : Step) (request : Request) → request_of_step state taken ≡ Some request → executed state taken ≡ None
@@ -188,3 +193,42 @@ noted_is before after (Some asking) seen number history is =
     ∙ ap (λ (b : Bool). at b (is_page_read (seen_in m request))) (seen_context m request)
     ∙ ap (at (is_some (led m request).context)) (seen_page m request)
     ∙ by_fills (led m request).context (led m request).page after request number history
+
+-- What a step read is the same, whether all that it was told is kept or only that.
+read_alike : (seen : Seen) (told : Event) → reads_of (noticed seen told) ≡ read_noticed (reads_of seen) told
+read_alike seen (event.Context source.Found did context) = refl
+read_alike seen (event.Context source.Read did context) = refl
+read_alike seen (event.Page from key hit) = refl
+read_alike seen (event.Way way) = refl
+
+context_alike : (seen : Seen) (did : ℕ) (by : Option Context) (fill : Option (ℕ × Context)) →
+    reads_of (context_told noticed seen did by fill) ≡ context_told read_noticed (reads_of seen) did by fill
+context_alike seen did None fill = refl
+context_alike seen did (Some context) fill = read_alike seen (event.Context (source_of fill) did context)
+
+page_alike : (seen : Seen) (request : Request) (way : Way) (fill : Option (Key × Hit)) →
+    reads_of (page_told noticed seen request way fill) ≡ page_told read_noticed (reads_of seen) request way fill
+page_alike seen request ByRegister fill = refl
+page_alike seen request (ByContext context) fill = refl
+page_alike seen request (Walked context hit) fill = read_alike seen (event.Page (source_of fill) (request_key request context) hit)
+page_alike seen request (Denied denial) fill = refl
+
+led_alike : (request : Request) (l : Led) → reads_of (told noticed nothing_seen request l) ≡ told read_noticed nothing_read request l
+led_alike request l =
+    let context = context_told noticed nothing_seen request.did l.by l.context in
+    read_alike (page_told noticed context request l.way l.page) (event.Way l.way)
+    ∙ page_alike context request l.way l.page
+    ∙ ap (λ (r : Reads). page_told read_noticed r request l.way l.page) (context_alike nothing_seen request.did l.by l.context)
+
+reads_alike : (m : Machine) (asking : Option Asking) →
+    reads_of (told_by_step noticed nothing_seen m asking) ≡ told_by_step read_noticed nothing_read m asking
+reads_alike m None = refl
+reads_alike m (Some asking) = led_alike (request_in asking) (led m (request_in asking))
+
+pub noted_by_reads : (before after : State) (taken : Step) (request : Option Request) (reads : Reads) (number : ℕ) (history new : Notes) →
+    request ≡ request_of_step before taken → reads ≡ told_by_step read_noticed nothing_read before.machine (asked before taken) →
+    new ≡ noted_reading after request reads number history → new ≡ noted before after (request_of_step before taken) number history
+noted_by_reads before after taken request reads number history new own is kept =
+    kept ∙ ap (λ (r : Option Request). noted_reading after r reads number history) own
+    ∙ ap (λ (r : Reads). noted_reading after (request_of_step before taken) r number history) (is ∙ sym (reads_alike before.machine (asked before taken)))
+    ∙ noted_is before after (asked before taken) (told_by_step noticed nothing_seen before.machine (asked before taken)) number history refl

@@ -6,6 +6,8 @@ use Rattle.std.proofs.lemmas.List.{length-append}
 use Rattle.iom_mem.specs.Memory.{Memory}
 use Rattle.iom_cache.specs.Keys.{same_did, same_key}
 use Rattle.iom_cache.specs.Origins.{fills}
+use Rattle.iom_ddt.specs.declared.context.Context.{Context}
+use Rattle.iom_nested.specs.declared.translation.Hit.{Hit}
 use Rattle.iom_cache.specs.declared.key.Key.{Key}
 use Rattle.iom_core.specs.Looking.{nothing_seen, noticed}
 use Rattle.iom_core.specs.Others.{AreWritten, IsWritten, Wrote, end_after, place_of, steps_of, stores_of}
@@ -19,7 +21,7 @@ use Rattle.iom_core.specs.declared.step.Step.TheVariants as step
 use Rattle.iom_core.specs.declared.warrant.Warrant.{Warrant}
 use Rattle.iom_core.specs.declared.warrant.Warrant.TheVariants as warrant
 use Rattle.iom_core.proofs.Stores.{played, warranted_among}
-use Rattle.iom_account.specs.Following.{ComesFrom, Follows, Notes, noted, number_of, told}
+use Rattle.iom_account.specs.Following.{ComesFrom, ContextFrom, Follows, Notes, PageFrom, noted, number_of, told}
 use Rattle.iom_account.specs.Others.{AreNamed, ComesFromPassed, Counted, Event, FollowsAmong, IsNamed, Written, happenings_of, numbers_among, passed, steps_among}
 use Rattle.iom_account.specs.declared.origin.Origin.{Origin}
 use Rattle.iom_account.proofs.Stepped.{follows_step}
@@ -284,3 +286,23 @@ among_origin history platform start events taken number found h from =
     (subst (λ (l : List Step). ComesFrom start l (numbers_among all) (length (steps_among events)) found) (sym (steps_counted events taken number))
     (subst (λ (l : List ℕ). ComesFrom start (steps_among events ++ taken ∷ []) l (length (steps_among events)) found) (sym (numbers_counted events taken number))
     from)))
+
+-- what the caches hold was filled by steps of the caller's
+pub among_context : (history : Notes) (platform start : State) (events : List Event) (did : ℕ) (context : Context) (number : ℕ) →
+    FollowsAmong history platform start events →
+    (from : ContextFrom start (steps_among events) (numbers_among events) did context number) → IsNamed start events from.k number
+among_context history platform start events did context number h from =
+    let steps : List Step = steps_among events in
+    subst (IsNamed start events from.k) (sym from.told)
+    (named start events h.written h.follows.uncached from.k (asked_context start steps did from.k from.fresh.origin.passes))
+
+pub among_page : (history : Notes) (platform start : State) (events : List Event) (key : Key) (hit : Hit) (base walk : ℕ) →
+    FollowsAmong history platform start events →
+    (from : PageFrom start (steps_among events) (numbers_among events) key hit base walk) →
+    IsNamed start events from.c base × IsNamed start events from.w walk
+among_page history platform start events key hit base walk h from =
+    let steps : List Step = steps_among events in
+    let own : (k : ℕ) → HasAsked steps k → IsNamed start events k (number_of (numbers_among events) k) = named start events h.written h.follows.uncached in (
+      subst (IsNamed start events from.c) (sym from.base_told) (own from.c (asked_context start steps from.request.did from.c from.under.origin.passes)),
+      subst (IsNamed start events from.w) (sym from.walk_told) (own from.w (asked_page start steps _ from.w from.fresh.origin.passes)),
+    )

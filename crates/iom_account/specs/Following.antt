@@ -8,7 +8,6 @@ use Rattle.iom_cache.specs.Origins.{first_stamps, stamped_by}
 use Rattle.iom_cache.specs.Places.{made_room}
 use Rattle.iom_cache.specs.declared.key.Key.{Key}
 use Rattle.iom_core.specs.Access.{led, request_key}
-use Rattle.iom_core.specs.Looking.{is_context_read, is_page_read}
 use Rattle.iom_core.specs.Run.{end_of}
 use Rattle.iom_core.specs.State.{State, context_room, page_room}
 use Rattle.iom_core.specs.Warrants.{Explains, IsDenied, IsFreshContext, IsFreshPage, IsUncached, context_filled, context_filled_at, moment, page_filled, page_filled_at, request_at}
@@ -20,8 +19,10 @@ use Rattle.iom_core.specs.declared.warrant.Warrant.TheVariants as warrant
 use Rattle.iom_core.specs.declared.way.Way.{Way}
 use Rattle.iom_core.specs.declared.way.Way.TheVariants.{Register as ByRegister, Context as ByContext, Walked, Denied}
 use Rattle.iom_account.specs.Beside.{beside, noted_at}
+use Rattle.iom_account.specs.Reads.{reads_of}
 use Rattle.iom_account.specs.declared.history.Filled.{Filled}
 use Rattle.iom_account.specs.declared.origin.Origin.{Origin}
+use Rattle.iom_account.specs.declared.reads.Reads.{Reads}
 use Rattle.iom_account.specs.declared.origin.Origin.TheVariants as origin
 
 -- the number of step k, which is one of those carried out
@@ -137,7 +138,7 @@ noted before after asked number history =
       bases = stamped_by page_room (base_by after contexts number asked) (page_filled before asked) history.bases;
     }
 
--- the same by what an access was told of: a context that was read, and a page that was read under the context of this number
+-- the same by what an access read: a context, and a page under the context of this number
 abbrev pub context_noted : Bool → ℕ → Notes → Notes
 context_noted true number history = record history { contexts = made_room context_room history.contexts ++ number ∷ [] }
 context_noted false number history = history
@@ -149,11 +150,15 @@ walk_noted true number base history = record history {
 }
 walk_noted false number base history = history
 
+abbrev pub noted_reading : State → Option Request → Reads → ℕ → Notes → Notes
+noted_reading after None reads number history = history
+noted_reading after (Some request) reads number history =
+    let mid = context_noted reads.context number history in
+    walk_noted reads.page number (beside (same_did request.did) after.machine.contexts mid.contexts number) mid
+
+-- the same by what was seen of it
 abbrev pub noted_so : State → Option Request → Seen → ℕ → Notes → Notes
-noted_so after None seen number history = history
-noted_so after (Some request) seen number history =
-    let mid = context_noted (is_context_read seen) number history in
-    walk_noted (is_page_read seen) number (beside (same_did request.did) after.machine.contexts mid.contexts number) mid
+noted_so after request seen number history = noted_reading after request (reads_of seen) number history
 
 -- the origin of a request that is led this way, by the platform after it; None: it is denied
 abbrev pub origin_on : Notes → State → Request → ℕ → Way → Option Origin

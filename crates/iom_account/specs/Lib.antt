@@ -1,4 +1,5 @@
 pub mod Beside
 pub mod Following
+pub mod Reads
 pub mod Account
 pub mod Others

@@ -9,10 +9,11 @@ ghost use Rattle.iom_core.specs.State.{in_front_of, state_on};
 ghost use Rattle.iom_core.specs.Table.{asked, next, request_of_step, told_by_step};
 ghost use Rattle.iom_core.specs.Warrants.{IsUncached};
 ghost use Rattle.iom_account.specs.Beside.{beside};
-ghost use Rattle.iom_account.specs.Following.{ComesFrom, ContextFrom, Follows, HasNoAccess, PageFrom, context_noted, noted, noted_so, numbers_of, origin_on, origin_so, walk_noted};
+ghost use Rattle.iom_account.specs.Following.{ComesFrom, ContextFrom, Follows, HasNoAccess, PageFrom, context_noted, noted, noted_reading, noted_so, numbers_of, origin_on, origin_so, walk_noted};
 
 use crate::notes::{equal, note, zeros};
 use crate::origin::Origin;
+use crate::reads::Reads;
 use crate::reason::{Reason, address_by, stale_by, tables_for};
 use arrayvec::ArrayVec;
 use iom_cache::key_of;
@@ -198,6 +199,30 @@ impl History {
         }
     }
 
+    /// As `step_on`, if nothing of the step's access is asked for.
+    pub fn follow<M: WritableRegion>(
+        &mut self,
+        board: &mut Board,
+        ram: &mut M,
+        step: &Step,
+        number: u64,
+        answer: &mut Answer,
+    )
+        ensures answer { answer.new ≡ (next (state_on (M.memory ram.old) board.old) step.now).answer }
+        ensures state { state_on (M.memory ram.new) board.new ≡ (next (state_on (M.memory ram.old) board.old) step.now).state }
+        ensures borrow { M.name ram.new ≡ M.name ram.old }
+        ensures noted { let before = state_on (M.memory ram.old) board.old in
+            self.new ≡ noted before (state_on (M.memory ram.new) board.new) (request_of_step before step.now) number self.old }
+        ensures follows { (start : State) (steps : List Step) (numbers : List ℕ) →
+            Follows self.old (state_on (M.memory ram.old) board.old) start steps numbers →
+            Follows self.new (state_on (M.memory ram.new) board.new) start (steps ++ step.now ∷ []) (numbers ++ number ∷ []) }
+    {
+        let request = board.request_of(ram, step);
+        let mut reads = Reads::nothing();
+        board.step_into(ram, step, answer, &mut reads);
+        self.note_reads(board, request, reads, number);
+    }
+
     // As `step_on`, of a step that makes this request.
     fn take<M: WritableRegion>(
         &mut self,
@@ -294,12 +319,18 @@ impl History {
         ensures noted { (memory : Memory) → self.new ≡ noted_so (state_on memory board.now) request seen.now number self.old }
         ensures origin { (memory : Memory) → result ≡ origin_so self.new (state_on memory board.now) request number seen.now.way }
     {
-        let Some(request) = request else {
-            return None;
-        };
-        self.note_context(seen.is_context_read(), number);
-        self.note_walk(board, seen.is_page_read(), request.did, number);
-        self.origin(board, &request, number, &seen.way)
+        self.note_reads(board, request, Reads::of(seen), number);
+        self.origin(board, &request?, number, &seen.way)
+    }
+
+    // Notes what a step with this request read.
+    fn note_reads(&mut self, board: &Board, request: Option<Request>, reads: Reads, number: u64)
+        ensures { (memory : Memory) → self.new ≡ noted_reading (state_on memory board.now) request reads number self.old }
+    {
+        if let Some(request) = request {
+            self.note_context(reads.context, number);
+            self.note_walk(board, reads.page, request.did, number);
+        }
     }
 
     // Notes the step's number beside a context that it read.

@@ -17,4 +17,5 @@ mod kept;
 mod notes;
 mod origin;
 mod others;
+mod reads;
 mod reason;
