@@ -1,8 +1,8 @@
 /*
- * Lent memory. lent.c [SCRIPT]: a program with 1 GiB of its own memory lends it to a handle, and plays a million accesses. Between calls another
- * part of the program writes words of it. Each answer, each look and each byte is that of a handle with memory of its own, a window at the end
- * of the same addresses, which is written by rviommu_memory_write. With SCRIPT a shorter run is also written into that file as lines with their
- * answers, in which what others write are stores of the hart.
+ * Lent memory. lent.c ACCESSES [SCRIPT]: a program with 1 GiB of its own memory lends it to a handle, and plays so many accesses. Between calls
+ * another part of the program writes words of it. Each answer, each look and each byte is that of a handle with memory of its own, a window at
+ * the end of the same addresses, which is written by rviommu_memory_write. With SCRIPT a shorter run is also written into that file as lines
+ * with their answers, in which what others write are stores of the hart.
  */
 #include <inttypes.h>
 #include <stdio.h>
@@ -16,7 +16,6 @@
 #define COUNT (SIZE / 8)
 #define WINDOW 0x100000u /* of the lent memory the last MiB: all that the tables lead to */
 #define START (BASE + SIZE - WINDOW)
-#define ACCESSES 1000000
 #define ACCESSES_OF_A_SCRIPT 3000
 
 static int failed;
@@ -57,7 +56,7 @@ static void reg_write(uint64_t offset, uint64_t size, uint64_t value) {
     uint32_t answer = rviommu_reg_write_lent(&lent, words, COUNT, offset, size, value);
     want("a write of a register", answer, rviommu_reg_write(&own, offset, size, value));
     if (script != NULL) {
-        fprintf(script, "reg write 0x%" PRIx64 " %" PRIu64 " 0x%" PRIx64 " # => %s\n", offset, size, value, answer == RVIOMMU_DONE ? "done" : "bad_access");
+        fprintf(script, "reg write 0x%" PRIx64 " %" PRIu64 " 0x%" PRIx64 " # => %s\n", offset, size, value, answer == RVIOMMU_DONE ? "done" : "bad access");
     }
 }
 
@@ -76,7 +75,7 @@ static void tell(const char *line, uint32_t answer, const uint8_t *bytes, size_t
         break;
     case RVIOMMU_VALUE: fprintf(script, "0x%" PRIx64 "\n", number); break;
     case RVIOMMU_DENIED: fprintf(script, "denied %" PRIu64 "\n", number); break;
-    case RVIOMMU_BUS_ERROR: fputs("bus_error\n", script); break;
+    case RVIOMMU_BUS_ERROR: fputs("bus error\n", script); break;
     case RVIOMMU_IDLE: fputs("idle\n", script); break;
     default: fputs("done\n", script);
     }
@@ -277,15 +276,98 @@ static void look_at_the_rest(void) {
     want("the rest of memory", all, 0);
 }
 
+/* Memory that isn't what a handle is lent: nothing is done. */
+static void test_refusals(void) {
+    static const uint64_t bad[][2] = {{BASE + 8, 0x1000}, {BASE, 0}, {BASE, 0x1008}, {BASE, (uint64_t)1 << 56}, {(uint64_t)1 << 56, 0x1000}, {UINT64_MAX - 4095, 0x1000}};
+    rviommu_t handle = {NULL}, copy = {NULL};
+    struct rviommu_walk_part part;
+    struct rviommu_located located;
+    struct rviommu_way way;
+    uint64_t page[512] = {1, 2, 3}, number = 77, address = 77, base = 0, size = 0;
+    uint8_t bytes[64] = {9};
+    char text[321] = "old";
+    for (size_t i = 0; i < sizeof bad / sizeof *bad; i++) {
+        want("no such memory", rviommu_open_lent(bad[i][0], bad[i][1], &handle), RVIOMMU_BAD_RAM);
+        want("its handle", handle.own == NULL, true);
+        want("nor of an image", rviommu_open_lent_image(bytes, 1, bad[i][0], bad[i][1], &handle), RVIOMMU_BAD_RAM);
+    }
+    want("no image", rviommu_open_lent_image(bytes, 1, BASE, 0x1000, &handle), RVIOMMU_TRUNCATED);
+    want("the last memory", rviommu_open_lent(((uint64_t)1 << 56) - 0x1000, 0x1000, &handle), RVIOMMU_OK);
+    rviommu_memory_place(&handle, &base, &size);
+    want("its base", base, ((uint64_t)1 << 56) - 0x1000);
+    want("its size", size, 0x1000);
+    want("a store into it", rviommu_store_lent(&handle, page, 512, base + 8, 8, 5), RVIOMMU_DONE);
+    want("its word", page[1], 5);
+    want("a word too few", rviommu_store_lent(&handle, page, 511, base, 8, 6), RVIOMMU_OTHER_MEMORY);
+    want("no word", rviommu_store(&handle, base, 8, 6), RVIOMMU_OTHER_MEMORY);
+    want("no word for a load", rviommu_load(&handle, base, 8, &number), RVIOMMU_OTHER_MEMORY);
+    want("for a register", rviommu_reg_read(&handle, 0, 8, &number), RVIOMMU_OTHER_MEMORY);
+    want("to be written", rviommu_reg_write(&handle, 16, 8, 1), RVIOMMU_OTHER_MEMORY);
+    want("for a read", rviommu_dma_read(&handle, 5, base, bytes, 1, &number), RVIOMMU_OTHER_MEMORY);
+    want("for a write", rviommu_dma_write(&handle, 5, base, bytes, 1, &number), RVIOMMU_OTHER_MEMORY);
+    want("for a translation", rviommu_translate(&handle, 5, base, false, &number), RVIOMMU_OTHER_MEMORY);
+    want("for a command", rviommu_command(&handle), RVIOMMU_OTHER_MEMORY);
+    want("for a device's register", rviommu_dev_read(&handle, 0, 0, 4, &number), RVIOMMU_OTHER_MEMORY);
+    want("to be written", rviommu_dev_write(&handle, 0, 0, 4, 0), RVIOMMU_OTHER_MEMORY);
+    want("for a device's step", rviommu_dev_step(&handle, 0, &number), RVIOMMU_OTHER_MEMORY);
+    want("for a look", rviommu_way_now(&handle, 5, base, false, &way, &address), RVIOMMU_STATUS_OTHER_MEMORY);
+    want("a look at its memory", rviommu_memory(&handle, base, bytes, 1), RVIOMMU_STATUS_OTHER_MEMORY);
+    want("a write into it", rviommu_memory_write(&handle, base, bytes, 1), RVIOMMU_STATUS_OTHER_MEMORY);
+    want("a line", rviommu_line(&handle, "cmd", 3, text, sizeof text, NULL), RVIOMMU_STATUS_OTHER_MEMORY);
+    want("a walk", rviommu_part(&handle, 5, base, false, 0, &part), RVIOMMU_STATUS_OTHER_MEMORY);
+    want("a stale request", rviommu_stale(&handle, 5, base, false, &way), RVIOMMU_STANDING_OTHER_MEMORY);
+    want("a stale page", rviommu_stale_page(&handle, 0, &way), RVIOMMU_STANDING_OTHER_MEMORY);
+    want("a stale context", rviommu_stale_context(&handle, 0, &located), RVIOMMU_STANDING_OTHER_MEMORY);
+    want("what is left of these", number + address + bytes[0] + page[0] + (uint64_t)strcmp(text, "old"), 77 + 77 + 9 + 1);
+    want("one step", rviommu_steps(&handle), 1);
+    want("a copy", rviommu_copy(&handle, &copy), RVIOMMU_OK);
+    want("ddtp of it", rviommu_reg_write_lent(&copy, page, 512, 16, 8, 1), RVIOMMU_DONE);
+    want("an address beyond memory", rviommu_translate_lent(&copy, page, 512, 5, 0x123, true, &number), RVIOMMU_VALUE);
+    want("which is", number, 0x123);
+    want("the original is off", rviommu_translate_lent(&handle, page, 512, 5, 0x123, true, &number), RVIOMMU_DENIED);
+    want("cause", number, 256);
+    rviommu_close(&copy);
+    rviommu_close(&handle);
+    want("memory of its own", rviommu_open_built_in(&handle), RVIOMMU_OK);
+    want("words beside it", rviommu_store_lent(&handle, page, 512, BASE, 8, 6), RVIOMMU_OTHER_MEMORY);
+    want("no step", rviommu_steps(&handle), 0);
+    rviommu_close(&handle);
+}
+
+/* Two IOMMUs over one memory: the device behind each writes what the other's reads, and a record of one stands in memory for the other. */
+static void test_two_over_one_memory(void) {
+    rviommu_t first = {NULL}, second = {NULL};
+    uint64_t cause = 0, number = 0;
+    uint8_t bytes[8];
+    want("the first", rviommu_open_lent(BASE, SIZE, &first), RVIOMMU_OK);
+    want("the second", rviommu_open_lent(BASE, SIZE, &second), RVIOMMU_OK);
+    want("ddtp: Bare", rviommu_reg_write_lent(&first, words, COUNT, 0x10, 8, 1), RVIOMMU_DONE);
+    want("fqb", rviommu_reg_write_lent(&second, words, COUNT, 0x28, 8, (BASE + 0x1000) / 4096 << 10 | 3), RVIOMMU_DONE);
+    want("fqcsr", rviommu_reg_write_lent(&second, words, COUNT, 0x4c, 4, 1), RVIOMMU_DONE);
+    want("a write by the first's device", rviommu_dma_write_lent(&first, words, COUNT, 1, BASE + 8, (const uint8_t *)"to both", 8, &cause), RVIOMMU_DONE);
+    want("the second is off", rviommu_dma_read_lent(&second, words, COUNT, 1, BASE + 8, bytes, 8, &cause), RVIOMMU_DENIED);
+    want("its record, read by the first's device", rviommu_dma_read_lent(&first, words, COUNT, 1, BASE + 0x1000, bytes, 8, &cause), RVIOMMU_BYTES);
+    want("its cause", bytes[0] | bytes[1] << 8, 256);
+    want("ddtp: Bare", rviommu_reg_write_lent(&second, words, COUNT, 0x10, 8, 1), RVIOMMU_DONE);
+    want("a read by the second's device", rviommu_dma_read_lent(&second, words, COUNT, 1, BASE + 8, bytes, 8, &cause), RVIOMMU_BYTES);
+    want("what the first's wrote", (uint64_t)memcmp(bytes, "to both", 8), 0);
+    want("no record of the first", rviommu_reg_look(&first, 0x34, 4, &number) + number, 0);
+    memset(words, 0, 0x2000);
+    rviommu_close(&first);
+    rviommu_close(&second);
+}
+
 int main(int count, char **names) {
     words = calloc(COUNT, 8);
-    if (words == NULL) {
+    if (words == NULL || count < 2) {
         return 1;
     }
-    play(ACCESSES);
+    test_refusals();
+    test_two_over_one_memory();
+    play((uint64_t)atol(names[1]));
     look_at_the_rest();
-    if (count > 1) {
-        script = fopen(names[1], "w");
+    if (count > 2) {
+        script = fopen(names[2], "w");
         if (script == NULL) {
             return 1;
         }
