@@ -7,8 +7,9 @@
  * - a trace of its last 32 steps;
  * - an account of its steps: why the last ones had their answers, and which steps filled the caches. It numbers the steps of the handle
  *   from 1 on.
- * Each function here is proved to do what the library call behind it does, if the caller keeps the rules below and those beside the
- * function. Only tested are the checks for an output that is NULL and for a closed handle, and how an access is cut into pieces.
+ * Each function is proved to do the same as the library call that it makes, if its caller keeps the rules below and those beside the
+ * function. Four things are only tested: the checks for NULL outputs, the checks for closed handles, how an access is cut into pieces, and that
+ * looks may run at once.
  *
  * Rules for the caller of every function:
  * - No pointer is NULL, except one to an output that isn't wanted: a number, a length, a struct, or the bytes that a device reads. A
@@ -264,13 +265,13 @@ enum rviommu_status rviommu_open_built_in(rviommu_t *handle);
  * 2^56. Returns RVIOMMU_OK; or RVIOMMU_BAD_RAM or RVIOMMU_OUT_OF_MEMORY, and the handle is closed. */
 enum rviommu_status rviommu_open_lent(uint64_t base, uint64_t size, rviommu_t *handle);
 
-/* Does the same with the IOMMU and the block devices of an image; the image's memory doesn't count. Returns the image's refusal too, as
- * rviommu_open does. */
+/* As rviommu_open_lent, with the IOMMU (capabilities, interrupt vectors) and the block devices of an image; the image's memory is ignored.
+ * Returns the image's refusal too, as rviommu_open does. */
 enum rviommu_status rviommu_open_lent_image(const uint8_t *image, size_t length, uint64_t base, uint64_t size, rviommu_t *handle);
 
 /* Opens `copy` with an equal platform and an equal account. From then on the two handles are independent. The copy continues the count of
- * steps, but its trace is empty and it has no reasons yet, so rviommu_why and the line `trace` are about its own steps only. It keeps as
- * many reasons as `handle` does. If the memory is lent, the copy is lent the same memory, or another one of the same place. `handle` is open and does not change. Returns RVIOMMU_OK; or RVIOMMU_OUT_OF_MEMORY, and `copy` is
+ * steps, but its trace is empty and it has no reasons yet, so rviommu_why and the line `trace` are about its own steps only. It keeps the
+ * same number of reasons as `handle`. If the memory is lent, the copy is lent the same memory, or another one of the same place. `handle` is open and does not change. Returns RVIOMMU_OK; or RVIOMMU_OUT_OF_MEMORY, and `copy` is
  * closed. */
 enum rviommu_status rviommu_copy(const rviommu_t *handle, rviommu_t *copy);
 
@@ -299,9 +300,9 @@ enum rviommu_status rviommu_memory_write(rviommu_t *handle, uint64_t address, co
  *   the words hold when it begins, and by what is cached.
  * - During a call nobody else writes the words, and during a step nobody else reads them. If somebody does, the answer, the words and the
  *   caches are worth nothing from then on.
- * - A step with other memory does nothing: a call without words for a handle that is lent memory, words for a handle with memory of its
- *   own, or another count. It returns RVIOMMU_OTHER_MEMORY, RVIOMMU_STATUS_OTHER_MEMORY or RVIOMMU_STANDING_OTHER_MEMORY.
- * - Accesses fill the account and the trace as ever. What others write is no step, and isn't counted.
+ * - A call of the wrong form does nothing: one without words on a handle that is lent memory, one with words on a handle with memory of its
+ *   own, or one with another count. It returns RVIOMMU_OTHER_MEMORY, RVIOMMU_STATUS_OTHER_MEMORY or RVIOMMU_STANDING_OTHER_MEMORY.
+ * - What others write between calls is no step and has no number, and it changes no origin: an origin's numbers are those of steps.
  */
 
 /*
@@ -315,11 +316,11 @@ enum rviommu_status rviommu_memory_write(rviommu_t *handle, uint64_t address, co
 enum rviommu_status rviommu_line(rviommu_t *handle, const char *line, size_t line_length, char *answer, size_t room, size_t *length);
 
 /*
- * Steps by numbers. The handle is open. Each call is one step: the trace keeps it and the account counts it, as for a line. Only a device's
- * access of no bytes, or of more than 64, is no step. Each comment names the answers that are possible, beside RVIOMMU_OTHER_MEMORY. `value` is
- * written for RVIOMMU_VALUE, `bytes` for RVIOMMU_BYTES and `cause` for RVIOMMU_DENIED; with any other answer they are left unchanged. A refused step
- * changes nothing, with three exceptions: a denial may make a fault record, translation may fill the caches, and a block device whose access
- * is refused is broken.
+ * Steps by numbers. The handle is open. Each call is one step: the trace keeps it and the account counts it, as for a line. Two calls are no
+ * step: a device's access of no bytes, or of more than 64, and one that is answered RVIOMMU_OTHER_MEMORY. Each comment names the other answers
+ * that are possible. `value` is written for RVIOMMU_VALUE, `bytes` for RVIOMMU_BYTES and `cause` for RVIOMMU_DENIED; with any other answer they
+ * are left unchanged. A refused step changes nothing, with three exceptions: a denial may make a fault record, translation may fill the caches,
+ * and a block device whose access is refused is broken.
  */
 
 /* The hart reads `size` bytes, 1, 2, 4 or 8, at a physical address that is a multiple of the size: VALUE, BUS_ERROR, MISUSE. */
@@ -400,15 +401,14 @@ enum rviommu_answer rviommu_dev_step_lent(rviommu_t *handle, uint64_t *words, si
  * a handle with memory of its own, rviommu_way_now_lent is for one that is lent memory, and the others are for both.
  */
 
-/* The number of the last step, or 0 before the first: how many steps the handle was given, including those of the handle that it was copied
- * from. */
+/* The number of the last step, or 0 before the first. A copy continues the count of its original. */
 uint64_t rviommu_steps(const rviommu_t *handle);
 
 /* The pending interrupts: the value of ipsr, with bit 0 for the command queue and bit 1 for the fault queue ("Interrupt pending status
  * register (ipsr)"). */
 uint64_t rviommu_interrupt(const rviommu_t *handle);
 
-/* Writes to `value` what rviommu_reg_read would. Returns RVIOMMU_OK; or RVIOMMU_OUTSIDE if the registers have no such access, and `value` is
+/* Writes to `value` the number that rviommu_reg_read would read. Returns RVIOMMU_OK; or RVIOMMU_OUTSIDE if the registers have no such access, and `value` is
  * unchanged. */
 enum rviommu_status rviommu_reg_look(const rviommu_t *handle, uint64_t offset, uint64_t size, uint64_t *value);
 
