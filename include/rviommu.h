@@ -2,22 +2,25 @@
  * rviommu: a proved platform model of the RISC-V IOMMU, for tests of drivers and of hardware.
  *
  * A handle owns three things:
- * - a platform: physical memory, one IOMMU (RISC-V IOMMU Architecture 1.0) and up to eight virtio 1.2 block devices;
+ * - a platform: one IOMMU (RISC-V IOMMU Architecture 1.0) and up to eight virtio 1.2 block devices, with physical memory of its own or in
+ *   front of memory that the caller lends for each call ("Lent memory", below);
  * - a trace of its last 32 steps;
  * - an account of its steps: why the last ones had their answers, and which steps filled the caches. It numbers the steps of the handle
  *   from 1 on.
- * Each function here is proved to do what the library call behind it does, if the caller keeps the rules below and those beside the
- * function. Only tested are the checks for an output that is NULL and for a closed handle, and how an access is cut into pieces.
+ * Each function is proved to do the same as the library call that it makes, if its caller keeps the rules below and those beside the
+ * function. Four things are only tested: the checks for NULL outputs, the checks for closed handles, how an access is cut into pieces, and that
+ * looks may run at once.
  *
  * Rules for the caller of every function:
  * - No pointer is NULL, except one to an output that isn't wanted: a number, a length, a struct, or the bytes that a device reads. A
  *   buffer has as many bytes as the length beside it says, and isn't NULL even if that is 0.
  * - Two pointers of one call don't overlap, unless both are const.
- * - "The handle is open" means: rviommu_open, rviommu_open_built_in or rviommu_copy returned RVIOMMU_OK for it, and rviommu_close has
- *   not been called for it since. A handle may be moved, but only one copy of it may be used.
- * - One thread at a time uses a handle. Two handles share nothing.
+ * - "The handle is open" means: one of the functions rviommu_open*, or rviommu_copy, returned RVIOMMU_OK for it, and rviommu_close has not
+ *   been called for it since. A handle may be moved, but only one copy of it may be used.
+ * - One thread at a time uses a handle, but for the functions under "Looking": any number of them may run at once on one handle while no
+ *   other function uses it. Two handles share nothing.
  * - No function is called from a signal handler, nor in the forked child of a process with threads.
- * Only rviommu_open, rviommu_open_built_in, rviommu_copy, rviommu_keep_reasons, rviommu_close and rviommu_assemble call malloc and free.
+ * Only rviommu_open*, rviommu_copy, rviommu_keep_reasons, rviommu_close and rviommu_assemble call malloc and free.
  *
  * Addresses and lengths are in bytes, and numbers in memory are little-endian. The length of a buffer is a size_t; the number of a device,
  * a place or a step is a uint64_t. Functions of different kinds return different enums, each with numbers from 0 on.
@@ -53,7 +56,8 @@ enum rviommu_answer {
     RVIOMMU_BUS_ERROR = 5,  /* a byte of the hart's access, or of the device's translated access, is outside memory */
     RVIOMMU_BAD_ACCESS = 6, /* the registers have no access of this offset and size */
     RVIOMMU_NO_DEVICE = 7,  /* there is no such block device */
-    RVIOMMU_MISUSE = 8      /* a size, an alignment, a device id or a length is wrong, or the value doesn't fit the size */
+    RVIOMMU_MISUSE = 8,     /* a size, an alignment, a device id or a length is wrong, or the value doesn't fit the size */
+    RVIOMMU_OTHER_MEMORY = 9 /* the memory isn't the handle's own, or the words aren't what it is lent; nothing was done */
 };
 
 /* Whether a call that isn't a step succeeded, and if not, why. rviommu_text gives the words for it. */
@@ -62,7 +66,7 @@ enum rviommu_status {
     RVIOMMU_BAD_MAGIC = 1,     /* image: the first eight bytes aren't "RVIOMMU1", "RVIOMMU2" or "RVIOMMU3" */
     RVIOMMU_TRUNCATED = 2,     /* image: it ends too early */
     RVIOMMU_TRAILING = 3,      /* image: more bytes follow it */
-    RVIOMMU_BAD_RAM = 4,       /* image: the base or the size of memory is wrong */
+    RVIOMMU_BAD_RAM = 4,       /* the base or the size of memory is wrong, of an image or of memory that is lent */
     RVIOMMU_BAD_CHUNK = 5,     /* image: a chunk of bytes is empty, not after the previous chunk, or not all in memory */
     RVIOMMU_BAD_DEVICE = 6,    /* image: a block device has a bad id, the id of another, or a bad disk; or there are too many */
     RVIOMMU_OUT_OF_MEMORY = 7, /* malloc refused */
@@ -72,7 +76,8 @@ enum rviommu_status {
     RVIOMMU_LITTLE_ROOM = 11,  /* the buffer is too short */
     RVIOMMU_NO_DISK = 12,      /* there is no such block device */
     RVIOMMU_NOT_THERE = 13,    /* there are fewer parts, steps or places, or the device id isn't below 2^24 */
-    RVIOMMU_BAD_CAPABILITIES = 14 /* image of version 3: an unknown capability, or a bad number of vectors */
+    RVIOMMU_BAD_CAPABILITIES = 14, /* image of version 3: an unknown capability, or a bad number of vectors */
+    RVIOMMU_STATUS_OTHER_MEMORY = 15 /* the memory isn't the handle's own, or the words aren't what it is lent; nothing was done */
 };
 
 /* What is at a place of a cache. */
@@ -118,7 +123,8 @@ enum rviommu_standing {
     RVIOMMU_CURRENT = 0, /* the same as the caches */
     RVIOMMU_NOTHING = 1, /* the place has no entry */
     RVIOMMU_NO_SUCH = 2, /* there are fewer places, or the device id isn't below 2^24 */
-    RVIOMMU_STALE = 3    /* something else, which the call writes to its output */
+    RVIOMMU_STALE = 3,   /* something else, which the call writes to its output */
+    RVIOMMU_STANDING_OTHER_MEMORY = 4 /* the memory isn't the handle's own */
 };
 
 /* How a request is translated. */
@@ -233,15 +239,16 @@ struct rviommu_why {
     uint32_t kind;          /* an enum rviommu_why_kind */
     bool is_write;          /* all but NO_ACCESS: its access was a write */
     bool is_stale;          /* the caches translated its access otherwise than the tables would have */
-    uint64_t reserved[4];   /* room for more members; 0 */
+    uint64_t address;       /* REGISTER, CONTEXT, WALK: the physical address that its access was led to */
+    uint64_t reserved[3];   /* room for more members; 0 */
 };
 
 /* The version of the library in use: its three numbers in bits 23:16, 15:8 and 7:0. */
 uint32_t rviommu_version(void);
 
 /*
- * Opening and closing. The handle of rviommu_open, of rviommu_open_built_in, and `copy` of rviommu_copy must be closed or never used
- * before; the memory of an open one would be lost.
+ * Opening and closing. The handle of a function rviommu_open*, and `copy` of rviommu_copy, must be closed or never used before; the memory
+ * of an open one would be lost.
  */
 
 /* Opens the platform that an image describes: its memory and block devices, with the registers at reset and nothing cached. Returns
@@ -253,35 +260,67 @@ enum rviommu_status rviommu_open(const uint8_t *image, size_t length, rviommu_t 
  * RVIOMMU_OUT_OF_MEMORY, and the handle is closed. */
 enum rviommu_status rviommu_open_built_in(rviommu_t *handle);
 
+/* Opens an IOMMU without optional features and without block devices, with the registers at reset and nothing cached, in front of memory that
+ * is lent for each call: `size` bytes from physical address `base` on. Both are multiples of 4096, `size` isn't 0, and base + size is at most
+ * 2^56. Returns RVIOMMU_OK; or RVIOMMU_BAD_RAM or RVIOMMU_OUT_OF_MEMORY, and the handle is closed. */
+enum rviommu_status rviommu_open_lent(uint64_t base, uint64_t size, rviommu_t *handle);
+
+/* As rviommu_open_lent, with the IOMMU (capabilities, interrupt vectors) and the block devices of an image; the image's memory is ignored.
+ * Returns the image's refusal too, as rviommu_open does. */
+enum rviommu_status rviommu_open_lent_image(const uint8_t *image, size_t length, uint64_t base, uint64_t size, rviommu_t *handle);
+
 /* Opens `copy` with an equal platform and an equal account. From then on the two handles are independent. The copy continues the count of
- * steps, but its trace is empty and it has no reasons yet, so rviommu_why and the line `trace` are about its own steps only. It keeps as
- * many reasons as `handle` does. `handle` is open and does not change. Returns RVIOMMU_OK; or RVIOMMU_OUT_OF_MEMORY, and `copy` is
+ * steps, but its trace is empty and it has no reasons yet, so rviommu_why and the line `trace` are about its own steps only. It keeps the
+ * same number of reasons as `handle`. If the memory is lent, the copy is lent the same memory, or another one of the same place. `handle` is open and does not change. Returns RVIOMMU_OK; or RVIOMMU_OUT_OF_MEMORY, and `copy` is
  * closed. */
 enum rviommu_status rviommu_copy(const rviommu_t *handle, rviommu_t *copy);
 
 /* Sets how many reasons are kept for rviommu_why: those of the last `most` steps or, if `accesses_only` is true, of the last `most` steps
- * that make an access of a device. A newly opened handle keeps those of the last 32 steps. The reasons kept so far are dropped. The handle
- * is open. Returns RVIOMMU_OK; or RVIOMMU_OUT_OF_MEMORY, and nothing changes. */
+ * that make an access of a device. A newly opened handle keeps those of the last 32 steps. If `most` is 0, accesses are faster, since the
+ * tables aren't walked to see whether they are stale. The reasons kept so far are dropped. The handle is open. Returns RVIOMMU_OK; or RVIOMMU_OUT_OF_MEMORY, and nothing changes. */
 enum rviommu_status rviommu_keep_reasons(rviommu_t *handle, size_t most, bool accesses_only);
 
 /* Closes an open handle and frees its memory. Does nothing to a handle whose member is NULL, as that of a closed handle is. */
 void rviommu_close(rviommu_t *handle);
 
+/* Resets the IOMMU: its registers are as at reset, and both caches are empty. Memory and block devices stay as they are. It is no step: the
+ * count of steps goes on, and the trace and the reasons stay. The handle is open. */
+void rviommu_reset(rviommu_t *handle);
+
+/* Writes `length` bytes, any number of them, to the handle's own memory. It is no step, so neither the trace nor the account has it. The
+ * handle is open. Returns RVIOMMU_OK; or RVIOMMU_OUTSIDE if one byte is outside memory, or RVIOMMU_STATUS_OTHER_MEMORY, and nothing is
+ * written. */
+enum rviommu_status rviommu_memory_write(rviommu_t *handle, uint64_t address, const uint8_t *bytes, size_t length);
+
 /*
- * Steps by text. The handle is open.
+ * Lent memory. A handle of rviommu_open_lent or rviommu_open_lent_image has no memory. Each step, and each look that needs memory, has a
+ * second form whose name ends in _lent. It takes the memory as 64-bit words: `words[i]` is the word at physical address base + 8 * i, its
+ * lowest byte first, and `count` is size / 8. The words are read and written during the call only; no pointer to them is kept.
+ * - Between calls anybody may write the words: the caller, other threads, another handle that is lent the same words. Each call goes by what
+ *   the words hold when it begins, and by what is cached.
+ * - During a call nobody else writes the words, and during a step nobody else reads them. If somebody does, the answer, the words and the
+ *   caches are worth nothing from then on.
+ * - A call of the wrong form does nothing: one without words on a handle that is lent memory, one with words on a handle with memory of its
+ *   own, or one with another count. It returns RVIOMMU_OTHER_MEMORY, RVIOMMU_STATUS_OTHER_MEMORY or RVIOMMU_STANDING_OTHER_MEMORY.
+ * - What others write between calls is no step and has no number, and it changes no origin: an origin's numbers are those of steps.
+ */
+
+/*
+ * Steps by text. The handle is open, and its memory is its own.
  */
 
 /* Carries out one line of a script (rviommu(1), "SCRIPT"), given without its line end. Writes the text of the answer to `answer`, at most
  * 320 bytes and a 0 after it, and the text's length without the 0 to `length`. The answer to a blank line is empty, and that to any line
- * which isn't a step or a question is "bad". Returns RVIOMMU_OK; or RVIOMMU_LITTLE_ROOM if `room` is below 321, and nothing is done. */
+ * which isn't a step or a question is "bad". Returns RVIOMMU_OK; or RVIOMMU_LITTLE_ROOM if `room` is below 321, or
+ * RVIOMMU_STATUS_OTHER_MEMORY, and nothing is done. */
 enum rviommu_status rviommu_line(rviommu_t *handle, const char *line, size_t line_length, char *answer, size_t room, size_t *length);
 
 /*
- * Steps by numbers. The handle is open. Each call is one step: the trace keeps it and the account counts it, as for a line. Only a device's
- * access of no bytes, or of more than 64, is no step. Each comment names the answers that are possible. `value` is written for
- * RVIOMMU_VALUE, `bytes` for RVIOMMU_BYTES and `cause` for RVIOMMU_DENIED; with any other answer they are left unchanged. A refused step
- * changes nothing, with three exceptions: a denial may make a fault record, translation may fill the caches, and a block device whose access
- * is refused is broken.
+ * Steps by numbers. The handle is open. Each call is one step: the trace keeps it and the account counts it, as for a line. Two calls are no
+ * step: a device's access of no bytes, or of more than 64, and one that is answered RVIOMMU_OTHER_MEMORY. Each comment names the other answers
+ * that are possible. `value` is written for RVIOMMU_VALUE, `bytes` for RVIOMMU_BYTES and `cause` for RVIOMMU_DENIED; with any other answer they
+ * are left unchanged. A refused step changes nothing, with three exceptions: a denial may make a fault record, translation may fill the caches,
+ * and a block device whose access is refused is broken.
  */
 
 /* The hart reads `size` bytes, 1, 2, 4 or 8, at a physical address that is a multiple of the size: VALUE, BUS_ERROR, MISUSE. */
@@ -311,6 +350,11 @@ enum rviommu_answer rviommu_dma_read_all(rviommu_t *handle, uint64_t did, uint64
 enum rviommu_answer rviommu_dma_write_all(rviommu_t *handle, uint64_t did, uint64_t iova, const uint8_t *bytes, size_t length, size_t *done,
                                           uint64_t *cause);
 
+/* A device asks for the translation of an IOVA, any of 64 bits, for a read or a write, and accesses no memory. It fills the caches and leaves a
+ * fault record as an access does. VALUE, and `number` is the physical address, even if that is outside memory; DENIED, and `number` is the
+ * cause; MISUSE. */
+enum rviommu_answer rviommu_translate(rviommu_t *handle, uint64_t did, uint64_t iova, bool is_write, uint64_t *number);
+
 /* The command unit takes one command and carries it out ("Command-Queue (CQ)"): DONE, even if that stops the queue, or IDLE. */
 enum rviommu_answer rviommu_command(rviommu_t *handle);
 
@@ -325,26 +369,54 @@ enum rviommu_answer rviommu_dev_write(rviommu_t *handle, uint64_t device, uint64
 enum rviommu_answer rviommu_dev_step(rviommu_t *handle, uint64_t device, uint64_t *cause);
 
 /*
- * Looking. The handle is open. None of these calls is a step, and none changes the platform, the trace or the account. But each is a use
- * of the handle, so no other thread may use it meanwhile.
+ * Steps by numbers in front of lent memory. Each is the step of the same name without _lent, with the words that are lent for it.
  */
 
-/* The number of the last step, or 0 before the first: how many steps the handle was given, including those of the handle that it was copied
- * from. */
+enum rviommu_answer rviommu_load_lent(rviommu_t *handle, uint64_t *words, size_t count, uint64_t address, uint64_t size, uint64_t *value);
+enum rviommu_answer rviommu_store_lent(rviommu_t *handle, uint64_t *words, size_t count, uint64_t address, uint64_t size, uint64_t value);
+enum rviommu_answer rviommu_reg_read_lent(rviommu_t *handle, uint64_t *words, size_t count, uint64_t offset, uint64_t size,
+                                          uint64_t *value);
+enum rviommu_answer rviommu_reg_write_lent(rviommu_t *handle, uint64_t *words, size_t count, uint64_t offset, uint64_t size,
+                                           uint64_t value);
+enum rviommu_answer rviommu_dma_read_lent(rviommu_t *handle, uint64_t *words, size_t count, uint64_t did, uint64_t iova, uint8_t *bytes,
+                                          size_t length, uint64_t *cause);
+enum rviommu_answer rviommu_dma_write_lent(rviommu_t *handle, uint64_t *words, size_t count, uint64_t did, uint64_t iova,
+                                           const uint8_t *bytes, size_t length, uint64_t *cause);
+enum rviommu_answer rviommu_dma_read_all_lent(rviommu_t *handle, uint64_t *words, size_t count, uint64_t did, uint64_t iova,
+                                              uint8_t *bytes, size_t length, size_t *done, uint64_t *cause);
+enum rviommu_answer rviommu_dma_write_all_lent(rviommu_t *handle, uint64_t *words, size_t count, uint64_t did, uint64_t iova,
+                                               const uint8_t *bytes, size_t length, size_t *done, uint64_t *cause);
+enum rviommu_answer rviommu_translate_lent(rviommu_t *handle, uint64_t *words, size_t count, uint64_t did, uint64_t iova, bool is_write,
+                                           uint64_t *number);
+enum rviommu_answer rviommu_command_lent(rviommu_t *handle, uint64_t *words, size_t count);
+enum rviommu_answer rviommu_dev_read_lent(rviommu_t *handle, uint64_t *words, size_t count, uint64_t device, uint64_t offset,
+                                          uint64_t size, uint64_t *value);
+enum rviommu_answer rviommu_dev_write_lent(rviommu_t *handle, uint64_t *words, size_t count, uint64_t device, uint64_t offset,
+                                           uint64_t size, uint64_t value);
+enum rviommu_answer rviommu_dev_step_lent(rviommu_t *handle, uint64_t *words, size_t count, uint64_t device, uint64_t *cause);
+
+/*
+ * Looking. The handle is open. None of these calls is a step, and none changes the platform, the trace or the account. Any number of them may
+ * run at once on one handle, in any threads, while no other function uses it. rviommu_memory, rviommu_part and rviommu_stale* are for
+ * a handle with memory of its own, rviommu_way_now_lent is for one that is lent memory, and the others are for both.
+ */
+
+/* The number of the last step, or 0 before the first. A copy continues the count of its original. */
 uint64_t rviommu_steps(const rviommu_t *handle);
 
 /* The pending interrupts: the value of ipsr, with bit 0 for the command queue and bit 1 for the fault queue ("Interrupt pending status
  * register (ipsr)"). */
 uint64_t rviommu_interrupt(const rviommu_t *handle);
 
-/* Writes to `value` what rviommu_reg_read would. Returns RVIOMMU_OK; or RVIOMMU_OUTSIDE if the registers have no such access, and `value` is
+/* Writes to `value` the number that rviommu_reg_read would read. Returns RVIOMMU_OK; or RVIOMMU_OUTSIDE if the registers have no such access, and `value` is
  * unchanged. */
 enum rviommu_status rviommu_reg_look(const rviommu_t *handle, uint64_t offset, uint64_t size, uint64_t *value);
 
 /* Writes the first physical address of memory to `base`, and the size of memory to `size`. */
 void rviommu_memory_place(const rviommu_t *handle, uint64_t *base, uint64_t *size);
 
-/* Copies `length` bytes of memory from a physical address on. Returns RVIOMMU_OK; or RVIOMMU_OUTSIDE, and `bytes` is unchanged. */
+/* Copies `length` bytes of memory from a physical address on. Returns RVIOMMU_OK; or RVIOMMU_OUTSIDE or RVIOMMU_STATUS_OTHER_MEMORY, and
+ * `bytes` is unchanged. */
 enum rviommu_status rviommu_memory(const rviommu_t *handle, uint64_t address, uint8_t *bytes, size_t length);
 
 /* Writes to `size` the size of a block device's disk; the first device is 0. Returns RVIOMMU_OK; or RVIOMMU_NO_DISK, and `size` is
@@ -360,14 +432,21 @@ enum rviommu_status rviommu_disk(const rviommu_t *handle, uint64_t device, uint6
 enum rviommu_place rviommu_page(const rviommu_t *handle, uint64_t place, struct rviommu_page_place *page);
 enum rviommu_place rviommu_context(const rviommu_t *handle, uint64_t place, struct rviommu_context_place *context);
 
+/* Writes to `way` how a request would be translated now, by the caches first and else by the tables, and to `address` the physical address
+ * ("Process to translate an IOVA"). Nothing is cached or reported. Returns RVIOMMU_OK; or RVIOMMU_NOT_THERE if the device id isn't below
+ * 2^24, or RVIOMMU_STATUS_OTHER_MEMORY, and the outputs are unchanged. `address` is also unchanged if the way leads nowhere. */
+enum rviommu_status rviommu_way_now(const rviommu_t *handle, uint64_t did, uint64_t iova, bool is_write, struct rviommu_way *way, uint64_t *address);
+enum rviommu_status rviommu_way_now_lent(const rviommu_t *handle, const uint64_t *words, size_t count, uint64_t did, uint64_t iova, bool is_write,
+                                     struct rviommu_way *way, uint64_t *address);
+
 /* Writes to `part` one part of the walk of a request, as if nothing were cached ("Process to translate an IOVA"). Part 0 is ddtp and the
  * last one the end; there are at most 40. Returns RVIOMMU_OK; or RVIOMMU_NOT_THERE if there are fewer parts or the device id isn't below
- * 2^24, and `part` is unchanged. */
+ * 2^24, or RVIOMMU_STATUS_OTHER_MEMORY, and `part` is unchanged. */
 enum rviommu_status rviommu_part(const rviommu_t *handle, uint64_t did, uint64_t iova, bool is_write, uint64_t number, struct rviommu_walk_part *part);
 
 /* Whether a request is stale, which means that the caches translate it otherwise than the tables would ("Caching in-memory data
- * structures"). Returns RVIOMMU_STALE, and writes the way that the tables give to `way`; RVIOMMU_CURRENT; or RVIOMMU_NO_SUCH if the device
- * id isn't below 2^24. `way` is unchanged unless the request is stale. */
+ * structures"). Returns RVIOMMU_STALE, and writes the way that the tables give to `way`; RVIOMMU_CURRENT; RVIOMMU_NO_SUCH if the device id
+ * isn't below 2^24; or RVIOMMU_STANDING_OTHER_MEMORY. `way` is unchanged unless the request is stale. */
 enum rviommu_standing rviommu_stale(const rviommu_t *handle, uint64_t did, uint64_t iova, bool is_write, struct rviommu_way *way);
 
 /* Whether the tables still give the entry at a place of a cache. For RVIOMMU_STALE, rviommu_stale_page writes the way that the tables give a

@@ -3,6 +3,7 @@
 
 Each script of examples/ and of crates/iom_rows/data is played through the library, line by line and by numbers, and
 compared with PROGRAM, and so are 100,000 lines of generated scripts, under the address sanitizer and under valgrind.
+A program lends its own memory, and threads use handles side by side, under these and under checkers of threads.
 
 Prints each test. The status is 1 if one failed.
 """
@@ -29,6 +30,10 @@ SEED = 1
 # Of the generated scripts: how many lines have each number of stages, and how many are of scripts made to harm.
 PLAIN_LINES, HARMFUL_LINES = 20_000, 40_000
 VALGRIND = ["valgrind", "-q", "--leak-check=full", "--error-exitcode=9"]
+CHECKERS_OF_THREADS = [["valgrind", "-q", f"--tool={tool}", "--error-exitcode=9"] for tool in ("drd", "helgrind")]
+# How many accesses are played over lent memory, and how many rounds each thread makes: alone, and under a checker.
+ACCESSES, CHECKED_ACCESSES = "1000000", "20000"
+ROUNDS, CHECKED_ROUNDS = "20000", "300"
 USED = """import os, rviommu
 print(rviommu.__file__.startswith(os.environ['WANTED']), rviommu.Platform().line('reg read 0 8'))"""
 
@@ -122,6 +127,14 @@ class OfC(Library):
                 self.needs(*checker[:1])
                 self.passes(*checker, calls)
 
+    def test_changes(self):
+        """translations, a reset and writes of any length, and valgrind finds nothing in them"""
+        changes = self.compiled("gcc", "changes", ["tests/c/changes.c"])
+        for checker in ([], VALGRIND):
+            with self.subTest(checker):
+                self.needs(*checker[:1])
+                self.passes(*checker, changes)
+
     def test_readme(self):
         """the program in c/README.md"""
         code = text_of("c/README.md").split("```c\n")[1].split("```")[0]
@@ -136,6 +149,39 @@ class OfC(Library):
         self.assertNotEqual(code, block, "no call has its answer beside it")
         text = f'#include "rviommu.h"\nint main(void) {{\n{code}\nreturn 0;\n}}\n'
         called([self.compiled("gcc", "top_readme", [self.put("top_readme.c", text)])])
+
+
+class OfLentMemory(Library):
+    def test_accesses(self):
+        """a million accesses in front of 1 GiB of the caller's memory are answered as in front of the handle's own, and by the program"""
+        lent, script = self.compiled("gcc", "lent", ["tests/c/lent.c"]), Path(self.path("lent.script"))
+        self.passes(lent, ACCESSES, script)
+        image, given = self.image("ram 0xbff00000 0x100000\n"), script.read_bytes()
+        answers = [line.partition(" # => ")[2] for line in given.decode().splitlines()]
+        self.assertGreaterEqual(len(answers), 3000)
+        self.assertEqual(called([program(), "debug", image], input=given).decode().splitlines(), answers)
+
+    def test_accesses_sanitized(self):
+        """the address sanitizer reports nothing in them"""
+        self.passes(self.compiled("gcc", "lent-sanitized", ["tests/c/lent.c"], *SANITIZER), ACCESSES)
+
+    def test_accesses_checked(self):
+        """valgrind reports nothing in some of them"""
+        self.needs("valgrind")
+        self.passes(*VALGRIND, self.compiled("gcc", "lent", ["tests/c/lent.c"]), CHECKED_ACCESSES)
+
+    def test_threads(self):
+        """eight threads with a handle each, and eight that look at one: the thread sanitizer reports nothing"""
+        sanitized = self.compiled("gcc", "threads-sanitized", ["tests/c/threads.c"], "-fsanitize=thread", "-pthread")
+        self.passes(sanitized, ROUNDS)
+
+    def test_threads_checked(self):
+        """nor do valgrind's checkers, which see each access of the library"""
+        self.needs("valgrind")
+        threads = self.compiled("gcc", "threads", ["tests/c/threads.c"], "-pthread")
+        for checker in [VALGRIND, *CHECKERS_OF_THREADS]:
+            with self.subTest(checker):
+                self.passes(*checker, threads, CHECKED_ROUNDS)
 
 
 class Played(Library):

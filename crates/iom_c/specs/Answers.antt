@@ -20,6 +20,10 @@ code_of answer.Misuse = 8
 abbrev pub misuse : ℕ
 misuse = 8
 
+-- the words aren't those that the platform has no memory without: nothing happens
+abbrev pub other_memory : ℕ
+other_memory = 9
+
 -- what stands in the caller's place after an answer, where this stood: the number that was read, or the cause of a denial
 abbrev pub number_in : Answer → ℕ → ℕ
 number_in (answer.Value value) old = value

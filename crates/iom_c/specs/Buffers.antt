@@ -1,10 +1,11 @@
 -- Texts in the caller's buffers.
 use Rattle.std.specs.Prelude.{ℕ, ◌+◌, ◌++◌, List, [], ◌∷◌, length, drop}
 use Rattle.std.specs.Option.{unwrap_or}
+use Rattle.iom_core.specs.State.{State}
 use Rattle.iom_tool.specs.Console.{console}
+use Rattle.iom_tool.specs.declared.trace.Entry.{Entry}
 use Rattle.iom_tool.specs.Output.{reply}
 use Rattle.iom_tool.specs.Script.{line_of}
-use Rattle.iom_c.specs.declared.owned.Owned.{Owned}
 
 -- a buffer that begins with these bytes, and has those that stood behind their places
 abbrev pub begun_by : List ℕ → List ℕ → List ℕ
@@ -15,5 +16,5 @@ abbrev pub told_in : List ℕ → List ℕ → List ℕ
 told_in text old = text ++ 0 ∷ drop (length text + 1) old
 
 -- the answer to a line; none: empty
-abbrev pub reply_to : Owned → List ℕ → List ℕ
-reply_to own line = unwrap_or (reply (console own.platform own.trace) (line_of line)) []
+abbrev pub reply_to : State → List Entry → List ℕ → List ℕ
+reply_to platform trace line = unwrap_or (reply (console platform trace) (line_of line)) []

@@ -1,13 +1,11 @@
 -- The numbers of refusals, and their words.
-use Rattle.std.specs.Prelude.{ℕ, ◌≡◌, ◌⊎◌, List, [], ◌∷◌, codes, slice_get, Bool, Option, Some, None, IsSomeAnd, Result, Ok, Err}
+use Rattle.std.specs.Prelude.{ℕ, ◌≡◌, ◌⊎◌, List, [], ◌∷◌, codes, slice_get, Bool, true, false, Option, Some, None, IsSomeAnd, Result, Ok, Err}
 use Rattle.std.specs.Option.{unwrap_or}
 use Rattle.iom_image.specs.Image.{Image}
-use Rattle.iom_image.specs.Loading.{state_from}
 use Rattle.iom_image.specs.declared.fault.LoadFault.{LoadFault}
 use Rattle.iom_image.specs.declared.fault.LoadFault.TheVariants as load
 use Rattle.iom_asm.specs.declared.asm_fault.AsmFault.{AsmFault}
 use Rattle.iom_asm.specs.declared.asm_fault.AsmFault.TheVariants as asm
-use Rattle.iom_c.specs.Handles.{Begins}
 use Rattle.iom_c.specs.Keeping.{none_kept}
 use Rattle.iom_c.specs.declared.owned.Owned.{Owned}
 
@@ -17,6 +15,14 @@ ok = 0
 
 abbrev pub out_of_memory : ℕ
 out_of_memory = 7
+
+-- a base or a size that no memory has
+abbrev pub bad_memory : ℕ
+bad_memory = 4
+
+-- the memory isn't the handle's own, or these words aren't what it is lent
+abbrev pub status_other_memory : ℕ
+status_other_memory = 15
 
 -- the caller's buffer is too short
 abbrev pub little_room : ℕ
@@ -62,7 +68,7 @@ abbrev pub all_words : List (List ℕ)
 all_words =
     codes "ok" ∷ codes "bad magic" ∷ codes "truncated" ∷ codes "trailing bytes" ∷ codes "bad memory" ∷ codes "bad chunk"
     ∷ codes "bad device" ∷ codes "out of memory" ∷ codes "bad line" ∷ codes "overlap" ∷ codes "outside memory"
-    ∷ codes "too little room" ∷ codes "no such disk" ∷ codes "not there" ∷ codes "bad capabilities" ∷ []
+    ∷ codes "too little room" ∷ codes "no such disk" ∷ codes "not there" ∷ codes "bad capabilities" ∷ codes "other memory" ∷ []
 
 abbrev pub words_for : ℕ → List ℕ
 words_for number = unwrap_or (slice_get all_words number) (codes "no such number")
@@ -74,9 +80,14 @@ Starts IsStart told held = ((told ≡ ok) × IsSomeAnd held IsStart) ⊎ ((told 
 -- how many reasons are kept, and of which steps, is set anew, or there is no memory for it
 abbrev pub KeepsReasons : Owned → ℕ → Bool → ℕ → Option Owned → Type 0
 KeepsReasons own most accesses_only told held =
-    ((told ≡ ok) × (held ≡ Some (record own { kept = none_kept most accesses_only }))) ⊎ ((told ≡ out_of_memory) × (held ≡ Some own))
+    ((told ≡ ok) × (held ≡ Some (record own { told = record own.told { kept = none_kept most accesses_only } }))) ⊎ ((told ≡ out_of_memory) × (held ≡ Some own))
 
--- what the opening of bytes is told, and what the handle owns after it: the bytes are an image that starts a platform, or are refused
-abbrev pub Opens : Result Image LoadFault → ℕ → Option Owned → Type 0
-Opens (Ok found) told held = Starts (Begins (state_from found)) told held
-Opens (Err fault) told held = (told ≡ load_number fault) × (held ≡ None)
+-- what the opening of bytes is told, and what the handle owns after it: the bytes are an image that starts this, or are refused
+abbrev pub Opens : (Image → Owned → Type 0) → Result Image LoadFault → ℕ → Option Owned → Type 0
+Opens IsStart (Ok found) told held = Starts (IsStart found) told held
+Opens IsStart (Err fault) told held = (told ≡ load_number fault) × (held ≡ None)
+
+-- the same in front of memory that is lent, if there may be such memory
+abbrev pub OpensIf : Bool → (ℕ → Option Owned → Type 0) → ℕ → Option Owned → Type 0
+OpensIf true Opened told held = Opened told held
+OpensIf false Opened told held = (told ≡ bad_memory) × (held ≡ None)

@@ -1,6 +1,8 @@
 pub mod Handles
+pub mod Lending
 pub mod Keeping
 pub mod Answers
+pub mod Changes
 pub mod Buffers
 pub mod Faults
 pub mod Looks

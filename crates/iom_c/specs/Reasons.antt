@@ -1,5 +1,5 @@
 -- Where a request is led, by which parts of a walk, and whether it is stale, as C is told.
-use Rattle.std.specs.Prelude.{ℕ, ◌≡◌, ◌⊎◌, ◌+◌, ◌==◌, ◌&&◌, Bool, true, false, List, [], ◌∷◌, get_or, Option, Some, None, is_some}
+use Rattle.std.specs.Prelude.{ℕ, ◌≡◌, ◌⊎◌, ◌+◌, ◌==◌, ◌&&◌, Bool, true, false, List, [], ◌∷◌, get_or, Option, Some, None, is_some, Result, Ok, Err}
 use Rattle.std.specs.Option.{unwrap_or}
 use Rattle.iom_bits.specs.Bits.{has_bit}
 use Rattle.iom_bits.specs.Causes.{cause_number}
@@ -20,6 +20,7 @@ use Rattle.iom_cache.specs.declared.key.Key.{Key}
 use Rattle.iom_cache.specs.declared.place.Place.{Place}
 use Rattle.iom_cache.specs.declared.place.Place.TheVariants.{Beyond, Empty, Live}
 use Rattle.iom_core.specs.State.{Machine}
+use Rattle.iom_core.specs.declared.access.Denial.{Denial}
 use Rattle.iom_core.specs.declared.access.Request.{Request}
 use Rattle.iom_core.specs.Looking.{by_tables}
 use Rattle.iom_tables.specs.Stale.{IsStale}
@@ -94,6 +95,11 @@ way_of did (way.Denied denial) = record (plain_way 3) {
   iotval2 = denial.iotval2;
   is_reported = denial.reported;
 }
+
+-- the physical address that a request is led to, in place of what stood there; of one that is denied none is put
+abbrev pub address_in : Result ℕ Denial → ℕ → ℕ
+address_in (Ok addr) old = addr
+address_in (Err denial) old = old
 
 -- what ddtp and the directory say of device `did`
 abbrev pub located_of : ℕ → Located → LocatedContext
@@ -202,6 +208,10 @@ part_of did (part.End way) = record (plain_part 5) { way = way_of did way }
 -- of a place that there are fewer, or of a request that no device has this id
 abbrev pub beyond : ℕ
 beyond = 2
+
+-- the memory isn't the handle's own
+abbrev pub standing_other_memory : ℕ
+standing_other_memory = 4
 
 -- a part there is, or none
 abbrev pub PartTold : ℕ → Option Part → ℕ → WalkPart → WalkPart → Type 0

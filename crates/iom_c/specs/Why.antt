@@ -1,5 +1,6 @@
 -- Why a step went as it did, and which step filled a place of a cache, as C is told.
 use Rattle.std.specs.Prelude.{ℕ, ◌≡◌, true, false, [], ◌∷◌, Option, Some, None}
+use Rattle.std.specs.Option.{unwrap_or}
 use Rattle.iom_core.specs.declared.access.Request.{Request}
 use Rattle.iom_core.specs.declared.way.Way.{Way}
 use Rattle.iom_account.specs.declared.history.Filled.{Filled}
@@ -24,7 +25,8 @@ plain_reason number kind = record {
   kind = kind;
   is_write = false;
   is_stale = false;
-  reserved = 0 ∷ 0 ∷ 0 ∷ 0 ∷ [];
+  address = 0;
+  reserved = 0 ∷ 0 ∷ 0 ∷ [];
 }
 
 -- the same of a step that asked this
@@ -54,8 +56,13 @@ beside_tables None stale reason = reason
 beside_tables (Some request) None reason = reason
 beside_tables (Some request) (Some way) reason = record reason { way = way_of request.did way; is_stale = true }
 
+-- with the physical address that its access was led to
+abbrev pub led_to : Option ℕ → StepReason → StepReason
+led_to address reason = record reason { address = unwrap_or address 0 }
+
 abbrev pub reason_of : Reason → StepReason
-reason_of reason = beside_tables reason.request reason.stale (used_by reason.number reason.request reason.origin)
+reason_of reason =
+    beside_tables reason.request reason.stale (led_to reason.address (used_by reason.number reason.request reason.origin))
 
 -- of a step that there is, why it went as it did
 abbrev pub WhyTold : Option Reason → ℕ → StepReason → StepReason → Type 0

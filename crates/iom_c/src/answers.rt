@@ -31,7 +31,7 @@ pub fn put_number(answer: &Answer, number: &mut u64)
     }
 }
 
-/// Puts the bytes that a device read, as many as there is room for; no other answer changes `out`.
+/// Copies the bytes that a device read to `out`, at most its length; no other answer changes it.
 pub fn put_bytes(answer: &Answer, out: &mut [u8])
     requires { HasLength answer.now (length out.old) }
     ensures { out.new ≡ bytes_in answer.now out.old }

@@ -1,12 +1,12 @@
 ghost use Rattle.std.specs.Prelude.{◌≡◌, IfOk, slice_get};
 ghost use Rattle.std.specs.Option.{option_copied};
-ghost use Rattle.iom_c.specs.Keeping.{kept_after, none_kept};
+ghost use Rattle.iom_c.specs.Keeping.{has_no_room, kept_after, none_kept};
 
 use circular_buffer::HeapCircularBuffer;
 use iom_account::Reason;
 use std::alloc::{AllocError, Global};
 
-/// How many reasons a handle keeps that wasn't told otherwise.
+/// The number of reasons that a newly opened handle keeps.
 pub const MOST: usize = 32;
 
 /// Why the last steps went as they did.
@@ -36,15 +36,19 @@ impl Kept {
         Kept::new(alloc, self.ring.capacity(), self.accesses_only)
     }
 
-    /// Keeps the reason of a step, if it is one of those that are kept. If there is no room the oldest leaves.
-    pub fn keep(&mut self, told: Option<&Reason>)
-        ensures { self.new ≡ kept_after self.old (option_copied told.entry) }
+    /// Whether there is room for no reason.
+    pub fn has_no_room(&self) -> bool
+        ensures { result ≡ has_no_room self.now }
     {
-        let Some(reason) = told else {
-            return;
-        };
+        self.ring.capacity() == 0
+    }
+
+    /// Keeps the reason of a step, if it is one of those that are kept. If there is no room the oldest leaves.
+    pub fn keep(&mut self, reason: Reason)
+        ensures { self.new ≡ kept_after self.old reason }
+    {
         if !self.accesses_only || reason.request.is_some() {
-            let _left = self.ring.push_back(*reason);
+            let _left = self.ring.push_back(reason);
         }
     }
 

@@ -2,8 +2,11 @@
 #![tactic(auto)]
 
 mod answers;
+mod changing;
 mod handle;
+mod held;
 mod kept;
+mod leading;
 mod looking;
 mod opening;
 mod origins;
@@ -13,6 +16,7 @@ mod places;
 mod reasons;
 mod steps;
 mod texts;
+mod told;
 mod version;
 mod walks;
 mod ways;

@@ -4,19 +4,22 @@ ghost use Rattle.std.specs.Prelude.{◌≡◌, length, slice_get, Some};
 ghost use Rattle.std.specs.Option.{option_map};
 ghost use Rattle.iom_cache.specs.Places.{place_in};
 ghost use Rattle.iom_core.specs.State.{disk_of};
-ghost use Rattle.iom_mem.specs.Memory.{bytes_at, size_of};
+ghost use Rattle.iom_mem.specs.Memory.{bytes_at};
 ghost use Rattle.iom_regs.specs.Table.{read};
+ghost use Rattle.iom_c.specs.Faults.{status_other_memory};
+ghost use Rattle.iom_c.specs.Handles.{base_of, board_of, OfOwn, size_in};
 ghost use Rattle.iom_c.specs.Looks.{Copied, DiskCopied, ReadTold, SizeTold, context_in, page_in, part_of, place_number};
 ghost use Rattle.iom_c.specs.declared.owned.Owned.{Owned};
 
 use crate::handle::Handle;
+use crate::held::Held;
 use crate::places::{ContextPlace, PagePlace, context_of, page_of};
 use iom_cache::{Key, Place};
 use iom_ddt::Context;
 use iom_nested::Hit;
 use std::alloc::Global;
 
-/// Where memory lies: its first physical address, and how many bytes it has.
+/// The place of memory: its first physical address, and its size in bytes.
 #[unsafe(no_mangle)]
 pub extern "C" fn rviommu_memory_place(
     alloc: Global,
@@ -26,18 +29,30 @@ pub extern "C" fn rviommu_memory_place(
 )
     ghost own: { Owned }
     requires open { handle.old.held ≡ Some own }
-    ensures base { base.new ≡ own.platform.machine.memory.base }
-    ensures size { size.new ≡ size_of own.platform.machine.memory }
+    ensures base { base.new ≡ base_of own.held }
+    ensures size { size.new ≡ size_in own.held }
     ensures same { handle.new.held ≡ Some own }
 {
     let owned = handle.take(alloc);
-    *base = owned.platform.ram().base();
-    *size = owned.platform.ram().size();
+    *base = owned.held.base();
+    *size = owned.held.size();
     *handle = Handle::of(owned);
 }
 
-/// Copies as many bytes of memory as there is room for in `bytes`, from physical address `addr` on. It answers 0, or 10 where one
-/// is outside memory; `bytes` is unchanged then.
+// Copies bytes of a platform's own memory; 15 if it has none.
+fn copy_memory(held: &Held, addr: u64, bytes: &mut [u8]) -> u32
+    ensures { OfOwn held.now (λ platform. Copied (bytes_at platform.machine.memory addr (length bytes.old)) result bytes.old bytes.new)
+        ((result ≡ status_other_memory) × (bytes.new ≡ bytes.old)) }
+{
+    match held {
+        Held::Own(platform) if platform.ram.read(addr, bytes) => 0,
+        Held::Own(_) => 10,
+        Held::Lent(_) => 15,
+    }
+}
+
+/// Fills `bytes` with bytes of memory, from physical address `addr` on. It answers 0; 10 if one is outside memory; or 15 if the memory
+/// isn't the platform's own. Unless it is 0, `bytes` is unchanged.
 #[unsafe(no_mangle)]
 pub extern "C" fn rviommu_memory(
     alloc: Global,
@@ -47,13 +62,14 @@ pub extern "C" fn rviommu_memory(
 ) -> u32
     ghost own: { Owned }
     requires open { handle.old.held ≡ Some own }
-    ensures bytes { Copied (bytes_at own.platform.machine.memory addr (length bytes.old)) result bytes.old bytes.new }
+    ensures bytes { OfOwn own.held (λ platform. Copied (bytes_at platform.machine.memory addr (length bytes.old)) result bytes.old bytes.new)
+        ((result ≡ status_other_memory) × (bytes.new ≡ bytes.old)) }
     ensures same { handle.new.held ≡ Some own }
 {
     let owned = handle.take(alloc);
-    let is_inside = owned.platform.ram().read(addr, bytes);
+    let told = copy_memory(&owned.held, addr, bytes);
     *handle = Handle::of(owned);
-    if is_inside { 0 } else { 10 }
+    told
 }
 
 /// The number of the last step: how many steps the handle was given, those of the handle that it was copied from among them. 0 before
@@ -96,11 +112,11 @@ pub extern "C" fn rviommu_reg_look(
 ) -> u32
     ghost own: { Owned }
     requires open { handle.old.held ≡ Some own }
-    ensures value { ReadTold (read own.platform.machine.registers off size) result value.old value.new }
+    ensures value { ReadTold (read (board_of own.held).iommu.registers off size) result value.old value.new }
     ensures same { handle.new.held ≡ Some own }
 {
     let owned = handle.take(alloc);
-    let read = owned.platform.registers().read(off, size);
+    let read = owned.held.board().registers().read(off, size);
     *handle = Handle::of(owned);
     put_read(read, value)
 }
@@ -111,11 +127,11 @@ pub extern "C" fn rviommu_reg_look(
 pub extern "C" fn rviommu_interrupt(alloc: Global, handle: &mut Handle) -> u64
     ghost own: { Owned }
     requires open { handle.old.held ≡ Some own }
-    ensures pending { Some result ≡ read own.platform.machine.registers 84 4 }
+    ensures pending { Some result ≡ read (board_of own.held).iommu.registers 84 4 }
     ensures same { handle.new.held ≡ Some own }
 {
     let owned = handle.take(alloc);
-    let pending = owned.platform.registers().read(84, 4);
+    let pending = owned.held.board().registers().read(84, 4);
     *handle = Handle::of(owned);
     pending.unwrap_or(0)
 }
@@ -133,8 +149,8 @@ fn disk_size(disk: Option<&[u8]>, size: &mut u64) -> u32
     }
 }
 
-/// How many bytes the disk of block device `n`, counted from 0, has. It answers 0, or 12 where there is no such device; `size` is
-/// unchanged then.
+/// How many bytes the disk of block device `n`, counted from 0, has. It answers 0, or 12 if there is no such device; `size` is unchanged
+/// then.
 #[unsafe(no_mangle)]
 pub extern "C" fn rviommu_disk_size(
     alloc: Global,
@@ -144,11 +160,11 @@ pub extern "C" fn rviommu_disk_size(
 ) -> u32
     ghost own: { Owned }
     requires open { handle.old.held ≡ Some own }
-    ensures size { SizeTold (option_map disk_of (slice_get own.platform.devices n)) result size.old size.new }
+    ensures size { SizeTold (option_map disk_of (slice_get (board_of own.held).devices n)) result size.old size.new }
     ensures same { handle.new.held ≡ Some own }
 {
     let owned = handle.take(alloc);
-    let told = disk_size(owned.platform.disk(n as usize), size);
+    let told = disk_size(owned.held.board().disk(n as usize), size);
     *handle = Handle::of(owned);
     told
 }
@@ -175,8 +191,8 @@ fn copy_disk(disk: Option<&[u8]>, offset: u64, bytes: &mut [u8]) -> u32
     }
 }
 
-/// Copies as many bytes of the disk of block device `n`, counted from 0, as there is room for in `bytes`, from byte `offset` on. It
-/// answers 0, 12 where there is no such device, or 10 where one is behind the disk's end; `bytes` is unchanged then.
+/// Fills `bytes` with bytes of the disk of block device `n`, counted from 0, from byte `offset` on. Answers 0; 12 if there is no such
+/// device, or 10 if the disk ends before; `bytes` is unchanged then.
 #[unsafe(no_mangle)]
 pub extern "C" fn rviommu_disk(
     alloc: Global,
@@ -187,11 +203,11 @@ pub extern "C" fn rviommu_disk(
 ) -> u32
     ghost own: { Owned }
     requires open { handle.old.held ≡ Some own }
-    ensures bytes { DiskCopied (option_map disk_of (slice_get own.platform.devices n)) offset result bytes.old bytes.new }
+    ensures bytes { DiskCopied (option_map disk_of (slice_get (board_of own.held).devices n)) offset result bytes.old bytes.new }
     ensures same { handle.new.held ≡ Some own }
 {
     let owned = handle.take(alloc);
-    let told = copy_disk(owned.platform.disk(n as usize), offset, bytes);
+    let told = copy_disk(owned.held.board().disk(n as usize), offset, bytes);
     *handle = Handle::of(owned);
     told
 }
@@ -211,8 +227,8 @@ fn put_page(place: Place<Key, Hit>, out: &mut PagePlace) -> u32
     }
 }
 
-/// What stands at place `i`, any number, of the translation cache, in the standard the IOTLB; the oldest is place 0. It answers 0
-/// where an entry stands there, 1 where nothing does and 2 beyond the last place; `page` is unchanged then.
+/// What stands at place `i`, any number, of the translation cache, in the standard the IOTLB; the oldest is place 0. It answers 0 if an
+/// entry stands there, 1 if nothing does and 2 beyond the last place; `page` is unchanged then.
 #[unsafe(no_mangle)]
 pub extern "C" fn rviommu_page(
     alloc: Global,
@@ -222,12 +238,12 @@ pub extern "C" fn rviommu_page(
 ) -> u32
     ghost own: { Owned }
     requires open { handle.old.held ≡ Some own }
-    ensures told { result ≡ place_number (place_in (slice_get own.platform.machine.pages i)) }
-    ensures page { page.new ≡ page_in (place_in (slice_get own.platform.machine.pages i)) page.old }
+    ensures told { result ≡ place_number (place_in (slice_get (board_of own.held).iommu.pages i)) }
+    ensures page { page.new ≡ page_in (place_in (slice_get (board_of own.held).iommu.pages i)) page.old }
     ensures same { handle.new.held ≡ Some own }
 {
     let owned = handle.take(alloc);
-    let place = owned.platform.trans().place(i);
+    let place = owned.held.board().trans().place(i);
     *handle = Handle::of(owned);
     put_page(place, page)
 }
@@ -247,7 +263,7 @@ fn put_context(place: Place<u32, Context>, out: &mut ContextPlace) -> u32
     }
 }
 
-/// The same of the context cache, in the standard the DDTC.
+/// Looks at a place of the context cache, in the standard the DDTC, as `rviommu_page` does at one of the translation cache.
 #[unsafe(no_mangle)]
 pub extern "C" fn rviommu_context(
     alloc: Global,
@@ -257,12 +273,12 @@ pub extern "C" fn rviommu_context(
 ) -> u32
     ghost own: { Owned }
     requires open { handle.old.held ≡ Some own }
-    ensures told { result ≡ place_number (place_in (slice_get own.platform.machine.contexts i)) }
-    ensures context { context.new ≡ context_in (place_in (slice_get own.platform.machine.contexts i)) context.old }
+    ensures told { result ≡ place_number (place_in (slice_get (board_of own.held).iommu.contexts i)) }
+    ensures context { context.new ≡ context_in (place_in (slice_get (board_of own.held).iommu.contexts i)) context.old }
     ensures same { handle.new.held ≡ Some own }
 {
     let owned = handle.take(alloc);
-    let place = owned.platform.contexts().place(i);
+    let place = owned.held.board().contexts().place(i);
     *handle = Handle::of(owned);
     put_context(place, context)
 }

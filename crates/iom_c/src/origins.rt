@@ -2,20 +2,19 @@
 
 ghost use Rattle.std.specs.Prelude.{◌≡◌, ℕ, List, slice_get, Some};
 ghost use Rattle.iom_core.specs.State.{State};
-ghost use Rattle.iom_core.specs.Warrants.{IsUncached};
 ghost use Rattle.iom_core.specs.declared.step.Step.{Step};
 ghost use Rattle.iom_cache.specs.declared.key.Key.{Key};
 ghost use Rattle.iom_ddt.specs.declared.context.Context.{Context};
 ghost use Rattle.iom_nested.specs.declared.translation.Hit.{Hit};
-ghost use Rattle.iom_account.specs.Following.{ContextFrom, PageFrom, numbers_of};
-ghost use Rattle.iom_account.specs.Account.{Accounts};
+ghost use Rattle.iom_account.specs.Following.{ContextFrom, Follows, PageFrom, numbers_of};
+ghost use Rattle.iom_c.specs.Handles.{state_in};
 ghost use Rattle.iom_c.specs.Why.{OriginTold, PageOriginTold, WhyTold};
 ghost use Rattle.iom_c.specs.declared.owned.Owned.{Owned};
 
 use crate::handle::Handle;
 use crate::kept::Kept;
 use crate::why::{StepReason, reason_of};
-use iom_account::Account;
+use iom_account::History;
 use std::alloc::Global;
 
 // Puts why step `i` of those kept went as it did.
@@ -42,20 +41,20 @@ pub extern "C" fn rviommu_why(
 ) -> u32
     ghost own: { Owned }
     requires open { handle.old.held ≡ Some own }
-    ensures why { WhyTold (slice_get own.kept.ring.items i) result why.old why.new }
+    ensures why { WhyTold (slice_get own.told.kept.ring.items i) result why.old why.new }
     ensures same { handle.new.held ≡ Some own }
 {
     let owned = handle.take(alloc);
-    let answer = put_why(&owned.kept, i, why);
+    let answer = put_why(&owned.told.kept, i, why);
     *handle = Handle::of(owned);
     answer
 }
 
 // Puts the number of the step that filled a place of the context cache.
-fn put_context_origin(account: &Account, i: u64, number: &mut u64) -> u32
-    ensures { OriginTold (slice_get account.now.history.contexts i) result number.old number.new }
+fn put_context_origin(history: &History, i: u64, number: &mut u64) -> u32
+    ensures { OriginTold (slice_get history.now.contexts i) result number.old number.new }
 {
-    match account.history().context(i) {
+    match history.context(i) {
         Some(found) => {
             *number = found;
             0
@@ -76,27 +75,27 @@ pub extern "C" fn rviommu_context_origin(
 ) -> u32
     ghost own: { Owned }
     requires open { handle.old.held ≡ Some own }
-    ensures number { OriginTold (slice_get own.account.history.contexts i) result number.old number.new }
+    ensures number { OriginTold (slice_get own.told.history.contexts i) result number.old number.new }
 
-    // Where the caches held nothing at the start, it filled what stands there, and nothing has dropped that since.
-    ensures from { (start : State) (steps : List Step) (numbers : List ℕ) (did : ℕ) (context : Context) →
-        Accounts own.account own.platform start steps numbers → IsUncached start →
-        slice_get own.platform.machine.contexts i ≡ Some (Some (did, context)) →
+    // If nothing was cached at the start, it filled what stands there, and nothing has dropped that since.
+    ensures from { (words : List ℕ) (start : State) (steps : List Step) (numbers : List ℕ) (did : ℕ) (context : Context) →
+        Follows own.told.history (state_in own.held words) start steps numbers →
+        slice_get (state_in own.held words).machine.contexts i ≡ Some (Some (did, context)) →
         ContextFrom start steps numbers did context number.new }
     ensures same { handle.new.held ≡ Some own }
 {
     let owned = handle.take(alloc);
-    let answer = put_context_origin(&owned.account, i, number);
+    let answer = put_context_origin(&owned.told.history, i, number);
     *handle = Handle::of(owned);
     answer
 }
 
 // Puts the numbers of the steps that filled a place of the translation cache and its context.
-fn put_page_origin(account: &Account, i: u64, context: &mut u64, walk: &mut u64) -> u32
-    ensures { PageOriginTold (numbers_of (slice_get account.now.history.bases i) (slice_get account.now.history.walks i)) result
+fn put_page_origin(history: &History, i: u64, context: &mut u64, walk: &mut u64) -> u32
+    ensures { PageOriginTold (numbers_of (slice_get history.now.bases i) (slice_get history.now.walks i)) result
         context.old context.new walk.old walk.new }
 {
-    match account.history().page(i) {
+    match history.page(i) {
         Some(filled) => {
             *context = filled.context;
             *walk = filled.walk;
@@ -106,8 +105,8 @@ fn put_page_origin(account: &Account, i: u64, context: &mut u64, walk: &mut u64)
     }
 }
 
-/// The same of the translation cache, in the standard the IOTLB: in `walk` the number of the step that filled the place, and in `context`
-/// that of the step that had filled the context under which it was filled.
+/// The steps that filled a place of the translation cache, in the standard the IOTLB: writes the number of the step that filled it to
+/// `walk`, and to `context` that of the step that had filled the context of its walk. Answers as `rviommu_context_origin`.
 #[unsafe(no_mangle)]
 #[tactic(auto, using(crate::proofs::Telling::page_told))]
 pub extern "C" fn rviommu_page_origin(
@@ -119,18 +118,18 @@ pub extern "C" fn rviommu_page_origin(
 ) -> u32
     ghost own: { Owned }
     requires open { handle.old.held ≡ Some own }
-    ensures numbers { PageOriginTold (numbers_of (slice_get own.account.history.bases i) (slice_get own.account.history.walks i)) result
+    ensures numbers { PageOriginTold (numbers_of (slice_get own.told.history.bases i) (slice_get own.told.history.walks i)) result
         context.old context.new walk.old walk.new }
 
-    // Where the caches held nothing at the start, they filled what stands there, and nothing has dropped that since.
-    ensures from { (start : State) (steps : List Step) (numbers : List ℕ) (key : Key) (hit : Hit) →
-        Accounts own.account own.platform start steps numbers → IsUncached start →
-        slice_get own.platform.machine.pages i ≡ Some (Some (key, hit)) →
+    // If nothing was cached at the start, they filled what stands there, and nothing has dropped that since.
+    ensures from { (words : List ℕ) (start : State) (steps : List Step) (numbers : List ℕ) (key : Key) (hit : Hit) →
+        Follows own.told.history (state_in own.held words) start steps numbers →
+        slice_get (state_in own.held words).machine.pages i ≡ Some (Some (key, hit)) →
         PageFrom start steps numbers key hit context.new walk.new }
     ensures same { handle.new.held ≡ Some own }
 {
     let owned = handle.take(alloc);
-    let answer = put_page_origin(&owned.account, i, context, walk);
+    let answer = put_page_origin(&owned.told.history, i, context, walk);
     *handle = Handle::of(owned);
     answer
 }

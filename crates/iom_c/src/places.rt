@@ -16,11 +16,11 @@ pub struct PagePlace {
     pub frame: u64,
     /// The device id, 24 bits.
     pub did: u32,
-    /// The process soft-context id, 20 bits; 0 where there is none.
+    /// The process soft-context id, 20 bits; 0 if there is none.
     pub pscid: u32,
-    /// The guest soft-context id, 16 bits; 0 where there is none.
+    /// The guest soft-context id, 16 bits; 0 if there is none.
     pub gscid: u32,
-    /// The level of the first stage's leaf, 0 to 4; 0 where that stage is Bare.
+    /// The level of the first stage's leaf, 0 to 4; 0 if that stage is Bare.
     pub level: u32,
     /// Whether there is a process soft-context id: the first stage isn't Bare.
     pub has_pscid: bool,

@@ -1,27 +1,32 @@
-//! Steps by numbers.
+//! Steps by numbers. Each takes the words that the platform is lent for it, and none if its memory is its own; else nothing happens.
 
-ghost use Rattle.std.specs.Prelude.{◌≡◌, length, Some, IsSome, IfSome, IsSomeAnd};
-ghost use Rattle.iom_core.specs.Table.{next};
+ghost use Rattle.std.specs.Prelude.{◌≡◌, ◌≤◌, ◌<◌, ◌^◌, length, Some, IsSome, IfSome, IsSomeAnd};
 ghost use Rattle.iom_core.specs.declared.step.Step.TheVariants as step;
-ghost use Rattle.iom_c.specs.Answers.{bytes_in, code_of, HasLength, IsOneStep, misuse, number_in, writing};
-ghost use Rattle.iom_c.specs.Handles.{Stepped};
+ghost use Rattle.iom_c.specs.Answers.{bytes_in, code_of, HasLength, IsOneStep, misuse, number_in, other_memory, writing};
+ghost use Rattle.iom_c.specs.Handles.{answer_in, count_of, IsItsMemory, Stepped};
+ghost use Rattle.iom_c.specs.Reasons.{kind_of};
 ghost use Rattle.iom_c.specs.declared.owned.Owned.{Owned};
 
 use crate::answers::{code_of, put_bytes, put_number};
 use crate::handle::Handle;
 use crate::owned::{Owned, carry_out};
 use arrayvec::ArrayVec;
+use iom_bits::Kind;
 use iom_core::Step;
 use std::alloc::Global;
 
+// The number of an answer to a step whose memory isn't that of the handle.
+const OTHER_MEMORY: u32 = 9;
+
 // Carries out a step on what a handle owns, and keeps it; puts the number that is answered.
 #[inline(always)]
-fn take_on(own: &mut Owned, step: Step, number: &mut u64) -> u32
-    ensures answer { result ≡ code_of (next own.old.platform step).answer }
-    ensures number { number.new ≡ number_in (next own.old.platform step).answer number.old }
-    ensures after { Stepped own.old step own.new }
+fn take_on(own: &mut Owned, words: &mut [u64], step: Step, number: &mut u64) -> u32
+    requires { IsItsMemory own.old words.old }
+    ensures answer { result ≡ code_of (answer_in own.old words.old step) }
+    ensures number { number.new ≡ number_in (answer_in own.old words.old step) number.old }
+    ensures after { Stepped own.old words.old step words.new own.new }
 {
-    let answer = carry_out(own, &step);
+    let answer = carry_out(own, words, &step);
     let code = code_of(&answer);
     put_number(&answer, number);
     own.trace.keep(step, answer);
@@ -30,14 +35,15 @@ fn take_on(own: &mut Owned, step: Step, number: &mut u64) -> u32
 
 // The same of a device's read; puts the bytes too.
 #[inline(always)]
-fn read_on(own: &mut Owned, step: Step, bytes: &mut [u8], cause: &mut u64) -> u32
-    requires { HasLength (next own.old.platform step).answer (length bytes.old) }
-    ensures answer { result ≡ code_of (next own.old.platform step).answer }
-    ensures bytes { bytes.new ≡ bytes_in (next own.old.platform step).answer bytes.old }
-    ensures cause { cause.new ≡ number_in (next own.old.platform step).answer cause.old }
-    ensures after { Stepped own.old step own.new }
+fn read_on(own: &mut Owned, words: &mut [u64], step: Step, bytes: &mut [u8], cause: &mut u64) -> u32
+    requires memory { IsItsMemory own.old words.old }
+    requires fills { HasLength (answer_in own.old words.old step) (length bytes.old) }
+    ensures answer { result ≡ code_of (answer_in own.old words.old step) }
+    ensures bytes { bytes.new ≡ bytes_in (answer_in own.old words.old step) bytes.old }
+    ensures cause { cause.new ≡ number_in (answer_in own.old words.old step) cause.old }
+    ensures after { Stepped own.old words.old step words.new own.new }
 {
-    let answer = carry_out(own, &step);
+    let answer = carry_out(own, words, &step);
     let code = code_of(&answer);
     put_number(&answer, cause);
     put_bytes(&answer, bytes);
@@ -45,29 +51,46 @@ fn read_on(own: &mut Owned, step: Step, bytes: &mut [u8], cause: &mut u64) -> u3
     code
 }
 
-// Carries out a step on what a handle owns.
+// Carries out a step on what a handle owns, if these words are its memory.
 #[inline(always)]
-fn take_step(handle: &mut Handle, alloc: Global, step: Step, number: &mut u64) -> u32
+fn take_step(
+    handle: &mut Handle,
+    alloc: Global,
+    words: &mut [u64],
+    step: Step,
+    number: &mut u64,
+) -> u32
     requires open { IsSome handle.old.held }
-    ensures answer { IfSome handle.old.held (λ own. result ≡ code_of (next own.platform step).answer) }
-    ensures number { IfSome handle.old.held (λ own. number.new ≡ number_in (next own.platform step).answer number.old) }
-    ensures after { IfSome handle.old.held (λ own. IsSomeAnd handle.new.held (Stepped own step)) }
+    ensures answer { IfSome handle.old.held (λ own. IsItsMemory own words.old → result ≡ code_of (answer_in own words.old step)) }
+    ensures number { IfSome handle.old.held (λ own. IsItsMemory own words.old →
+        number.new ≡ number_in (answer_in own words.old step) number.old) }
+    ensures after { IfSome handle.old.held (λ own. IsItsMemory own words.old →
+        IsSomeAnd handle.new.held (Stepped own words.old step words.new)) }
+    ensures other { IfSome handle.old.held (λ own. ¬ IsItsMemory own words.old →
+        (result ≡ other_memory) × (number.new ≡ number.old) × (words.new ≡ words.old) × (handle.new.held ≡ handle.old.held)) }
 {
     let mut owned = handle.take(alloc);
-    let code = take_on(&mut owned, step, number);
+    if !owned.held.takes(words) {
+        *handle = Handle::of(owned);
+        return OTHER_MEMORY;
+    }
+    let code = take_on(&mut owned, words, step, number);
     *handle = Handle::of(owned);
     code
 }
 
 // The same of a step that is answered no number.
 #[inline(always)]
-fn give_step(handle: &mut Handle, alloc: Global, step: Step) -> u32
+fn give_step(handle: &mut Handle, alloc: Global, words: &mut [u64], step: Step) -> u32
     requires open { IsSome handle.old.held }
-    ensures answer { IfSome handle.old.held (λ own. result ≡ code_of (next own.platform step).answer) }
-    ensures after { IfSome handle.old.held (λ own. IsSomeAnd handle.new.held (Stepped own step)) }
+    ensures answer { IfSome handle.old.held (λ own. IsItsMemory own words.old → result ≡ code_of (answer_in own words.old step)) }
+    ensures after { IfSome handle.old.held (λ own. IsItsMemory own words.old →
+        IsSomeAnd handle.new.held (Stepped own words.old step words.new)) }
+    ensures other { IfSome handle.old.held (λ own. ¬ IsItsMemory own words.old →
+        (result ≡ other_memory) × (words.new ≡ words.old) × (handle.new.held ≡ handle.old.held)) }
 {
     let mut number = 0;
-    take_step(handle, alloc, step, &mut number)
+    take_step(handle, alloc, words, step, &mut number)
 }
 
 /// The hart reads `size` bytes, 1, 2, 4 or 8, at physical address `addr`, a multiple of the size: value, bus error or misuse.
@@ -75,17 +98,20 @@ fn give_step(handle: &mut Handle, alloc: Global, step: Step) -> u32
 pub extern "C" fn rviommu_load(
     alloc: Global,
     handle: &mut Handle,
+    words: &mut [u64],
     addr: u64,
     size: u64,
     value: &mut u64,
 ) -> u32
     ghost own: { Owned }
     requires open { handle.old.held ≡ Some own }
-    ensures answer { result ≡ code_of (next own.platform (step.Load addr size)).answer }
-    ensures value { value.new ≡ number_in (next own.platform (step.Load addr size)).answer value.old }
-    ensures after { IsSomeAnd handle.new.held (Stepped own (step.Load addr size)) }
+    ensures answer { IsItsMemory own words.old → result ≡ code_of (answer_in own words.old (step.Load addr size)) }
+    ensures value { IsItsMemory own words.old → value.new ≡ number_in (answer_in own words.old (step.Load addr size)) value.old }
+    ensures after { IsItsMemory own words.old → IsSomeAnd handle.new.held (Stepped own words.old (step.Load addr size) words.new) }
+    ensures other { ¬ IsItsMemory own words.old →
+        (result ≡ other_memory) × (value.new ≡ value.old) × (words.new ≡ words.old) × (handle.new.held ≡ Some own) }
 {
-    take_step(handle, alloc, Step::Load { addr, size }, value)
+    take_step(handle, alloc, words, Step::Load { addr, size }, value)
 }
 
 /// The hart writes the lowest `size` bytes, 1, 2, 4 or 8, of `value` at physical address `addr`, a multiple of the size: done, bus
@@ -94,16 +120,19 @@ pub extern "C" fn rviommu_load(
 pub extern "C" fn rviommu_store(
     alloc: Global,
     handle: &mut Handle,
+    words: &mut [u64],
     addr: u64,
     size: u64,
     value: u64,
 ) -> u32
     ghost own: { Owned }
     requires open { handle.old.held ≡ Some own }
-    ensures answer { result ≡ code_of (next own.platform (step.Store addr size value)).answer }
-    ensures after { IsSomeAnd handle.new.held (Stepped own (step.Store addr size value)) }
+    ensures answer { IsItsMemory own words.old → result ≡ code_of (answer_in own words.old (step.Store addr size value)) }
+    ensures after { IsItsMemory own words.old → IsSomeAnd handle.new.held (Stepped own words.old (step.Store addr size value) words.new) }
+    ensures other { ¬ IsItsMemory own words.old →
+        (result ≡ other_memory) × (words.new ≡ words.old) × (handle.new.held ≡ Some own) }
 {
-    give_step(handle, alloc, Step::Store { addr, size, value })
+    give_step(handle, alloc, words, Step::Store { addr, size, value })
 }
 
 /// The hart reads `size` bytes, 4 or 8, of the IOMMU's registers at offset `off`, in bytes ("Memory-mapped register interface"):
@@ -112,17 +141,20 @@ pub extern "C" fn rviommu_store(
 pub extern "C" fn rviommu_reg_read(
     alloc: Global,
     handle: &mut Handle,
+    words: &mut [u64],
     off: u64,
     size: u64,
     value: &mut u64,
 ) -> u32
     ghost own: { Owned }
     requires open { handle.old.held ≡ Some own }
-    ensures answer { result ≡ code_of (next own.platform (step.RegRead off size)).answer }
-    ensures value { value.new ≡ number_in (next own.platform (step.RegRead off size)).answer value.old }
-    ensures after { IsSomeAnd handle.new.held (Stepped own (step.RegRead off size)) }
+    ensures answer { IsItsMemory own words.old → result ≡ code_of (answer_in own words.old (step.RegRead off size)) }
+    ensures value { IsItsMemory own words.old → value.new ≡ number_in (answer_in own words.old (step.RegRead off size)) value.old }
+    ensures after { IsItsMemory own words.old → IsSomeAnd handle.new.held (Stepped own words.old (step.RegRead off size) words.new) }
+    ensures other { ¬ IsItsMemory own words.old →
+        (result ≡ other_memory) × (value.new ≡ value.old) × (words.new ≡ words.old) × (handle.new.held ≡ Some own) }
 {
-    take_step(handle, alloc, Step::RegRead { off, size }, value)
+    take_step(handle, alloc, words, Step::RegRead { off, size }, value)
 }
 
 /// The hart writes `size` bytes, 4 or 8, of the IOMMU's registers at offset `off`, in bytes: done, bad access or misuse.
@@ -130,16 +162,19 @@ pub extern "C" fn rviommu_reg_read(
 pub extern "C" fn rviommu_reg_write(
     alloc: Global,
     handle: &mut Handle,
+    words: &mut [u64],
     off: u64,
     size: u64,
     value: u64,
 ) -> u32
     ghost own: { Owned }
     requires open { handle.old.held ≡ Some own }
-    ensures answer { result ≡ code_of (next own.platform (step.RegWrite off size value)).answer }
-    ensures after { IsSomeAnd handle.new.held (Stepped own (step.RegWrite off size value)) }
+    ensures answer { IsItsMemory own words.old → result ≡ code_of (answer_in own words.old (step.RegWrite off size value)) }
+    ensures after { IsItsMemory own words.old → IsSomeAnd handle.new.held (Stepped own words.old (step.RegWrite off size value) words.new) }
+    ensures other { ¬ IsItsMemory own words.old →
+        (result ≡ other_memory) × (words.new ≡ words.old) × (handle.new.held ≡ Some own) }
 {
-    give_step(handle, alloc, Step::RegWrite { off, size, value })
+    give_step(handle, alloc, words, Step::RegWrite { off, size, value })
 }
 
 /// Device `did`, below 2^24, reads as many bytes as there is room for in `bytes`, 1 to 64, at IOVA `iova`, all in one page of 4096
@@ -149,6 +184,7 @@ pub extern "C" fn rviommu_reg_write(
 pub extern "C" fn rviommu_dma_read(
     alloc: Global,
     handle: &mut Handle,
+    words: &mut [u64],
     did: u64,
     iova: u64,
     bytes: &mut [u8],
@@ -156,16 +192,18 @@ pub extern "C" fn rviommu_dma_read(
 ) -> u32
     ghost own: { Owned }
     requires open { handle.old.held ≡ Some own }
-    ensures answer { IsOneStep (length bytes.old) →
-        result ≡ code_of (next own.platform (step.DmaRead did iova (length bytes.old))).answer }
-    ensures bytes { IsOneStep (length bytes.old) →
-        bytes.new ≡ bytes_in (next own.platform (step.DmaRead did iova (length bytes.old))).answer bytes.old }
-    ensures cause { IsOneStep (length bytes.old) →
-        cause.new ≡ number_in (next own.platform (step.DmaRead did iova (length bytes.old))).answer cause.old }
-    ensures after { IsOneStep (length bytes.old) →
-        IsSomeAnd handle.new.held (Stepped own (step.DmaRead did iova (length bytes.old))) }
-    ensures none { ¬ IsOneStep (length bytes.old) →
-        (result ≡ misuse) × (bytes.new ≡ bytes.old) × (cause.new ≡ cause.old) × (handle.new.held ≡ Some own) }
+    ensures answer { IsOneStep (length bytes.old) → IsItsMemory own words.old →
+        result ≡ code_of (answer_in own words.old (step.DmaRead did iova (length bytes.old))) }
+    ensures bytes { IsOneStep (length bytes.old) → IsItsMemory own words.old →
+        bytes.new ≡ bytes_in (answer_in own words.old (step.DmaRead did iova (length bytes.old))) bytes.old }
+    ensures cause { IsOneStep (length bytes.old) → IsItsMemory own words.old →
+        cause.new ≡ number_in (answer_in own words.old (step.DmaRead did iova (length bytes.old))) cause.old }
+    ensures after { IsOneStep (length bytes.old) → IsItsMemory own words.old →
+        IsSomeAnd handle.new.held (Stepped own words.old (step.DmaRead did iova (length bytes.old)) words.new) }
+    ensures none { ¬ IsOneStep (length bytes.old) → (result ≡ misuse) × (bytes.new ≡ bytes.old) × (cause.new ≡ cause.old)
+        × (words.new ≡ words.old) × (handle.new.held ≡ Some own) }
+    ensures other { IsOneStep (length bytes.old) → ¬ IsItsMemory own words.old → (result ≡ other_memory) × (bytes.new ≡ bytes.old)
+        × (cause.new ≡ cause.old) × (words.new ≡ words.old) × (handle.new.held ≡ Some own) }
 {
     if bytes.is_empty() || bytes.len() > 64 {
         return 8;
@@ -176,7 +214,11 @@ pub extern "C" fn rviommu_dma_read(
         len: bytes.len() as u64,
     };
     let mut owned = handle.take(alloc);
-    let code = read_on(&mut owned, step, bytes, cause);
+    if !owned.held.takes(words) {
+        *handle = Handle::of(owned);
+        return OTHER_MEMORY;
+    }
+    let code = read_on(&mut owned, words, step, bytes, cause);
     *handle = Handle::of(owned);
     code
 }
@@ -187,6 +229,7 @@ pub extern "C" fn rviommu_dma_read(
 pub extern "C" fn rviommu_dma_write(
     alloc: Global,
     handle: &mut Handle,
+    words: &mut [u64],
     did: u64,
     iova: u64,
     bytes: &[u8],
@@ -194,12 +237,16 @@ pub extern "C" fn rviommu_dma_write(
 ) -> u32
     ghost own: { Owned }
     requires open { handle.old.held ≡ Some own }
-    ensures answer { IsOneStep (length bytes.now) → result ≡ code_of (next own.platform (writing did iova bytes.now)).answer }
-    ensures cause { IsOneStep (length bytes.now) →
-        cause.new ≡ number_in (next own.platform (writing did iova bytes.now)).answer cause.old }
-    ensures after { IsOneStep (length bytes.now) → IsSomeAnd handle.new.held (Stepped own (writing did iova bytes.now)) }
+    ensures answer { IsOneStep (length bytes.now) → IsItsMemory own words.old →
+        result ≡ code_of (answer_in own words.old (writing did iova bytes.now)) }
+    ensures cause { IsOneStep (length bytes.now) → IsItsMemory own words.old →
+        cause.new ≡ number_in (answer_in own words.old (writing did iova bytes.now)) cause.old }
+    ensures after { IsOneStep (length bytes.now) → IsItsMemory own words.old →
+        IsSomeAnd handle.new.held (Stepped own words.old (writing did iova bytes.now) words.new) }
     ensures none { ¬ IsOneStep (length bytes.now) →
-        (result ≡ misuse) × (cause.new ≡ cause.old) × (handle.new.held ≡ Some own) }
+        (result ≡ misuse) × (cause.new ≡ cause.old) × (words.new ≡ words.old) × (handle.new.held ≡ Some own) }
+    ensures other { IsOneStep (length bytes.now) → ¬ IsItsMemory own words.old →
+        (result ≡ other_memory) × (cause.new ≡ cause.old) × (words.new ≡ words.old) × (handle.new.held ≡ Some own) }
 {
     if bytes.is_empty() {
         return 8;
@@ -211,6 +258,7 @@ pub extern "C" fn rviommu_dma_write(
     take_step(
         handle,
         alloc,
+        words,
         Step::DmaWrite {
             did,
             iova,
@@ -220,15 +268,48 @@ pub extern "C" fn rviommu_dma_write(
     )
 }
 
-/// The command unit takes one command and carries it out ("Command-Queue (CQ)"): done or idle.
+/// Device `did`, below 2^24, asks for the translation of IOVA `iova`, any of 64 bits, for a write or a read, and accesses no memory. It
+/// fills the caches and leaves a fault record as an access does ("Process to translate an IOVA"). Value, the physical address, also if it
+/// is outside memory; denied or misuse. `number` is the address or the cause.
 #[unsafe(no_mangle)]
-pub extern "C" fn rviommu_command(alloc: Global, handle: &mut Handle) -> u32
+pub extern "C" fn rviommu_translate(
+    alloc: Global,
+    handle: &mut Handle,
+    words: &mut [u64],
+    did: u64,
+    iova: u64,
+    is_write: bool,
+    number: &mut u64,
+) -> u32
     ghost own: { Owned }
     requires open { handle.old.held ≡ Some own }
-    ensures answer { result ≡ code_of (next own.platform step.Command).answer }
-    ensures after { IsSomeAnd handle.new.held (Stepped own step.Command) }
+    ensures answer { IsItsMemory own words.old → result ≡ code_of (answer_in own words.old (step.Translate did iova (kind_of is_write))) }
+    ensures number { IsItsMemory own words.old → number.new ≡ number_in (answer_in own words.old (step.Translate did iova (kind_of is_write))) number.old }
+    ensures after { IsItsMemory own words.old → IsSomeAnd handle.new.held (Stepped own words.old (step.Translate did iova (kind_of is_write)) words.new) }
+    ensures other { ¬ IsItsMemory own words.old →
+        (result ≡ other_memory) × (number.new ≡ number.old) × (words.new ≡ words.old) × (handle.new.held ≡ Some own) }
 {
-    give_step(handle, alloc, Step::Command)
+    let kind = if is_write { Kind::Write } else { Kind::Read };
+    take_step(
+        handle,
+        alloc,
+        words,
+        Step::Translate { did, iova, kind },
+        number,
+    )
+}
+
+/// The command unit takes one command and carries it out ("Command-Queue (CQ)"): done or idle.
+#[unsafe(no_mangle)]
+pub extern "C" fn rviommu_command(alloc: Global, handle: &mut Handle, words: &mut [u64]) -> u32
+    ghost own: { Owned }
+    requires open { handle.old.held ≡ Some own }
+    ensures answer { IsItsMemory own words.old → result ≡ code_of (answer_in own words.old step.Command) }
+    ensures after { IsItsMemory own words.old → IsSomeAnd handle.new.held (Stepped own words.old step.Command words.new) }
+    ensures other { ¬ IsItsMemory own words.old →
+        (result ≡ other_memory) × (words.new ≡ words.old) × (handle.new.held ≡ Some own) }
+{
+    give_step(handle, alloc, words, Step::Command)
 }
 
 /// The hart reads `size` bytes, 1, 2 or 4, of the registers of block device `dev`, counted from 0, at offset `off`, in bytes: value,
@@ -237,6 +318,7 @@ pub extern "C" fn rviommu_command(alloc: Global, handle: &mut Handle) -> u32
 pub extern "C" fn rviommu_dev_read(
     alloc: Global,
     handle: &mut Handle,
+    words: &mut [u64],
     dev: u64,
     off: u64,
     size: u64,
@@ -244,11 +326,19 @@ pub extern "C" fn rviommu_dev_read(
 ) -> u32
     ghost own: { Owned }
     requires open { handle.old.held ≡ Some own }
-    ensures answer { result ≡ code_of (next own.platform (step.DevRead dev off size)).answer }
-    ensures value { value.new ≡ number_in (next own.platform (step.DevRead dev off size)).answer value.old }
-    ensures after { IsSomeAnd handle.new.held (Stepped own (step.DevRead dev off size)) }
+    ensures answer { IsItsMemory own words.old → result ≡ code_of (answer_in own words.old (step.DevRead dev off size)) }
+    ensures value { IsItsMemory own words.old → value.new ≡ number_in (answer_in own words.old (step.DevRead dev off size)) value.old }
+    ensures after { IsItsMemory own words.old → IsSomeAnd handle.new.held (Stepped own words.old (step.DevRead dev off size) words.new) }
+    ensures other { ¬ IsItsMemory own words.old →
+        (result ≡ other_memory) × (value.new ≡ value.old) × (words.new ≡ words.old) × (handle.new.held ≡ Some own) }
 {
-    take_step(handle, alloc, Step::DevRead { dev, off, size }, value)
+    take_step(
+        handle,
+        alloc,
+        words,
+        Step::DevRead { dev, off, size },
+        value,
+    )
 }
 
 /// The hart writes `size` bytes, 1, 2 or 4, of the registers of block device `dev` at offset `off`, in bytes: done, bad access, no
@@ -257,6 +347,7 @@ pub extern "C" fn rviommu_dev_read(
 pub extern "C" fn rviommu_dev_write(
     alloc: Global,
     handle: &mut Handle,
+    words: &mut [u64],
     dev: u64,
     off: u64,
     size: u64,
@@ -264,8 +355,10 @@ pub extern "C" fn rviommu_dev_write(
 ) -> u32
     ghost own: { Owned }
     requires open { handle.old.held ≡ Some own }
-    ensures answer { result ≡ code_of (next own.platform (step.DevWrite dev off size value)).answer }
-    ensures after { IsSomeAnd handle.new.held (Stepped own (step.DevWrite dev off size value)) }
+    ensures answer { IsItsMemory own words.old → result ≡ code_of (answer_in own words.old (step.DevWrite dev off size value)) }
+    ensures after { IsItsMemory own words.old → IsSomeAnd handle.new.held (Stepped own words.old (step.DevWrite dev off size value) words.new) }
+    ensures other { ¬ IsItsMemory own words.old →
+        (result ≡ other_memory) × (words.new ≡ words.old) × (handle.new.held ≡ Some own) }
 {
     let step = Step::DevWrite {
         dev,
@@ -273,7 +366,7 @@ pub extern "C" fn rviommu_dev_write(
         size,
         value,
     };
-    give_step(handle, alloc, step)
+    give_step(handle, alloc, words, step)
 }
 
 /// Block device `dev`, counted from 0, goes on by one access: done, idle, denied, bus error or no device.
@@ -281,14 +374,17 @@ pub extern "C" fn rviommu_dev_write(
 pub extern "C" fn rviommu_dev_step(
     alloc: Global,
     handle: &mut Handle,
+    words: &mut [u64],
     dev: u64,
     cause: &mut u64,
 ) -> u32
     ghost own: { Owned }
     requires open { handle.old.held ≡ Some own }
-    ensures answer { result ≡ code_of (next own.platform (step.Device dev)).answer }
-    ensures cause { cause.new ≡ number_in (next own.platform (step.Device dev)).answer cause.old }
-    ensures after { IsSomeAnd handle.new.held (Stepped own (step.Device dev)) }
+    ensures answer { IsItsMemory own words.old → result ≡ code_of (answer_in own words.old (step.Device dev)) }
+    ensures cause { IsItsMemory own words.old → cause.new ≡ number_in (answer_in own words.old (step.Device dev)) cause.old }
+    ensures after { IsItsMemory own words.old → IsSomeAnd handle.new.held (Stepped own words.old (step.Device dev) words.new) }
+    ensures other { ¬ IsItsMemory own words.old →
+        (result ≡ other_memory) × (cause.new ≡ cause.old) × (words.new ≡ words.old) × (handle.new.held ≡ Some own) }
 {
-    take_step(handle, alloc, Step::Device { dev }, cause)
+    take_step(handle, alloc, words, Step::Device { dev }, cause)
 }

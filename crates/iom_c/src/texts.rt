@@ -1,21 +1,21 @@
 //! Lines of the script, the words of refusals, and texts of images.
 
-ghost use Rattle.std.specs.Prelude.{◌≡◌, ◌≢◌, ◌<◌, ◌≤◌, length, IsSomeAnd, Some};
+ghost use Rattle.std.specs.Prelude.{◌≡◌, ◌≢◌, ◌<◌, ◌≤◌, [], length, IfNone, IfSome, IsSomeAnd, None, Some};
 ghost use Rattle.std.specs.Result.{IsErrAnd, IsOkAnd};
 ghost use Rattle.iom_asm.specs.Assembly.{assembled, Makes};
 ghost use Rattle.iom_c.specs.Buffers.{begun_by, reply_to, told_in};
-ghost use Rattle.iom_core.specs.Table.{next};
-ghost use Rattle.iom_tool.specs.Script.{line_of};
+ghost use Rattle.iom_tool.specs.Script.{line_of, step_in};
 ghost use Rattle.iom_tool.specs.Texts.{text_of};
-ghost use Rattle.iom_c.specs.Faults.{asm_number, line_in, little_room, ok, out_of_memory, words_for};
-ghost use Rattle.iom_c.specs.Handles.{After, Stepped};
+ghost use Rattle.iom_c.specs.Faults.{asm_number, line_in, little_room, ok, out_of_memory, status_other_memory, words_for};
+ghost use Rattle.iom_c.specs.Handles.{After, answer_in, IsItsMemory, OfOwn, Stepped};
 ghost use Rattle.iom_c.specs.declared.owned.Owned.{Owned};
 
 use crate::handle::Handle;
+use crate::held::Held;
 use crate::owned::{Owned, carry_out};
 use iom_asm::{AsmFault, assemble};
-use iom_core::Step;
-use iom_tool::{Reply, Session, answer_text, step_of};
+use iom_core::{Platform, Step};
+use iom_tool::{Reply, Session, Trace, answer_text, step_of};
 use std::alloc::Global;
 
 // Puts a text and a 0 behind it, and how many bytes it has.
@@ -31,29 +31,60 @@ fn put_text(text: &[u8], out: &mut [u8], count: &mut usize)
 
 // Carries out a step that a line is.
 fn answer_step(own: &mut Owned, step: Step) -> Reply
-    ensures reply { result.items ≡ text_of (next own.old.platform step).answer }
-    ensures after { Stepped own.old step own.new }
+    requires { IsItsMemory own.old [] }
+    ensures reply { result.items ≡ text_of (answer_in own.old [] step) }
+    ensures after { Stepped own.old [] step [] own.new }
 {
-    let answer = carry_out(own, &step);
+    let answer = carry_out(own, &mut [], &step);
     let reply = answer_text(&answer);
     own.trace.keep(step, answer);
     reply
 }
 
-// Carries out a line.
-fn answer_line(own: &mut Owned, line: &[u8]) -> Reply
-    ensures reply { result.items ≡ reply_to own.old line.now }
-    ensures after { After own.old (line_of line.now) own.new }
+// Answers a line that is no step.
+fn answer_to(platform: &mut Platform, trace: &mut Trace, line: &[u8]) -> Reply
+    requires { step_in (line_of line.now) ≡ None }
+    ensures reply { result.items ≡ reply_to platform.old trace.old line.now }
+    ensures platform { platform.new ≡ platform.old }
+    ensures trace { trace.new ≡ trace.old }
 {
-    match step_of(line) {
-        Some(step) => answer_step(own, step),
-        None => Session::new(&mut own.platform, &mut own.trace).line(line),
+    Session::new(platform, trace).line(line)
+}
+
+// Carries out a line; None if the memory isn't the platform's own.
+fn answer_line(own: &mut Owned, line: &[u8]) -> Option<Reply>
+    ensures { OfOwn own.old.held
+        (λ platform. IsSomeAnd result (λ reply. (reply.items ≡ reply_to platform own.old.trace line.now) × After own.old (line_of line.now) own.new))
+        ((result ≡ None) × (own.new ≡ own.old)) }
+{
+    if let Held::Lent(_) = own.held {
+        return None;
+    }
+    if let Some(step) = step_of(line) {
+        return Some(answer_step(own, step));
+    }
+    match &mut own.held {
+        Held::Own(platform) => Some(answer_to(platform, &mut own.trace, line)),
+        Held::Lent(_) => None,
     }
 }
 
-/// Carries out a line of the script, given without its line end, and puts the text of its answer with a 0 behind it, and in `count`
-/// how many bytes the text has: none for a blank line. It answers 0; or 11 where there is room for less than 321 bytes, and then
-/// nothing is done.
+// Puts a reply that there may be; 15 if there is none.
+fn put_reply(reply: Option<Reply>, out: &mut [u8], count: &mut usize) -> u32
+    requires { 320 < length out.old }
+    ensures some { IfSome reply (λ it. (result ≡ ok) × (out.new ≡ told_in it.items out.old) × (count.new ≡ length it.items)) }
+    ensures none { IfNone reply ((result ≡ status_other_memory) × (out.new ≡ out.old) × (count.new ≡ count.old)) }
+{
+    let Some(reply) = reply else {
+        return 15;
+    };
+    put_text(reply.as_slice(), out, count);
+    0
+}
+
+/// Carries out a line of the script, given without its line end, and puts the text of its answer with a 0 behind it, and in `count` how
+/// many bytes the text has: none for a blank line. It answers 0; 11 if there is room for less than 321 bytes; or 15 if the memory isn't the
+/// platform's own. Unless it is 0, nothing is done.
 #[unsafe(no_mangle)]
 pub extern "C" fn rviommu_line(
     alloc: Global,
@@ -64,10 +95,13 @@ pub extern "C" fn rviommu_line(
 ) -> u32
     ghost own: { Owned }
     requires open { handle.old.held ≡ Some own }
-    ensures told { 320 < length answer.old → result ≡ ok }
-    ensures answer { 320 < length answer.old → answer.new ≡ told_in (reply_to own line.now) answer.old }
-    ensures count { 320 < length answer.old → count.new ≡ length (reply_to own line.now) }
-    ensures after { 320 < length answer.old → IsSomeAnd handle.new.held (After own (line_of line.now)) }
+    ensures told { 320 < length answer.old → OfOwn own.held (λ platform. result ≡ ok) (result ≡ status_other_memory) }
+    ensures answer { 320 < length answer.old →
+        OfOwn own.held (λ platform. answer.new ≡ told_in (reply_to platform own.trace line.now) answer.old) (answer.new ≡ answer.old) }
+    ensures count { 320 < length answer.old →
+        OfOwn own.held (λ platform. count.new ≡ length (reply_to platform own.trace line.now)) (count.new ≡ count.old) }
+    ensures after { 320 < length answer.old →
+        OfOwn own.held (λ platform. IsSomeAnd handle.new.held (After own (line_of line.now))) (handle.new.held ≡ Some own) }
     ensures little { length answer.old ≤ 320 →
         (result ≡ little_room) × (answer.new ≡ answer.old) × (count.new ≡ count.old) × (handle.new.held ≡ Some own) }
 {
@@ -77,8 +111,7 @@ pub extern "C" fn rviommu_line(
     let mut owned = handle.take(alloc);
     let reply = answer_line(&mut owned, line);
     *handle = Handle::of(owned);
-    put_text(reply.as_slice(), answer, count);
-    0
+    put_reply(reply, answer, count)
 }
 
 // The words of a number.
@@ -102,12 +135,13 @@ fn words_for(number: u32) -> &'static [u8]
         12 => b"no such disk",
         13 => b"not there",
         14 => b"bad capabilities",
+        15 => b"other memory",
         _ => b"no such number",
     }
 }
 
-/// Puts the words of a refusal's number with a 0 behind them, and in `count` how many bytes they have. It answers 0; or 11 where
-/// there is room for less than 32 bytes, and then nothing is changed.
+/// Writes the words for a refusal's number and a 0 after them, and to `count` their length. Answers 0; or 11 if there is room for less than
+/// 32 bytes, and then nothing is changed.
 #[unsafe(no_mangle)]
 pub extern "C" fn rviommu_text(number: u32, text: &mut [u8], count: &mut usize) -> u32
     ensures told { 31 < length text.old → result ≡ ok }
@@ -137,9 +171,9 @@ fn asm_number(fault: AsmFault, line: &mut u64) -> u32
     number
 }
 
-/// Assembles a text into the bytes of an image, and puts in `count` how many they are. It answers 0; 11 where there is too little
-/// room for them; 7 where there is no memory; or 8 for a bad line, 9 for an overlap and 10 for bytes outside memory, and puts in
-/// `line` which line it is, from 1 on. Where it answers another number than 0, `image` is unchanged.
+/// Assembles a text into the bytes of an image, and puts in `count` how many they are. It answers 0; 11 if there is too little room for
+/// them; 7 if there is no memory; or 8 for a bad line, 9 for an overlap and 10 for bytes outside memory, and puts in `line` which line it
+/// is, from 1 on. If it answers another number, `image` is unchanged.
 #[unsafe(no_mangle)]
 pub extern "C" fn rviommu_assemble(
     alloc: Global,

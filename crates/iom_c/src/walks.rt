@@ -13,7 +13,7 @@ use iom_walk::{Got, PathEntry, Ruling};
 #[derive(Drop)]
 pub struct WalkPart {
     /// Where an item of the directory or an entry of a page table stands: its physical address, but of an entry of the first stage the
-    /// guest-physical one where there is a second stage.
+    /// guest-physical one if there is a second stage.
     pub place: u64,
     /// The physical address that an entry was read at, of kinds 3 and 4.
     pub read_at: u64,

@@ -16,7 +16,7 @@ pub struct RequestWay {
     pub iotval2: u64,
     /// 0 by ddtp, whose mode is Bare; 1 by a context whose stages are both Bare; 2 by the stages of a context; 3 nowhere.
     pub kind: u32,
-    /// The level of the first stage's leaf, 0 to 4, of kind 2; 0 where that stage is Bare.
+    /// The level of the first stage's leaf, 0 to 4, of kind 2; 0 if that stage is Bare.
     pub level: u32,
     /// The cause of the fault, of kind 3 ("Fault/Event-Queue (FQ)", CAUSE).
     pub cause: u32,
@@ -36,7 +36,7 @@ pub struct RequestWay {
 pub struct LocatedContext {
     /// The device's context, of kind 1.
     pub context: ContextPlace,
-    /// 0 where ddtp's mode has no directory, 1 where there is a context, 2 where there is none.
+    /// 0 if ddtp's mode has no directory, 1 if there is a context, 2 if there is none.
     pub kind: u32,
     /// Why there is none, of kind 2 ("Process to locate the Device-context").
     pub cause: u32,
@@ -63,7 +63,7 @@ fn no_context() -> ContextPlace
     }
 }
 
-/// A way of which nothing but its kind is told.
+/// A way of this kind, with 0 in all other fields.
 pub fn plain_way(kind: u32) -> RequestWay
     ensures { result ≡ plain_way kind }
 {

@@ -10,7 +10,7 @@ use iom_core::Request;
 #[repr(C)]
 #[derive(Drop)]
 pub struct StepReason {
-    /// The way that the tables said of its access before the step, where it was stale.
+    /// The way that the tables said of its access before the step, if it was stale.
     pub way: RequestWay,
     /// The number of the step.
     pub number: u64,
@@ -31,8 +31,10 @@ pub struct StepReason {
     pub is_write: bool,
     /// Whether the access was stale.
     pub is_stale: bool,
+    /// The physical address that the access was led to, of kinds 2 to 4.
+    pub address: u64,
     /// Room for more; 0.
-    pub reserved: [u64; 4],
+    pub reserved: [u64; 3],
 }
 
 // A reason of which nothing but its step's number and its kind is told.
@@ -50,7 +52,8 @@ fn plain_reason(number: u64, kind: u32) -> StepReason
         kind,
         is_write: false,
         is_stale: false,
-        reserved: [0; 4],
+        address: 0,
+        reserved: [0; 3],
     }
 }
 
@@ -104,7 +107,10 @@ fn used_by(number: u64, request: Option<Request>, origin: Option<Origin>) -> Ste
 pub fn reason_of(reason: &Reason) -> StepReason
     ensures { result ≡ reason_of reason.now }
 {
-    let used = used_by(reason.number, reason.request, reason.origin);
+    let used = StepReason {
+        address: reason.address.unwrap_or(0),
+        ..used_by(reason.number, reason.request, reason.origin)
+    };
     match (reason.request, reason.stale) {
         (Some(request), Some(way)) => StepReason {
             way: way_of(request.did, way),
