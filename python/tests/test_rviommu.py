@@ -204,7 +204,7 @@ class Translations(unittest.TestCase):
             platform.dma_write(DID, IOVA, b"abc")
             steps, memory = platform.steps, platform.memory(RAM, SIZE)
             platform.reset()
-            self.assertEqual((platform.steps, platform.memory(RAM, SIZE)), (steps, memory))
+            self.assertEqual((platform.steps, platform.memory(RAM, SIZE) == memory), (steps, True))
             self.assertEqual([platform.reg_look(register) for register in (DDTP, CQB, FQB)], [0, 0, 0])
             self.assertEqual((platform.pages(), platform.contexts(), platform.why().number), ([], [], steps))
             with self.assertRaises(Denied):
@@ -262,7 +262,7 @@ class Lent(unittest.TestCase):
         for _ in range(3000):
             did, iova, size = chance.choice((DID, DID, 6)), IOVA + chance.randrange(0x1100), chance.choice((1, 2, 4, 8))
             data, word = chance.randbytes(chance.randrange(1, 65)), RAM + 8 * chance.choice((0x800, 0x801, 0x1000, 0x1001))
-            entry = chance.choice((0, Pte(0x80020, "vrwuad").words()[0], Pte(DATA >> 12, "vruad").words()[0], Pte(DATA >> 12, "vrwuad").words()[0]))
+            entry = chance.choice((0, Pte(0x80030, "vrwuad").words()[0], Pte(DATA >> 12, "vruad").words()[0], Pte(DATA >> 12, "vrwuad").words()[0]))
             name = chance.choice(("read", "write", "translate", "others", "store", "all", "send"))
             for platform in (own, lent):
                 step = {
@@ -276,7 +276,7 @@ class Lent(unittest.TestCase):
                 }[name]
                 own_steps.append((answer(step), platform.steps, platform.why(), platform.pages(), platform.contexts(), platform.way(did, iova)))
             self.assertEqual(*own_steps[-2:], name)
-        self.assertEqual(own.memory(RAM, SIZE), bytes(self.memory))
+        self.assertTrue(own.memory(RAM, SIZE) == self.memory)
         self.assertEqual({kind for kind, *_ in own_steps if isinstance(kind, str)}, {"Denied(13)", "Denied(15)", "Denied(258)", "Misuse('dma_read')", "Misuse('dma_write')"})
 
     def test_others_write(self):
@@ -284,10 +284,10 @@ class Lent(unittest.TestCase):
         self.memory[DATA - RAM] = 0x11
         self.assertEqual(platform.dma_read(DID, IOVA, 1), b"\x11")
         steps = platform.steps
-        self.memory[0x4008:0x4010] = Pte(0x80020, "vrwuad").bytes()
-        self.memory[0x20000] = 0x22
+        self.memory[0x4008:0x4010] = Pte(0x80030, "vrwuad").bytes()
+        self.memory[0x30000] = 0x22
         self.assertEqual((platform.steps, platform.way(DID, IOVA)[1]), (steps, DATA))
-        self.assertEqual((platform.dma_read(DID, IOVA, 1), platform.why().is_stale, platform.why().way.frame), (b"\x11", True, 0x80020))
+        self.assertEqual((platform.dma_read(DID, IOVA, 1), platform.why().is_stale, platform.why().way.frame), (b"\x11", True, 0x80030))
         with_queues(platform).send(Vma(page=IOVA >> 12, pscid=9))
         self.assertEqual((platform.dma_read(DID, IOVA, 1), platform.why().is_stale), (b"\x22", False))
 
