@@ -136,7 +136,7 @@ class Platform:
         made = cls.__new__(cls)
         made._begin()
         made._memory, made._words = memory, ctypes.c_uint64 * (size // 8)
-        made._lent()
+        made._lend()
         if image is None:
             _started(LIBRARY.rviommu_open_lent(start, size, made._handle))
         else:
@@ -144,7 +144,7 @@ class Platform:
             _started(LIBRARY.rviommu_open_lent_image(given, len(given), start, size, made._handle))
         return made
 
-    def _lent(self) -> Any:
+    def _lend(self) -> Any:
         """The words of the lent memory, for one call."""
         words = self._words.from_buffer(self._memory)
         if ctypes.addressof(words) % 8:
@@ -184,7 +184,7 @@ class Platform:
             if self._memory is not None and name in _OF_OWN:
                 raise ValueError("this needs a platform with its own memory")
             if self._memory is not None and name in LENT:
-                words = self._lent()
+                words = self._lend()
                 name, operands = f"{name}_lent", (words, len(words), *operands)
             answer = getattr(LIBRARY, "rviommu_" + name)(self._handle, *operands)
             if self._record:
@@ -445,7 +445,7 @@ class Platform:
         base, size = self.memory_place
         if not 0 <= at - base <= size - count:
             raise Outside(f"{count} bytes at {at:#x}")
-        return memoryview(self._lent()).cast("B")[at - base : at - base + count]
+        return memoryview(self._lend()).cast("B")[at - base : at - base + count]
 
     def disk(self, device: SupportsIndex, offset: SupportsIndex = 0, length: Optional[SupportsIndex] = None) -> bytes:
         """The bytes of a block device's disk from an offset on, to its end if no length is given."""
