@@ -53,7 +53,7 @@ FUNCTIONS = {
     "disk": (HANDLE, c_uint64, c_uint64, BYTES, c_size_t),
     "page": (HANDLE, c_uint64, POINTER(Page)),
     "context": (HANDLE, c_uint64, POINTER(Context)),
-    "way": (HANDLE, c_uint64, c_uint64, c_bool, POINTER(Way), NUMBER),
+    "way_now": (HANDLE, c_uint64, c_uint64, c_bool, POINTER(Way), NUMBER),
     "part": (HANDLE, c_uint64, c_uint64, c_bool, c_uint64, POINTER(Part)),
     "stale": (HANDLE, c_uint64, c_uint64, c_bool, POINTER(Way)),
     "stale_page": (HANDLE, c_uint64, POINTER(Way)),
@@ -66,7 +66,7 @@ FUNCTIONS = {
 }
 # Those with a form NAME_lent: it takes the words of a lent memory and their count after the handle.
 LENT = ("load", "store", "reg_read", "reg_write", "dma_read", "dma_write", "dma_read_all", "dma_write_all", "translate", "command", "dev_read",
-        "dev_write", "dev_step", "way")
+        "dev_write", "dev_step", "way_now")
 FUNCTIONS |= {f"{name}_lent": (HANDLE, NUMBER, c_size_t, *FUNCTIONS[name][1:]) for name in LENT}
 NOTHING = ("close", "memory_place", "reset")
 WIDE = ("interrupt", "steps")

@@ -494,11 +494,11 @@ class Platform:
                 part = Part()
         return parts
 
-    def way(self, did: SupportsIndex, iova: SupportsIndex, is_write: bool = False) -> tuple[Way, Optional[int]]:
+    def way_now(self, did: SupportsIndex, iova: SupportsIndex, is_write: bool = False) -> tuple[Way, Optional[int]]:
         """Where the caches, or else the tables, lead a request now: the way, and the physical address, which is None if it leads nowhere.
         Nothing is cached or reported."""
         way, address = Way(), ctypes.c_uint64()
-        self._call("way", self._device(did), _number(iova), is_write, way, address)
+        self._call("way_now", self._device(did), _number(iova), is_write, way, address)
         return way, None if way.kind == WayKind.NOWHERE else address.value
 
     def stale(self, did: SupportsIndex, iova: SupportsIndex, is_write: bool = False) -> Optional[Way]:

@@ -114,7 +114,7 @@ class Steps(unittest.TestCase):
                          lambda n: platform.dev_step(n), lambda n: platform.memory(n, 1), lambda n: platform.memory(RAM, n), lambda n: platform.put(n, Pte(0)),
                          lambda n: platform.walk(DID, n), lambda n: platform.stale(DID, n), lambda n: platform.stale_page(n), lambda n: platform.why(n),
                          lambda n: platform.page_origin(n), lambda n: platform.context_origin(n), lambda n: platform.translate(n, IOVA),
-                         lambda n: platform.translate(DID, n), lambda n: platform.way(n, IOVA), lambda n: platform.way(DID, n),
+                         lambda n: platform.translate(DID, n), lambda n: platform.way_now(n, IOVA), lambda n: platform.way_now(DID, n),
                          lambda n: platform.write(n, b"a"), lambda n: Platform.over(bytearray(SIZE), n)):
                 with self.subTest(number=number), self.assertRaises(ValueError):
                     call(number)
@@ -170,23 +170,23 @@ class Translations(unittest.TestCase):
             with self.assertRaises(BusError):
                 platform.dma_read(DID, IOVA + 0x1FFF, 1)
 
-    def test_way(self):
+    def test_way_now(self):
         for platform in self.platforms:
-            way, address = platform.way(DID, IOVA)
+            way, address = platform.way_now(DID, IOVA)
             self.assertEqual((way.kind, way.cause, address), (WayKind.NOWHERE, 256, None))
             mapped(platform, pscid=9)
             before = platform.steps
-            way, address = platform.way(DID, IOVA + 5)
+            way, address = platform.way_now(DID, IOVA + 5)
             self.assertEqual((way.kind, way.frame, way.context.pscid, address), (WayKind.WALK, DATA >> 12, 9, DATA + 5))
             self.assertEqual((platform.steps, platform.pages(), platform.contexts()), (before, [], []))
             platform.dma_read(DID, IOVA, 1)
             platform.store(0x80004008, 0)
-            self.assertEqual((platform.way(DID, IOVA)[1], platform.way(DID, IOVA, is_write=True)[0].cause), (DATA, 15))
+            self.assertEqual((platform.way_now(DID, IOVA)[1], platform.way_now(DID, IOVA, is_write=True)[0].cause), (DATA, 15))
             platform.reg_write(DDTP, 1)
-            way, address = platform.way(6, 5)
+            way, address = platform.way_now(6, 5)
             self.assertEqual((way.kind, address), (WayKind.REGISTER, 5))
             with self.assertRaises(ValueError):
-                platform.way(1 << 24, IOVA)
+                platform.way_now(1 << 24, IOVA)
 
     def test_why_has_the_address(self):
         for platform in self.platforms:
@@ -274,10 +274,10 @@ class Lent(unittest.TestCase):
                     "all": lambda: platform.dma_read_all(did, iova, 200),
                     "send": lambda: platform.send(Vma(page=IOVA >> 12, pscid=9), Fence(addr=word, data=size)),
                 }[name]
-                own_steps.append((answer(step), platform.steps, platform.why(), platform.pages(), platform.contexts(), platform.way(did, iova)))
+                own_steps.append((answer(step), platform.steps, platform.why(), platform.pages(), platform.contexts(), platform.way_now(did, iova)))
             self.assertEqual(*own_steps[-2:], name)
         self.assertTrue(own.memory(RAM, SIZE) == self.memory)
-        self.assertEqual({kind for kind, *_ in own_steps if isinstance(kind, str)}, {"Denied(13)", "Denied(15)", "Denied(258)", "Misuse('dma_read')", "Misuse('dma_write')"})
+        self.assertEqual({kind for kind, *_ in own_steps if isinstance(kind, str)}, {"Denied(13)", "Denied(15)", "Denied(258)", "Misuse('dma_read')", "Misuse('dma_write')", "Misuse('store')"})
 
     def test_others_write(self):
         platform = self.platform
@@ -286,7 +286,7 @@ class Lent(unittest.TestCase):
         steps = platform.steps
         self.memory[0x4008:0x4010] = Pte(0x80030, "vrwuad").bytes()
         self.memory[0x30000] = 0x22
-        self.assertEqual((platform.steps, platform.way(DID, IOVA)[1]), (steps, DATA))
+        self.assertEqual((platform.steps, platform.way_now(DID, IOVA)[1]), (steps, DATA))
         self.assertEqual((platform.dma_read(DID, IOVA, 1), platform.why().is_stale, platform.why().way.frame), (b"\x11", True, 0x80030))
         with_queues(platform).send(Vma(page=IOVA >> 12, pscid=9))
         self.assertEqual((platform.dma_read(DID, IOVA, 1), platform.why().is_stale), (b"\x22", False))
