@@ -259,7 +259,7 @@ class Lent(unittest.TestCase):
             except (rviommu.Refusal, QueueStopped) as refusal:
                 return repr(refusal)
 
-        for _ in range(3000):
+        for _ in range(2000):
             did, iova, size = chance.choice((DID, DID, 6)), IOVA + chance.randrange(0x1100), chance.choice((1, 2, 4, 8))
             data, word = chance.randbytes(chance.randrange(1, 65)), RAM + 8 * chance.choice((0x800, 0x801, 0x1000, 0x1001))
             entry = chance.choice((0, Pte(0x80030, "vrwuad").words()[0], Pte(DATA >> 12, "vruad").words()[0], Pte(DATA >> 12, "vrwuad").words()[0]))
@@ -470,7 +470,7 @@ class Threads(unittest.TestCase):
     def test_eight_threads_on_one_platform(self):
         for platform in (with_queues(mapped()), with_queues(mapped(Platform.over(bytearray(SIZE))))):
             def use(number):
-                for turn in range(1000):
+                for turn in range(300):
                     platform.store(RAM + 8 * number, turn)
                     self.assertEqual(platform.load(RAM + 8 * number), turn)
                     self.assertEqual(platform.dma_read_all(DID, IOVA, 0x100), bytes(0x100))
@@ -485,7 +485,7 @@ class Threads(unittest.TestCase):
         platforms = [Platform.over(memory) for _ in range(2)]
 
         def use(number, platform):
-            for _ in range(300):
+            for _ in range(200):
                 platform.dma_write_all(DID, DATA, bytes([number]) * 0x4000)
                 self.assertEqual(len(set(memory[DATA - RAM : DATA - RAM + 0x4000])), 1)
                 memory[DATA - RAM : DATA - RAM + 0x4000] = bytes([number + 8]) * 0x4000
