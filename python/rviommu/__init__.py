@@ -2,6 +2,7 @@
 
 A `Platform` is physical memory, one IOMMU and up to eight virtio block devices. Its methods are steps: the hart's loads, stores and
 register accesses, the devices' accesses, and the commands that the IOMMU takes. A step that isn't carried out raises a `Refusal`.
+`Platform.over` stands in front of memory of yours, which others may write between steps.
 Addresses and lengths are in bytes; a number that doesn't fit its place raises `ValueError`. `rviommu.forms` builds what is stored in
 memory, as contexts and commands. Any threads may use one platform: each method runs as a whole.
 """

@@ -23,8 +23,11 @@ FUNCTIONS = {
     "version": (),
     "open": (c_char_p, c_size_t, HANDLE),
     "open_built_in": (HANDLE,),
+    "open_lent": (c_uint64, c_uint64, HANDLE),
+    "open_lent_image": (c_char_p, c_size_t, c_uint64, c_uint64, HANDLE),
     "copy": (HANDLE, HANDLE),
     "keep_reasons": (HANDLE, c_size_t, c_bool),
+    "reset": (HANDLE,),
     "close": (HANDLE,),
     "line": (HANDLE, c_char_p, c_size_t, c_char_p, c_size_t, SIZE),
     "load": (HANDLE, c_uint64, c_uint64, NUMBER),
@@ -35,6 +38,7 @@ FUNCTIONS = {
     "dma_write": (HANDLE, c_uint64, c_uint64, c_char_p, c_size_t, NUMBER),
     "dma_read_all": (HANDLE, c_uint64, c_uint64, c_void_p, c_size_t, SIZE, NUMBER),
     "dma_write_all": (HANDLE, c_uint64, c_uint64, c_void_p, c_size_t, SIZE, NUMBER),
+    "translate": (HANDLE, c_uint64, c_uint64, c_bool, NUMBER),
     "command": (HANDLE,),
     "dev_read": (HANDLE, c_uint64, c_uint64, c_uint64, NUMBER),
     "dev_write": (HANDLE, c_uint64, c_uint64, c_uint64, c_uint64),
@@ -44,10 +48,12 @@ FUNCTIONS = {
     "reg_look": (HANDLE, c_uint64, c_uint64, NUMBER),
     "memory_place": (HANDLE, NUMBER, NUMBER),
     "memory": (HANDLE, c_uint64, BYTES, c_size_t),
+    "memory_write": (HANDLE, c_uint64, c_char_p, c_size_t),
     "disk_size": (HANDLE, c_uint64, NUMBER),
     "disk": (HANDLE, c_uint64, c_uint64, BYTES, c_size_t),
     "page": (HANDLE, c_uint64, POINTER(Page)),
     "context": (HANDLE, c_uint64, POINTER(Context)),
+    "way_now": (HANDLE, c_uint64, c_uint64, c_bool, POINTER(Way), NUMBER),
     "part": (HANDLE, c_uint64, c_uint64, c_bool, c_uint64, POINTER(Part)),
     "stale": (HANDLE, c_uint64, c_uint64, c_bool, POINTER(Way)),
     "stale_page": (HANDLE, c_uint64, POINTER(Way)),
@@ -58,7 +64,11 @@ FUNCTIONS = {
     "assemble": (c_char_p, c_size_t, BYTES, c_size_t, SIZE, NUMBER),
     "text": (c_uint32, c_char_p, c_size_t, SIZE),
 }
-NOTHING = ("close", "memory_place")
+# Those with a form NAME_lent: it takes the words of a lent memory and their count after the handle.
+LENT = ("load", "store", "reg_read", "reg_write", "dma_read", "dma_write", "dma_read_all", "dma_write_all", "translate", "command", "dev_read",
+        "dev_write", "dev_step", "way_now")
+FUNCTIONS |= {f"{name}_lent": (HANDLE, NUMBER, c_size_t, *FUNCTIONS[name][1:]) for name in LENT}
+NOTHING = ("close", "memory_place", "reset")
 WIDE = ("interrupt", "steps")
 
 
@@ -74,8 +84,9 @@ def where() -> str:
     return found
 
 
-def loaded() -> ctypes.CDLL:
-    library = ctypes.CDLL(where())
+def loaded() -> ctypes.PyDLL:
+    # Each call of a PyDLL holds the interpreter's lock, so that no other thread writes a lent memory meanwhile.
+    library = ctypes.PyDLL(where())
     for name, takes in FUNCTIONS.items():
         function = getattr(library, "rviommu_" + name)
         function.argtypes = takes

@@ -1,18 +1,22 @@
 """The platform: a handle of the C library, with the library's functions as methods."""
 from __future__ import annotations
 
+import copy
 import ctypes
+import mmap
 import operator
 import os
 import threading
 from typing import Any, Optional, SupportsIndex, TextIO, TypeVar, Union
 
 from . import forms
-from ._library import LIBRARY, Handle
+from ._library import LENT, LIBRARY, Handle
 from .errors import AssemblyError, BadAccess, BusError, Denied, ImageError, Misuse, NoDevice, Outside, QueueStopped, Refusal
+from .reasons import WayKind
 from .values import Context, Located, Page, Part, Value, Way, Why
 
-Bytes = Union[bytes, bytearray, memoryview]
+Memory = Union[bytearray, memoryview, mmap.mmap, ctypes.Array[Any]]
+Bytes = Union[bytes, Memory]
 Entry = TypeVar("Entry", bound=Value)
 
 _VALUE, _DONE, _BYTES, _IDLE, _DENIED, _BUS_ERROR, _BAD_ACCESS, _NO_DEVICE, _MISUSE = range(9)
@@ -26,6 +30,9 @@ _ROOM = 321
 # Fewer than 32 pieces, wherever pages end.
 _RECORDED_BYTES = 1024
 _BUILT_IN = "ram 0x80000000 0x100000\n"
+_BASE = 0x80000000
+# The calls that need a memory of the platform's own.
+_OF_OWN = ("line", "part", "stale", "stale_page", "stale_context")
 _FQB, _FQH, _FQT, _CQB, _CQH, _CQT, _CQCSR = 0x28, 0x30, 0x34, 0x18, 0x20, 0x24, 0x48
 # Of cqcsr: cqmf, cmd_to and cmd_ill, each of which stops the queue; cqon.
 _CQ_ERRORS, _CQON = 7 << 8, 1 << 16
@@ -54,12 +61,9 @@ def _number(value: SupportsIndex) -> int:
     return number
 
 
-def _length(value: SupportsIndex) -> int:
-    """A number of bytes, at most the largest memory."""
-    length = operator.index(value)
-    if not 0 <= length <= _MOST_MEMORY:
-        raise ValueError(f"{length} is no length: at most {_MOST_MEMORY} bytes")
-    return length
+def _bytes(data: Union[str, Bytes]) -> bytes:
+    # A number is no buffer, though `bytes` takes one.
+    return data.encode() if isinstance(data, str) else bytes(memoryview(data))
 
 
 def _room(count: int) -> Any:
@@ -68,13 +72,13 @@ def _room(count: int) -> Any:
 
 def assemble(text: Union[str, Bytes]) -> bytes:
     """The image that a text of statements describes."""
-    given = text.encode() if isinstance(text, str) else bytes(text)
+    given = _bytes(text)
     length, line, room = ctypes.c_size_t(), ctypes.c_uint64(), 4096
     while True:
         image = _room(room)
         status = LIBRARY.rviommu_assemble(given, len(given), image, room, length, line)
         if status == _OK:
-            return bytes(image[: length.value])
+            return bytes(image)[: length.value]
         if status == _OUT_OF_MEMORY:
             raise MemoryError
         if status != _LITTLE_ROOM:
@@ -89,17 +93,24 @@ class Platform:
     If `record` names a file, each step is written there as a line of a script with its answer, and the image to a file of that name with
     `.image` added. `rviommu check RECORD.image < RECORD` replays it, and so do `debug` and `explain`."""
 
+    # What is lent, if memory is: the buffer, and the type of its words.
+    _memory: Optional[Memory] = None
+    _words: Any = ctypes.c_uint64 * 0
+    _most = _MOST_STEPS
+    _record: Optional[TextIO] = None
+    _recorded = 0
+
     def __init__(self, image: Optional[Bytes] = None, record: Optional[Union[str, os.PathLike[str]]] = None) -> None:
         self._begin()
         if image is None:
             _started(LIBRARY.rviommu_open_built_in(self._handle))
         else:
-            given = bytes(image)
+            given = _bytes(image)
             _started(LIBRARY.rviommu_open(given, len(given), self._handle))
         if record is not None:
             path = os.fspath(record)
             with open(path + ".image", "wb") as file:
-                file.write(assemble(_BUILT_IN) if image is None else bytes(image))
+                file.write(assemble(_BUILT_IN) if image is None else given)
             # Each line is in the file when its step is done.
             self._record = open(path, "w", encoding="ascii", buffering=1)
 
@@ -107,9 +118,38 @@ class Platform:
         # Every use of the handle holds this lock: one thread at a time.
         self._lock = threading.RLock()
         self._handle = Handle()
-        self._most = _MOST_STEPS
-        self._record: Optional[TextIO] = None
-        self._recorded = 0
+
+    @classmethod
+    def over(cls, memory: Memory, base: SupportsIndex = _BASE, image: Optional[Bytes] = None) -> Platform:
+        """A platform in front of memory of yours, which is lent to it for each call: a buffer that can be written, as a bytearray, an mmap, a
+        memoryview or an array of ctypes. It begins at the physical address `base`; base and size are multiples of 4096, and the end is at
+        most 2^56. `image` says what the IOMMU offers, and has the block devices; its memory doesn't count.
+
+        Other platforms, and threads of this interpreter, may use the buffer too: its lock is held during each call. A buffer that has become
+        shorter raises `ValueError`. So do the calls that need a memory of the platform's own: `line`, `walk`, `stale`, `stale_page` and
+        `stale_context`."""
+        with memoryview(memory) as view:
+            size = view.nbytes
+        start = _number(base)
+        if not size or start % 4096 or size % 4096 or start + size > 1 << 56:
+            raise ValueError(f"{size:#x} bytes at {start:#x} are no memory: both are multiples of 4096, and the end is at most 2^56")
+        made = cls.__new__(cls)
+        made._begin()
+        made._memory, made._words = memory, ctypes.c_uint64 * (size // 8)
+        made._lend()
+        if image is None:
+            _started(LIBRARY.rviommu_open_lent(start, size, made._handle))
+        else:
+            given = _bytes(image)
+            _started(LIBRARY.rviommu_open_lent_image(given, len(given), start, size, made._handle))
+        return made
+
+    def _lend(self) -> Any:
+        """The words of the lent memory, for one call."""
+        words = self._words.from_buffer(self._memory)
+        if ctypes.addressof(words) % 8:
+            raise ValueError("the memory doesn't begin at a multiple of 8 bytes")
+        return words
 
     def __enter__(self) -> Platform:
         return self
@@ -127,7 +167,7 @@ class Platform:
             if not self._handle.own:
                 return "<Platform, closed>"
             base, size = self.memory_place
-            return f"<Platform of {size:#x} bytes of memory at {base:#x}>"
+            return f"<Platform of {size:#x} bytes of {'' if self._memory is None else 'lent '}memory at {base:#x}>"
 
     def close(self) -> None:
         """Frees the platform's memory. Closing it again does nothing; all other methods then raise `ValueError`."""
@@ -141,6 +181,11 @@ class Platform:
         with self._lock:
             if not self._handle.own:
                 raise ValueError("the platform is closed")
+            if self._memory is not None and name in _OF_OWN:
+                raise ValueError("this needs a platform with its own memory")
+            if self._memory is not None and name in LENT:
+                words = self._lend()
+                name, operands = f"{name}_lent", (words, len(words), *operands)
             answer = getattr(LIBRARY, "rviommu_" + name)(self._handle, *operands)
             if self._record:
                 self._write_steps(self._record)
@@ -157,10 +202,12 @@ class Platform:
         self._recorded = now
 
     def copy(self) -> Platform:
-        """A new platform equal to this one; from now on the two are independent. The copy continues the count of steps. Its trace and its
-        reasons are about its own steps only, and it keeps as many reasons as this one."""
+        """A new platform equal to this one; from now on the two are independent, but a memory that is lent to this one is lent to both. The
+        copy continues the count of steps. Its trace and its reasons are about its own steps only, and it keeps as many reasons as this
+        one."""
         made = Platform.__new__(Platform)
         made._begin()
+        made._memory, made._words = self._memory, self._words
         with self._lock:
             _started(self._call("copy", made._handle))
             made._most = self._most
@@ -170,7 +217,20 @@ class Platform:
         return self.copy()
 
     def __deepcopy__(self, memo: dict[int, Any]) -> Platform:
-        return self.copy()
+        made = self.copy()
+        made._memory = copy.deepcopy(self._memory, memo)
+        return made
+
+    def reset(self) -> None:
+        """Resets the IOMMU: its registers are as at reset, and both caches are empty. Memory and disks stay, and the count of steps goes on.
+        This is no step, so a platform with a record raises `ValueError`."""
+        with self._lock:
+            self._want_no_record()
+            self._call("reset")
+
+    def _want_no_record(self) -> None:
+        if self._record:
+            raise ValueError("a record has nothing but steps")
 
     def keep_reasons(self, most: SupportsIndex, accesses_only: bool = False) -> None:
         """Sets how many reasons are kept for `why`: those of the last `most` steps or, if `accesses_only` is true, of the last `most` steps
@@ -183,7 +243,7 @@ class Platform:
 
     def line(self, text: Union[str, Bytes]) -> str:
         """Carries out a line of the script, and returns its answer, which is empty for a blank line."""
-        given = text.encode() if isinstance(text, str) else bytes(text)
+        given = _bytes(text)
         answer, length = ctypes.create_string_buffer(_ROOM), ctypes.c_size_t()
         self._call("line", given, len(given), answer, _ROOM, length)
         return answer.raw[: length.value].decode()
@@ -213,7 +273,7 @@ class Platform:
 
     def put(self, address: SupportsIndex, form: Union[forms.Form, Bytes]) -> None:
         """The hart stores a form, as a `Context` or a `Pte`, or a multiple of 8 bytes, word by word."""
-        data = form.bytes() if isinstance(form, forms.Form) else bytes(form)
+        data = form.bytes() if isinstance(form, forms.Form) else _bytes(form)
         if len(data) % 8:
             raise ValueError("bytes are put by words of 8")
         with self._lock:
@@ -229,30 +289,37 @@ class Platform:
         self._step("reg_write", _number(offset), _number(size), _number(value))
 
     # Devices
+    def _length(self, value: SupportsIndex) -> int:
+        """A number of bytes, at most the largest memory."""
+        length, most = operator.index(value), max(_MOST_MEMORY, ctypes.sizeof(self._words))
+        if not 0 <= length <= most:
+            raise ValueError(f"{length} is no length: at most {most} bytes")
+        return length
+
     def dma_read(self, did: SupportsIndex, iova: SupportsIndex, length: SupportsIndex) -> bytes:
         """A device reads 1 to 64 bytes at an IOVA, all in one page."""
         # A longer read is refused whatever its length, so it needs no more room than this.
-        count = min(_length(length), _MOST_BYTES + 1)
+        count = min(self._length(length), _MOST_BYTES + 1)
         data, cause = _room(count), ctypes.c_uint64()
         self._step("dma_read", _number(did), _number(iova), data, count, number=cause)
-        return bytes(data[:count])
+        return bytes(data)[:count]
 
     def dma_write(self, did: SupportsIndex, iova: SupportsIndex, data: Bytes) -> None:
         """A device writes 1 to 64 bytes at an IOVA, all in one page."""
-        given = bytes(data)
+        given = _bytes(data)
         self._step("dma_write", _number(did), _number(iova), given, len(given), number=ctypes.c_uint64())
 
     def dma_read_all(self, did: SupportsIndex, iova: SupportsIndex, length: SupportsIndex) -> bytes:
         """A device reads any number of bytes, across pages, in pieces of at most 64 bytes, each of them a step. If a piece is refused, the
         refusal's `done` is the number of bytes before it."""
-        count = _length(length)
+        count = self._length(length)
         data = _room(count)
         self._in_pieces("dma_read_all", _number(did), _number(iova), data, count)
-        return bytes(data[:count])
+        return bytes(data)[:count]
 
     def dma_write_all(self, did: SupportsIndex, iova: SupportsIndex, data: Bytes) -> None:
         """A device writes any number of bytes, likewise."""
-        given = bytes(data)
+        given = _bytes(data)
         self._in_pieces("dma_write_all", _number(did), _number(iova), (ctypes.c_uint8 * max(len(given), 1)).from_buffer_copy(given or b"\0"), len(given))
 
     def _in_pieces(self, name: str, did: int, iova: int, data: Any, length: int) -> None:
@@ -270,6 +337,11 @@ class Platform:
                 at += count
                 if at == length:
                     return
+
+    def translate(self, did: SupportsIndex, iova: SupportsIndex, is_write: bool = False) -> int:
+        """A device asks for the translation of an IOVA, for a read or a write; no memory is accessed. Returns the physical address, also if it
+        is outside memory. As an access does, this fills the caches, and a denial leaves a fault record."""
+        return self._value("translate", did, iova, bool(is_write))
 
     def dev_read(self, device: SupportsIndex, offset: SupportsIndex, size: SupportsIndex = 4) -> int:
         """The hart reads a register of a block device; the first device is 0."""
@@ -349,11 +421,31 @@ class Platform:
 
     def memory(self, address: SupportsIndex, length: SupportsIndex) -> bytes:
         """The bytes of memory from a physical address on."""
-        at, count = _number(address), _length(length)
+        at, count = _number(address), self._length(length)
+        if self._memory is not None:
+            return bytes(self._view(at, count))
         data = _room(count)
         if self._call("memory", at, data, count) == _OUTSIDE:
             raise Outside(f"{count} bytes at {at:#x}")
-        return bytes(data[:count])
+        return bytes(data)[:count]
+
+    def write(self, address: SupportsIndex, data: Bytes) -> None:
+        """Writes any number of bytes into memory from a physical address on. This is no step, so a platform with a record raises
+        `ValueError`."""
+        at, given = _number(address), _bytes(data)
+        with self._lock:
+            self._want_no_record()
+            if self._memory is not None:
+                self._view(at, len(given))[:] = given
+            elif self._call("memory_write", at, given, len(given)) == _OUTSIDE:
+                raise Outside(f"{len(given)} bytes at {at:#x}")
+
+    def _view(self, at: int, count: int) -> memoryview:
+        """These bytes of the lent memory."""
+        base, size = self.memory_place
+        if not 0 <= at - base <= size - count:
+            raise Outside(f"{count} bytes at {at:#x}")
+        return memoryview(self._lend()).cast("B")[at - base : at - base + count]
 
     def disk(self, device: SupportsIndex, offset: SupportsIndex = 0, length: Optional[SupportsIndex] = None) -> bytes:
         """The bytes of a block device's disk from an offset on, to its end if no length is given."""
@@ -365,7 +457,7 @@ class Platform:
             raise Outside(f"{count} bytes at {at} of a disk")
         data = _room(count)
         self._call("disk", number, at, data, count)
-        return bytes(data[:count])
+        return bytes(data)[:count]
 
     def _places(self, name: str, kind: type[Entry]) -> list[Optional[Entry]]:
         found: list[Optional[Entry]] = []
@@ -394,12 +486,20 @@ class Platform:
     def walk(self, did: SupportsIndex, iova: SupportsIndex, is_write: bool = False) -> list[Part]:
         """The parts of the walk of a request, as if nothing were cached. The first is ddtp, the last is the end."""
         device, at = self._device(did), _number(iova)
-        parts, part = [], Part()
+        parts: list[Part] = []
+        part = Part()
         with self._lock:
             while self._call("part", device, at, is_write, len(parts), part) == _OK:
                 parts.append(part)
                 part = Part()
         return parts
+
+    def way_now(self, did: SupportsIndex, iova: SupportsIndex, is_write: bool = False) -> tuple[Way, Optional[int]]:
+        """Where the caches, or else the tables, lead a request now: the way, and the physical address, which is None if it leads nowhere.
+        Nothing is cached or reported."""
+        way, address = Way(), ctypes.c_uint64()
+        self._call("way_now", self._device(did), _number(iova), is_write, way, address)
+        return way, None if way.kind == WayKind.NOWHERE else address.value
 
     def stale(self, did: SupportsIndex, iova: SupportsIndex, is_write: bool = False) -> Optional[Way]:
         """The way that the tables give a request, if it is stale: if the caches translate it otherwise. Else None."""

@@ -3,9 +3,13 @@ from __future__ import annotations
 
 from ctypes import Structure, c_bool, c_uint32, c_uint64
 from enum import IntEnum
-from typing import ClassVar
+from typing import Any, ClassVar
 
 from .reasons import LocatedKind, PartKind, Ruling, WayKind, WhyKind
+
+
+def _all(kind: type[Any], names: str) -> list[tuple[str, type[Any]]]:
+    return [(name, kind) for name in names.split()]
 
 
 class Value(Structure):
@@ -44,10 +48,8 @@ class Page(Value):
     is_global: bool
     is_napot: bool
 
-    _fields_ = [("page", c_uint64), ("frame", c_uint64)]
-    _fields_ += [(name, c_uint32) for name in ("did", "pscid", "gscid", "level")]
-    _fields_ += [(name, c_bool) for name in ("has_pscid", "has_gscid", "is_write", "is_global", "is_napot")]
-    _fields_ += [("_reserved", c_uint64 * 2)]
+    _fields_ = [*_all(c_uint64, "page frame"), *_all(c_uint32, "did pscid gscid level"),
+                *_all(c_bool, "has_pscid has_gscid is_write is_global is_napot"), ("_reserved", c_uint64 * 2)]
 
 
 class Context(Value):
@@ -64,9 +66,8 @@ class Context(Value):
     dtf: bool
     tav: bool
 
-    _fields_ = [("gppn", c_uint64), ("ppn", c_uint64)]
-    _fields_ += [(name, c_uint32) for name in ("did", "pscid", "gscid", "gmode", "mode", "custom")]
-    _fields_ += [("dtf", c_bool), ("tav", c_bool), ("_reserved", c_uint64 * 2)]
+    _fields_ = [*_all(c_uint64, "gppn ppn"), *_all(c_uint32, "did pscid gscid gmode mode custom"), *_all(c_bool, "dtf tav"),
+                ("_reserved", c_uint64 * 2)]
 
 
 class Way(Value):
@@ -84,9 +85,8 @@ class Way(Value):
     is_reported: bool
     is_napot: bool
 
-    _fields_ = [("context", Context), ("frame", c_uint64), ("iotval2", c_uint64)]
-    _fields_ += [(name, c_uint32) for name in ("kind", "level", "cause")]
-    _fields_ += [("is_global", c_bool), ("is_reported", c_bool), ("is_napot", c_bool), ("_reserved", c_uint64 * 2)]
+    _fields_ = [("context", Context), *_all(c_uint64, "frame iotval2"), *_all(c_uint32, "kind level cause"),
+                *_all(c_bool, "is_global is_reported is_napot"), ("_reserved", c_uint64 * 2)]
 
 
 class Located(Value):
@@ -98,7 +98,7 @@ class Located(Value):
     kind: int
     cause: int
 
-    _fields_ = [("context", Context), ("kind", c_uint32), ("cause", c_uint32), ("_reserved", c_uint64 * 2)]
+    _fields_ = [("context", Context), *_all(c_uint32, "kind cause"), ("_reserved", c_uint64 * 2)]
 
 
 class Part(Value):
@@ -122,13 +122,13 @@ class Part(Value):
     is_napot: bool
     way: Way
 
-    _fields_ = [(name, c_uint64) for name in ("place", "read_at", "guest", "word", "iohgatp", "ta", "fsc")]
-    _fields_ += [(name, c_uint32) for name in ("kind", "mode", "level", "ruling")]
-    _fields_ += [("has_word", c_bool), ("has_read_at", c_bool), ("is_napot", c_bool), ("way", Way), ("_reserved", c_uint64 * 4)]
+    _fields_ = [*_all(c_uint64, "place read_at guest word iohgatp ta fsc"), *_all(c_uint32, "kind mode level ruling"),
+                *_all(c_bool, "has_word has_read_at is_napot"), ("way", Way), ("_reserved", c_uint64 * 4)]
 
 
 class Why(Value):
-    """Why a step had its answer, `struct rviommu_why`; `kind` is a `WhyKind`."""
+    """Why a step had its answer, `struct rviommu_why`; `kind` is a `WhyKind`. `address` is the physical address that its access was led
+    to, or 0."""
 
     KINDS = {"kind": WhyKind}
 
@@ -142,8 +142,7 @@ class Why(Value):
     kind: int
     is_write: bool
     is_stale: bool
+    address: int
 
-    _fields_ = [("way", Way)]
-    _fields_ += [(name, c_uint64) for name in ("number", "iova", "context", "walk", "current")]
-    _fields_ += [(name, c_uint32) for name in ("did", "kind")]
-    _fields_ += [("is_write", c_bool), ("is_stale", c_bool), ("_reserved", c_uint64 * 4)]
+    _fields_ = [("way", Way), *_all(c_uint64, "number iova context walk current"), *_all(c_uint32, "did kind"),
+                *_all(c_bool, "is_write is_stale"), ("address", c_uint64), ("_reserved", c_uint64 * 3)]

@@ -1,7 +1,13 @@
 """Tests of the module. Expected values are the standards', or the answers of the script's own lines."""
 import copy
+import ctypes
+import mmap
 import os
 import pickle
+import random
+import re
+import subprocess
+import sys
 import tempfile
 import threading
 import typing
@@ -11,14 +17,14 @@ import rviommu
 from rviommu import (AssemblyError, BadAccess, BusError, Context, Denied, FaultRecord, Fence, Gvma, ImageError, Iodir, LocatedKind, Misuse, NoDevice, Outside,
                      PartKind, Platform, Pte, QueueStopped, Ruling, Vma, WayKind, WhyKind, assemble, forms)
 
-RAM = 0x80000000
+RAM, SIZE = 0x80000000, 0x100000
 ROOT, DATA, IOVA, DID = 0x80002000, 0x80010000, 0x40201000, 5
 DDTP, CQB, FQB, CQCSR, FQCSR = 0x10, 0x18, 0x28, 0x48, 0x4C
 
 
-def mapped(image=None, **context):
+def mapped(platform=None, **context):
     """A platform in which device 5 is led by Sv39 from IOVA to DATA."""
-    platform = Platform(image)
+    platform = platform or Platform()
     platform.reg_write(DDTP, 0x20000402)
     platform.put(0x80001000 + 32 * DID, Context(mode=forms.SV39, ppn=ROOT >> 12, **context))
     for table, index, entry in ((ROOT, 1, Pte(0x80003, "v")), (0x80003000, 1, Pte(0x80004, "v")), (0x80004000, 1, Pte(DATA >> 12, "vrwuad"))):
@@ -70,7 +76,7 @@ class Steps(unittest.TestCase):
 
     def test_64_kib(self):
         """Svnapot: a leaf whose PPN[3:0] is 8 leads page 1 of its 64 KiB to frame 1 of them."""
-        platform = mapped(assemble(f"ram {RAM:#x} 0x100000\ncapabilities\n"))
+        platform = mapped(Platform(assemble(f"ram {RAM:#x} 0x100000\ncapabilities\n")))
         platform.store(0x80004008, 1 << 63 | (DATA >> 12 | 8) << 10 | 0xD7)
         platform.store(DATA + 0x1000, 0x77)
         self.assertEqual(platform.dma_read(DID, IOVA, 1), b"\x77")
@@ -97,7 +103,6 @@ class Steps(unittest.TestCase):
         platform.send(Iodir(did=DID))
         self.assertEqual(platform.contexts(), [None])
 
-
     def test_numbers_out_of_range(self):
         platform = mapped()
         too_many = (-1, 1 << 64, 1 << 64 | 5)
@@ -108,14 +113,18 @@ class Steps(unittest.TestCase):
                          lambda n: platform.dma_write(DID, n, b"a"), lambda n: platform.dev_read(n, 0), lambda n: platform.dev_write(0, n, 0),
                          lambda n: platform.dev_step(n), lambda n: platform.memory(n, 1), lambda n: platform.memory(RAM, n), lambda n: platform.put(n, Pte(0)),
                          lambda n: platform.walk(DID, n), lambda n: platform.stale(DID, n), lambda n: platform.stale_page(n), lambda n: platform.why(n),
-                         lambda n: platform.page_origin(n), lambda n: platform.context_origin(n)):
+                         lambda n: platform.page_origin(n), lambda n: platform.context_origin(n), lambda n: platform.translate(n, IOVA),
+                         lambda n: platform.translate(DID, n), lambda n: platform.way_now(n, IOVA), lambda n: platform.way_now(DID, n),
+                         lambda n: platform.write(n, b"a"), lambda n: Platform.over(bytearray(SIZE), n)):
                 with self.subTest(number=number), self.assertRaises(ValueError):
                     call(number)
         with self.assertRaises(ValueError):
             platform.dma_read(DID, IOVA, 1 << 40)
         self.assertEqual(platform.load(RAM), 0)
-        with self.assertRaises(TypeError):
-            platform.store(RAM, 1.5)
+        for call in (lambda: platform.store(RAM, 1.5), lambda: platform.put(RAM, 8), lambda: platform.dma_write(DID, IOVA, 8), lambda: platform.line(8),
+                     lambda: platform.write(RAM, 8), lambda: Platform(8)):
+            with self.assertRaises(TypeError):
+                call()
 
     def test_stopped_queue(self):
         platform = mapped()
@@ -136,6 +145,235 @@ class Steps(unittest.TestCase):
         platform = with_queues(mapped())
         platform.send(*[Fence(addr=RAM + 4 * number, data=number) for number in range(100)])
         self.assertEqual([platform.load(RAM + 4 * number, 4) for number in range(100)], list(range(100)))
+
+
+class Translations(unittest.TestCase):
+    """Of a platform with its own memory, and of one whose memory is lent."""
+
+    def setUp(self):
+        self.platforms = (Platform(), Platform.over(bytearray(SIZE)))
+
+    def test_translate(self):
+        for platform in self.platforms:
+            mapped(with_queues(platform), pscid=9)
+            before = platform.steps
+            self.assertEqual((platform.translate(DID, IOVA + 5), platform.translate(DID, IOVA + 7, is_write=True)), (DATA + 5, DATA + 7))
+            self.assertEqual([(page.page, page.is_write) for page in platform.pages()], [(IOVA >> 12, False), (IOVA >> 12, True)])
+            self.assertEqual((platform.steps, platform.memory(DATA, 16)), (before + 2, bytes(16)))
+            with self.assertRaises(Denied) as denied:
+                platform.translate(DID, IOVA + 0x1000, True)
+            self.assertEqual((denied.exception.cause, platform.take_fault()), (15, FaultRecord(cause=15, ttyp=3, did=DID, iotval=IOVA + 0x1000, iotval2=0)))
+            with self.assertRaises(Misuse):
+                platform.translate(1 << 24, IOVA)
+            platform.put(0x80004010, Pte(0x12345, "vrwuad"))
+            self.assertEqual(platform.translate(DID, IOVA + 0x1FFF), 0x12345FFF)
+            with self.assertRaises(BusError):
+                platform.dma_read(DID, IOVA + 0x1FFF, 1)
+
+    def test_way_now(self):
+        for platform in self.platforms:
+            way, address = platform.way_now(DID, IOVA)
+            self.assertEqual((way.kind, way.cause, address), (WayKind.NOWHERE, 256, None))
+            mapped(platform, pscid=9)
+            before = platform.steps
+            way, address = platform.way_now(DID, IOVA + 5)
+            self.assertEqual((way.kind, way.frame, way.context.pscid, address), (WayKind.WALK, DATA >> 12, 9, DATA + 5))
+            self.assertEqual((platform.steps, platform.pages(), platform.contexts()), (before, [], []))
+            platform.dma_read(DID, IOVA, 1)
+            platform.store(0x80004008, 0)
+            self.assertEqual((platform.way_now(DID, IOVA)[1], platform.way_now(DID, IOVA, is_write=True)[0].cause), (DATA, 15))
+            platform.reg_write(DDTP, 1)
+            way, address = platform.way_now(6, 5)
+            self.assertEqual((way.kind, address), (WayKind.REGISTER, 5))
+            with self.assertRaises(ValueError):
+                platform.way_now(1 << 24, IOVA)
+
+    def test_why_has_the_address(self):
+        for platform in self.platforms:
+            mapped(platform)
+            self.assertEqual(platform.why().address, 0)
+            platform.dma_write(DID, IOVA + 5, b"a")
+            self.assertEqual((platform.why().address, platform.why().iova), (DATA + 5, IOVA + 5))
+            with self.assertRaises(Denied):
+                platform.dma_read(6, IOVA, 1)
+            self.assertEqual(platform.why().address, 0)
+
+    def test_reset(self):
+        for platform in self.platforms:
+            mapped(with_queues(platform))
+            platform.dma_write(DID, IOVA, b"abc")
+            steps, memory = platform.steps, platform.memory(RAM, SIZE)
+            platform.reset()
+            self.assertEqual((platform.steps, platform.memory(RAM, SIZE) == memory), (steps, True))
+            self.assertEqual([platform.reg_look(register) for register in (DDTP, CQB, FQB)], [0, 0, 0])
+            self.assertEqual((platform.pages(), platform.contexts(), platform.why().number), ([], [], steps))
+            with self.assertRaises(Denied):
+                platform.dma_read(DID, IOVA, 1)
+            platform.reg_write(DDTP, 0x20000402)
+            self.assertEqual(platform.dma_read(DID, IOVA, 3), b"abc")
+
+    def test_write(self):
+        for platform in self.platforms:
+            before = platform.steps
+            data = random.Random(1).randbytes(0x2003)
+            platform.write(RAM + 0xFFD, data)
+            platform.write(RAM + SIZE, b"")
+            platform.write(RAM + SIZE - 1, memoryview(b"a"))
+            self.assertEqual((platform.memory(RAM + 0xFFC, 0x2005), platform.memory(RAM + SIZE - 2, 2), platform.steps), (b"\0" + data + b"\0", b"\0a", before))
+            for address in (RAM - 1, RAM + SIZE - 1, (1 << 64) - 1):
+                with self.assertRaises(Outside):
+                    platform.write(address, b"bc")
+                with self.assertRaises(Outside):
+                    platform.memory(address, 2)
+            self.assertEqual(platform.memory(RAM + SIZE - 1, 1), b"a")
+
+
+class Lent(unittest.TestCase):
+    """A memory that is lent for each call."""
+
+    def setUp(self):
+        self.memory = bytearray(SIZE)
+        self.platform = mapped(Platform.over(self.memory), pscid=9)
+
+    def test_buffers(self):
+        for memory in (bytearray(SIZE), mmap.mmap(-1, SIZE), memoryview(bytearray(SIZE + 8))[8:], (ctypes.c_uint64 * (SIZE // 8))(), (ctypes.c_uint8 * SIZE)()):
+            with self.subTest(type(memory).__name__), memoryview(memory).cast("B") as view:
+                platform = mapped(Platform.over(memory))
+                view[DATA - RAM : DATA - RAM + 3] = b"abc"
+                self.assertEqual((platform.dma_read(DID, IOVA, 4), platform.load(DATA, 2), platform.memory(DATA, 3)), (b"abc\0", 0x6261, b"abc"))
+                platform.dma_write(DID, IOVA + 4, b"def")
+                platform.store(DATA + 8, 0x1122334455667788)
+                platform.write(DATA + 16, b"ghi")
+                self.assertEqual(bytes(view[DATA - RAM : DATA - RAM + 20]), b"abc\0def\0\x88\x77\x66\x55\x44\x33\x22\x11ghi\0")
+                self.assertEqual(bytes(view[0x4008:0x4010]), Pte(DATA >> 12, "vrwuad").bytes())
+        self.assertEqual(repr(self.platform), "<Platform of 0x100000 bytes of lent memory at 0x80000000>")
+
+    def test_answers_are_those_of_own_memory(self):
+        """Random steps, some words of memory written by others: as stores there where memory is the platform's own."""
+        chance, own, lent = random.Random(65), with_queues(mapped(pscid=9)), with_queues(self.platform)
+        own_steps = []
+
+        def answer(step):
+            try:
+                return step()
+            except (rviommu.Refusal, QueueStopped) as refusal:
+                return repr(refusal)
+
+        for _ in range(2000):
+            did, iova, size = chance.choice((DID, DID, 6)), IOVA + chance.randrange(0x1100), chance.choice((1, 2, 4, 8))
+            data, word = chance.randbytes(chance.randrange(1, 65)), RAM + 8 * chance.choice((0x800, 0x801, 0x1000, 0x1001))
+            entry = chance.choice((0, Pte(0x80030, "vrwuad").words()[0], Pte(DATA >> 12, "vruad").words()[0], Pte(DATA >> 12, "vrwuad").words()[0]))
+            name = chance.choice(("read", "write", "translate", "others", "store", "all", "send"))
+            for platform in (own, lent):
+                step = {
+                    "read": lambda: platform.dma_read(did, iova, len(data)),
+                    "write": lambda: platform.dma_write(did, iova, data),
+                    "translate": lambda: platform.translate(did, iova, size > 2),
+                    "others": lambda: platform.write(0x80004008, entry.to_bytes(8, "little")),
+                    "store": lambda: platform.store(DATA + iova % 0x1000, size, size),
+                    "all": lambda: platform.dma_read_all(did, iova, 200),
+                    "send": lambda: platform.send(Vma(page=IOVA >> 12, pscid=9), Fence(addr=word, data=size)),
+                }[name]
+                own_steps.append((answer(step), platform.steps, platform.why(), platform.pages(), platform.contexts(), platform.way_now(did, iova)))
+            self.assertEqual(*own_steps[-2:], name)
+        self.assertTrue(own.memory(RAM, SIZE) == self.memory)
+        self.assertEqual({kind for kind, *_ in own_steps if isinstance(kind, str)}, {"Denied(13)", "Denied(15)", "Denied(258)", "Misuse('dma_read')", "Misuse('dma_write')", "Misuse('store')"})
+
+    def test_others_write(self):
+        platform = self.platform
+        self.memory[DATA - RAM] = 0x11
+        self.assertEqual(platform.dma_read(DID, IOVA, 1), b"\x11")
+        steps = platform.steps
+        self.memory[0x4008:0x4010] = Pte(0x80030, "vrwuad").bytes()
+        self.memory[0x30000] = 0x22
+        self.assertEqual((platform.steps, platform.way_now(DID, IOVA)[1]), (steps, DATA))
+        self.assertEqual((platform.dma_read(DID, IOVA, 1), platform.why().is_stale, platform.why().way.frame), (b"\x11", True, 0x80030))
+        with_queues(platform).send(Vma(page=IOVA >> 12, pscid=9))
+        self.assertEqual((platform.dma_read(DID, IOVA, 1), platform.why().is_stale), (b"\x22", False))
+
+    def test_two_platforms_over_one_memory(self):
+        other = Platform.over(self.memory)
+        other.reg_write(DDTP, 1)
+        other.dma_write(DID, DATA, b"abc")
+        self.assertEqual((self.platform.dma_read(DID, IOVA, 3), self.platform.pages() != [], other.pages()), (b"abc", True, []))
+        self.platform.dma_write(DID, IOVA, b"d")
+        self.assertEqual(other.dma_read(7, DATA, 3), b"dbc")
+        other.close()
+        self.assertEqual(self.platform.load(DATA, 1), ord("d"))
+
+    def test_place(self):
+        memory = bytearray(0x3000)
+        platform = Platform.over(memory, base=(1 << 56) - 0x3000)
+        self.assertEqual(platform.memory_place, ((1 << 56) - 0x3000, 0x3000))
+        platform.store((1 << 56) - 8, 5)
+        self.assertEqual(memory[-8], 5)
+        for size, base in ((0, RAM), (0x1008, RAM), (0x1000, RAM + 8), (0x1000, 1 << 56), (0x2000, (1 << 56) - 0x1000)):
+            with self.subTest(size=size, base=base), self.assertRaises(ValueError):
+                Platform.over(bytearray(size), base)
+        for memory in (bytes(SIZE), memoryview(bytes(SIZE)), SIZE, memoryview(bytearray(2 * SIZE))[::2]):
+            with self.assertRaises(TypeError):
+                Platform.over(memory)
+        with self.assertRaises(ValueError):
+            Platform.over(memoryview(bytearray(SIZE + 8))[4 : SIZE + 4])
+
+    def test_large(self):
+        """A memory of 1 GiB, and an access longer than the 64 MiB that an image may have."""
+        with mmap.mmap(-1, 1 << 30) as memory:
+            platform = mapped(Platform.over(memory))
+            platform.reg_write(DDTP, 1)
+            memory[-5:] = b"abcde"
+            self.assertEqual(platform.dma_read_all(DID, RAM + (1 << 30) - 5, 5), b"abcde")
+            with self.assertRaises(BusError) as refused:
+                platform.dma_read_all(DID, RAM + (1 << 30) - 70, (64 << 20) + 1)
+            self.assertEqual((refused.exception.done, len(platform.memory(RAM, (64 << 20) + 1))), (70, (64 << 20) + 1))
+            with self.assertRaises(ValueError):
+                platform.dma_read_all(DID, RAM, (1 << 30) + 1)
+
+    def test_nothing_is_kept_between_calls(self):
+        end = self.memory[-1:]
+        del self.memory[-1:]
+        for call in (lambda: self.platform.dma_read(DID, IOVA, 1), lambda: self.platform.memory(RAM, 1), lambda: self.platform.write(RAM, b"a")):
+            with self.assertRaises(ValueError):
+                call()
+        self.memory += end
+        self.assertEqual(self.platform.dma_read(DID, IOVA, 1), b"\0")
+        memory = mmap.mmap(-1, SIZE)
+        platform = mapped(Platform.over(memory))
+        memory.close()
+        with self.assertRaises(ValueError):
+            platform.load(RAM)
+
+    def test_image(self):
+        text = "ram 0x80000000 0x1000\ncapabilities vectors=4\n"
+        platform = mapped(Platform.over(self.memory, image=assemble(text)))
+        platform.reg_write(0x2F8, 0x3, 8)
+        self.assertEqual((platform.memory_place, platform.reg_look(0x2F8)), ((RAM, SIZE), 3))
+        platform = Platform.over(self.memory, image=assemble(text + "disk 3 1 aabb\n"))
+        self.assertEqual((platform.disk(0)[:3], platform.dev_read(0, 0), platform.dev_step(0)), (b"\xaa\xbb\0", 0x74726976, False))
+        with self.assertRaises(NoDevice):
+            self.platform.dev_read(0, 0)
+        with self.assertRaises(ImageError):
+            Platform.over(self.memory, image=b"")
+
+    def test_calls_of_own_memory(self):
+        platform = self.platform
+        for call in (lambda: platform.line("reg read 0 8"), lambda: platform.walk(DID, IOVA), lambda: platform.stale(DID, IOVA), lambda: platform.stale_page(0),
+                     lambda: platform.stale_context(0)):
+            with self.assertRaises(ValueError):
+                call()
+
+    def test_copies(self):
+        self.platform.dma_write(DID, IOVA, b"a")
+        shallow, (memory, deep) = copy.copy(self.platform), copy.deepcopy((self.memory, self.platform))
+        self.platform.dma_write(DID, IOVA, b"b")
+        self.assertEqual((shallow.dma_read(DID, IOVA, 1), deep.dma_read(DID, IOVA, 1), memory[DATA - RAM]), (b"b", b"a", ord("a")))
+        self.assertEqual((shallow.steps, deep.steps, deep.page_origin(0)), (self.platform.steps, self.platform.steps, self.platform.page_origin(0)))
+
+    def test_closed(self):
+        self.platform.close()
+        for call in (lambda: self.platform.load(RAM), lambda: self.platform.memory(RAM, 1), lambda: self.platform.write(RAM, b"a"), lambda: self.platform.reset()):
+            with self.assertRaises(ValueError):
+                call()
 
 
 class Pieces(unittest.TestCase):
@@ -199,6 +437,9 @@ class Records(unittest.TestCase):
                         platform.command()
                     with self.assertRaises(BusError):
                         platform.load(0)
+                    for call in (platform.reset, lambda: platform.write(RAM, b"a")):
+                        with self.assertRaises(ValueError):
+                            call()
                     steps = platform.steps
                 with open(path, encoding="ascii") as file:
                     lines = file.read().splitlines()
@@ -207,27 +448,52 @@ class Records(unittest.TestCase):
                     self.assertEqual([again.line(line) for line in lines], [line.split(" # => ")[1] for line in lines])
 
 
+def in_threads(*uses):
+    """Runs each of these in a thread; the errors that were raised."""
+    errors = []
+
+    def run(use):
+        try:
+            use()
+        except Exception as error:
+            errors.append(error)
+
+    threads = [threading.Thread(target=run, args=(use,)) for use in uses]
+    for thread in threads:
+        thread.start()
+    for thread in threads:
+        thread.join()
+    return errors
+
+
 class Threads(unittest.TestCase):
-    def test_two_threads_on_one_platform(self):
-        platform, went_wrong = mapped(), []
-
-        def use(number):
-            try:
-                for turn in range(2000):
+    def test_eight_threads_on_one_platform(self):
+        for platform in (with_queues(mapped()), with_queues(mapped(Platform.over(bytearray(SIZE))))):
+            def use(number):
+                for turn in range(300):
                     platform.store(RAM + 8 * number, turn)
-                    if platform.load(RAM + 8 * number) != turn or platform.line(f"load {RAM + 8 * number:#x} 8") != f"{turn:#x}":
-                        went_wrong.append((number, turn))
-                    platform.dma_read(DID, IOVA, 8)
-                    platform.pages()
-            except Exception as error:
-                went_wrong.append(error)
+                    self.assertEqual(platform.load(RAM + 8 * number), turn)
+                    self.assertEqual(platform.dma_read_all(DID, IOVA, 0x100), bytes(0x100))
+                    platform.send(Fence(addr=RAM + 0x400 + 8 * number, data=turn))
+                    self.assertEqual((platform.memory(RAM + 0x400 + 8 * number, 4), len(platform.pages())), (turn.to_bytes(4, "little"), 1))
 
-        threads = [threading.Thread(target=use, args=(number,)) for number in range(4)]
-        for thread in threads:
-            thread.start()
-        for thread in threads:
-            thread.join()
-        self.assertEqual(went_wrong, [])
+            self.assertEqual(in_threads(*[lambda number=number: use(number) for number in range(8)]), [])
+
+    def test_eight_threads_on_two_platforms_over_one_memory(self):
+        """Nobody sees a part of what a call writes."""
+        memory = bytearray(SIZE)
+        platforms = [Platform.over(memory) for _ in range(2)]
+
+        def use(number, platform):
+            for _ in range(200):
+                platform.dma_write_all(DID, DATA, bytes([number]) * 0x4000)
+                self.assertEqual(len(set(memory[DATA - RAM : DATA - RAM + 0x4000])), 1)
+                memory[DATA - RAM : DATA - RAM + 0x4000] = bytes([number + 8]) * 0x4000
+                self.assertEqual(len(set(platform.dma_read_all(DID, DATA, 0x4000))), 1)
+
+        for platform in platforms:
+            platform.reg_write(DDTP, 1)
+        self.assertEqual(in_threads(*[lambda number=number: use(number, platforms[number % 2]) for number in range(8)]), [])
 
     def test_closed_by_another_thread(self):
         for _ in range(50):
@@ -289,6 +555,24 @@ class Values(unittest.TestCase):
                     hints = typing.get_type_hints(call)
                     wanted = call.__code__.co_varnames[1 : call.__code__.co_argcount]
                     self.assertLessEqual({*wanted, "return"}, set(hints))
+
+
+    def test_strict_annotations(self):
+        if subprocess.run([sys.executable, "-c", "import mypy"], capture_output=True).returncode:
+            self.skipTest("mypy isn't there")
+        with tempfile.TemporaryDirectory() as cache:
+            words = [sys.executable, "-m", "mypy", "--strict", "--cache-dir", cache, os.path.dirname(rviommu.__file__)]
+            done = subprocess.run(words, capture_output=True, text=True)
+        self.assertEqual(done.returncode, 0, done.stdout)
+
+    def test_readme(self):
+        module = os.path.dirname(os.path.dirname(rviommu.__file__))
+        with open(os.path.join(os.path.dirname(__file__), os.pardir, "README.md"), encoding="utf-8") as file:
+            examples = re.findall(r"```python\n(.*?)```", file.read(), re.DOTALL)
+        self.assertEqual(len(examples), 2)
+        for example in examples:
+            done = subprocess.run([sys.executable, "-B", "-c", example], env={**os.environ, "PYTHONPATH": module}, capture_output=True, text=True)
+            self.assertEqual(done.returncode, 0, done.stderr)
 
 
 class Reasons(unittest.TestCase):
