@@ -1,24 +1,38 @@
-"""The word debug: scripts that ask more than those of run."""
+"""The words debug and explain: files of what they answer and write, registers by names, and how far a long script is.
+
+How far a long script is, is told on a terminal.
+"""
+import os
+import pty
 import re
+import subprocess
 
 from documents import table
-from frame import (
-    ANSWER, ASK, BAD_FOR_RUN, FAILED, MOST_IN_LINE, MOST_LINES, READ_ONLY, TESTS, TOO_LONG, Case, run,
-    scripts, words_of)
-from samples import DEBUG_FORMS
+from frame import ANSWER, ASK, EXAMPLES, TESTS, Case, program
 
-MANY = ASK + b"\n" * (MOST_LINES - 1) + ASK
+# Lines that take long enough for the progress to be told.
+COUNT = 2**20 - 1
+LONG = b"reg write ddtp 0x20000402\n" + b"walk read 5 0x40201abc 3\n" * COUNT
+PART = b"first level=0x1 at=0x80003008 in=0x80003008 pte ppn=0x80004 flags=0x1 pointer\n"
 
 
-class Debugs(Case):
-    def test_conversations(self):
+class Files(Case):
+    def test_debugged(self):
         """debug: each line of a script of tests/debugged is answered as its comment says, and check passes"""
         for path in sorted((TESTS / "debugged").glob("*.script")):
             given, text = path.read_text(), path.with_suffix(".asm").read_text()
             wanted = re.findall("# => (.*)", given)
             with self.subTest(path.name):
                 self.assertEqual(self.answers(text, given.splitlines(), "debug"), wanted)
-                self.want(["check", self.path("image")], b"%d passed, 0 failed\n" % len(wanted), given=given.encode())
+                passed = self.written(["check", self.path("image")], given.encode())
+                self.assertEqual(passed, f"{len(wanted)} passed, 0 failed\n")
+
+    def test_explained(self):
+        """explain: what it writes of a script of examples and of tests/explained is its file NAME.explained"""
+        for path in sorted([*EXAMPLES.glob("*.explained"), *(TESTS / "explained").glob("*.explained")]):
+            with self.subTest(path.name):
+                script, text = (path.with_suffix(it).read_bytes() for it in (".script", ".asm"))
+                self.assertEqual(self.written(["explain", self.image(text)], script), path.read_text())
 
     def test_registers_by_names(self):
         """debug: registers by their names are those by their offsets"""
@@ -30,50 +44,39 @@ class Debugs(Case):
             offset, _, name, *_ = line.split()
             if not name.startswith(("SHM", "capacity")):
                 lines += [f"dev read 0 {name}", f"dev read 0 {offset} 4"]
-        seen = self.written(["debug", self.put("image", READ_ONLY)], "\n".join(lines).encode()).splitlines()
-        self.assertEqual(len(seen), 2 * (13 + 23))
-        self.assertEqual(seen[::2], seen[1::2])
+        seen = self.answers("ram 0x80000000 0x1000\nrodisk 5 1 aa\n", lines, "debug")
+        self.assertEqual((len(seen), seen[::2]), (2 * (13 + 23), seen[1::2]))
         self.assertEqual([it for it in seen if not it.startswith("0x")], [])
 
-    def test_ends_and_limits(self):
-        """debug: ends, blank and bad lines, and limits are those of run"""
-        for given, *wanted in [
-            (b"", b""), (ASK, ANSWER), (b"\n# a comment\n" + ASK + b" # => 0x3\n\njump", ANSWER + b"bad\n"),
-            (b"cmd\n \t\r", b"idle\n"), (ASK + b" " * MOST_IN_LINE + b"\ncmd\n", b"bad\nidle\n"),
-            (b"x" * 1_000_000 + b"\ncmd", b"bad\nidle\n"), (MANY, ANSWER * 2),
-            (MANY + b"\n ", ANSWER * 2, TOO_LONG),
-        ]:
-            self.want(["debug"], *wanted, given=given)
 
-    def test_examples_and_rows(self):
-        """debug: each example and row of run is answered as run answers it"""
-        played = 0
-        for path, given, text in scripts():
-            if words_of(given) == ["run"] and path.stem != BAD_FOR_RUN:
-                image = self.on_image(text)
-                wanted = run(["run", *image] if image else [], given)
-                self.assertEqual(run(["debug", *image], given), wanted, path.stem)
-                played += 1
-        self.assertGreater(played, 60)
+class Progress(Case):
+    def told(self, word, given, at_pipe=False):
+        """What is told on standard error, a terminal, and what is written, of a script on the image of mapped.asm."""
+        ours, theirs = pty.openpty()
+        words = [program(), word, self.image((TESTS / "mapped.asm").read_bytes())]
+        with open(ours, "rb", buffering=0) as terminal, open(theirs, "wb", buffering=0) as errors:
+            how = {"input": given} if at_pipe else {"stdin": open(self.put("script", given))}
+            out = subprocess.run(words, stdout=subprocess.PIPE, stderr=errors, check=True, **how).stdout
+            errors.write(b"|")
+            told = b""
+            while not told.endswith(b"|"):
+                told += terminal.read(1 << 16)
+        return told[:-1], out
 
-    def test_at_pipe(self):
-        """debug: at a pipe each line is answered before the next is sent"""
-        talk = self.talk(["debug"])
-        for sent, answer in (
-            (b"reg write ddtp 1\n", b"done\n"), (b"dump 0x80000000 2\n", b"0000\n"), (b"jump\n", b"bad\n"),
-            (b"cmd\n", b"idle\n"), (b"\n", b""),
-        ):
-            talk.send(sent, answer)
-        talk.end()
+    def test_long_script(self):
+        """debug, check and explain: how far a long script from a file is stands on a terminal, and is cleared"""
+        wanted = {"debug": b"done\n" + PART * COUNT, "check": b"0 passed, 0 failed\n"}
+        for word in ("debug", "check", "explain"):
+            told, out = self.told(word, LONG)
+            # A fast machine has played it before there is something to tell.
+            if told:
+                self.assertRegex(told, rb"\A(\r%b: \d+ %%)+\r +\r\Z" % word.encode())
+                shares = [int(it) for it in re.findall(rb": (\d+) %", told)]
+                self.assertEqual(shares, sorted({it for it in shares if it <= 100}), f"what {word} tells")
+            self.assertTrue(out == wanted.get(word, out), f"what {word} writes")
 
-    def test_lines_in_check(self):
-        """check: its scripts have the lines of debug"""
-        given = b"reg write ddtp 1 # => done\ndisk 0 0 2 # => aa00\nqueue fault # => none\n"
-        told = b"line 3: queue fault -> on=0x0 base=0x0 entries=0x2 head=0x0 tail=0x0 stop=none, wanted none\n"
-        self.want(["check", self.put("image", READ_ONLY)], told + b"2 passed, 1 failed\n", FAILED, given)
-
-    def test_lines_in_help(self):
-        """debug --help: each line that only debug has"""
-        out = self.written(["debug", "--help"])
-        self.assertEqual([form for form in DEBUG_FORMS if f"\n  {form}" not in out], [])
-        self.assertNotIn("--stale", out, "it has an option of check")
+    def test_nothing_told(self):
+        """debug: nothing of it is told of a short script, or at a pipe"""
+        self.assertEqual(self.told("debug", ASK + b"\n"), (b"", ANSWER))
+        self.assertEqual(self.told("debug", b""), (b"", b""))
+        self.assertEqual(self.told("debug", LONG, at_pipe=True)[0], b"")
