@@ -25,7 +25,7 @@ EXAMPLES, ROWS = TOP / "examples", TOP / "crates/iom_rows/data"
 BUILT, PLAYER = (TOP / "crates" / name / "out" / name for name in ("rviommu", "iom_player"))
 # The row whose lines are bad for run, and not for debug.
 BAD_FOR_RUN = "lines_of_debug_alone"
-ANSWER_SECONDS, RUN_SECONDS, QUIET_SECONDS = 10, 120, 0.2
+ANSWER_SECONDS, RUN_SECONDS, QUIET_SECONDS = 10, 300, 0.2
 # A line with a known answer, of the built-in platform; and the text of the image of that.
 ASK, ANSWER = b"reg read 8 4", b"0x2\n"
 BUILT_IN = "ram 0x80000000 0x100000\n"
@@ -62,6 +62,13 @@ def commands():
     """The words that the program knows, by its help."""
     out = run(["--help"])[1].decode()
     return re.findall(r"(?m)^  (\w+)", out[out.index("Commands:\n") : out.index("Options:\n")])
+
+
+@functools.cache
+def forms(word=None):
+    """The lines that the help of a word lists: those of a script, or the statements of a text."""
+    told = run([*filter(None, [word]), "--help"])[1].decode().partition("Options:")[2].partition(" example:")[0]
+    return re.findall(r"(?m)^  ([a-z].*?)(?:  .*)?$", told)
 
 
 def scripts():
@@ -144,6 +151,12 @@ class Case(unittest.TestCase):
         how = {"cwd": self.folder, "env": env, "stdout": subprocess.PIPE, "timeout": RUN_SECONDS}
         ended = subprocess.run(["sh", "-c", command], **how)
         return ended.returncode, ended.stdout.decode(errors="backslashreplace")
+
+    def want_shown(self, text):
+        """Wants the commands of a text, each after a $, to write what else stands there."""
+        command = r"(?m)^\$ (.*<<'(\w+)'\n(?:.*\n)*?\2\n|(?:.*\\\n)*.*\n)"
+        given = [it[1] for it in re.finditer(command, text)]
+        self.assertEqual(self.shell("".join(given))[1], re.sub(command, "", text), given)
 
     def talk(self, words=(), at=None):
         talk = self.enterContext(Talk(self, [at or program(), *words]))

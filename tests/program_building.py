@@ -5,9 +5,8 @@ does. The whole crate has what the crates have, and nothing else, by other paths
 """
 import os
 import re
-import subprocess
 
-from frame import ANSWER, ASK, EXAMPLES, MOST_LINES, PLAYER, RUN_SECONDS, TOP, Case, page_build, run
+from frame import ANSWER, ASK, EXAMPLES, PLAYER, TOP, Case, page_build, run
 import build
 import crates
 import whole
@@ -33,21 +32,15 @@ class Player(Case):
     def setUp(self):
         self.assertTrue(os.path.isfile(PLAYER), "packaging/build.py iom_player builds it")
 
-    def played(self, given, words=(), **how):
-        """Runs the player on these bytes; returns its status, standard output and standard error."""
-        how = {"stdout": subprocess.PIPE, "stderr": subprocess.PIPE, "timeout": RUN_SECONDS, **how}
-        ended = subprocess.run([PLAYER, *words], input=given, **how)
-        return ended.returncode, ended.stdout, ended.stderr
-
     def test_as_program(self):
         """player: examples, ends, bad and too long scripts, and a full device are as in the program"""
+        full = self.enterContext(open("/dev/full", "wb"))
         examples = [path.read_bytes() for path in sorted(EXAMPLES.glob("*.script"))]
-        for given in (*examples, b"", b"jump\n", ASK, b"\n" * (MOST_LINES + 1)):
-            for how in ({}, {"stdout": self.full()}):
-                status, out, errors = self.played(given, **how)
+        for given in (*examples, b"", b"jump\n", ASK, b"\n" * (2**20 + 1)):
+            for how in ({}, {"stdout": full}):
+                status, out, errors = run([], given, at=PLAYER, **how)
                 # Each has its own name before a fault.
-                ended = status, out, errors.replace(b"iom_player: ", b"rviommu: ")
-                self.assertEqual(ended, run([], given, **how))
+                self.assertEqual((status, out, errors.replace(b"iom_player: ", b"rviommu: ")), run([], given, **how))
 
     def test_pipe(self):
         """player: at a pipe each line is answered before the next is sent"""
@@ -58,7 +51,8 @@ class Player(Case):
 
     def test_word(self):
         """player: a word is refused"""
-        self.assertEqual(self.played(b"", ["run"]), (2, b"", b"iom_player: no word is taken; rviommu takes words\n"))
+        refusal = b"iom_player: no word is taken; rviommu takes words\n"
+        self.assertEqual(run(["run"], at=PLAYER), (2, b"", refusal))
 
 
 class Building(Case):

@@ -8,7 +8,7 @@ import shutil
 import subprocess
 
 from frame import TOP, Case, called, commands, text_of
-from samples import KINDS
+from fuzz import KINDS
 from terminal import Terminal
 
 FOLDER = TOP / "completions"

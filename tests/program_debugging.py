@@ -2,7 +2,6 @@
 
 How far a long script is, is told on a terminal.
 """
-import os
 import pty
 import re
 import subprocess
@@ -55,7 +54,7 @@ class Progress(Case):
         ours, theirs = pty.openpty()
         words = [program(), word, self.image((TESTS / "mapped.asm").read_bytes())]
         with open(ours, "rb", buffering=0) as terminal, open(theirs, "wb", buffering=0) as errors:
-            how = {"input": given} if at_pipe else {"stdin": open(self.put("script", given))}
+            how = {"input": given} if at_pipe else {"stdin": self.enterContext(open(self.put("script", given)))}
             out = subprocess.run(words, stdout=subprocess.PIPE, stderr=errors, check=True, **how).stdout
             errors.write(b"|")
             told = b""

@@ -4,7 +4,7 @@ import re
 from pathlib import Path
 
 from documents import spans, table_with
-from frame import ASK, OUT_OF_MEMORY, TESTS, Case, called, run, text_of
+from frame import ASK, TESTS, Case, called, run, text_of
 from program_names import CRATES, files_of, public
 
 MOST_ALLOCATIONS = 2000
@@ -30,12 +30,12 @@ class Refused(Case):
         """out of memory: each allocation of a run refused in turn, for each word"""
         self.needs("cc")
         called(["cc", "-shared", "-fPIC", "-o", self.path("refusing.so"), TESTS / "c/refusing.c"])
-        self.image(b"ram 0x80000000 0x1000\nu64 1 2 3\ndisk 5 2 c0ffee\n")
-        refusal = (OUT_OF_MEMORY[0], b"", OUT_OF_MEMORY[1])
+        self.image("ram 0x80000000 0x1000\nu64 1 2 3\ndisk 5 2 c0ffee\n")
+        refusal = 1, b"", b"rviommu: out of memory\n"
         for words in RUNS:
             with self.subTest(words):
-                ample, seen, number = self.ended(words, 0)[0], [], 0
-                while (number := number + 1) < MOST_ALLOCATIONS:
+                ample, seen = self.ended(words, 0)[0], []
+                for number in range(1, MOST_ALLOCATIONS):
                     new = self.put("new", b"before")
                     ended, there_was = self.ended(words, number)
                     if not there_was:

@@ -75,9 +75,9 @@ class Peer(Case):
 
 
 class Walks(Case):
-    def world(self, lines, memory):
-        """A world as a case, in which each walk is that of a device of its own; what the hart was told at each walk, and
-        the words that it left. What an earlier world left is in the memory."""
+    def world(self, lines):
+        """A world as a case, in which each walk is that of a device of its own; what the hart was told at each walk, the
+        words that it left, and how many walks went through both stages."""
         case, told, left, stages, nested = Memory(), [], {}, (0, 0), 0
         case.ids, case.size = range(128), HARTS_SIZE
         for word, *rest in map(str.split, lines):
@@ -94,9 +94,7 @@ class Walks(Case):
                 told.append(data.hex() if word == "r" and not is_refused else rest[-1])
                 nested += all(stages)
             else:
-                memory[int(word, 16)] = int(rest[0], 16)
-        case.words.update(memory)
-        memory.update(left)
+                case.words[int(word, 16)] = int(rest[0], 16)
         return case, told, left, nested
 
     def want_hart(self, told, answer, iotval2, where):
@@ -109,9 +107,9 @@ class Walks(Case):
 
     def test_walks(self):
         """walks.txt: what a RISC-V hart's own walks gave, the model gives, and the program what the model does"""
-        worlds, memory, nested = (TESTS / "walks.txt").read_text().split("world\n")[1:], {}, 0
+        worlds, nested = (TESTS / "walks.txt").read_text().split("world\n")[1:], 0
         for number, lines in enumerate(worlds):
-            case, told, left, count = self.world(lines.splitlines(), memory)
+            case, told, left, count = self.world(lines.splitlines())
             walk, script, nested = peer.Walk(case, ()), peer.Script(case), nested + count
             walk.model.has = lambda address, length: BASE <= address <= BASE + HARTS_SIZE - length
             for script.number, step in enumerate(SET_UP + case.steps):

@@ -17,28 +17,27 @@ An image is assembled, run and listed.
 
 The version of an image is the lowest that can hold it, and the file is written anew.
 
-  $ hex() { od -An -v -tx1 -w16 "$1"; }
+  $ hex() { head -c 8 "$1"; tail -c +9 "$1" | od -An -v -tx1 -w16; }
   $ make() { printf '%s\n' 'ram 0x80000000 0x1000' "$@" > text; rviommu asm text image; }
   $ head -c 100 /dev/zero > image
   $ echo 'ram 0x80000000 0x100000' > text; rviommu asm text image; cp image built_in; hex image
-   52 56 49 4f 4d 4d 55 31 00 00 00 80 00 00 00 00
-   00 00 10 00 00 00 00 00 00 00 00 00 00 00 00 00
+  RVIOMMU1 00 00 00 80 00 00 00 00 00 00 10 00 00 00 00 00
+   00 00 00 00 00 00 00 00
   $ echo 'reg read 8 4' | rviommu run image
   0x2
   $ make 'disk 5 1 aa'; cp image writable; hex image
-   52 56 49 4f 4d 4d 55 31 00 00 00 80 00 00 00 00
-   00 10 00 00 00 00 00 00 00 00 00 00 01 00 00 00
-   05 00 00 00 01 00 00 00 01 00 00 00 aa
+  RVIOMMU1 00 00 00 80 00 00 00 00 00 10 00 00 00 00 00 00
+   00 00 00 00 01 00 00 00 05 00 00 00 01 00 00 00
+   01 00 00 00 aa
   $ make 'rodisk 5 1 aa'; cp image read_only; hex image
-   52 56 49 4f 4d 4d 55 32 00 00 00 80 00 00 00 00
+  RVIOMMU2 00 00 00 80 00 00 00 00 00 10 00 00 00 00 00 00
+   00 00 00 00 01 00 00 00 05 00 00 00 01 00 00 00
+   01 00 00 00 01 00 00 00 aa
+  $ make 'capabilities vectors=4 nl=1' 'rodisk 5 1 aa'; hex image
+  RVIOMMU3 00 00 00 00 00 04 00 04 00 00 00 80 00 00 00 00
    00 10 00 00 00 00 00 00 00 00 00 00 01 00 00 00
    05 00 00 00 01 00 00 00 01 00 00 00 01 00 00 00
    aa
-  $ make 'capabilities vectors=4 nl=1' 'rodisk 5 1 aa'; hex image
-   52 56 49 4f 4d 4d 55 33 00 00 00 00 00 04 00 04
-   00 00 00 80 00 00 00 00 00 10 00 00 00 00 00 00
-   00 00 00 00 01 00 00 00 05 00 00 00 01 00 00 00
-   01 00 00 00 01 00 00 00 aa
 
 A text that is refused leaves the image's file as it was.
 
@@ -293,17 +292,16 @@ file may be upgraded in place.
   >   rviommu upgrade $name once; hex once; rviommu upgrade once twice; cmp once twice
   >   cp $name here; rviommu upgrade here here; cmp once here
   > done
-   52 56 49 4f 4d 4d 55 33 00 00 00 00 00 00 00 01
-   00 00 00 80 00 00 00 00 00 00 10 00 00 00 00 00
-   00 00 00 00 00 00 00 00
-   52 56 49 4f 4d 4d 55 33 00 00 00 00 00 00 00 01
-   00 00 00 80 00 00 00 00 00 10 00 00 00 00 00 00
-   00 00 00 00 01 00 00 00 05 00 00 00 01 00 00 00
-   01 00 00 00 01 00 00 00 aa
-   52 56 49 4f 4d 4d 55 33 00 00 00 00 00 00 00 01
-   00 00 00 80 00 00 00 00 00 10 00 00 00 00 00 00
-   00 00 00 00 01 00 00 00 05 00 00 00 01 00 00 00
-   00 00 00 00 01 00 00 00 aa
+  RVIOMMU3 00 00 00 00 00 00 00 01 00 00 00 80 00 00 00 00
+   00 00 10 00 00 00 00 00 00 00 00 00 00 00 00 00
+  RVIOMMU3 00 00 00 00 00 00 00 01 00 00 00 80 00 00 00 00
+   00 10 00 00 00 00 00 00 00 00 00 00 01 00 00 00
+   05 00 00 00 01 00 00 00 01 00 00 00 01 00 00 00
+   aa
+  RVIOMMU3 00 00 00 00 00 00 00 01 00 00 00 80 00 00 00 00
+   00 10 00 00 00 00 00 00 00 00 00 00 01 00 00 00
+   05 00 00 00 01 00 00 00 00 00 00 00 01 00 00 00
+   aa
 
 What is listed may be outside memory; no items are at any address.
 
