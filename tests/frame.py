@@ -13,6 +13,7 @@ import shutil
 import subprocess
 import sys
 import tempfile
+import textwrap
 import time
 import unittest
 from pathlib import Path
@@ -25,6 +26,8 @@ EXAMPLES, ROWS = TOP / "examples", TOP / "crates/iom_rows/data"
 BUILT, PLAYER = (TOP / "crates" / name / "out" / name for name in ("rviommu", "iom_player"))
 # The row whose lines are bad for run, and not for debug.
 BAD_FOR_RUN = "lines_of_debug_alone"
+# What a transcript's shell prints after each command.
+MARK = "-- ended with"
 ANSWER_SECONDS, RUN_SECONDS, QUIET_SECONDS = 10, 300, 0.2
 # A line with a known answer, of the built-in platform; and the text of the image of that.
 ASK, ANSWER = b"reg read 8 4", b"0x2\n"
@@ -151,6 +154,29 @@ class Case(unittest.TestCase):
         how = {"cwd": self.folder, "env": env, "stdout": subprocess.PIPE, "timeout": RUN_SECONDS}
         ended = subprocess.run(["sh", "-c", command], **how)
         return ended.returncode, ended.stdout.decode(errors="backslashreplace")
+
+    def replayed(self, path):
+        """A transcript in the form of cram with what its commands print now, which may end with status 80: then it is
+        skipped. In their environment TESTDIR is its folder, TOP the repository and RVIOMMU_PROGRAM the program."""
+        head, *parts = re.split(r"(?m)^  \$ (.*\n(?:  > .*\n)*)(?:  (?!\$ ).*\n)*", path.read_text(encoding="utf-8"))
+        commands = [it.replace("\n  > ", "\n") + f"echo {MARK} $?\n" for it in parts[::2]]
+        env = {"TESTDIR": str(path.parent), "TOP": str(TOP), "RVIOMMU_PROGRAM": program()}
+        ended, out = self.shell("exec 2>&1\n" + "".join(commands), **env)
+        seen = re.split(rf"{MARK} (\d+)\n", out)
+        if ended == 80:
+            self.skipTest(seen[-1].strip())
+        for command, printed, status, after in zip(parts[::2], seen[:-1:2], seen[1::2], parts[1::2], strict=True):
+            printed += " (no-eol)\n" if printed and not printed.endswith("\n") else ""
+            printed += f"[{status}]\n" if status != "0" else ""
+            head += f"  $ {command}" + textwrap.indent(printed, "  ") + after
+        return head
+
+    def want_transcripts(self, name):
+        """Wants each command of the transcripts in a folder of tests to print what stands below it there."""
+        self.maxDiff = None
+        for path in sorted((TESTS / name).glob("*.t")):
+            with self.subTest(path.name):
+                self.assertEqual(self.replayed(path), path.read_text(encoding="utf-8"))
 
     def want_shown(self, text):
         """Wants the commands of a text, each after a $, to write what else stands there."""

@@ -5,6 +5,7 @@ does. The whole crate has what the crates have, and nothing else, by other paths
 """
 import os
 import re
+from collections import Counter
 
 from frame import ANSWER, ASK, EXAMPLES, PLAYER, TOP, Case, page_build, run
 import build
@@ -12,20 +13,8 @@ import crates
 import whole
 
 
-def in_whole(name, path, top):
-    """Where a file of a crate stands in the whole one."""
-    part, rest = path.split("/", 1)
-    if name == top:
-        return path
-    return {"lib.rt": f"src/{name}.rt", "Lib.antt": f"{part}/{name}.antt"}.get(rest, f"{part}/{name}/{rest}")
-
-
-def as_in_crate(text, name, others, top):
-    """A text of the whole crate with the names by which the crate `name` calls the others."""
-    text = re.sub(rf"\bRattle\.{top}\.specs\.(declared|contracts)\.({others})\b", r"Rattle.\2.specs.\1", text)
-    text = re.sub(rf"\bRattle\.{top}\.(specs|proofs)\.({others})\b", r"Rattle.\2.\1", text)
-    called = rf"(?<![\w:])crate::(specs::|proofs::)?({others})::"
-    return re.sub(called, lambda it: f"{'crate' if it[2] == name else it[2]}::{it[1] or ''}", text)
+PATH = re.compile(r"\b(?:(?:Rattle|crate|specs|proofs|declared|contracts|iom_\w+)(?:::|\.))+")
+DECLARED = re.compile(r"(?:pub )?mod \w+;?|#!\[tactic\(auto\)\]")
 
 
 class Player(Case):
@@ -56,24 +45,17 @@ class Player(Case):
 
 
 class Building(Case):
+    def plain(self, texts):
+        """The lines of texts without the paths by which they name each other, and without what declares them."""
+        lines = (PATH.sub("", line) for text in texts for line in text.splitlines())
+        return Counter(line for line in lines if line and not DECLARED.fullmatch(line))
+
     def test_whole(self):
-        """build: the whole crate has what the crates have, by other paths"""
-        top = build.FIRST
-        made = whole.Whole(top)
-        files, others = made.files(), "|".join(made.below)
-        for name in [*made.below, top]:
-            for path, text in crates.texts(TOP / "crates" / name).items():
-                place = in_whole(name, path, top)
-                self.assertIn(place, files)
-                found = as_in_crate(files.pop(place), name, others, top)
-                if path in ("src/lib.rt", "src/main.rt"):
-                    text = text.replace("#![tactic(auto)]\n", "")
-                    found = re.sub(rf"(?m)^pub mod ({others});\n", "", found).replace("#![tactic(auto)]\n\n", "")
-                    found, text = (re.sub(r"(?m)^(pub )?mod ", "mod ", it) for it in (found, text))
-                if path == "specs/Lib.antt":
-                    found = re.sub(rf"(?m)^pub mod ({others})\n", "", found)
-                self.assertEqual(found, text, f"{place}, read as {name}/{path}")
-        self.assertEqual([it for it in files if it != "specs/Lib.antt"], [])
+        """build: the whole crate has what the crates have, and nothing else, by other paths"""
+        made = whole.Whole(build.FIRST)
+        names = [*made.below, made.top]
+        own = [text for name in names for text in crates.texts(TOP / "crates" / name).values()]
+        self.assertEqual(self.plain(made.files().values()), self.plain(own))
 
     def test_page(self):
         """page: the files of its crate are laid out as `rt fmt` lays them out"""
