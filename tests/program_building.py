@@ -1,13 +1,8 @@
-"""What is built from nothing: the player, the whole crate as which it is built, and the page's crate.
-
-The player is the program that `make run` builds, which runs a script on the built-in image as rviommu without words
-does. The whole crate has what the crates have, and nothing else, by other paths.
-"""
-import os
+"""The whole crate as which the program of `make run` is built, and the page's crate."""
 import re
 from collections import Counter
 
-from frame import ANSWER, ASK, EXAMPLES, PLAYER, TOP, Case, page_build, run
+from frame import TOP, Case, page_build
 import build
 import crates
 import whole
@@ -15,33 +10,6 @@ import whole
 
 PATH = re.compile(r"\b(?:(?:Rattle|crate|specs|proofs|declared|contracts|iom_\w+)(?:::|\.))+")
 DECLARED = re.compile(r"(?:pub )?mod \w+;?|#!\[tactic\(auto\)\]")
-
-
-class Player(Case):
-    def setUp(self):
-        self.assertTrue(os.path.isfile(PLAYER), "packaging/build.py iom_player builds it")
-
-    def test_as_program(self):
-        """player: examples, ends, bad and too long scripts, and a full device are as in the program"""
-        full = self.enterContext(open("/dev/full", "wb"))
-        examples = [path.read_bytes() for path in sorted(EXAMPLES.glob("*.script"))]
-        for given in (*examples, b"", b"jump\n", ASK, b"\n" * (2**20 + 1)):
-            for how in ({}, {"stdout": full}):
-                status, out, errors = run([], given, at=PLAYER, **how)
-                # Each has its own name before a fault.
-                self.assertEqual((status, out, errors.replace(b"iom_player: ", b"rviommu: ")), run([], given, **how))
-
-    def test_pipe(self):
-        """player: at a pipe each line is answered before the next is sent"""
-        talk = self.talk(at=PLAYER)
-        for _ in range(3):
-            talk.send(ASK + b"\n", ANSWER)
-        talk.end()
-
-    def test_word(self):
-        """player: a word is refused"""
-        refusal = b"iom_player: no word is taken; rviommu takes words\n"
-        self.assertEqual(run(["run"], at=PLAYER), (2, b"", refusal))
 
 
 class Building(Case):

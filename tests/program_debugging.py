@@ -1,13 +1,10 @@
-"""The words debug and explain: files of what they answer and write, registers by names, and how far a long script is.
-
-How far a long script is, is told on a terminal.
-"""
+"""The word debug: registers by names; and how far a long script is, which is told on a terminal."""
 import pty
 import re
 import subprocess
 
 from documents import table
-from frame import ANSWER, ASK, EXAMPLES, TESTS, Case, program
+from frame import ANSWER, ASK, TESTS, Case, program
 
 # Lines that take long enough for the progress to be told.
 COUNT = 2**20 - 1
@@ -15,24 +12,7 @@ LONG = b"reg write ddtp 0x20000402\n" + b"walk read 5 0x40201abc 3\n" * COUNT
 PART = b"first level=0x1 at=0x80003008 in=0x80003008 pte ppn=0x80004 flags=0x1 pointer\n"
 
 
-class Files(Case):
-    def test_debugged(self):
-        """debug: each line of a script of tests/debugged is answered as its comment says, and check passes"""
-        for path in sorted((TESTS / "debugged").glob("*.script")):
-            given, text = path.read_text(), path.with_suffix(".asm").read_text()
-            wanted = re.findall("# => (.*)", given)
-            with self.subTest(path.name):
-                self.assertEqual(self.answers(text, given.splitlines(), "debug"), wanted)
-                passed = self.written(["check", self.path("image")], given.encode())
-                self.assertEqual(passed, f"{len(wanted)} passed, 0 failed\n")
-
-    def test_explained(self):
-        """explain: what it writes of a script of examples and of tests/explained is its file NAME.explained"""
-        for path in sorted([*EXAMPLES.glob("*.explained"), *(TESTS / "explained").glob("*.explained")]):
-            with self.subTest(path.name):
-                script, text = (path.with_suffix(it).read_bytes() for it in (".script", ".asm"))
-                self.assertEqual(self.written(["explain", self.image(text)], script), path.read_text())
-
+class Names(Case):
     def test_registers_by_names(self):
         """debug: registers by their names are those by their offsets"""
         lines = []

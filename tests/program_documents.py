@@ -3,7 +3,7 @@ import re
 import shutil
 
 from documents import blocks, names_there, plain, played, section, section_of, spans, table_with
-from frame import EXAMPLES, PLAYER, TOP, Case, called, commands, forms, text_of
+from frame import EXAMPLES, Case, commands, forms, text_of
 from crates import kit_version, version
 
 # Words that a line may be answered by.
@@ -66,14 +66,6 @@ class Readme(Case):
             self.want_shown(block)
         (command,) = re.findall(r"(?m)^    (rviommu asm .*)$", text_of("README.md"))
         self.assertEqual(self.shell(command), (0, text_of("examples/disk.answers")))
-
-    def test_make_run(self):
-        """README: `make run` answers a script, if what plays it is current"""
-        self.needs("make")
-        (shown,) = re.findall(r"(?m)^    make run < (.*)$", text_of("README.md"))
-        words = ["make", "-s", "-C", TOP, "-o", PLAYER, "run", f"player={PLAYER}"]
-        seen = called(words, input=(TOP / shown).read_bytes(), stderr=None).decode()
-        self.assertEqual(seen, text_of(shown.replace(".script", ".answers")))
 
     def test_targets(self):
         """README and CHANGELOG.md: each target of make that they name is there"""

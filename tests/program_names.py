@@ -129,7 +129,7 @@ class Names(Case):
 
     def test_named(self):
         """README, MAP, CONTRIBUTING and MODEL: the names of the code in them are there"""
-        tests = "".join(text_of(path) for path in [*names_there("tests/**/*.py"), *names_there("tests/shell/*")])
+        tests = "".join(text_of(path) for path in [*names_there("tests/**/*.py"), *names_there("tests/**/*.t")])
         folders = ("crates/*/must-fail", "crates/*/edits", "crates/iom_rows/data", "examples", "tests/debugged")
         files = {stem(path) for folder in folders for path in names_there(f"{folder}/*")}
         for document, head in NAMING.items():

@@ -1,10 +1,9 @@
-"""The program as it carries out scripts: at a pipe, from a file, of examples, rows and at random, and its faults.
+"""The program as it carries out scripts: at a pipe, of examples, of rows and at random, and its faults.
 
 What a shell can show stands in tests/shell.
 """
 import os
 import random
-import resource
 import signal
 import subprocess
 import tty
@@ -12,7 +11,7 @@ import tty
 import fuzz
 from documents import answered_lines
 from frame import (
-    ANSWER, ASK, BAD_FOR_RUN, BUILT_IN, EXAMPLES, ROWS, Case, answers_of, program, run, scripts, words_of)
+    ANSWER, ASK, BAD_FOR_RUN, BUILT_IN, PLAYER, ROWS, Case, answers_of, program, run, scripts, words_of)
 from fuzz import wanting
 
 # What is sent at a pipe, with what is answered at once, and at the end of all.
@@ -39,22 +38,13 @@ WRITE_FAILED, BY_SIGNAL = (1, b"rviommu: write failed\n"), (-signal.SIGPIPE, b""
 
 class Scripts(Case):
     def test_at_a_pipe(self):
-        """at a pipe each line is answered before the next is sent, once its end is there, by each word"""
+        """at a pipe each line is answered before the next is sent, once its end is there, by each word and the player"""
         for word, (sent, end) in TALKS.items():
             with self.subTest(word):
-                talk = self.talk([word] if word else [])
-                for some, answer in sent:
-                    talk.send(some, answer)
-                talk.end(end, (int(word == "check"), b""))
-
-    def test_examples(self):
-        """each script of examples/ has a file of answers, by which it is answered"""
-        for path, given, text in scripts():
-            if path.parent == EXAMPLES:
-                with self.subTest(path.name):
-                    wanted, words = answers_of(path), words_of(given) if text else []
-                    failed = words[:1] == ["check"] and not wanted.endswith(b" 0 failed\n")
-                    self.assertEqual(run([*words, *self.on_image(text)], given), (int(failed), wanted, b""))
+                for talk in [self.talk([word])] if word else [self.talk(), self.talk(at=PLAYER)]:
+                    for some, answer in sent:
+                        talk.send(some, answer)
+                    talk.end(end, (int(word == "check"), b""))
 
     def test_file_and_pipe(self):
         """a long script gives the same from a file and through a pipe"""
@@ -130,15 +120,3 @@ class Faults(Case):
             os.close(far)
             # What was sent is read, and the read after it fails.
             self.assertEqual(run([], stdin=terminal), (1, ANSWER + b"idle\n", b"rviommu: read failed\n"))
-
-    def test_little_memory(self):
-        """out of memory: enough to begin with, and too little for the built-in memory"""
-        for kib in range(512, 65536, 128):
-            limit = lambda: resource.setrlimit(resource.RLIMIT_AS, (kib * 1024, kib * 1024))
-            status, out, errors = run([], ASK + b"\n", preexec_fn=limit)
-            if errors == b"rviommu: out of memory\n":
-                return self.assertEqual((status, out), (1, b""))
-            if status == 0 and kib == 512:
-                self.skipTest("a limit on memory has no effect here")
-            self.assertNotEqual(status, 0, f"no limit gave this text; the program runs well from {kib} KiB on")
-        self.fail(f"the program ends with status {status} under each limit: {errors}")
