@@ -123,10 +123,11 @@ install: $(program) $(library)
 	install -m 644 c/out/lib/pkgconfig/rviommu.pc $(DESTDIR)$(PREFIX)/lib/pkgconfig/rviommu.pc
 
 dist: $(program) $(library)
-	@packaging/package.py dist $(program)
+	@packaging/package.sh dist $(program)
 
 deb: $(program) $(library)
-	@packaging/package.py deb $(program)
+	@packaging/package.sh deb $(program)
 
 wheel: $(library)
-	@packaging/package.py wheel
+	@mkdir -p dist
+	@cd python && python3 -B -c 'import backend; print("dist/" + backend.build_wheel("../dist"))'

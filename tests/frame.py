@@ -171,13 +171,6 @@ class Case(unittest.TestCase):
             head += f"  $ {command}" + textwrap.indent(printed, "  ") + after
         return head
 
-    def want_transcripts(self, name):
-        """Wants each command of the transcripts in a folder of tests to print what stands below it there."""
-        self.maxDiff = None
-        for path in sorted((TESTS / name).glob("*.t")):
-            with self.subTest(path.name):
-                self.assertEqual(self.replayed(path), path.read_text(encoding="utf-8"))
-
     def want_shown(self, text):
         """Wants the commands of a text, each after a $, to write what else stands there."""
         command = r"(?m)^\$ (.*<<'(\w+)'\n(?:.*\n)*?\2\n|(?:.*\\\n)*.*\n)"
@@ -188,6 +181,16 @@ class Case(unittest.TestCase):
         talk = self.enterContext(Talk(self, [at or program(), *words]))
         self.addCleanup(talk.kill)
         return talk
+
+
+def transcripts(name):
+    """Tests of the transcripts in a folder of tests: each command prints what stands below it there."""
+
+    def test_of(path):
+        return lambda case: case.assertEqual(case.replayed(path), path.read_text(encoding="utf-8"))
+
+    tests = {f"test_{path.stem}": test_of(path) for path in sorted((TESTS / name).glob("*.t"))}
+    return type("Transcripts", (Case,), {"maxDiff": None, **tests})
 
 
 class Talk(subprocess.Popen):

@@ -6,12 +6,7 @@ Prints each test. The status is 1 if one failed.
 """
 import frame
 
-
-class Packages(frame.Case):
-    def test_packages(self):
-        """the files of make install, the archive and the Debian packages are used"""
-        self.want_transcripts("package")
-
+Transcripts = frame.transcripts("package")
 
 if __name__ == "__main__":
     frame.main(__doc__, "package.py")

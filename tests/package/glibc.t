@@ -1,7 +1,7 @@
 The program and the shared object run with the glibc that README and the packages name.
 
   $ . "$TESTDIR/used.sh"; needs readelf
-  $ oldest=$(sed -n 's/^GLIBC = "\(.*\)"$/\1/p' "$TOP/packaging/package.py")
+  $ oldest=$(sed -n 's/^glibc=//p' "$TOP/packaging/package.sh")
   $ grep -c "glibc $oldest" "$TOP/README.md"
   1
   $ for file in "$RVIOMMU_PROGRAM" "$TOP/c/out/lib/librviommu.so"; do

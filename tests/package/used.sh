@@ -24,7 +24,7 @@ completed() {
     cmp "$TOP/completions/_rviommu" "$1/share/zsh/$2/_rviommu"
 }
 
-packed() { (cd "$TOP" && packaging/package.py "$1" "$RVIOMMU_PROGRAM"); }
+packed() { (cd "$TOP" && packaging/package.sh "$1" "$RVIOMMU_PROGRAM"); }
 
 # Ends a transcript as skipped without one of these.
 needs() { for name; do command -v "$name" > /dev/null || { echo "there is no $name"; exit 80; }; done; }
