@@ -4,7 +4,6 @@ import shutil
 
 from documents import blocks, names_there, plain, played, section, section_of, spans, table_with
 from frame import EXAMPLES, Case, commands, forms, text_of
-from crates import kit_version, version
 
 # Words that a line may be answered by.
 ANSWERS = {
@@ -35,25 +34,6 @@ def named_answers(head):
         lines, answers = re.fullmatch(r"(.+?)  +(.+)", row).groups()
         # A word in capitals stands for others.
         yield lines.split(", "), {it for it in answers.split(", ") if not re.match("[A-Z]", it)}
-
-
-class Versions(Case):
-    def test_versions(self):
-        """--version, the man page, the header and the Python module name the version of CHANGELOG.md"""
-        number, date = version()
-        self.assertEqual(self.written(["--version"]), f"rviommu {number}\n")
-        head = f'.TH RVIOMMU 1 "{date}" "rviommu {number}" "User Commands"'
-        self.assertEqual(text_of("man/rviommu.1").splitlines()[0], head)
-        before = {"include/rviommu.h": "#define RVIOMMU_VERSION ", "python/rviommu/__init__.py": "__version__ = "}
-        for name, text in before.items():
-            self.assertEqual(re.findall(rf'(?m)^{text}"(.*)"$', text_of(name)), [number], name)
-
-    def test_kit(self):
-        """README names the kit that is on the path, and one logic"""
-        self.needs("rt")
-        (logic,) = set(re.findall(r"\blogic ([0-9a-f]{16})\b", text_of("README.md")))
-        kits = re.findall(r"\brattle-kit-\w+", text_of("README.md"))
-        self.assertIn(kit_version(), [f"{kit} logic {logic}" for kit in kits])
 
 
 class Readme(Case):

@@ -2,7 +2,7 @@
 import re
 
 from documents import man_page, plain, played, section, table
-from frame import TOP, Case, called, commands, forms, program, run, text_of
+from frame import Case, commands, forms, program, run, text_of
 from fuzz import KINDS
 from terminal import Terminal
 
@@ -70,13 +70,6 @@ class Page(Case):
         """man page: its commands are answered as it says"""
         shown = [plain(it) for it in re.findall(r"(?ms)^\.EX\n(.*?)^\.EE$", text_of("man/rviommu.1"))]
         self.want_shown("".join(it for it in shown if it.startswith("$ ")))
-
-    def test_warnings(self):
-        """man page: groff and mandoc have no warning"""
-        for words in (["groff", "-man", "-ww", "-Tutf8", "-z"], ["mandoc", "-T", "lint", "-W", "warning"]):
-            with self.subTest(words[0]):
-                self.needs(words[0])
-                self.assertEqual(called([*words, TOP / "man/rviommu.1"]), b"")
 
     def test_rlwrap(self):
         """man page: at a terminal `rlwrap rviommu` answers each line, and brings one back to be edited"""
