@@ -93,8 +93,7 @@ peer: $(program)
 	tests/peer/peer.py $(program) $(CASES) $(SEED)
 
 linux: $(library)
-	@$(has_python)
-	tests/linux/linux.py c/out/lib/librviommu.a $(OPERATIONS) $(SEED)
+	tests/linux/linux.sh c/out/lib/librviommu.a $(OPERATIONS) $(SEED)
 
 library:
 	@$(has_rt)
