@@ -110,6 +110,20 @@ class Facts(Case):
         seen = self.answers(IMAGE, [f"reg read {off} 8" for off in range(0, 4096, 8)])
         self.assertEqual({8 * at for at, it in enumerate(seen) if it == "bad access"}, mixed, "8 bytes are refused")
 
+    def test_registers_by_names(self):
+        """debug: registers by their names are those by their offsets"""
+        lines = []
+        for line in table("REGISTERS OF THE IOMMU"):
+            offset, size, name, *_ = line.split()
+            lines += [f"reg read {name}", f"reg read {offset} {size}"]
+        for line in table("REGISTERS OF A BLOCK DEVICE"):
+            offset, _, name, *_ = line.split()
+            if not name.startswith(("SHM", "capacity")):
+                lines += [f"dev read 0 {name}", f"dev read 0 {offset} 4"]
+        seen = self.answers("ram 0x80000000 0x1000\nrodisk 5 1 aa\n", lines, "debug")
+        self.assertEqual((len(seen), seen[::2]), (2 * (13 + 23), seen[1::2]))
+        self.assertEqual([it for it in seen if not it.startswith("0x")], [])
+
     def test_flags(self):
         """man page: the bits of cqcsr, fqcsr and ipsr"""
         for name, bits in FLAGS.items():

@@ -3,7 +3,9 @@
 What a shell can show stands in tests/shell.
 """
 import os
+import pty
 import random
+import re
 import signal
 import subprocess
 import tty
@@ -11,7 +13,8 @@ import tty
 import fuzz
 from documents import answered_lines
 from frame import (
-    ANSWER, ASK, BAD_FOR_RUN, BUILT_IN, PLAYER, ROWS, Case, answers_of, program, run, scripts, words_of)
+    ANSWER, ASK, BAD_FOR_RUN, BUILT_IN, PLAYER, ROWS, TESTS, Case, answers_of, program, run, scripts,
+    words_of)
 from fuzz import wanting
 
 # What is sent at a pipe, with what is answered at once, and at the end of all.
@@ -34,6 +37,11 @@ TALKS = {
 }
 SHORT, LONG = b"cmd\n" + ASK + b"\n", (ASK + b"\n") * 100_000
 WRITE_FAILED, BY_SIGNAL = (1, b"rviommu: write failed\n"), (-signal.SIGPIPE, b"")
+
+# Lines that take long enough for the progress to be told.
+COUNT = 2**20 - 1
+LONG_WALK = b"reg write ddtp 0x20000402\n" + b"walk read 5 0x40201abc 3\n" * COUNT
+PART = b"first level=0x1 at=0x80003008 in=0x80003008 pte ppn=0x80004 flags=0x1 pointer\n"
 
 
 class Scripts(Case):
@@ -120,3 +128,36 @@ class Faults(Case):
             os.close(far)
             # What was sent is read, and the read after it fails.
             self.assertEqual(run([], stdin=terminal), (1, ANSWER + b"idle\n", b"rviommu: read failed\n"))
+
+
+class Progress(Case):
+    def told(self, word, given, at_pipe=False):
+        """What is told on standard error, a terminal, and what is written, of a script on the image of mapped.asm."""
+        ours, theirs = pty.openpty()
+        words = [program(), word, self.image((TESTS / "mapped.asm").read_bytes())]
+        with open(ours, "rb", buffering=0) as terminal, open(theirs, "wb", buffering=0) as errors:
+            how = {"input": given} if at_pipe else {"stdin": self.enterContext(open(self.put("script", given)))}
+            out = subprocess.run(words, stdout=subprocess.PIPE, stderr=errors, check=True, **how).stdout
+            errors.write(b"|")
+            told = b""
+            while not told.endswith(b"|"):
+                told += terminal.read(1 << 16)
+        return told[:-1], out
+
+    def test_long_script(self):
+        """debug, check and explain: how far a long script from a file is stands on a terminal, and is cleared"""
+        wanted = {"debug": b"done\n" + PART * COUNT, "check": b"0 passed, 0 failed\n"}
+        for word in ("debug", "check", "explain"):
+            told, out = self.told(word, LONG_WALK)
+            # A fast machine has played it before there is something to tell.
+            if told:
+                self.assertRegex(told, rb"\A(\r%b: \d+ %%)+\r +\r\Z" % word.encode())
+                shares = [int(it) for it in re.findall(rb": (\d+) %", told)]
+                self.assertEqual(shares, sorted({it for it in shares if it <= 100}), f"what {word} tells")
+            self.assertTrue(out == wanted.get(word, out), f"what {word} writes")
+
+    def test_nothing_told(self):
+        """debug: nothing of it is told of a short script, or at a pipe"""
+        self.assertEqual(self.told("debug", ASK + b"\n"), (b"", ANSWER))
+        self.assertEqual(self.told("debug", b""), (b"", b""))
+        self.assertEqual(self.told("debug", LONG_WALK, at_pipe=True)[0], b"")
