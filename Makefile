@@ -93,8 +93,7 @@ peer: $(program)
 	tests/peer/peer.py $(program) $(CASES) $(SEED)
 
 linux: $(library)
-	@$(has_python)
-	tests/linux/linux.py c/out/lib/librviommu.a $(OPERATIONS) $(SEED)
+	tests/linux/linux.sh c/out/lib/librviommu.a $(OPERATIONS) $(SEED)
 
 library:
 	@$(has_rt)
@@ -123,10 +122,11 @@ install: $(program) $(library)
 	install -m 644 c/out/lib/pkgconfig/rviommu.pc $(DESTDIR)$(PREFIX)/lib/pkgconfig/rviommu.pc
 
 dist: $(program) $(library)
-	@packaging/package.py dist $(program)
+	@packaging/package.sh dist $(program)
 
 deb: $(program) $(library)
-	@packaging/package.py deb $(program)
+	@packaging/package.sh deb $(program)
 
 wheel: $(library)
-	@packaging/package.py wheel
+	@mkdir -p dist
+	@cd python && python3 -B -c 'import backend; print("dist/" + backend.build_wheel("../dist"))'

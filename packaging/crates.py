@@ -1,10 +1,9 @@
-"""The repository's place and version, the crates of crates.txt, and the kit.
+"""The repository's place, the crates of crates.txt, and the kit.
 
 `rt` takes no library that `rt ci` left, since that one holds its statements and no proofs. For one more crate above
 such libraries the kit's compiler and prover serve (`words`), as `rattle --help` says.
 """
 import os
-import re
 import subprocess
 from pathlib import Path
 
@@ -12,12 +11,6 @@ TOP = Path(__file__).resolve().parent.parent
 FOLDER = TOP / "crates"
 LIST = TOP / "crates.txt"
 PARTS = ("src", "specs", "proofs")
-
-
-def version():
-    """The newest version of CHANGELOG.md, and its date."""
-    head = r"(?m)^## (\d+\.\d+\.\d+) \((\d{4}-\d\d-\d\d)\)$"
-    return re.search(head, (TOP / "CHANGELOG.md").read_text(encoding="utf-8")).groups()
 
 
 def listed():
@@ -76,18 +69,10 @@ def is_current(name):
     return library(name).exists() and is_older(name, library(name))
 
 
-def asked_of_kit(*words):
-    return subprocess.run(["rt", *words], stdout=subprocess.PIPE, check=True).stdout.decode().strip()
-
-
-def kit_version():
-    """The kit's name and its logic, as `rattle-kit-1 logic 0123456789abcdef`."""
-    return asked_of_kit("--version")
-
-
 def kit():
     """The folder of the kit, by its manual's first page."""
-    return Path(asked_of_kit("doc").split()[-1]).resolve().parent
+    page = subprocess.run(["rt", "doc"], stdout=subprocess.PIPE, encoding="utf-8", check=True).stdout.split()[-1]
+    return Path(page).resolve().parent
 
 
 def words(verb, name, of_kit):

@@ -2,7 +2,6 @@
 
 That is Chromium's over a pipe, and Firefox's Marionette over a socket.
 """
-import base64
 import json
 import os
 import re
@@ -142,12 +141,6 @@ class Chromium(Browser):
     def size(self, wide, high):
         self.call("Emulation.setDeviceMetricsOverride", width=wide, height=high, deviceScaleFactor=1, mobile=False)
 
-    def theme(self, name):
-        self.call("Emulation.setEmulatedMedia", features=[{"name": "prefers-color-scheme", "value": name}])
-
-    def picture(self):
-        return base64.b64decode(self.call("Page.captureScreenshot", format="png")["data"])
-
     def key(self, key):
         for kind in ("keyDown", "keyUp"):
             text = key if kind == "keyDown" and len(key) == 1 else ""
@@ -250,13 +243,6 @@ class Firefox(Browser):
     def forget(self):
         """What was told on the console up to now was to be expected."""
         self.chrome("Services.console.reset()")
-
-    def theme(self, name):
-        setting = "layout.css.prefers-color-scheme.content-override"
-        self.chrome(f'Services.prefs.setIntPref("{setting}", arguments[0])', ["dark", "light"].index(name))
-
-    def picture(self):
-        return base64.b64decode(self.call("WebDriver:TakeScreenshot", full=False)["value"])
 
     def act(self, kind, *actions, **more):
         self.call("WebDriver:PerformActions", actions=[{"type": kind, "id": kind, "actions": actions, **more}])

@@ -264,7 +264,7 @@ class OfPython(Library):
     def test_installed(self):
         """the Python module is installed by pip, from its folder and as a wheel, and used"""
         self.needs("pip")
-        packed = called([TOP / "packaging/package.py", "wheel", program(), PREFIX]).decode().strip()
+        packed = called(["make", "-s", "-o", SHARED, "wheel", f"library={SHARED}"], cwd=TOP).decode().strip()
         for name, source in (("folder", TOP / "python"), ("wheel", TOP / packed)):
             site = self.path(name)
             words = ["install", "--quiet", "--no-deps", "--target", site, source]

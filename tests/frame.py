@@ -1,4 +1,4 @@
-"""What the tests share: where things are, the program and how it is run, and how a part of the tests is carried out.
+"""What the tests share: where things are, the program, and how it is run.
 
 The program is the one that RVIOMMU_PROGRAM names in the environment, else the built one. So `python3 -m unittest`, in
 this folder, takes a module, a class or a test by its name.
@@ -13,6 +13,7 @@ import shutil
 import subprocess
 import sys
 import tempfile
+import textwrap
 import time
 import unittest
 from pathlib import Path
@@ -25,34 +26,12 @@ EXAMPLES, ROWS = TOP / "examples", TOP / "crates/iom_rows/data"
 BUILT, PLAYER = (TOP / "crates" / name / "out" / name for name in ("rviommu", "iom_player"))
 # The row whose lines are bad for run, and not for debug.
 BAD_FOR_RUN = "lines_of_debug_alone"
-
-ANSWER_SECONDS, RUN_SECONDS, QUIET_SECONDS = 10, 120, 0.2
-MOST_LINES, MOST_BYTES, MOST_IN_LINE = 2**20, 2**26, 512
-
-# A line with a known answer, of the built-in platform.
+# What a transcript's shell prints after each command.
+MARK = "-- ended with"
+ANSWER_SECONDS, RUN_SECONDS, QUIET_SECONDS = 10, 300, 0.2
+# A line with a known answer, of the built-in platform; and the text of the image of that.
 ASK, ANSWER = b"reg read 8 4", b"0x2\n"
-
-
-def fault(text, status=1):
-    """How a run with a fault ends: its status and its text on standard error."""
-    return status, b"rviommu: " + text + b"\n"
-
-
-def cannot(what, name):
-    return fault(b"cannot " + what + b" " + name.encode())
-
-
-WELL, FAILED = (0, b""), (1, b"")
-READ_FAILED, WRITE_FAILED, TOO_LONG, OUT_OF_MEMORY = map(
-    fault, (b"read failed", b"write failed", b"script too long", b"out of memory"))
-
-
-def numbers(size, *values):
-    return b"".join(value.to_bytes(size, "little") for value in values)
-
-
-BUILT_IN = b"RVIOMMU1" + numbers(8, 0x80000000, 0x100000, 0)
-READ_ONLY = b"RVIOMMU2" + numbers(8, 0x80000000, 0x1000) + numbers(4, 0, 1, 5, 1, 1, 1) + b"\xaa"
+BUILT_IN = "ram 0x80000000 0x100000\n"
 
 
 def program():
@@ -63,11 +42,6 @@ def text_of(name):
     return (TOP / name).read_text(encoding="utf-8")
 
 
-def short(data):
-    is_short = data is None or len(data) <= 200
-    return repr(data) if is_short else f"{data[:100]!r} .. {data[-80:]!r} ({len(data)} bytes)"
-
-
 def called(words, **how):
     """What a command writes; it is to end well."""
     done = subprocess.run(words, **{"stdout": subprocess.PIPE, "stderr": subprocess.STDOUT, **how})
@@ -76,24 +50,28 @@ def called(words, **how):
     return done.stdout
 
 
-def run(words=(), given=b"", at_pipe=False, **how):
-    """Runs the program on these bytes, in a file or a pipe; returns its status, standard output and standard error."""
-    with tempfile.TemporaryFile() as script, tempfile.TemporaryFile() as errors:
+def run(words=(), given=b"", at=None, **how):
+    """Runs the program on these bytes, in a file; returns its status, standard output and standard error."""
+    with tempfile.TemporaryFile() as script:
         script.write(given)
         script.seek(0)
-        source = {"input": given} if at_pipe else {"stdin": script}
-        how = {**source, "stdout": subprocess.PIPE, "stderr": errors, "timeout": RUN_SECONDS, **how}
-        ended = subprocess.run([program(), *words], **how)
-        errors.seek(0)
-        return ended.returncode, ended.stdout, errors.read()
+        how = {"stdin": script, "stdout": subprocess.PIPE, "stderr": subprocess.PIPE, "timeout": RUN_SECONDS, **how}
+        ended = subprocess.run([at or program(), *words], **how)
+    return ended.returncode, ended.stdout, ended.stderr
 
 
 @functools.cache
 def commands():
     """The words that the program knows, by its help."""
     out = run(["--help"])[1].decode()
-    listed = out[out.index("Commands:\n") : out.index("Options:\n")]
-    return [line.split()[0] for line in listed.splitlines()[1:] if line.strip()]
+    return re.findall(r"(?m)^  (\w+)", out[out.index("Commands:\n") : out.index("Options:\n")])
+
+
+@functools.cache
+def forms(word=None):
+    """The lines that the help of a word lists: those of a script, or the statements of a text."""
+    told = run([*filter(None, [word]), "--help"])[1].decode().partition("Options:")[2].partition(" example:")[0]
+    return re.findall(r"(?m)^  ([a-z].*?)(?:  .*)?$", told)
 
 
 def scripts():
@@ -108,18 +86,18 @@ def answers_of(path):
     return next(it for it in (path.with_suffix(".answers"), path.with_suffix(".expect")) if it.exists()).read_bytes()
 
 
+def words_of(script):
+    """The words that an example's script is played with: those that its first line names, else run."""
+    found = re.match(rb"# rviommu ((?:check|debug)(?: --\w+)*) image < examples/\w+\.script\n", script)
+    return found[1].decode().split() if found else ["run"]
+
+
 def page_build():
     """web/build.py, which builds the page."""
     spec = importlib.util.spec_from_file_location("page_build", TOP / "web/build.py")
     module = importlib.util.module_from_spec(spec)
     spec.loader.exec_module(module)
     return module
-
-
-def words_of(script):
-    """The words that an example's script is played with: those that its first line names, else run."""
-    found = re.match(rb"# rviommu ((?:check|debug)(?: --\w+)*) image < examples/\w+\.script\n", script)
-    return found[1].decode().split() if found else ["run"]
 
 
 class Case(unittest.TestCase):
@@ -129,9 +107,7 @@ class Case(unittest.TestCase):
 
     @functools.cached_property
     def folder(self):
-        folder = tempfile.mkdtemp()
-        self.addCleanup(shutil.rmtree, folder)
-        return folder
+        return self.enterContext(tempfile.TemporaryDirectory())
 
     def path(self, name):
         """The path of a file in the test's folder."""
@@ -144,7 +120,7 @@ class Case(unittest.TestCase):
 
     def image(self, text, name="image"):
         """The path of the image that the program assembles of a text."""
-        self.want(["asm", self.put("source", text), self.path(name)])
+        self.written(["asm", self.put("source", text), self.path(name)])
         return self.path(name)
 
     def on_image(self, text):
@@ -156,32 +132,10 @@ class Case(unittest.TestCase):
             if not shutil.which(name):
                 self.skipTest(f"there is no {name}")
 
-    def full(self):
-        """A device that is full, to write to."""
-        if not os.path.exists("/dev/full"):
-            self.skipTest("there is no /dev/full")
-        file = open("/dev/full", "wb", buffering=0)
-        self.addCleanup(file.close)
-        return file
-
-    def unreadable(self):
-        """A folder, to read from."""
-        file = os.open("/", os.O_RDONLY)
-        self.addCleanup(os.close, file)
-        return file
-
-    def want(self, words, out=b"", ending=WELL, given=b"", **how):
-        """Wants a run with these words to write exactly this, None for anything, and to end with this status and text
-        on standard error."""
-        status, seen, errors = run(words, given, **how)
-        if out is not None and seen != out:
-            self.fail(f"{words}: {short(seen)}, wanted {short(out)} (status {status}, {short(errors)})")
-        self.assertEqual((status, errors), ending, f"status and standard error of {words}")
-
     def written(self, words, given=b"", **how):
         """The text that a run with these words writes; it is to end well."""
         status, out, errors = run(words, given, **how)
-        self.assertEqual((status, errors), WELL, f"status and standard error of {words}")
+        self.assertEqual((status, errors), (0, b""), f"status and standard error of {words}")
         return out.decode()
 
     def want_within(self, some, others, where=None):
@@ -193,75 +147,79 @@ class Case(unittest.TestCase):
         script = "".join(f"{line}\n" for line in lines).encode()
         return self.written([word, self.image(text)], script).splitlines()
 
-    def is_assembled(self, text):
-        status, _, errors = run(["asm", self.put("source", text), self.path("image")])
-        self.assertEqual((status, b": bad line" in errors), (status, status == 1))
-        return status == 0
-
-    def shell(self, command):
+    def shell(self, command, **env):
         """What a shell writes in the test's folder, where `rviommu` is the program; and how it ends."""
         os.chmod(self.put("rviommu", f'#!/bin/sh\nexec {shlex.quote(program())} "$@"\n'), 0o755)
-        env = {**os.environ, "PATH": f"{self.folder}:{os.environ['PATH']}"}
+        env = {**os.environ, "PATH": f"{self.folder}:{os.environ['PATH']}", **env}
         how = {"cwd": self.folder, "env": env, "stdout": subprocess.PIPE, "timeout": RUN_SECONDS}
         ended = subprocess.run(["sh", "-c", command], **how)
-        return ended.returncode, ended.stdout.decode()
+        return ended.returncode, ended.stdout.decode(errors="backslashreplace")
+
+    def replayed(self, path):
+        """A transcript in the form of cram with what its commands print now, which may end with status 80: then it is
+        skipped. In their environment TESTDIR is its folder, TOP the repository and RVIOMMU_PROGRAM the program."""
+        head, *parts = re.split(r"(?m)^  \$ (.*\n(?:  > .*\n)*)(?:  (?!\$ ).*\n)*", path.read_text(encoding="utf-8"))
+        commands = [it.replace("\n  > ", "\n") + f"echo {MARK} $?\n" for it in parts[::2]]
+        env = {"TESTDIR": str(path.parent), "TOP": str(TOP), "RVIOMMU_PROGRAM": program()}
+        ended, out = self.shell("exec 2>&1\n" + "".join(commands), **env)
+        seen = re.split(rf"{MARK} (\d+)\n", out)
+        if ended == 80:
+            self.skipTest(seen[-1].strip())
+        for command, printed, status, after in zip(parts[::2], seen[:-1:2], seen[1::2], parts[1::2], strict=True):
+            printed += " (no-eol)\n" if printed and not printed.endswith("\n") else ""
+            printed += f"[{status}]\n" if status != "0" else ""
+            head += f"  $ {command}" + textwrap.indent(printed, "  ") + after
+        return head
+
+    def want_shown(self, text):
+        """Wants the commands of a text, each after a $, to write what else stands there."""
+        command = r"(?m)^\$ (.*<<'(\w+)'\n(?:.*\n)*?\2\n|(?:.*\\\n)*.*\n)"
+        given = [it[1] for it in re.finditer(command, text)]
+        self.assertEqual(self.shell("".join(given))[1], re.sub(command, "", text), given)
 
     def talk(self, words=(), at=None):
-        talk = Talk(self, [at or program(), *words])
-        self.addCleanup(talk.close)
+        talk = self.enterContext(Talk(self, [at or program(), *words]))
+        self.addCleanup(talk.kill)
         return talk
 
 
-class Talk:
+def transcripts(name):
+    """Tests of the transcripts in a folder of tests: each command prints what stands below it there."""
+
+    def test_of(path):
+        return lambda case: case.assertEqual(case.replayed(path), path.read_text(encoding="utf-8"))
+
+    tests = {f"test_{path.stem}": test_of(path) for path in sorted((TESTS / name).glob("*.t"))}
+    return type("Transcripts", (Case,), {"maxDiff": None, **tests})
+
+
+class Talk(subprocess.Popen):
     """A conversation with the program over two pipes."""
 
     def __init__(self, case, words):
-        self.case, self.errors = case, tempfile.TemporaryFile()
-        pipes = {"stdin": subprocess.PIPE, "stdout": subprocess.PIPE, "stderr": self.errors}
-        self.program = subprocess.Popen(words, bufsize=0, **pipes)
-
-    def close(self):
-        self.program.kill()
-        self.program.wait()
-        for file in (self.program.stdin, self.program.stdout, self.errors):
-            file.close()
+        pipes = {"stdin": subprocess.PIPE, "stdout": subprocess.PIPE, "stderr": subprocess.PIPE}
+        super().__init__(words, bufsize=0, **pipes)
+        self.case = case
 
     def take(self, seconds):
-        """Returns what the program has written, or None after so many seconds with nothing."""
-        if not select.select([self.program.stdout], [], [], seconds)[0]:
-            return None
-        return os.read(self.program.stdout.fileno(), 1 << 16)
+        """Returns what the program has written, or None after this time with nothing."""
+        return os.read(self.stdout.fileno(), 1 << 16) if select.select([self.stdout], [], [], seconds)[0] else None
 
-    def send(self, sent, wanted=None):
+    def send(self, sent, wanted):
         """Sends bytes, and wants exactly this text as soon as it is there, or for b"" nothing for a while."""
-        self.program.stdin.write(sent)
-        if wanted == b"":
-            self.case.assertIsNone(self.take(QUIET_SECONDS), f"the answer to {short(sent)}")
-        elif wanted:
-            self.want(sent, wanted)
-
-    def want(self, sent, wanted):
-        seen, until = b"", time.monotonic() + ANSWER_SECONDS
-        while seen.count(b"\n") < wanted.count(b"\n"):
+        self.stdin.write(sent)
+        seen, until = b"", time.monotonic() + (ANSWER_SECONDS if wanted else QUIET_SECONDS)
+        while seen.count(b"\n") < wanted.count(b"\n") or not wanted:
             some = self.take(max(0, until - time.monotonic()))
             if not some:
-                self.case.fail(f"the answer to {short(sent)} is only {short(seen)}")
+                break
             seen += some
-        self.case.assertEqual(seen, wanted, f"the answer to {short(sent)}")
+        self.case.assertEqual(seen, wanted, f"the answer to {sent[:100]}")
 
-    def ended(self):
-        """How the program ends: its status and its text on standard error."""
-        status = self.program.wait(ANSWER_SECONDS)
-        self.errors.seek(0)
-        return status, self.errors.read()
-
-    def end(self, wanted=b"", ending=WELL):
-        """Ends the input, and wants exactly this text and end."""
-        self.program.stdin.close()
-        if wanted:
-            self.want(b"the end", wanted)
-        self.case.assertEqual(self.take(ANSWER_SECONDS), b"", "what was written after the end of the input")
-        self.case.assertEqual(self.ended(), ending)
+    def end(self, wanted=b"", ending=(0, b"")):
+        """Ends the input, and wants exactly this text and this status and text on standard error."""
+        out, errors = self.communicate(timeout=ANSWER_SECONDS)
+        self.case.assertEqual((out, self.returncode, errors), (wanted, *ending))
 
 
 def main(usage, files):
@@ -269,6 +227,6 @@ def main(usage, files):
     if len(sys.argv) < 2:
         sys.exit(usage)
     os.environ["RVIOMMU_PROGRAM"] = os.path.abspath(sys.argv[1])
-    if not os.path.isfile(program()) or not os.access(program(), os.X_OK):
+    if not os.access(program(), os.X_OK) or os.path.isdir(program()):
         sys.exit(f"{sys.argv[1]} is no program that can be run")
     unittest.main(None, argv=["unittest", "discover", "-v", "-s", str(TESTS), "-p", files, *sys.argv[2:]])

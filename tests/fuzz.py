@@ -21,12 +21,9 @@ import tempfile
 import time
 from pathlib import Path
 
-from frame import BAD_FOR_RUN, scripts, words_of
-from program_checking import wanting
-from samples import KINDS
+from frame import BAD_FOR_RUN, BUILT_IN, RUN_SECONDS, scripts, words_of
 
-SECONDS = 60
-BUILT_IN = "ram 0x80000000 0x100000\n"
+KINDS = ["cmd", "fault", "context", "dir", "pte", "u64"]
 NUMBER = re.compile(r"\b(0x[0-9a-fA-F]+|[0-9]+)\b")
 LIMITS = [0, 1, 2, 3, 4, 5, 7, 8, 9, 16, 4095, 4096, 0x80000000, 0x800FFFFF, 0x80100000, 2**64 - 1, 2**64]
 LIMITS += [1 << bit for bit in (38, 39, 41, 44, 47, 48, 50, 63)]
@@ -36,6 +33,9 @@ IOVAS = [0x40201ABC, 0x40202000, 0x8040201ABC, 0xFFFF800080010ABC, 0x2010080010A
 MODES = [0, 8, 9, 10]
 ROOTS = [0x30, 0x80002, 0x80005, 0x80020, 0x80024, 0x80030]
 THEMES = ("scripts",) * 8 + ("texts", "images")
+MOST_IN_LINE = 512
+# Stands for the image of each program among the words that both are run with.
+IMAGE = object()
 
 
 def cases():
@@ -44,6 +44,17 @@ def cases():
     return {
         path.stem: (lines(text.decode() if text else BUILT_IN), lines(script.decode()))
         for path, script, text in scripts() if words_of(script) == ["run"] and path.stem != BAD_FOR_RUN}
+
+
+def wanting(script, answers):
+    """The lines of a script, which want these answers in place of its comments."""
+    left, lines = answers.splitlines(), []
+    for line in script.splitlines():
+        words = line.partition(b"#")[0]
+        is_answered = bool(words.split()) or len(line) > MOST_IN_LINE
+        lines.append(words.strip() + b" # => " + left.pop(0) if is_answered else line)
+    assert not left, f"the answers that are left: {left}"
+    return lines
 
 
 def numbers_in(lines):
@@ -149,125 +160,106 @@ class Mutator:
 
 
 def run(program, words, given=b""):
-    ended = subprocess.run([program, *words], input=given, capture_output=True, timeout=SECONDS)
+    ended = subprocess.run([program, *words], input=given, capture_output=True, timeout=RUN_SECONDS)
     # What is said of bad words is each program's own.
     return ended.returncode, ended.stdout, ended.stderr if ended.returncode != 2 else b""
 
 
-def first_difference(one, other):
-    """The first line in which two runs differ, or how they end."""
-    for at, lines in enumerate(zip(one[1].split(b"\n"), other[1].split(b"\n")), 1):
-        if lines[0] != lines[1]:
-            return f"answer {at}: {lines[0]!r} and {lines[1]!r}"
-    return f"status and text: {one[0::2]} and {other[0::2]}, {one[1][-200:]!r} and {other[1][-200:]!r}"
+def difference(one, other):
+    """What differs between two runs: the first line, or how they end; None if nothing does."""
+    if one == other:
+        return None
+    lines = zip(one[1].split(b"\n"), other[1].split(b"\n"))
+    ends = f"status and text: {one[0::2]} and {other[0::2]}, {one[1][-200:]!r} and {other[1][-200:]!r}"
+    return next((f"answer {at}: {a!r} and {b!r}" for at, (a, b) in enumerate(lines, 1) if a != b), ends)
+
+
+def between_words(program, image, script, word="run"):
+    """What differs between the words of one program on a script of this word."""
+    played = run(program, [word, image], script)
+    if found := difference(played, run(program, ["debug", image], script)):
+        return f"debug: {found}"
+    explained = run(program, ["explain", image], script)
+    # A line of many steps is printed last.
+    told = dict(re.findall(rb"(?m)^(\d+): .*? -> (.*)$", explained[1]))
+    if found := difference(played, (explained[0], b"".join(it + b"\n" for it in told.values()), explained[2])):
+        return f"explain: {found}"
+    lines = wanting(script, played[1])
+    passed = b"%d passed, 0 failed\n" % len(told)
+    found = difference((0, passed, b""), run(program, ["check", image], b"\n".join(lines)))
+    return found and f"check: {found}"
 
 
 class Pair:
-    """Two programs, or one and its own words."""
+    """Two programs, or one and its own words, with an image of each in a folder."""
 
     def __init__(self, one, other, here):
         self.programs, self.here = (one, other), Path(here)
-        self.images = [self.here / f"image{number}" for number in range(2)]
+        self.images = [self.here / f"image{at}" for at in range(2)]
 
     def put(self, name, data):
         (self.here / name).write_bytes(data)
-        return str(self.here / name)
+        return self.here / name
 
-    def image(self, number):
-        return self.images[number].read_bytes() if self.images[number].is_file() else None
+    def difference(self, *words, given=b""):
+        """What differs if both programs run with these words, of which IMAGE stands for the image of each."""
+        ended = []
+        for program, image in zip(self.programs, self.images):
+            ran = run(program, [image if it is IMAGE else it for it in words], given)
+            ended.append((*ran, image.read_bytes() if image.exists() else None))
+        return difference(*ended)
 
-    def both(self, words_of, given=b""):
-        return [run(program, words_of(number), given) for number, program in enumerate(self.programs)]
-
-    def made(self, word, source):
-        """What differs between the images that a word makes."""
-        ended = self.both(lambda number: [word, source, self.images[number]])
-        images = [self.image(number) for number in range(2)]
-        return f"{word}: {ended}, images {images}" if ended[0] != ended[1] or images[0] != images[1] else None
-
-    def difference(self, text, script):
+    def of_case(self, text, script):
         """What differs on a text and a script, and how many lines were compared."""
-        source = self.put("source", "\n".join(text).encode())
         for image in self.images:
             image.unlink(missing_ok=True)
-        found = self.made("asm", source)
-        if found or self.image(0) is None:
+        found = self.difference("asm", self.put("source", "\n".join(text).encode()), IMAGE)
+        if found or not self.images[0].exists():
             return found, len(text)
-        script = "\n".join(script).encode()
+        given = "\n".join(script).encode()
         if self.programs[0] == self.programs[1]:
-            return self.of_words(script), len(text) + script.count(b"\n")
-        return self.ran(self.both(lambda number: ["run", self.images[number]], script), len(text))
-
-    def of_words(self, script):
-        """What differs between the words of one program on a script."""
-        played = {word: run(self.programs[0], [word, self.images[0]], script) for word in ("run", "debug", "explain")}
-        if played["debug"] != played["run"]:
-            return f"debug: {first_difference(played['run'], played['debug'])}"
-        answers = played["run"][1].splitlines()
-        told = [line for line in played["explain"][1].split(b"\n") if line[:1].isdigit()]
-        if len(told) != len(answers) or not all(line.endswith(b" -> " + it) for line, it in zip(told, answers)):
-            return f"explain: {played['explain'][::2]} {played['explain'][1][-600:]!r}"
-        given = b"\n".join(wanting(script, played["run"][1]))
-        checked = run(self.programs[0], ["check", self.images[0]], given)
-        return None if checked == (0, b"%d passed, 0 failed\n" % len(answers), b"") else f"check: {checked}"
-
-    def ran(self, ended, lines):
-        if ended[0] == ended[1]:
-            return None, lines + ended[0][1].count(b"\n")
-        return first_difference(*ended), lines
+            return between_words(self.programs[0], self.images[0], given), len(text) + len(script)
+        return self.difference("run", IMAGE, given=given), len(text) + len(script)
 
     def of_bytes(self, image, script, words):
-        path = self.put("image", image)
-        found, lines = self.ran(self.both(lambda _: ["run", path], script), 1)
-        if found:
-            return found, lines
-        listed, more = self.ran(self.both(lambda _: ["list", path, *words]), 0)
-        for image in self.images:
-            image.write_bytes(b"before")
-        return listed or self.made("upgrade", path), lines + more
+        """What differs on the bytes of an image that a script is run on and these words list."""
+        path = self.put("bytes", image)
+        found = self.difference("run", path, given="\n".join(script).encode())
+        return found or self.difference("list", path, *words) or self.difference("upgrade", path, IMAGE)
 
 
 def shortened(lines, is_shown):
-    """The lines with all left out that can be, while the difference is still shown."""
-    step = max(1, len(lines) // 2)
-    while True:
-        at = 0
-        while at < len(lines):
-            fewer = lines[:at] + lines[at + step :]
-            if is_shown(fewer):
-                lines = fewer
-            else:
-                at += step
-        if step == 1:
-            return lines
-        step //= 2
+    """The lines without those that can be left out while the difference is still shown."""
+    for at in reversed(range(len(lines))):
+        fewer = lines[:at] + lines[at + 1 :]
+        lines = fewer if is_shown(fewer) else lines
+    return lines
 
 
 def tried(pair, mutator, theme, found):
     """Tries a case of a theme; returns what differs with the text and script that show it, or None, and how many lines
     were compared."""
     dice = mutator.random
-    text, script = found[dice.choice(list(found))]
-    donor = found[dice.choice(list(found))]
+    (text, script), donor = (found[dice.choice(list(found))] for _ in range(2))
     text = mutator.disks(text)
     if theme == "images":
-        pair.difference(text, [])
+        pair.of_case(text, [])
         address = mutator.written(mutator.number(0x800FFFF0, []))
         words = [dice.choice(KINDS), address, str(dice.choice([0, 1, 2, 9, 2**64 - 1]))]
-        image = mutator.bytes(pair.image(0))
-        differs, lines = pair.of_bytes(image, "\n".join(script).encode(), words)
-        return (f"{differs} of the image {image.hex()}, listed {words}", text, script) if differs else None, lines
+        image = mutator.bytes(pair.images[0].read_bytes())
+        differs = pair.of_bytes(image, script, words)
+        return (f"{differs} of the image {image.hex()}, listed {words}", text, script) if differs else None, len(script)
     if theme == "texts":
         text = mutator.lines(text, donor[0], dice.choice([1, 2, 3]))
     elif dice.random() < 0.3:
         text = mutator.lines(text, [], 1)
     script = mutator.garbled(mutator.watched(mutator.lines(script, donor[1], dice.choice([0, 1, 2, 4, 8]))))
-    differs, lines = pair.difference(text, script)
+    differs, lines = pair.of_case(text, script)
     if not differs:
         return None, lines
-    script = shortened(script, lambda it: pair.difference(text, it)[0])
-    text = shortened(text, lambda it: pair.difference(it, script)[0])
-    return (pair.difference(text, script)[0], text, script), lines
+    script = shortened(script, lambda it: pair.of_case(text, it)[0])
+    text = shortened(text, lambda it: pair.of_case(it, script)[0])
+    return (pair.of_case(text, script)[0], text, script), lines
 
 
 def main(one, other=None, minutes="1", seed="1"):
@@ -281,9 +273,8 @@ def main(one, other=None, minutes="1", seed="1"):
                 counts[theme] += lines
                 tries += 1
                 if differs:
-                    difference, text, script = differs
-                    print(f"difference: {difference}")
-                    print("--- the text of the image", *text, "--- the script", *script, sep="\n")
+                    told, text, script = differs
+                    print(f"difference: {told}", "--- the text of the image", *text, "--- the script", *script, sep="\n")
                     return 1
     for theme, lines in counts.items():
         print(f"{theme}: {lines} lines")

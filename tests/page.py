@@ -6,28 +6,25 @@ page shows at each line is what the program's word `debug` answers to the same q
 `check` tells. Scripts of 10,000 to 1,000,000 lines are answered and shown within some seconds, a script kept in the
 address comes back, the page can be served, the keys move through the steps, a picture of a walk has a box for each
 part, no box lies on another, nothing is wider than a narrow screen, and nothing is told on the browser's console. How
-one uses it stands in page_using.py, and what is asked of the page itself in page.js.
+one uses it stands in page_using.py, and what is asked of the page itself in page.js. Prints each test. The status is 1
+if one failed.
 
-Pictures are put into the folder that RVIOMMU_PICTURES names, if it names one; web/page.png, which README shows, is
-that of stale_translation. Prints each test. The status is 1 if one failed.
+README's picture, web/page.png, is made by `chromium --headless --window-size=1440,1100 --screenshot=web/page.png`, with
+the address of the page at `#example=stale_translation&line=18`.
 """
 import filecmp
 import functools
 import http.server
-import os
 import re
-import shutil
 import threading
 import unittest
-from pathlib import Path
 
 import frame
 from browsers import Chromium, Firefox
+from documents import answered_lines
 from frame import EXAMPLES
 from page_using import NAMES, PAGE, WEB, Using, lines_of
 
-# The example of a picture, which of its accesses, and how.
-PICTURES = [("stale_translation", 1, "light"), ("both_stages", -1, "dark"), ("who_refused", 0, "light")]
 WIDE, NARROW = (1440, 1100), (390, 1600)
 WHY = [f"why {it}" for it in range(32)]
 
@@ -36,15 +33,10 @@ def read(name, ending):
     return (EXAMPLES / f"{name}.{ending}").read_text(encoding="utf-8")
 
 
-def words_in(name):
-    """The lines of an example without comments and blank ones."""
-    lines = (it.partition("#")[0].strip() for it in read(name, "script").splitlines())
-    return [it for it in lines if it]
-
-
 def long_script():
     """10,000 lines: the mapping of stale_translation is used, taken away, used again and put back."""
-    setting = [it for it in words_in("stale_translation") if it.startswith("store 0x800") and "0x8009" not in it]
+    lines = answered_lines(read("stale_translation", "script"))
+    setting = [it for it in lines if it.startswith("store 0x800") and "0x8009" not in it]
     around = [
         *("store 0x80004008 8 0x200040d7", "dma read 5 0x40201abc 8", "dma write 5 0x40201abc ff"),
         *("store 0x80004008 8 0", "dma read 5 0x40201abc 8", "cmd"),
@@ -56,7 +48,7 @@ def runs_script():
     """The script of the example disk with the steps of the device that follow each other as lines of many steps. After
     twenty of them the pages that the device uses are unmapped, and nothing is invalidated."""
     lines = []
-    for line in words_in("disk"):
+    for line in answered_lines(read("disk", "script")):
         line = "dev run 0 500" if line.startswith("dev step 0") else line
         if lines[-1:] != [line] or line != "dev run 0 500":
             lines.append(line)
@@ -70,7 +62,6 @@ class Shown(Using):
     def setUp(self):
         super().setUp()
         self.browser.size(*WIDE)
-        self.browser.theme("light")
 
     def tearDown(self):
         told = list(self.browser.told)
@@ -99,11 +90,6 @@ class Shown(Using):
                 told = self.answers(image, [*lines[:count], *asked])[-len(asked) :]
                 self.assertEqual(told, list(asked.values()), f"line {at}")
         return before
-
-    def test_start(self):
-        """the page opens without a fault"""
-        self.browser.open(PAGE)
-        self.assertTrue(self.browser.run("at('fault').hidden"), self.ask("text", "fault"))
 
     def test_answers(self):
         """each example's answers, or the verdicts of a checked one, are those of its file of answers"""
@@ -283,20 +269,12 @@ class Shown(Using):
         self.assertEqual(self.browser.run("script.answers"), ["done", "0x5", "00" * 64])
 
     def test_screens(self):
-        """nothing is wider than a narrow screen; pictures are taken"""
-        pictures = os.environ.get("RVIOMMU_PICTURES") or self.path("pictures")
-        os.makedirs(pictures, exist_ok=True)
+        """nothing is wider than a narrow screen"""
         self.browser.open(PAGE)
-        for name, access, theme in PICTURES:
-            self.browser.theme(theme)
-            self.show(name)
-            self.browser.run(f"go(script.accesses.at({access})), document.activeElement.blur(), scrollTo(0, 0)")
-            Path(pictures, f"{name}.png").write_bytes(self.browser.picture())
         self.browser.size(*NARROW)
-        for theme in ("light", "dark"):
-            self.browser.theme(theme)
-            self.assertTrue(self.browser.run("document.documentElement.scrollWidth <= innerWidth"), theme)
-            Path(pictures, f"narrow_{theme}.png").write_bytes(self.browser.picture())
+        for name in NAMES:
+            self.show(name)
+            self.assertTrue(self.browser.run("document.documentElement.scrollWidth <= innerWidth"), name)
 
 
 class InBrowser(frame.Case):
@@ -324,10 +302,6 @@ class Built(unittest.TestCase):
         own = [it for it in WEB.iterdir() if it.suffix in frame.page_build().ENDINGS]
         others = [it.name for it in own if not filecmp.cmp(it, WEB / "out" / it.name, shallow=False)]
         self.assertEqual(others, [], "what 'make page' has yet to copy")
-
-    def test_chromium(self):
-        """there is a Chromium"""
-        self.assertTrue(shutil.which(Chromium.program() or "chromium"))
 
 
 if __name__ == "__main__":

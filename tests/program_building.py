@@ -1,85 +1,29 @@
-"""What is built from nothing: the player, the whole crate as which it is built, and the page's crate.
-
-The player is the program that `make run` builds, which runs a script on the built-in image as rviommu without words
-does. The whole crate has what the crates have, and nothing else, by other paths.
-"""
-import os
+"""The whole crate as which the program of `make run` is built, and the page's crate."""
 import re
-import subprocess
+from collections import Counter
 
-from frame import ANSWER, ASK, EXAMPLES, MOST_LINES, PLAYER, RUN_SECONDS, TOP, Case, page_build, run
+from frame import TOP, Case, page_build
 import build
 import crates
 import whole
 
 
-def in_whole(name, path, top):
-    """Where a file of a crate stands in the whole one."""
-    part, rest = path.split("/", 1)
-    if name == top:
-        return path
-    return {"lib.rt": f"src/{name}.rt", "Lib.antt": f"{part}/{name}.antt"}.get(rest, f"{part}/{name}/{rest}")
-
-
-def as_in_crate(text, name, others, top):
-    """A text of the whole crate with the names by which the crate `name` calls the others."""
-    text = re.sub(rf"\bRattle\.{top}\.specs\.(declared|contracts)\.({others})\b", r"Rattle.\2.specs.\1", text)
-    text = re.sub(rf"\bRattle\.{top}\.(specs|proofs)\.({others})\b", r"Rattle.\2.\1", text)
-    called = rf"(?<![\w:])crate::(specs::|proofs::)?({others})::"
-    return re.sub(called, lambda it: f"{'crate' if it[2] == name else it[2]}::{it[1] or ''}", text)
-
-
-class Player(Case):
-    def setUp(self):
-        self.assertTrue(os.path.isfile(PLAYER), "packaging/build.py iom_player builds it")
-
-    def played(self, given, words=(), **how):
-        """Runs the player on these bytes; returns its status, standard output and standard error."""
-        how = {"stdout": subprocess.PIPE, "stderr": subprocess.PIPE, "timeout": RUN_SECONDS, **how}
-        ended = subprocess.run([PLAYER, *words], input=given, **how)
-        return ended.returncode, ended.stdout, ended.stderr
-
-    def test_as_program(self):
-        """player: examples, ends, bad and too long scripts, and a full device are as in the program"""
-        examples = [path.read_bytes() for path in sorted(EXAMPLES.glob("*.script"))]
-        for given in (*examples, b"", b"jump\n", ASK, b"\n" * (MOST_LINES + 1)):
-            for how in ({}, {"stdout": self.full()}):
-                status, out, errors = self.played(given, **how)
-                # Each has its own name before a fault.
-                ended = status, out, errors.replace(b"iom_player: ", b"rviommu: ")
-                self.assertEqual(ended, run([], given, **how))
-
-    def test_pipe(self):
-        """player: at a pipe each line is answered before the next is sent"""
-        talk = self.talk(at=PLAYER)
-        for _ in range(3):
-            talk.send(ASK + b"\n", ANSWER)
-        talk.end()
-
-    def test_word(self):
-        """player: a word is refused"""
-        self.assertEqual(self.played(b"", ["run"]), (2, b"", b"iom_player: no word is taken; rviommu takes words\n"))
+PATH = re.compile(r"\b(?:(?:Rattle|crate|specs|proofs|declared|contracts|iom_\w+)(?:::|\.))+")
+DECLARED = re.compile(r"(?:pub )?mod \w+;?|#!\[tactic\(auto\)\]")
 
 
 class Building(Case):
+    def plain(self, texts):
+        """The lines of texts without the paths by which they name each other, and without what declares them."""
+        lines = (PATH.sub("", line) for text in texts for line in text.splitlines())
+        return Counter(line for line in lines if line and not DECLARED.fullmatch(line))
+
     def test_whole(self):
-        """build: the whole crate has what the crates have, by other paths"""
-        top = build.FIRST
-        made = whole.Whole(top)
-        files, others = made.files(), "|".join(made.below)
-        for name in [*made.below, top]:
-            for path, text in crates.texts(TOP / "crates" / name).items():
-                place = in_whole(name, path, top)
-                self.assertIn(place, files)
-                found = as_in_crate(files.pop(place), name, others, top)
-                if path in ("src/lib.rt", "src/main.rt"):
-                    text = text.replace("#![tactic(auto)]\n", "")
-                    found = re.sub(rf"(?m)^pub mod ({others});\n", "", found).replace("#![tactic(auto)]\n\n", "")
-                    found, text = (re.sub(r"(?m)^(pub )?mod ", "mod ", it) for it in (found, text))
-                if path == "specs/Lib.antt":
-                    found = re.sub(rf"(?m)^pub mod ({others})\n", "", found)
-                self.assertEqual(found, text, f"{place}, read as {name}/{path}")
-        self.assertEqual([it for it in files if it != "specs/Lib.antt"], [])
+        """build: the whole crate has what the crates have, and nothing else, by other paths"""
+        made = whole.Whole(build.FIRST)
+        names = [*made.below, made.top]
+        own = [text for name in names for text in crates.texts(TOP / "crates" / name).values()]
+        self.assertEqual(self.plain(made.files().values()), self.plain(own))
 
     def test_page(self):
         """page: the files of its crate are laid out as `rt fmt` lays them out"""

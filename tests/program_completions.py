@@ -3,12 +3,9 @@
 A function stands in the place of the program there, and prints the words that it was called with.
 """
 import os
-import re
 import shutil
-import subprocess
 
-from frame import TOP, Case, called, commands, text_of
-from samples import KINDS
+from frame import TOP, Case
 from terminal import Terminal
 
 FOLDER = TOP / "completions"
@@ -38,11 +35,6 @@ TYPED = [
     # A folder of a word's name is no word.
     ("ru\t", ["run"]),
 ]
-OFFERED = {
-    "a": ["asm"], "-": ["--help", "--version"], "list image ": KINDS, "list image c": ["cmd", "context"],
-    "list image cmd 0 ": [], "u": ["upgrade"], "c": ["check"], "check -": ["--stale", "--help"], "debug -": ["--help"],
-    "help ": WORDS, "d": ["debug"], "e": ["explain"], "explain -": ["--help"], "run -": ["--help"],
-}
 
 
 class Completions(Case):
@@ -69,21 +61,3 @@ class Completions(Case):
     def test_zsh(self):
         """zsh completes words, kinds, options, and names with blanks, brackets and line ends"""
         self.completes("zsh")
-
-    def test_words_and_kinds(self):
-        """completions: they know every word and every kind"""
-        for name in ("rviommu.bash", "_rviommu"):
-            words = set(re.findall(r"[-\w]+", text_of(f"completions/{name}")))
-            self.want_within({*commands(), "--help", "--version", *KINDS}, words, name)
-
-    def test_offered(self):
-        """bash offers for the beginning of a line the words that may stand there, and no other"""
-        self.needs("bash")
-        tell = 'for it in "${COMPREPLY[@]}"; do echo "$it"; done'
-        for line, wanted in OFFERED.items():
-            words = ["rviommu", *line.split(" ")]
-            quoted = " ".join(f"'{word}'" for word in words)
-            typed = f"COMP_WORDS=({quoted}); COMP_CWORD={len(words) - 1}; _rviommu"
-            text = f"source '{FOLDER}/rviommu.bash'; {typed}; {tell}"
-            out = called(["bash", "-c", text], stderr=subprocess.DEVNULL)
-            self.assertEqual(out.decode().splitlines(), wanted, line)

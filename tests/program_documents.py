@@ -3,21 +3,14 @@ import re
 import shutil
 
 from documents import blocks, names_there, plain, played, section, section_of, spans, table_with
-from frame import EXAMPLES, PLAYER, TOP, Case, called, commands, text_of
-from samples import DEBUG_FORMS, FORMS, IMAGE
-from crates import kit_version, version
+from frame import EXAMPLES, Case, commands, forms, text_of
 
 # Words that a line may be answered by.
 ANSWERS = {
     *("done", "idle", "denied CAUSE", "bus error", "bad access", "no device", "misuse", "outside", "none", "empty"),
     *("same", "no directory", "register", "context", "no access", "denied")}
-# RISC-V IOMMU Architecture 1.0, "IOMMU capabilities": the bits of the features that are offered, and that are left out.
-OFFERED = {"Sv39": 9, "Sv48": 10, "Sv39x4": 17, "Sv48x4": 18}
-LEFT_OUT = {
-    "Sv32": 8, "Sv57": 11, "Svrsw60t59b": 14, "Svpbmt": 15, "Sv32x4": 16, "Sv57x4": 19, "AMO_MRIF": 21, "MSI_FLAT": 22,
-    "MSI_MRIF": 23, "AMO_HWAD": 24, "ATS": 25, "T2GPA": 26, "END": 27, "HPM": 30, "DBG": 31, "PD8": 38, "PD17": 39,
-    "PD20": 40, "QOSID": 41,
-}
+# RISC-V IOMMU Architecture 1.0, "IOMMU capabilities": version 1.0, Sv39, Sv48, Sv39x4, Sv48x4, wires, 56 bits.
+CAPABILITIES = 0x10 | 1 << 9 | 1 << 10 | 1 << 17 | 1 << 18 | 1 << 28 | 56 << 32
 
 
 def operands(word, told):
@@ -38,49 +31,9 @@ def named_answers(head):
     """The answers that the man page's table below this head names for each form of a line."""
     rows = re.search(rf"(?ms)^{head} +answers\n(.*?)^\.EE$", section("ANSWERS"))[1]
     for row in re.sub(r"\n {10,}", " ", rows).splitlines():
-        forms, answers = re.fullmatch(r"(.+?)  +(.+)", row).groups()
+        lines, answers = re.fullmatch(r"(.+?)  +(.+)", row).groups()
         # A word in capitals stands for others.
-        yield forms.split(", "), {it for it in answers.split(", ") if not re.match("[A-Z]", it)}
-
-
-class Versions(Case):
-    def test_versions(self):
-        """--version, the man page, the header and the Python module name the version of CHANGELOG.md"""
-        number, date = version()
-        self.want(["--version"], f"rviommu {number}\n".encode())
-        head = f'.TH RVIOMMU 1 "{date}" "rviommu {number}" "User Commands"'
-        self.assertEqual(text_of("man/rviommu.1").splitlines()[0], head)
-        before = {"include/rviommu.h": "#define RVIOMMU_VERSION ", "python/rviommu/__init__.py": "__version__ = "}
-        for name, text in before.items():
-            self.assertEqual(re.findall(rf'(?m)^{text}"(.*)"$', text_of(name)), [number], name)
-
-    def test_newest_first(self):
-        """CHANGELOG.md: the newest version stands first"""
-        heads = re.findall(r"(?m)^## (.*)$", text_of("CHANGELOG.md"))
-        seen = [re.fullmatch(r"(\d+)\.(\d+)\.(\d+) \((\d{4}-\d\d-\d\d)\)", head) for head in heads]
-        self.assertEqual([head for head, it in zip(heads, seen) if not it], [])
-        order = [(it[4], *map(int, it.groups()[:3])) for it in seen]
-        self.assertEqual(order, sorted(set(order), reverse=True))
-
-    def test_kit(self):
-        """README names the kit that is on the path, and one logic"""
-        self.needs("rt")
-        (logic,) = set(re.findall(r"\blogic ([0-9a-f]{16})\b", text_of("README.md")))
-        kits = re.findall(r"\brattle-kit-\w+", text_of("README.md"))
-        self.assertIn(kit_version(), [f"{kit} logic {logic}" for kit in kits])
-
-    def test_git(self):
-        """git tells *.rt as Rust and *.antt as Agda, and changes no byte of a script"""
-        self.needs("git")
-        if not (TOP / ".git").exists():
-            self.skipTest("there is no git here")
-        wanted = [
-            *("a.rt: linguist-language: Rust", "a.rt: text: set", "a.antt: linguist-language: Agda"),
-            *("a.antt: text: set", "a.script: linguist-language: unspecified", "a.script: text: unset"),
-        ]
-        names = [it.partition(":")[0] for it in wanted[::2]]
-        told = called(["git", "check-attr", "linguist-language", "text", "--", *names], cwd=TOP)
-        self.assertEqual(told.decode().splitlines(), wanted)
+        yield lines.split(", "), {it for it in answers.split(", ") if not re.match("[A-Z]", it)}
 
 
 class Readme(Case):
@@ -90,42 +43,21 @@ class Readme(Case):
         shown = [it for it in blocks("README.md") if it.startswith("$ ")]
         self.assertTrue(shown)
         for block in shown:
-            given = [it[1] for it in re.finditer(r"(?m)^\$ (.*<<'(\w+)'\n(?:.*\n)*?\2\n|.*\n)", block)]
-            wanted = block
-            for command in given:
-                wanted = wanted.replace(f"$ {command}", "")
-            self.assertEqual(self.shell("".join(given))[1], wanted, given[-1])
+            self.want_shown(block)
         (command,) = re.findall(r"(?m)^    (rviommu asm .*)$", text_of("README.md"))
         self.assertEqual(self.shell(command), (0, text_of("examples/disk.answers")))
 
-    def test_make_run(self):
-        """README: `make run` answers a script, if what plays it is current"""
-        self.needs("make")
-        (shown,) = re.findall(r"(?m)^    make run < (.*)$", text_of("README.md"))
-        words = ["make", "-s", "-C", TOP, "-o", PLAYER, "run", f"player={PLAYER}"]
-        seen = called(words, input=(TOP / shown).read_bytes(), stderr=None).decode()
-        self.assertEqual(seen, text_of(shown.replace(".script", ".answers")))
-
-    def test_paths(self):
+    def test_targets(self):
         """README and CHANGELOG.md: each target of make that they name is there"""
         targets = set(re.findall(r"(?m)^(\w+):", text_of("Makefile")))
         for name in ("README.md", "CHANGELOG.md"):
             self.want_within(set(re.findall(r"(?m)(?:`|^    )make (\w+)", text_of(name))), targets, name)
 
     def test_examples(self):
-        """examples/README.md: its table names each of them, and in each example a comment explains each line"""
-        scripts = sorted(EXAMPLES.glob("*.script"))
+        """examples/README.md: its table names each of them"""
         rows = table_with("examples/README.md", "`stale_translation`")
         named = {name for row in rows for name in re.findall(r"`(\w+)`", row[0])}
-        self.assertEqual(named, {it.stem for it in scripts})
-        for path in scripts:
-            # It stands at its end, or above it and its neighbours.
-            below, lacking = False, []
-            for number, line in enumerate(path.read_text().splitlines(), 1):
-                words, sign, _ = line.partition("#")
-                below = bool(line.strip()) and (below or not words.strip())
-                lacking += [number] * (bool(words.strip()) and not sign and not below)
-            self.assertEqual(lacking, [], path.name)
+        self.assertEqual(named, {it.stem for it in EXAMPLES.glob("*.script")})
 
     def test_words(self):
         """README names each word of the program, and the man page each with its operands, and no other"""
@@ -152,25 +84,21 @@ class Answers(Case):
         """man page: the answers that its tables name for a form are those that there are, and are given"""
         told = []
         for head in ("line", "line of debug"):
-            for forms, named in named_answers(head):
-                told += forms
-                given = {answer for line, answer in played() if line.startswith(tuple(forms))}
+            for lines, named in named_answers(head):
+                told += lines
+                given = {answer for line, answer in played() if line.startswith(tuple(lines))}
                 # The answer of a line of many steps, or of many stores, is that of the last.
                 seen = {it for it in ANSWERS | named for answer in given if re.fullmatch(pattern(it), answer)}
-                self.assertEqual(named, seen if named else set(), forms)
-        wanted = {re.match("(?:[a-z]+ ?)+", form)[0].strip() for form in [*FORMS, *DEBUG_FORMS]}
+                self.assertEqual(named, seen if named else set(), lines)
+        wanted = {re.match("(?:[a-z]+ ?)+", form)[0].strip() for form in [*forms(), *forms("debug")]}
         self.want_within(wanted, set(told))
 
     def test_capabilities(self):
-        """README: the value of capabilities, and each feature that is offered or left out"""
-        (shown,) = self.answers(IMAGE, ["reg read 0 8"])
+        """README: the value of capabilities; and the features that a block device offers"""
+        (shown,) = self.answers("ram 0x80000000 0x80000\n", ["reg read 0 8"])
         self.assertIn(shown, spans(text_of("README.md")))
-        value = int(shown, 16)
-        seen = {name for name, bit in {**OFFERED, **LEFT_OUT}.items() if value >> bit & 1}
-        self.assertEqual(seen, set(OFFERED))
-        fixed = 0x10 | 1 << 28 | 56 << 32
-        self.assertEqual(value, fixed | sum(1 << bit for bit in OFFERED.values()), "version 1.0, wires, 56 bits")
+        self.assertEqual(int(shown, 16), CAPABILITIES)
         # VIRTIO 1.2: FLUSH, and of the features of every device VERSION_1 and ACCESS_PLATFORM.
         lines = [line for half in range(3) for line in (f"dev write 0 0x14 4 {half}", "dev read 0 0x10 4")]
-        wanted = [hex(1 << 9), hex(1 << 32 - 32 | 1 << 33 - 32), "0x0"]
-        self.assertEqual(self.answers(IMAGE + "disk 5 1\n", lines)[1::2], wanted, "what a block device offers")
+        seen = self.answers("ram 0x80000000 0x1000\ndisk 5 1\n", lines)[1::2]
+        self.assertEqual(seen, [hex(1 << 9), hex(1 << 32 - 32 | 1 << 33 - 32), "0x0"])

@@ -2,68 +2,39 @@
 
 And each public item has a docstring, in the page's crate too.
 """
+import functools
 import glob
 import re
 from pathlib import PurePath
 
 from documents import names_there, rows, section_of, sections, spans, table_with
-from frame import TOP, Case, text_of
+from frame import TOP, Case, commands, text_of
 from crates import below, listed, stands_on
 
 DOCUMENTS = ["README.md", "CHANGELOG.md", "examples/README.md", *names_there("docs/*")]
-SUFFIXES = tuple(f".{it}" for it in "rt antt py sh md edit script answers asm txt h 1".split())
+SUFFIXES = tuple(f".{it}" for it in "rt antt py sh md edit script answers asm txt h t 1".split())
 # Folders that each crate may have, and what a build makes.
 OF_EACH = {
     *("src/", "specs/", "proofs/", "must-fail/", "edits/", "data/", "out/", "proofs/Lib.antt", "dist/", "c/out"),
     *("out/build", "out/whole", "web/out", "web/out/index.html", "crates/rviommu/out/rviommu"),
 }
-WORDS = {"asm", "run", "check", "debug", "explain", "list", "upgrade", "bad"}
 CRATES = stands_on()
 # The crates of the toolchain that they stand on.
 OTHERS = {name for _, uses in listed().values() for name in uses} - set(CRATES)
-TESTS = {"iom_tests", "iom_rows"}
-# What a document says of a number, and where the code or a clause has it.
-NUMBERS = [
-    ("docs/PROMISES.md", "2^20 lines or 2^26 bytes", "crates/iom_reader/specs/Running.antt",
-     "(length text ≡ 2 ^ 26) ⊎ (length (ended_lines text) ≡ 2 ^ 20)"),
-    ("docs/CONTRIBUTING.md", "320 bytes", "crates/iom_tool/src/draft.rt", "bytes: [u8; 320],"),
-    ("README.md", "2 to 3 GB", "packaging/build.py", "BYTES_A_JOB = 3 << 30"),
-    ("README.md", "glibc 2.36", "packaging/package.py", 'GLIBC = "2.36"'),
-    ("man/rviommu.1", "2^30 bytes", "crates/rviommu/src/files.rt", "MOST_BYTES: u64 = 1 << 30;"),
-    *((name, "200 lists of steps", "crates/iom_rows/src/generated.rt", "SCRIPTS: u64 = 200;")
-      for name in ("docs/PROMISES.md", "docs/GATE.md")),
-    *((name, words, "tests/c_library.py", "PLAIN_LINES, HARMFUL_LINES = 20_000, 40_000")
-      for name, words in (("docs/PROMISES.md", "100,000 lines"), ("docs/GATE.md", "100,000 generated lines"))),
-]
 # Which section of a document, or all of it, has names of the code.
 NAMING = {
     "README.md": "What is proved", "docs/MAP.md": "How a step flows", "docs/CONTRIBUTING.md": "Recipes",
     "docs/MODEL.md": None,
 }
-PUBLIC = re.compile(r"\s*pub (?:(?:const|unsafe|extern \"C\") )*(?:fn|struct|enum|trait|const|type) \w|\s+pub \w+: ")
-PRIVATE = re.compile(r"( *)fn \w")
-LONG = 5
+# These take none themselves. What `Summary::new` makes takes memory for a line that is stale, in `explain` alone.
+KEEP_AN_ALLOCATOR = {"Summary::new"}
+# Tests, and crates that only the program uses, whose allocations tests/shell refuses.
+NO_LIBRARY = {"iom_tests", "iom_cli", "iom_explain"}
 NAME = r"[A-Za-z_]\w*(?:::\w+)*"
-
-
-def undocumented(path):
-    """The lines of a file that lack a docstring or, if a private function is long, a comment. What a trait asks for is
-    told there."""
-    lines = text_of(path).splitlines()
-    of_trait, found = False, []
-    for at, line in enumerate(lines):
-        if line.startswith(("impl", "}")):
-            of_trait = line.startswith("impl") and " for " in line
-        above = next((it.strip() for it in reversed(lines[:at]) if not it.strip().startswith("#[")), "")
-        private = PRIVATE.match(line)
-        if PUBLIC.match(line):
-            found += [line] * (not above.startswith("///"))
-        elif private and not of_trait:
-            indent = private[1]
-            end = lines.index(indent + "}", at) if indent + "}" in lines[at:] else at
-            opens = (it for it in range(at, end) if lines[it] == indent + "{" or it == at and line.endswith("{"))
-            found += [line] * (end - next(opens, end) - 1 > LONG and not above.startswith("//"))
-    return [f"{path}: {line.strip()}" for line in found]
+# A public item or field below a line that is no comment; attributes are left out.
+UNDOCUMENTED = (
+    r"(?m)^(?! *///).*\n"
+    r"( *pub (?:(?:const|unsafe|extern \"C\") )*(?:fn|struct|enum|trait|const|type) \w.*| +pub \w+: .*)$")
 
 
 def clauses(text):
@@ -91,15 +62,16 @@ def stem(path):
     return PurePath(path).name.partition(".")[0]
 
 
-# The names that each crate defines, those of its files among them.
-NAMES = {it: {*map(stem, files_of(it))}.union(*map(defined, files_of(it))) for it in CRATES}
-# What C has beside the functions of the crate.
-NAMES["iom_c"].update(re.findall(r"rviommu_\w+", text_of("c/guard.c") + text_of("include/rviommu_record.h")))
+@functools.cache
+def names_of(crate):
+    """The names that a crate defines, those of its files among them, and what C has beside the functions of iom_c."""
+    more = text_of("c/guard.c") + text_of("include/rviommu_record.h") if crate == "iom_c" else ""
+    return {*map(stem, files_of(crate)), *re.findall(r"rviommu_\w+", more)}.union(*map(defined, files_of(crate)))
 
 
 def has(crates, name):
     """Whether each part of a name, as of `Queue::entries`, is one of a crate's among these."""
-    return any(set(name.removeprefix(f"{it}::").split("::")) <= NAMES[it] for it in crates)
+    return any(set(name.removeprefix(f"{it}::").split("::")) <= names_of(it) for it in crates)
 
 
 def is_there(path, *places):
@@ -138,11 +110,25 @@ def glossary():
     """The rows of the tables of GLOSSARY: their crates, none if they name none, and the names of this repository."""
     own, terms, other = (rows(section_of("docs/GLOSSARY.md", head)) for head in (
         "One word for one thing", "From the standards' terms to the names", "Other public names"))
-    return [
-        *(([], spans(names)) for _, _, names in own),
-        *((spans(crates), spans(names)) for _, names, crates, _ in terms),
-        *((spans(crates), spans(names)) for crates, names in other),
-    ]
+    named = [("", names) for _, _, names in own] + [(crates, names) for _, names, crates, _ in terms] + other
+    return [(spans(crates), spans(names)) for crates, names in named]
+
+
+def calls_that_take_memory():
+    """The public calls of libraries with a parameter `alloc: Global`, methods behind the name of their type."""
+    found = set()
+    for crate in set(CRATES) - NO_LIBRARY:
+        for path in files_of(crate, "src"):
+            owner = None
+            heads = r"(?m)^impl(?:<[^>]*>)? (?:\w+ for )?(\w+)|^}|^( *)pub fn (\w+)(?:<[^>]*>)?\(([^)]*)\)"
+            for match in re.finditer(heads, text_of(path)):
+                if match[3] is None:
+                    owner = match[1]
+                    continue
+                name = f"{owner}::{match[3]}" if match[2] and owner else match[3]
+                if "alloc: Global" in match[4] and name.split("::")[0] in public(crate):
+                    found.add(name)
+    return found - KEEP_AN_ALLOCATOR
 
 
 class Names(Case):
@@ -164,14 +150,14 @@ class Names(Case):
 
     def test_named(self):
         """README, MAP, CONTRIBUTING and MODEL: the names of the code in them are there"""
-        python = "".join(text_of(path) for path in names_there("tests/**/*.py"))
+        tests = "".join(text_of(path) for path in [*names_there("tests/**/*.py"), *names_there("tests/**/*.t")])
         folders = ("crates/*/must-fail", "crates/*/edits", "crates/iom_rows/data", "examples", "tests/debugged")
         files = {stem(path) for folder in folders for path in names_there(f"{folder}/*")}
         for document, head in NAMING.items():
             text = section_of(document, head) if head else text_of(document)
             named = {name for name in spans(text) if re.fullmatch(NAME, name) and "NAME" not in name}
-            named -= {*CRATES, *OTHERS, *WORDS, *files}
-            lacking = [it for it in sorted(named) if not has(CRATES, it) and not re.search(rf"\b{it}\b", python)]
+            named -= {*CRATES, *OTHERS, *commands(), "bad", *files}
+            lacking = [it for it in sorted(named) if not has(CRATES, it) and not re.search(rf"\b{it}\b", tests)]
             self.assertEqual(lacking, [], document)
 
     def test_crates(self):
@@ -195,7 +181,7 @@ class Names(Case):
 
     def test_sections(self):
         """PROMISES and MODEL: each crate but those of tests has a section; each library with definitions has one"""
-        self.assertEqual(set(promised()), set(CRATES) - TESTS)
+        self.assertEqual(set(promised()), set(CRATES) - {"iom_tests", "iom_rows"})
         told = [spans(head)[0] for head, _ in sections(text_of("docs/MODEL.md")) if spans(head)]
         defining = {path.split("/")[1] for path in names_there("crates/*/specs/*.antt")} - {"iom_tests"}
         self.assertEqual(sorted(told), sorted(defining))
@@ -205,27 +191,23 @@ class Names(Case):
         functions"""
         for crate, body in promised().items():
             named = {name for name in spans(body) if re.fullmatch(r"[A-Za-z_][\w:-]*", name)}
-            named -= {*CRATES, *WORDS, "stale_translation"}
+            named -= {*CRATES, *commands(), "bad", "stale_translation"}
             self.assertEqual([it for it in sorted(named) if not has(below(CRATES, crate), it)], [], crate)
             texts = map(text_of, files_of(crate, "src"))
             there = {name for it in texts for name in [*clauses(it), *re.findall(r"\bfn (\w+)", it)]}
             groups = re.findall(r"\((`[a-z_]+`(?:, `[a-z_]+`)*)\)", body)
             self.want_within({name for it in groups for name in spans(it)}, there, crate)
 
-    def test_tests(self):
-        """PROMISES: the calls that take memory and their tests are there, and all tests stand in iom_tests"""
-        refused = defined("crates/iom_tests/src/refused.rt")
-        for calls, tests, *_ in table_with("docs/PROMISES.md", "Call that takes memory"):
-            self.want_within(set(spans(tests)), refused)
-            self.assertEqual([name for name in spans(calls) if not has(CRATES, name)], [])
+    def test_memory(self):
+        """PROMISES: the calls that take memory, and their tests, which refused_memory.sh tries; all tests stand in
+        iom_tests"""
+        listed = table_with("docs/PROMISES.md", "Call that takes memory")
+        self.assertEqual(calls_that_take_memory(), {name for row in listed for name in spans(row[0])})
+        tests = {name for row in listed for name in spans(row[1])}
+        self.want_within(tests, defined("crates/iom_tests/src/refused.rt"))
+        self.want_within(tests, re.findall(r"(?m)^(\w+) ", text_of("tests/refused_memory.sh")))
         with_tests = {path.split("/")[1] for path in names_there("crates/*/src/**/*.rt") if "#[test]" in text_of(path)}
         self.assertEqual(with_tests, {"iom_tests"})
-
-    def test_numbers(self):
-        """documents: their numbers are those of the code and of its clauses"""
-        for document, phrase, path, there in NUMBERS:
-            said = " ".join(text_of(document).split())
-            self.assertEqual((phrase in said, there in text_of(path)), (True, True), (document, phrase))
 
     def test_glossary(self):
         """GLOSSARY: it has each public name of a library; those that look like names are there"""
@@ -238,7 +220,8 @@ class Names(Case):
             self.assertEqual([it for it in looking if not has(places, it)], [], crates)
 
     def test_docstrings(self):
-        """code: each public item and field has a docstring, and each longer private function a comment"""
+        """code: each public item and field has a docstring"""
         paths = [path for crate in CRATES for path in files_of(crate, "src")]
-        paths += names_there("web/iom_page/src/**/*.page")
-        self.assertEqual([line for path in paths for line in undocumented(path)], [])
+        for path in [*paths, *names_there("web/iom_page/src/**/*.page")]:
+            text = re.sub(r"(?m)^ *#\[.*\n", "", text_of(path))
+            self.assertEqual(re.findall(UNDOCUMENTED, text), [], path)

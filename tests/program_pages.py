@@ -1,18 +1,15 @@
-"""What the man page says, where the program can be asked: its words, lines, answers, registers, commands and causes."""
+"""What help and the man page say, where the program can be asked: words, lines, answers, registers, commands, causes."""
 import re
 
 from documents import man_page, plain, played, section, table
-from frame import TOP, Case, called, commands, program, text_of
-from samples import DEBUG_FORMS, FORMS, IMAGE, KINDS, STATEMENTS
+from frame import Case, commands, forms, program, run, text_of
+from fuzz import KINDS
 from terminal import Terminal
 
 WIDTH = 80
-ANSWERS = [
-    "done", "idle", "denied", "bus error", "bad access", "no device", "misuse", "outside", "none", "empty", "bad"]
-OPERANDS = [
-    "asm SOURCE IMAGE", "run IMAGE", "check [--stale] [IMAGE]", "debug [IMAGE]", "explain [IMAGE]",
-    "list IMAGE KIND ADDR COUNT", "upgrade IMAGE NEW"]
+IMAGE = "ram 0x80000000 0x80000\n"
 TEXTS = [
+    *("done", "idle", "denied", "bus error", "bad access", "no device", "misuse", "outside", "none", "empty", "bad"),
     *("line N: bad line", "line N: overlap", "line N: outside memory", "bad magic", "truncated", "trailing bytes"),
     *("bad memory", "bad chunk", "bad device", "bad capabilities", "outside memory", "read failed", "write failed"),
     *("script too long", "out of memory", "cannot read FILE", "cannot write FILE"),
@@ -34,47 +31,45 @@ def bold(name):
 class Page(Case):
     def test_names(self):
         """man page: it names every word, line, statement, answer and text of the program"""
-        forms = [*OPERANDS, *FORMS, *DEBUG_FORMS, *STATEMENTS, *KINDS, *ANSWERS, *TEXTS]
+        shown = [it for word in (None, "debug", "asm") for form in forms(word) for it in form.split(", ")]
+        lines = [re.sub(r" (KEY=NUMBER|HEX|SECTORS|ITEM|\[.*|VALUE \.\.).*", "", it) for it in shown]
+        self.assertGreater(len(lines), 40)
         page = man_page()
         lacking = [
-            it for it in [*commands(), "--help", "--version", *forms]
+            it for it in [*commands(), "--help", "--version", *lines, *KINDS, *TEXTS]
             if not re.search(r"(?m)(^|[\s,])" + re.escape(it) + r"(?=[\s,.;=]|$)", page)]
         self.assertEqual(lacking, [])
 
     def test_help(self):
-        """help: `help WORD` and `WORD --help` are the word's help, a word after --help is not looked at, and no line
-        has more than 80 characters"""
+        """help: `help WORD` and `WORD --help` are the word's help, a word after --help is not looked at, no line has more
+        than 80 characters, and its examples are answered as they say"""
         general = self.written(["--help"])
+        self.assertEqual(self.written(["-h"]), general)
         helps = {word: self.written([word, "--help"]) for word in commands() if word != "help"}
-        for word, own in helps.items():
-            self.assertEqual(self.written(["help", word]), own, word)
-            self.assertEqual(self.written(["--help", word]), general, word)
-            self.assertNotEqual(own, general, word)
-        lines = "".join([general, *helps.values()]).splitlines()
-        self.assertEqual([line for line in lines if len(line) > WIDTH], [])
+        self.image("ram 0x80000000 0x1000\nu64 7\n", "seven.image")
+        for word, own in [("", general), *helps.items()]:
+            if word:
+                self.assertEqual(self.written(["help", word]), own, word)
+                self.assertEqual(self.written(["--help", word]), general, word)
+            self.assertEqual([line for line in own.splitlines() if len(line) > WIDTH], [])
+            with self.subTest(word):
+                self.want_shown("".join(re.findall(r"(?m)^  (.*\n)", own[own.index("\n  $ ") :])))
+        self.assertNotIn("--stale", helps["debug"], "it has an option of check")
 
     def test_lines(self):
         """man page: each line of a script that it shows is answered as it says"""
         shown = re.findall(r"(?m)^(?!line |\d+: )(.+?) -> (.+)$", man_page())
-        wanted = sorted(form.split()[0] for form in FORMS + DEBUG_FORMS)
+        of_run = len(forms())
+        wanted = sorted(form.split()[0] for form in [*forms(), *forms("debug")])
         self.assertEqual(sorted(line.split()[0] for line, _ in shown), wanted)
-        for word, lines in (("run", shown[: len(FORMS)]), ("debug", shown)):
+        for word, lines in (("run", shown[:of_run]), ("debug", shown)):
             given, answers = map(list, zip(*lines))
             self.assertEqual(self.answers("ram 0x80000000 0x1000\ndisk 5 1\n", given, word), answers)
 
     def test_commands_shown(self):
         """man page: its commands are answered as it says"""
         shown = [plain(it) for it in re.findall(r"(?ms)^\.EX\n(.*?)^\.EE$", text_of("man/rviommu.1"))]
-        lines = [line for it in shown if it.startswith("$ ") for line in it.splitlines()]
-        answers = "".join(line + "\n" for line in lines if not line.startswith("$ "))
-        self.assertEqual(self.shell("\n".join(line[2:] for line in lines if line.startswith("$ "))), (0, answers))
-
-    def test_warnings(self):
-        """man page: groff and mandoc have no warning"""
-        for words in (["groff", "-man", "-ww", "-Tutf8", "-z"], ["mandoc", "-T", "lint", "-W", "warning"]):
-            with self.subTest(words[0]):
-                self.needs(words[0])
-                self.assertEqual(called([*words, TOP / "man/rviommu.1"]), b"")
+        self.want_shown("".join(it for it in shown if it.startswith("$ ")))
 
     def test_rlwrap(self):
         """man page: at a terminal `rlwrap rviommu` answers each line, and brings one back to be edited"""
@@ -115,6 +110,20 @@ class Facts(Case):
         seen = self.answers(IMAGE, [f"reg read {off} 8" for off in range(0, 4096, 8)])
         self.assertEqual({8 * at for at, it in enumerate(seen) if it == "bad access"}, mixed, "8 bytes are refused")
 
+    def test_registers_by_names(self):
+        """debug: registers by their names are those by their offsets"""
+        lines = []
+        for line in table("REGISTERS OF THE IOMMU"):
+            offset, size, name, *_ = line.split()
+            lines += [f"reg read {name}", f"reg read {offset} {size}"]
+        for line in table("REGISTERS OF A BLOCK DEVICE"):
+            offset, _, name, *_ = line.split()
+            if not name.startswith(("SHM", "capacity")):
+                lines += [f"dev read 0 {name}", f"dev read 0 {offset} 4"]
+        seen = self.answers("ram 0x80000000 0x1000\nrodisk 5 1 aa\n", lines, "debug")
+        self.assertEqual((len(seen), seen[::2]), (2 * (13 + 23), seen[1::2]))
+        self.assertEqual([it for it in seen if not it.startswith("0x")], [])
+
     def test_flags(self):
         """man page: the bits of cqcsr, fqcsr and ipsr"""
         for name, bits in FLAGS.items():
@@ -148,18 +157,19 @@ class Facts(Case):
                 found = re.findall(r"(\w+) (\d+)(?::(\d+))?", text)
                 fields += [(key, int(high), int(low or high)) for key, high, low in found]
         self.assertEqual(list(rows), ["vma", "gvma", "fence", "iodir"], "the commands")
+        offered = f"{IMAGE}capabilities nl=1 s=1\n"
         for name, (number, *words) in rows.items():
             for at, (key, high, low) in ((at, field) for at, fields in enumerate(words) for field in fields):
                 ones = (2 << high - low) - 1
                 value = ones * 4 if key == "addr" else ones
                 wanted = [number, 0]
                 wanted[at] += ones << low
-                image = self.image(f"{IMAGE}capabilities nl=1 s=1\ncmd {name} {key}={value}\n")
+                image = self.image(f"{offered}cmd {name} {key}={value}\n")
                 seen = self.written(["list", image, "u64", "0x80000000", "2"]).splitlines()
                 self.assertEqual(seen, [f"u64 {word:#x}" for word in wanted])
                 if value == ones:
-                    text = f"{IMAGE}capabilities nl=1 s=1\ncmd {name} {key}={2 * ones + 2}\n"
-                    self.assertFalse(self.is_assembled(text), f"{key} one bit wider")
+                    source = self.put("wide", f"{offered}cmd {name} {key}={2 * ones + 2}\n")
+                    self.assertEqual(run(["asm", source, image])[2], b"rviommu: line 3: bad line\n", f"a wider {key}")
 
     def test_keys(self):
         """man page: the keys of a context and of a fault record are those that the program shows and takes"""
@@ -169,7 +179,7 @@ class Facts(Case):
             keys = re.findall(r"(\w+)=", line)
             told = re.search(rf"(?ms)^\.BI {kind} .*?\n(.*?)(?=^\.TP)", section("IMAGE TEXTS"))[1]
             self.want_within(set(keys), set(re.findall(r"\w+", told)), kind)
-            self.assertEqual([key for key in keys if not self.is_assembled(f"{IMAGE}{kind} {key}=0\n")], [])
+            self.image("".join([IMAGE, *(f"{kind} {key}=0\n" for key in keys)]))
             self.assertGreater(len(keys), 6)
 
     def test_causes(self):

@@ -1,4 +1,5 @@
 """A QEMU with its RISC-V IOMMU and five devices behind it, driven over qtest."""
+import functools
 import socket
 import subprocess
 
@@ -25,6 +26,7 @@ def ids_of(bus):
     return [bus << 8 | slot << 3 for slot in SLOTS]
 
 
+@functools.cache
 def pattern(device):
     """What a device writes, place after place: no two bytes of a place are as others at hand."""
     return bytes((at * 37 + at // 64 * 11 + device * 53 + 1) & 255 for at in range(HALF))

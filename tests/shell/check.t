@@ -1,0 +1,166 @@
+A line whose answer is the wanted one passes; of another one both are printed. Lines that want nothing don't count, and a
+line that is only a comment wants nothing.
+
+  $ rviommu check <<'end'
+  > reg write 16 8 1 # => done
+  > store 0x80000000 2 7 # => done
+  > dma read 5 0x80000000 2 # => 0800
+  > cmd # => idle
+  > cmd # => done
+  > cmd # as it says
+  > # cmd # => done
+  > # => done
+  > end
+  line 3: dma read 5 0x80000000 2 -> 0700, wanted 0800
+  line 5: cmd -> idle, wanted done
+  3 passed, 2 failed
+  [1]
+  $ rviommu check < /dev/null
+  0 passed, 0 failed
+  $ printf ' \t\n# a comment\nreg read 8 4\n' | rviommu check
+  0 passed, 0 failed
+  $ printf 'store 0x80000000 1 9\nload 0x80000000 1 # => 0x9\n' | rviommu check
+  1 passed, 0 failed
+
+A bad line fails, unless bad is wanted.
+
+  $ rviommu check <<'end'
+  > frobnicate
+  > frobnicate # => bad
+  > frobnicate now # => done
+  > cmd # => bad
+  > end
+  line 1: frobnicate -> bad
+  line 3: frobnicate now -> bad, wanted done
+  line 4: cmd -> idle, wanted bad
+  1 passed, 3 failed
+  [1]
+
+The wanted answer stands without the blanks around it, and whole. The comment begins at the first #.
+
+  $ rviommu check <<'end'
+  > load 0 8 # => bus error
+  > load 0 8 #=>bus error
+  > load 0 8 # => bus  error
+  > load 0 8 # => bus
+  > load 0 8 # =>
+  > load 0 8 # why # => done
+  > load 0 8 # -> done
+  > load 0 8 # = > done
+  > load 0 8 # wanted => done
+  > end
+  line 3: load 0 8 -> bus error, wanted bus  error
+  line 4: load 0 8 -> bus error, wanted bus
+  line 5: load 0 8 -> bus error, wanted 
+  2 passed, 3 failed
+  [1]
+  $ printf 'load 0 8 #  \t=> \t bus error \t\r\n' | rviommu check
+  1 passed, 0 failed
+
+A last line without a line end is judged.
+
+  $ printf 'reg read 8 4 # => 0x2\nreg read 8 4 # => 0x3' | rviommu check
+  line 2: reg read 8 4 -> 0x2, wanted 0x3
+  1 passed, 1 failed
+  [1]
+  $ printf 'reg read 8 4 # => 0x2' | rviommu check
+  1 passed, 0 failed
+  $ printf jump | rviommu check
+  line 1: jump -> bad
+  0 passed, 1 failed
+  [1]
+  $ printf 'reg read 8 4 # => 0x2\n \t' | rviommu check
+  1 passed, 0 failed
+
+A report is one line of printable characters.
+
+  $ printf '\t a\tb\000\033\377  \r# x\ncmd # => a\007b\n' | rviommu check
+  line 1: a\tb\x00\x1b\xff -> bad
+  line 2: cmd -> idle, wanted a\x07b
+  0 passed, 2 failed
+  [1]
+
+A line of 512 bytes is judged, and a longer one is bad.
+
+  $ printf '%-512s\n%-513s\n%s' 'reg read 8 4 # => 0x2' 'reg read 8 4 # => 0x2' 'reg read 8 4 # => 0x2' | rviommu check
+  line 2: reg read 8 4 -> bad, wanted 0x2
+  2 passed, 1 failed
+  [1]
+  $ printf '%-513s\n' 'reg read 8 4 # => bad' | rviommu check
+  1 passed, 0 failed
+  $ for length in 513 4096 1000000; do
+  >   line="reg read 8 4 #$(head -c $((length - 14)) /dev/zero | tr '\0' x)"
+  >   printf 'cmd # => idle\n%s' "$line" | rviommu check; echo $?
+  >   printf 'cmd # => idle\n%s\n\ncmd # => idle\n' "$line" | rviommu check; echo $?
+  > done
+  line 2: reg read 8 4 -> bad
+  1 passed, 1 failed
+  1
+  line 2: reg read 8 4 -> bad
+  2 passed, 1 failed
+  1
+  line 2: reg read 8 4 -> bad
+  1 passed, 1 failed
+  1
+  line 2: reg read 8 4 -> bad
+  2 passed, 1 failed
+  1
+  line 2: reg read 8 4 -> bad
+  1 passed, 1 failed
+  1
+  line 2: reg read 8 4 -> bad
+  2 passed, 1 failed
+  1
+
+The limits of a script are those of a run: 2^20 lines and 2^26 bytes. What was judged before is printed.
+
+  $ many() { printf 'jump\n'; yes '' | head -n 1048574; echo 'cmd # => idle'; }
+  $ many | rviommu check
+  line 1: jump -> bad
+  1 passed, 1 failed
+  [1]
+  $ for more in 'cmd # => idle' '' ' ' jump; do { many; printf '%s\n' "$more"; } | rviommu check; echo $?; done
+  line 1: jump -> bad
+  rviommu: script too long
+  1
+  line 1: jump -> bad
+  rviommu: script too long
+  1
+  line 1: jump -> bad
+  rviommu: script too long
+  1
+  line 1: jump -> bad
+  rviommu: script too long
+  1
+  $ { many; printf ' '; } | rviommu check
+  line 1: jump -> bad
+  rviommu: script too long
+  [1]
+  $ full() { yes "#$(printf '%510s')" | head -c 67108864; }
+  $ full | rviommu check
+  0 passed, 0 failed
+  $ { full; echo; } | rviommu check
+  rviommu: script too long
+  [1]
+  $ head -c 67108864 /dev/zero | tr '\0' ' ' | rviommu check
+  line 1:  -> bad
+  0 passed, 1 failed
+  [1]
+  $ head -c 67108865 /dev/zero | tr '\0' ' ' | rviommu check
+  rviommu: script too long
+  [1]
+
+It goes on an image, and has the lines of debug.
+
+  $ printf 'ram 0x80000000 0x1000\nrodisk 5 1 aa\n' > text && rviommu asm text image
+  $ rviommu check image <<'end'
+  > dev read 0 0x10 4 # => 0x220
+  > reg write ddtp 1 # => done
+  > disk 0 0 2 # => aa00
+  > queue fault # => none
+  > end
+  line 4: queue fault -> on=0x0 base=0x0 entries=0x2 head=0x0 tail=0x0 stop=none, wanted none
+  3 passed, 1 failed
+  [1]
+  $ echo 'dev read 0 0x10 4 # => no device' | rviommu check
+  1 passed, 0 failed

@@ -1,0 +1,37 @@
+bash offers the words that may follow at the end of a line, and no other.
+
+  $ command -v bash > /dev/null || exit 80
+  $ offered() {
+  >   bash -c '. "$TOP/completions/rviommu.bash"; COMP_WORDS=(rviommu "$@") COMP_CWORD=$#; _rviommu; echo "[${COMPREPLY[*]}]"' - "$@"
+  > }
+  $ offered a
+  [asm]
+  $ offered u; offered c; offered d; offered e
+  [upgrade]
+  [check]
+  [debug]
+  [explain]
+  $ offered -
+  [--help --version]
+  $ offered list image ''
+  [cmd fault context dir pte u64]
+  $ offered list image c
+  [cmd context]
+  $ offered list image cmd 0 ''
+  []
+  $ offered check -; offered debug -; offered explain -; offered run -
+  [--stale --help]
+  [--help]
+  [--help]
+  [--help]
+  $ offered help ''
+  [asm run check debug explain list upgrade]
+
+Both completions know every word and every kind.
+
+  $ words=$(rviommu --help | sed -n '/^Commands:/,/^$/s/^  \([a-z]*\).*/\1/p')
+  $ for name in rviommu.bash _rviommu; do
+  >   for word in $words --help --version cmd fault context dir pte u64; do
+  >     grep -qw -e "$word" "$TOP/completions/$name" || echo "$name lacks $word"
+  >   done
+  > done

@@ -1,0 +1,51 @@
+Each example has answers; those of its words are written, run where it names none. One is a check that fails.
+
+  $ cd "$TOP/examples"; made=$(dirname "$(command -v rviommu)")
+  $ for script in *.script; do
+  >   image=; words=
+  >   if test -e "${script%.script}.asm"; then
+  >     rviommu asm "${script%.script}.asm" "$made/image"; image=$made/image
+  >     words=$(sed -n '1s/^# rviommu \(.*\) image < examples.*/\1/p' "$script")
+  >   fi
+  >   rviommu ${image:+${words:-run}} $image < "$script" > "$made/out"; status=$?
+  >   cmp "$made/out" "${script%.script}.answers"
+  >   test $status = 0 || echo "$script: $status, $(tail -n 1 "$made/out")"
+  > done
+  missing_invalidation.script: 1, 13 passed, 1 failed
+  stopped_queue.script: 1, 17 passed, 1 failed
+  $ ls *.script | wc -l > "$made/scripts"; ls *.answers | wc -l | cmp - "$made/scripts"
+
+What explain writes of scripts stands in files beside them.
+
+  $ cd "$TOP"
+  $ for wanted in examples/*.explained tests/explained/*.explained; do
+  >   rviommu asm "${wanted%.explained}.asm" "$made/image"
+  >   rviommu explain "$made/image" < "${wanted%.explained}.script" | cmp - "$wanted"
+  > done
+
+Each line of a script of tests/debugged is answered by debug as its comment says, and check passes.
+
+  $ for script in tests/debugged/*.script; do
+  >   rviommu asm "${script%.script}.asm" "$made/image"
+  >   sed -n 's/.*# => //p' "$script" > "$made/wanted"
+  >   rviommu debug "$made/image" < "$script" | cmp - "$made/wanted"
+  >   echo "$(wc -l < "$made/wanted") passed, 0 failed" > "$made/passed"
+  >   rviommu check "$made/image" < "$script" | cmp - "$made/passed"
+  > done
+
+The program that `make run` builds answers as rviommu without a word does, and takes no word.
+
+  $ player=$TOP/crates/iom_player/out/iom_player; test -x "$player" || echo "packaging/build.py iom_player builds it"
+  $ cd "$made"; printf 'jump\n' > bad; yes '' | head -n 1048577 > long; printf 'reg read 8 4' > ask; : > empty
+  $ for script in "$TOP"/examples/*.script bad long ask empty; do
+  >   for place in out /dev/full; do
+  >     rviommu < "$script" > $place 2> errors; echo $? >> errors; mv out wanted
+  >     "$player" < "$script" > $place 2> errors_of_player; echo $? >> errors_of_player; : >> out
+  >     cmp out wanted; sed 's/^iom_player: /rviommu: /' errors_of_player | cmp - errors; : > out
+  >   done
+  > done
+  $ shown=$(sed -n 's|^    make run < ||p' "$TOP/README.md")
+  $ make -s -C "$TOP" -o "$player" run player="$player" < "$TOP/$shown" | cmp - "$TOP/${shown%.script}.answers"
+  $ "$player" run < ask
+  iom_player: no word is taken; rviommu takes words
+  [2]

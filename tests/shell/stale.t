@@ -1,0 +1,108 @@
+With --stale a line fails, too, if an access of it used what is cached and the tables no longer say. Without it these
+lines pass.
+
+  $ rviommu asm "$TESTDIR/../mapped.asm" image
+  $ read='dma read 5 0x40201abc 4'
+  $ mapped="reg write ddtp 0x20000402
+  > $read"
+  $ unmapped="$mapped
+  > store 0x80004008 8 0"
+  $ plain() { rviommu check image; }
+  $ stale() { rviommu check --stale image; }
+  $ echo "$unmapped
+  > $read" > unmapped
+  $ plain < unmapped
+  0 passed, 0 failed
+  $ stale < unmapped
+  line 4: dma read 5 0x40201abc 4 -> 11223344, stale: the tables now say denied 13
+  0 passed, 1 failed
+  [1]
+  $ rviommu check image --stale < unmapped
+  line 4: dma read 5 0x40201abc 4 -> 11223344, stale: the tables now say denied 13
+  0 passed, 1 failed
+  [1]
+
+What is cached and the tables are one; the answer is stale, and the wanted one, or not.
+
+  $ echo "$mapped
+  > $read # => 11223344" | stale
+  1 passed, 0 failed
+  $ echo "$unmapped
+  > $read # => 11223344" | stale
+  line 4: dma read 5 0x40201abc 4 -> 11223344, stale: the tables now say denied 13
+  0 passed, 1 failed
+  [1]
+  $ echo "$unmapped
+  > $read # => 0" | stale
+  line 4: dma read 5 0x40201abc 4 -> 11223344, wanted 0, stale: the tables now say denied 13
+  0 passed, 1 failed
+  [1]
+
+The page is mapped to another frame, with the same bytes; the context is no longer valid.
+
+  $ echo "$mapped
+  > store 0x80011abc 4 0x44332211
+  > store 0x80004008 8 0x200044d7
+  > $read" | stale
+  line 5: dma read 5 0x40201abc 4 -> 11223344, stale: the tables now say addr=0x80011abc
+  0 passed, 1 failed
+  [1]
+  $ echo "$mapped
+  > store 0x800010a0 8 0
+  > $read" | stale
+  line 4: dma read 5 0x40201abc 4 -> 11223344, stale: the tables now say denied 258
+  0 passed, 1 failed
+  [1]
+
+The invalidation comes in time; the kind of access isn't cached; lines make no access.
+
+  $ echo "$unmapped
+  > reg write cqb 0x20024000
+  > reg write cqcsr 1
+  > reg write cqt 1
+  > cmd run 9
+  > $read # => denied 13" | stale
+  1 passed, 0 failed
+  $ echo "$unmapped
+  > dma write 5 0x40201abc 00 # => denied 15
+  > trace 0
+  > cmd # => idle
+  > load 0x80010abc 4
+  > place page 0
+  > dma read 5 0 0 # => misuse" | stale
+  3 passed, 0 failed
+
+A block device's access is stale: one by itself, or one of a line of many.
+
+  $ device="reg write ddtp 0x20000402
+  > dev write 0 Status 3
+  > dev write 0 DriverFeaturesSel 1
+  > dev write 0 DriverFeatures 3
+  > dev write 0 Status 0xb
+  > dev write 0 QueueNum 4
+  > dev write 0 QueueDescLow 0x40202000
+  > dev write 0 QueueDriverLow 0x40201000
+  > dev write 0 QueueDeviceLow 0x40202800
+  > dev write 0 QueueReady 1
+  > dev write 0 Status 0xf
+  > dev write 0 QueueNotify 0
+  > dev step 0 # => done
+  > store 0x80004008 8 0"
+  $ echo "$device
+  > dev step 0" | stale
+  line 15: dev step 0 -> done, stale: the tables now say denied 13
+  1 passed, 1 failed
+  [1]
+  $ echo "$device
+  > dev run 0 99" | stale
+  line 15: dev run 0 99 -> 0x3 idle, stale: the tables now say denied 13
+  1 passed, 1 failed
+  [1]
+
+So are two reads of the example stale_translation.
+
+  $ rviommu check --stale < "$TESTDIR/../../examples/stale_translation.script"
+  line 18: dma read 5 0x40201abc 1 -> 11, stale: the tables now say denied 13
+  line 30: dma read 5 0x40201abc 1 -> 11, stale: the tables now say denied 13
+  0 passed, 2 failed
+  [1]
