@@ -1,0 +1,229 @@
+#!/usr/bin/env python3
+"""boot.py [FOLDER [RVIOMMU]]    Boots Debian's riscv64 kernel on rviommu-sys, and checks what it did.
+
+FOLDER (contrib/qemu/out) has the program that build.py made, and keeps Debian's packages. RVIOMMU is the program that
+plays the record (crates/rviommu/out/rviommu). Prints a line for each check, the counts, and the times beside those of
+QEMU's own device. Ends with status 1 if a check failed, 2 if something is missing.
+"""
+import hashlib
+import os
+import re
+import signal
+import subprocess
+import sys
+import tempfile
+import threading
+import time
+from pathlib import Path
+
+from debian import Missing
+from kernel import Kernel
+
+HERE = Path(__file__).resolve().parent
+TOP = HERE.parents[1]
+MACHINE = "virt,aia=aplic-imsic,iommu-sys=on"
+DISK = 32 << 20
+WRITTEN = 2 << 20
+MOST_SECONDS = int(os.environ.get("MOST_SECONDS", "900"))
+MOST_TIMES = 1.5
+# The memory of a recorded boot: what the kernel uses for tables and queues then lies in 64 MiB.
+MEMORY, RECORDED_MEMORY = "256M", "112M"
+TESTS = ("map", "unmap", "read-only", "remap", "superpage", "gigapage", "64-KiB", "rounds", "no-flush", "second-domain",
+         "identity-again")
+NO_FLUSH = 0x10000600
+
+
+class Checks:
+    """Counts checks, and prints each."""
+
+    def __init__(self):
+        self.failed = self.passed = 0
+
+    def check(self, name, holds, why=""):
+        self.passed += bool(holds)
+        self.failed += not holds
+        print(f"{'ok    ' if holds else 'FAILED'} {name}{'' if holds or not why else f': {why}'}", flush=True)
+
+
+class Boot:
+    """One boot: what the guest and QEMU printed, and how long it took."""
+
+    def __init__(self, program, kernel, archive, device="", memory=MEMORY, words="", kill_after=None):
+        with tempfile.TemporaryDirectory(prefix="rviommu-boot-") as folder:
+            self.disks = [Path(folder) / it for it in ("blk", "nvme")]
+            for disk in self.disks:
+                disk.write_bytes(b"")
+                os.truncate(disk, DISK)
+            path, modules = archive
+            command = [program, "-M", MACHINE, "-m", memory, "-nodefaults", "-nographic", "-no-reboot", "-serial", "stdio"]
+            command += ["-bios", kernel.firmware, "-kernel", kernel.image, "-initrd", path]
+            command += ["-append", f"console=ttyS0 quiet cma=0 modules={','.join(modules)} {words}"]
+            command += ["-device", device] * bool(device)
+            for disk in self.disks:
+                command += ["-drive", f"if=none,id={disk.name},file={disk},format=raw"]
+            command += ["-device", "virtio-blk-pci,drive=blk,iommu_platform=on,disable-legacy=on"]
+            command += ["-device", "nvme,drive=nvme,serial=rviommu", "-netdev", "user,id=net"]
+            command += ["-device", "virtio-net-pci,netdev=net,iommu_platform=on,disable-legacy=on,romfile="]
+            command += ["-device", f"edu,dma_mask={(1 << 64) - 1:#x}"]
+            self.run([str(it) for it in command], kill_after)
+            self.sums = [hashlib.sha256(it.read_bytes()[:WRITTEN]).hexdigest() for it in self.disks]
+
+    def run(self, command, kill_after):
+        begin = time.monotonic()
+        with tempfile.TemporaryFile("w+") as faults:
+            with subprocess.Popen(command, stdin=subprocess.DEVNULL, stdout=subprocess.PIPE, stderr=faults) as process:
+                timer = threading.Timer(kill_after or MOST_SECONDS, process.kill)
+                timer.start()
+                text = process.stdout.read()
+                _, status, used = os.wait4(process.pid, 0)
+                process.returncode = os.waitstatus_to_exitcode(status)
+                timer.cancel()
+            faults.seek(0)
+            self.faults = faults.read().splitlines()
+        self.seconds = time.monotonic() - begin
+        self.processor = used.ru_utime + used.ru_stime
+        self.lines = [it.rstrip("\r") for it in text.decode(errors="replace").split("\n")]
+        if process.returncode < 0:
+            name = signal.Signals(-process.returncode).name
+            late = "" if kill_after else f" (after {MOST_SECONDS} s)"
+            raise Missing(f"QEMU was killed by {name}{late}; the guest's last line: {self.last()}")
+        if process.returncode > 0:
+            raise Missing(f"QEMU ended with status {process.returncode}: {self.faults[-1] if self.faults else 'no reason given'}")
+        if "guest: end" not in self.lines:
+            raise Missing(f"the guest didn't reach its end; its last line: {self.last()}")
+
+    def last(self):
+        return next((it for it in reversed(self.lines) if it.strip()), "none")
+
+    def found(self, pattern):
+        """The matches of a pattern in the lines of the guest."""
+        return [it for line in self.lines for it in re.findall(pattern, line)]
+
+    def counts(self):
+        """What the device counted at the end, as text."""
+        return next((it.partition(": ")[2] for it in self.faults if " accesses, " in it), "")
+
+    def stale(self):
+        return [it for it in self.faults if "rviommu-sys: stale:" in it]
+
+
+def check_guest(checks, boot, name):
+    """The guest's own checks, and what it wrote, seen from outside."""
+    for what, verdict in boot.found(r"^check: (\S+) (ok|failed)"):
+        checks.check(f"{name}: {what}", verdict == "ok")
+    told = dict(boot.found(r"^written: (\S+) (\S+)"))
+    checks.check(f"{name}: both disks have what the guest wrote", list(told.values()) == boot.sums)
+    checks.check(f"{name}: no warning of the kernel", not boot.found(r"dmesg: .*(?:BUG|WARNING|Oops)"))
+
+
+def check_paging(checks, boot, name):
+    """The tests of the module."""
+    results = dict(boot.found(r"paging: (\S+) (ok|failed.*)"))
+    for test in TESTS:
+        checks.check(f"{name}: {test}", results.get(test) == "ok", results.get(test, "not run"))
+    causes = {int(it) for it in boot.found(r"[Ff]ault (\d+) devid")}
+    checks.check(f"{name}: faults 13 and 15 in the kernel's log", {13, 15} <= causes, f"found {sorted(causes)}")
+
+
+def check_stale(checks, boot, name):
+    """Stale are the two accesses after the flush that was left out, and no other."""
+    lines = boot.stale()
+    for line in lines:
+        print(f"       {line.partition('rviommu-sys: ')[2]}")
+    wanted = [("read", NO_FLUSH, 13), ("write", NO_FLUSH + 4, 15)]
+    found = [(kind, int(iova, 16), int(cause)) for it in lines
+             for kind, iova, cause in re.findall(r" (read|write) (0x\w+): led to .*; the tables now say denied (\d+)", it)]
+    checks.check(f"{name}: the flush that was left out is reported, and nothing else", found == wanted and len(lines) == 2,
+                 f"{len(lines)} lines")
+
+
+def check_record(checks, record, counts, rviommu):
+    """The record plays with the same answers, and `explain` counts what the device counted."""
+    image = f"{record}.image"
+    with open(record, "rb") as script:
+        checked = subprocess.run([rviommu, "check", image], stdin=script, capture_output=True, text=True, check=False)
+    last = (checked.stdout.splitlines() or [checked.stderr.strip()])[-1]
+    checks.check(f"record: check: {last}", checked.returncode == 0 and last.endswith(" 0 failed"))
+    with open(record, "rb") as script:
+        explained = subprocess.run([rviommu, "explain", image], stdin=script, capture_output=True, text=True, check=False)
+    summary = dict(re.findall(r"(?m)^(accesses|granted|denied \d+|stale): (\d+)", explained.stdout))
+    told = dict(re.findall(r"(?:\(|, )(\d+): (\d+)", counts))
+    wanted = {f"denied {cause}": number for cause, number in told.items()}
+    wanted["accesses"] = counts.partition(" ")[0]
+    found = {key: value for key, value in summary.items() if key == "accesses" or key.startswith("denied")}
+    checks.check(f"record: explain counts {', '.join(f'{key} {value}' for key, value in wanted.items())}", found == wanted, f"{found}")
+
+
+def one_line(checks, name, action, wanted):
+    """A run that must fail with one clear line."""
+    try:
+        action()
+    except Missing as fault:
+        checks.check(f"{name}: {fault}", re.search(wanted, str(fault)))
+    else:
+        checks.check(name, False, "it didn't fail")
+
+
+def check_faults(checks, start, folder):
+    """Errors give one clear line."""
+    one_line(checks, "an unknown property", lambda: start("rviommu-sys,stael=on"), r"Property 'rviommu-sys\.stael' not found$")
+    one_line(checks, "QEMU is killed", lambda: start("rviommu-sys", kill_after=5), "^QEMU was killed by SIGKILL")
+    full = folder / "full"
+    full.unlink(missing_ok=True)
+    full.symlink_to("/dev/full")
+    boot = start(f"rviommu-sys,record={full}")
+    lines = [it for it in boot.faults if "record=" in it]
+    checks.check(f"a full disk: {' | '.join(lines)}", len(lines) == 1 and "No space left on device" in lines[0])
+
+
+def main():
+    folder = Path(sys.argv[1] if len(sys.argv) > 1 else HERE / "out").resolve()
+    rviommu = Path(sys.argv[2] if len(sys.argv) > 2 else TOP / "crates/rviommu/out/rviommu").resolve()
+    program = folder / "qemu-system-riscv64"
+    if not program.exists():
+        raise Missing(f"{program} is not built: contrib/qemu/build.py")
+    if not rviommu.exists():
+        raise Missing(f"{rviommu} is not built: make build")
+    kernel = Kernel(folder)
+    plain, paging = kernel.archive("plain.cpio", False), kernel.archive("paging.cpio", True)
+    print(f"Linux {kernel.version}", flush=True)
+    checks = Checks()
+
+    def start(device, archive=plain, **more):
+        return Boot(program, kernel, archive, device, **more)
+
+    boots = {}
+    for name, device in (("QEMU's own", ""), ("rviommu-sys", "rviommu-sys")):
+        boots[name] = start(device)
+        check_guest(checks, boots[name], name)
+    own, ours = boots.values()
+    checks.check("rviommu-sys: probe", ours.found(r"dmesg: .*riscv,iommu .*wire"), f"{ours.found('dmesg: (.*riscv,iommu.*)')}")
+    print(f"       {ours.counts()}")
+    for name, device in (("paging", "rviommu-sys"), ("paging, stale=on", "rviommu-sys,stale=on")):
+        boot = start(device, paging)
+        check_guest(checks, boot, name)
+        check_paging(checks, boot, name)
+        print(f"       {boot.counts()}")
+        for line in boot.found(r"paging: (\d+ passed.*)"):
+            print(f"       module: {line}")
+    check_stale(checks, boot, name)
+    record = folder / "boot.script"
+    boot = start(f"rviommu-sys,stale=on,record={record}", paging, memory=RECORDED_MEMORY, words="paging=rounds=2000")
+    check_guest(checks, boot, "record")
+    check_paging(checks, boot, "record")
+    check_stale(checks, boot, "record")
+    check_record(checks, record, boot.counts(), rviommu)
+    check_faults(checks, start, folder)
+    times = [f"{name} {it.seconds:.1f} s ({it.processor:.1f} s of processor)" for name, it in boots.items()]
+    checks.check(f"boot to power-off: {', '.join(times)}: {ours.seconds / own.seconds:.2f} times",
+                 ours.seconds <= MOST_TIMES * own.seconds)
+    print(f"{checks.passed} passed, {checks.failed} failed")
+    return checks.failed > 0
+
+
+if __name__ == "__main__":
+    try:
+        sys.exit(main())
+    except Missing as fault:
+        print(f"boot.py: {fault}", file=sys.stderr)
+        sys.exit(2)

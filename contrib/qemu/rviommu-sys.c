@@ -1,0 +1,421 @@
+/*
+ * rviommu-sys: the proved model of the RISC-V IOMMU as a device of QEMU's machine `virt`.
+ *
+ * The device stands in front of the machine's own IOMMU (-M virt,iommu-sys=on): it takes that one's registers, interrupt lines and PCI
+ * bus, and everything that they do is answered by the C library (include/rviommu.h). contrib/qemu/README.md has its properties.
+ */
+#include "qemu/osdep.h"
+#include "rviommu-qemu.h"
+#include "rviommu-record.h"
+
+#define TYPE_RVIOMMU_SYS "rviommu-sys"
+#define TYPE_RVIOMMU_REGION "rviommu-sys-region"
+OBJECT_DECLARE_SIMPLE_TYPE(RviommuSys, RVIOMMU_SYS)
+
+/* The type of the machine's own IOMMU. */
+#define TYPE_OWN "riscv-iommu-device"
+
+#define REGISTERS_SIZE 0x1000
+#define IPSR 0x54
+#define ICVEC 0x2f8
+#define PENDING_COMMANDS 1
+#define PENDING_FAULTS 2
+#define VECTORS 4
+/* Causes of a denial are below this number ("Fault/Event-Queue (FQ)", CAUSE). */
+#define CAUSES 512
+
+/* What a PCI function sees as memory. */
+typedef struct Space {
+    IOMMUMemoryRegion region;
+    AddressSpace space;
+    RviommuSys *iommu;
+    PCIBus *bus;
+    int function;
+    QLIST_ENTRY(Space) next;
+} Space;
+
+struct RviommuSys {
+    DeviceState parent;
+    MemoryRegion registers;
+    QemuMutex lock; /* held for each use of the model: a device may have a thread of its own */
+    QEMUBH *lines_later;
+    Notifier at_exit;
+    QLIST_HEAD(, Space) spaces;
+    qemu_irq lines[VECTORS];
+
+    rviommu_t model;
+    struct rviommu_memory memory;
+    struct rviommu_recorder *recorder; /* NULL without record= */
+    bool is_used;                      /* there was a step since the last reset */
+
+    uint64_t granted, commands, stale_accesses;
+    uint64_t denied[CAUSES];
+
+    bool stale;
+    char *record;
+    char *capabilities;
+};
+
+/* The interrupt lines follow ipsr and icvec. The caller has QEMU's big lock and ours. */
+static void set_lines(RviommuSys *s)
+{
+    uint64_t pending = rviommu_interrupt(&s->model), vectors = 0;
+
+    rviommu_reg_look(&s->model, ICVEC, 8, &vectors);
+    for (unsigned line = 0; line < VECTORS; line++) {
+        bool by_commands = (pending & PENDING_COMMANDS) && (vectors & 15) == line;
+        bool by_faults = (pending & PENDING_FAULTS) && (vectors >> 4 & 15) == line;
+
+        qemu_set_irq(s->lines[line], by_commands || by_faults);
+    }
+}
+
+static void set_lines_later(void *opaque)
+{
+    RviommuSys *s = opaque;
+
+    QEMU_LOCK_GUARD(&s->lock);
+    set_lines(s);
+}
+
+/* After a step. Lines may only be set under QEMU's big lock, which a device's thread doesn't hold. */
+static void lines_may_change(RviommuSys *s)
+{
+    if (bql_locked()) {
+        set_lines(s);
+    } else {
+        qemu_bh_schedule(s->lines_later);
+    }
+}
+
+/* The command unit takes commands until it has none or is stopped. */
+static void run_commands(RviommuSys *s)
+{
+    for (;;) {
+        struct rviommu_command_seen seen = rviommu_record_before_command(s->recorder, &s->model);
+
+        if (rviommu_command_lent(&s->model, s->memory.words, s->memory.count) != RVIOMMU_DONE) {
+            return;
+        }
+        s->commands++;
+        rviommu_record_command(s->recorder, &s->model, seen);
+    }
+}
+
+static MemTxResult read_register(void *opaque, hwaddr offset, uint64_t *value, unsigned size, MemTxAttrs attrs)
+{
+    RviommuSys *s = opaque;
+    enum rviommu_answer answer;
+
+    QEMU_LOCK_GUARD(&s->lock);
+    s->is_used = true;
+    answer = rviommu_reg_read_lent(&s->model, s->memory.words, s->memory.count, offset, size, value);
+    if (answer != RVIOMMU_VALUE) {
+        return MEMTX_ERROR;
+    }
+    rviommu_record_register_read(s->recorder, &s->model, offset, size, *value);
+    return MEMTX_OK;
+}
+
+static MemTxResult write_register(void *opaque, hwaddr offset, uint64_t value, unsigned size, MemTxAttrs attrs)
+{
+    RviommuSys *s = opaque;
+    enum rviommu_answer answer;
+
+    QEMU_LOCK_GUARD(&s->lock);
+    s->is_used = true;
+    answer = rviommu_reg_write_lent(&s->model, s->memory.words, s->memory.count, offset, size, value);
+    if (answer != RVIOMMU_DONE) {
+        return MEMTX_ERROR;
+    }
+    rviommu_record_register_write(s->recorder, &s->model, offset, size, value);
+    run_commands(s);
+    if (offset <= IPSR && IPSR < offset + size) {
+        /* The machine's interrupt controller counts edges: a cause that still stands is a new edge. */
+        for (unsigned line = 0; line < VECTORS; line++) {
+            qemu_irq_lower(s->lines[line]);
+        }
+    }
+    lines_may_change(s);
+    return MEMTX_OK;
+}
+
+static const MemoryRegionOps register_ops = {
+    .read_with_attrs = read_register,
+    .write_with_attrs = write_register,
+    .endianness = DEVICE_LITTLE_ENDIAN,
+    .valid = {.min_access_size = 4, .max_access_size = 8},
+    .impl = {.min_access_size = 4, .max_access_size = 8},
+};
+
+/* Reports the last access if it was stale. */
+static void report_stale(RviommuSys *s)
+{
+    g_autofree char *line = NULL;
+    struct rviommu_why why;
+
+    if (rviommu_why(&s->model, 0, &why) != RVIOMMU_OK || !why.is_stale) {
+        return;
+    }
+    s->stale_accesses++;
+    line = rviommu_stale_line(s->recorder, &why);
+    error_report("rviommu-sys: %s", line);
+}
+
+/* The translation of one access. Nothing is kept for the next one, since only the model's caches may do that. */
+static IOMMUTLBEntry translate(IOMMUMemoryRegion *region, hwaddr iova, IOMMUAccessFlags flags, int index)
+{
+    Space *space = container_of(region, Space, region);
+    RviommuSys *s = space->iommu;
+    uint64_t did = PCI_BUILD_BDF(pci_bus_num(space->bus), space->function), number = 0;
+    bool is_write = flags & IOMMU_WO;
+    enum rviommu_answer answer;
+    IOMMUTLBEntry entry = {
+        .target_as = &address_space_memory,
+        .iova = iova & ~(hwaddr)RVIOMMU_PAGE_MASK,
+        .addr_mask = RVIOMMU_PAGE_MASK,
+        .perm = IOMMU_NONE,
+    };
+
+    if (flags == IOMMU_NONE) {
+        return entry;
+    }
+    QEMU_LOCK_GUARD(&s->lock);
+    s->is_used = true;
+    rviommu_record_before_access(s->recorder, &s->model, did, iova);
+    answer = rviommu_translate_lent(&s->model, s->memory.words, s->memory.count, did, iova, is_write, &number);
+    rviommu_record_access(s->recorder, &s->model, did, iova, is_write, answer, number);
+    if (answer == RVIOMMU_VALUE) {
+        s->granted++;
+        entry.translated_addr = number & ~(uint64_t)RVIOMMU_PAGE_MASK;
+        entry.perm = is_write ? IOMMU_WO : IOMMU_RO;
+    } else {
+        s->denied[MIN(number, CAUSES - 1)]++;
+    }
+    if (s->stale) {
+        report_stale(s);
+    }
+    lines_may_change(s);
+    return entry;
+}
+
+/* Those who would keep translations, as vhost and vfio do, are refused. */
+static int refuse_notifier(IOMMUMemoryRegion *region, IOMMUNotifierFlag old, IOMMUNotifierFlag new, Error **errp)
+{
+    if (new == IOMMU_NOTIFIER_NONE) {
+        return 0;
+    }
+    error_setg(errp, "rviommu-sys translates each access by itself, so no device may keep translations (vhost, vfio)");
+    return -EINVAL;
+}
+
+static void region_class_init(ObjectClass *class, RVIOMMU_CLASS_DATA)
+{
+    IOMMUMemoryRegionClass *region = IOMMU_MEMORY_REGION_CLASS(class);
+
+    region->translate = translate;
+    region->notify_flag_changed = refuse_notifier;
+}
+
+static AddressSpace *space_of(PCIBus *bus, void *opaque, int function)
+{
+    RviommuSys *s = opaque;
+    g_autofree char *name = NULL;
+    Space *space;
+
+    QLIST_FOREACH(space, &s->spaces, next) {
+        if (space->bus == bus && space->function == function) {
+            return &space->space;
+        }
+    }
+    space = g_new0(Space, 1);
+    space->iommu = s;
+    space->bus = bus;
+    space->function = function;
+    name = g_strdup_printf("rviommu-sys-%02x.%x", PCI_SLOT(function), PCI_FUNC(function));
+    memory_region_init_iommu(&space->region, sizeof(space->region), TYPE_RVIOMMU_REGION, OBJECT(s), name, UINT64_MAX);
+    address_space_init(&space->space, MEMORY_REGION(&space->region), name);
+    QLIST_INSERT_HEAD(&s->spaces, space, next);
+    return &space->space;
+}
+
+static const PCIIOMMUOps pci_ops = {.get_address_space = space_of};
+
+/* The counts in words. */
+static char *counts(RviommuSys *s)
+{
+    g_autoptr(GString) causes = g_string_new(NULL);
+    uint64_t denied = 0;
+
+    for (unsigned cause = 0; cause < CAUSES; cause++) {
+        if (s->denied[cause]) {
+            g_string_append_printf(causes, "%s%u: %" PRIu64, denied ? ", " : " (", cause, s->denied[cause]);
+            denied += s->denied[cause];
+        }
+    }
+    g_string_append(causes, denied ? ")" : "");
+    if (s->stale) {
+        g_string_append_printf(causes, ", %" PRIu64 " stale", s->stale_accesses);
+    }
+    return g_strdup_printf("%" PRIu64 " accesses, %" PRIu64 " granted, %" PRIu64 " denied%s; %" PRIu64 " commands", s->granted + denied,
+                           s->granted, denied, causes->str, s->commands);
+}
+
+static char *get_counts(Object *object, Error **errp)
+{
+    RviommuSys *s = RVIOMMU_SYS(object);
+
+    QEMU_LOCK_GUARD(&s->lock);
+    return counts(s);
+}
+
+static void tell_at_exit(Notifier *notifier, void *data)
+{
+    RviommuSys *s = container_of(notifier, RviommuSys, at_exit);
+    g_autofree char *told = NULL;
+
+    QEMU_LOCK_GUARD(&s->lock);
+    told = counts(s);
+    error_printf("rviommu-sys: %s\n", told);
+    rviommu_record_end(s->recorder);
+    s->recorder = NULL;
+}
+
+/* The machine was reset. Its first reset comes before any step. */
+static void reset(void *opaque)
+{
+    RviommuSys *s = opaque;
+
+    QEMU_LOCK_GUARD(&s->lock);
+    rviommu_reset(&s->model);
+    if (s->is_used && s->recorder) {
+        rviommu_record_stop(s->recorder, "the machine was reset, which a script can't say");
+    }
+    s->is_used = false;
+    set_lines(s);
+}
+
+/* Opens the model in front of the machine's memory. */
+static bool open_model(RviommuSys *s, Error **errp)
+{
+    MachineState *machine = MACHINE(qdev_get_machine());
+    g_autofree char *text = g_strdup_printf("ram 0x80000000 0x1000\ncapabilities %s\n", s->capabilities ? s->capabilities : "");
+    uint8_t image[RVIOMMU_IMAGE_ROOM];
+    char words[32] = "";
+    size_t length = 0;
+    uint64_t line = 0;
+    enum rviommu_status status = rviommu_assemble(text, strlen(text), image, sizeof image, &length, &line);
+
+    if (status != RVIOMMU_OK) {
+        error_setg(errp, "rviommu-sys: capabilities=%s is no statement of rviommu(1), \"IMAGE TEXTS\"", s->capabilities ? s->capabilities : "");
+        return false;
+    }
+    s->memory.words = memory_region_get_ram_ptr(machine->ram);
+    s->memory.base = machine->ram->addr;
+    s->memory.count = machine->ram_size / 8;
+    status = rviommu_open_lent_image(image, length, s->memory.base, machine->ram_size, &s->model);
+    if (status != RVIOMMU_OK) {
+        rviommu_text(status, words, sizeof words, &length);
+        error_setg(errp, "rviommu-sys: the model can't be opened: %s", words);
+        return false;
+    }
+    if (rviommu_keep_reasons(&s->model, s->stale ? 1 : 0, true) != RVIOMMU_OK) {
+        error_setg(errp, "rviommu-sys: no memory");
+        return false;
+    }
+    return true;
+}
+
+/* Takes registers, lines and bus of the machine's own IOMMU. */
+static bool take_place(RviommuSys *s, Error **errp)
+{
+    Object *own = object_resolve_path_type("", TYPE_OWN, NULL);
+    PCIBus *bus = (PCIBus *)object_resolve_path_type("", TYPE_PCI_BUS, NULL);
+    uint64_t address, first_line;
+    Object *chip;
+
+    if (!own || !bus) {
+        error_setg(errp, "rviommu-sys takes the place of the machine's IOMMU: it needs -M virt,iommu-sys=on");
+        return false;
+    }
+    address = object_property_get_uint(own, "addr", &error_abort);
+    first_line = object_property_get_uint(own, "base-irq", &error_abort);
+    chip = object_property_get_link(own, "irqchip", &error_abort);
+    for (unsigned line = 0; line < VECTORS; line++) {
+        s->lines[line] = qdev_get_gpio_in(DEVICE(chip), first_line + line);
+    }
+    memory_region_init_io(&s->registers, OBJECT(s), &register_ops, s, "rviommu-sys", REGISTERS_SIZE);
+    memory_region_add_subregion_overlap(get_system_memory(), address, &s->registers, 1);
+    pci_setup_iommu(bus, &pci_ops, s);
+    return true;
+}
+
+static void realize(DeviceState *device, Error **errp)
+{
+    RviommuSys *s = RVIOMMU_SYS(device);
+
+    if (object_resolve_path_type("", TYPE_RVIOMMU_SYS, NULL) != OBJECT(s)) {
+        error_setg(errp, "rviommu-sys: there may be only one");
+        return;
+    }
+    if (!open_model(s, errp)) {
+        return;
+    }
+    if (s->record) {
+        s->recorder = rviommu_record_begin(s->record, s->capabilities, &s->memory, errp);
+        if (!s->recorder) {
+            return;
+        }
+    }
+    if (!take_place(s, errp)) {
+        return;
+    }
+    s->lines_later = qemu_bh_new(set_lines_later, s);
+    s->at_exit.notify = tell_at_exit;
+    qemu_add_exit_notifier(&s->at_exit);
+    qemu_register_reset(reset, s);
+}
+
+static void instance_init(Object *object)
+{
+    RviommuSys *s = RVIOMMU_SYS(object);
+
+    qemu_mutex_init(&s->lock);
+    QLIST_INIT(&s->spaces);
+}
+
+static const Property properties[] = {
+    DEFINE_PROP_BOOL("stale", RviommuSys, stale, false),
+    DEFINE_PROP_STRING("record", RviommuSys, record),
+    DEFINE_PROP_STRING("capabilities", RviommuSys, capabilities),
+};
+
+static void class_init(ObjectClass *class, RVIOMMU_CLASS_DATA)
+{
+    DeviceClass *device = DEVICE_CLASS(class);
+
+    device->realize = realize;
+    device->desc = "proved model of the RISC-V IOMMU, in the place of the machine's own";
+    device->user_creatable = true;
+    device->hotpluggable = false;
+    set_bit(DEVICE_CATEGORY_MISC, device->categories);
+    device_class_set_props(device, properties);
+    object_class_property_add_str(class, "counts", get_counts, NULL);
+}
+
+static const TypeInfo types[] = {
+    {
+        .name = TYPE_RVIOMMU_SYS,
+        .parent = TYPE_DEVICE,
+        .instance_size = sizeof(RviommuSys),
+        .instance_init = instance_init,
+        .class_init = class_init,
+    },
+    {
+        .name = TYPE_RVIOMMU_REGION,
+        .parent = TYPE_IOMMU_MEMORY_REGION,
+        .class_init = region_class_init,
+    },
+};
+
+DEFINE_TYPES(types)
