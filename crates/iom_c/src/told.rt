@@ -49,7 +49,7 @@ impl Told {
             self.new (state_on (M.memory ram.new) board.new) }
     {
         if self.kept.has_no_room() {
-            let _taken = self.history.step_on(board, ram, step, number, answer);
+            self.history.follow(board, ram, step, number, answer);
         } else {
             let reason = self
                 .history
