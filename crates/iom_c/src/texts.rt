@@ -15,7 +15,7 @@ use crate::held::Held;
 use crate::owned::{Owned, carry_out};
 use iom_asm::{AsmFault, assemble};
 use iom_core::{Platform, Step};
-use iom_tool::{Reply, Session, Trace, answer_text, step_of};
+use iom_tool::{Reply, Console, Trace, answer_text, step_of};
 use std::alloc::Global;
 
 // Puts a text and a 0 behind it, and how many bytes it has.
@@ -48,7 +48,7 @@ fn answer_to(platform: &mut Platform, trace: &mut Trace, line: &[u8]) -> Reply
     ensures platform { platform.new ≡ platform.old }
     ensures trace { trace.new ≡ trace.old }
 {
-    Session::new(platform, trace).line(line)
+    Console::new(platform, trace).line(line)
 }
 
 // Carries out a line; None if the memory isn't the platform's own.
