@@ -96,6 +96,22 @@ static void test_refused_memory(void) {
     refused = -1;
 }
 
+/* Each allocation of an opening in front of lent memory is refused in turn; its memory is none of them. */
+static void test_refused_lent_memory(void) {
+    rviommu_t platform = {NULL};
+    uint32_t told = RVIOMMU_OUT_OF_MEMORY;
+    long count;
+    for (count = 0; told != RVIOMMU_OK && count < 100; count++) {
+        refused = count;
+        told = rviommu_open_lent(RAM, (uint64_t)1 << 55, &platform);
+        want("an opening without memory", told == RVIOMMU_OK ? RVIOMMU_OUT_OF_MEMORY : told, RVIOMMU_OUT_OF_MEMORY);
+        want("its handle", platform.own == NULL, told != RVIOMMU_OK);
+    }
+    refused = -1;
+    want("allocations of an opening", count > 3, true);
+    rviommu_close(&platform);
+}
+
 static void test_lines(void) {
     rviommu_t platform = {NULL};
     char answer[321] = "old";
@@ -562,6 +578,7 @@ int main(void) {
     test_assemble();
     test_refused_images();
     test_refused_memory();
+    test_refused_lent_memory();
     test_lines();
     test_looks();
     test_reasons();

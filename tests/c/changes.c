@@ -133,10 +133,18 @@ static void test_writes(void) {
     rviommu_close(&platform);
 }
 
+static void test_words(void) {
+    char words[32];
+    size_t length = 0;
+    want("words", rviommu_text(RVIOMMU_STATUS_OTHER_MEMORY, words, sizeof words, &length), RVIOMMU_OK);
+    want("which are", (uint64_t)strcmp(words, "other memory"), 0);
+}
+
 int main(void) {
     test_translations();
     test_reset();
     test_writes();
+    test_words();
     printf(failed ? "failed\n" : "passed\n");
     return failed;
 }

@@ -16,6 +16,13 @@ constexpr bool takes(Answer (*)(First, Operands...)) {
 
 static_assert(answers<rviommu_status>(rviommu_open), "");
 static_assert(answers<rviommu_status>(rviommu_open_built_in), "");
+static_assert(answers<rviommu_status>(rviommu_open_lent), "");
+static_assert(answers<rviommu_status>(rviommu_open_lent_image), "");
+static_assert(answers<rviommu_status>(rviommu_memory_write), "");
+static_assert(answers<rviommu_answer>(rviommu_translate), "");
+static_assert(answers<rviommu_answer>(rviommu_translate_lent), "");
+static_assert(answers<rviommu_answer>(rviommu_command_lent), "");
+static_assert(answers<rviommu_status>(rviommu_way_now), "");
 static_assert(answers<rviommu_status>(rviommu_copy), "");
 static_assert(answers<rviommu_status>(rviommu_keep_reasons), "");
 static_assert(answers<rviommu_status>(rviommu_line), "");
@@ -48,6 +55,8 @@ static_assert(takes<const rviommu_t *>(rviommu_disk), "");
 static_assert(takes<const rviommu_t *>(rviommu_interrupt), "");
 static_assert(takes<const rviommu_t *>(rviommu_part), "");
 static_assert(takes<const rviommu_t *>(rviommu_why), "");
+static_assert(takes<const rviommu_t *>(rviommu_way_now), "");
+static_assert(takes<const rviommu_t *>(rviommu_way_now_lent), "");
 
 // A member that is added takes its room from `reserved`.
 static_assert(sizeof(rviommu_page_place) == 56, "");
