@@ -21,7 +21,8 @@ struct rviommu_record {
     uint64_t told;  /* the number of steps when the script was last written */
 };
 
-/* Begins a record in an open file. The handle was opened or copied, and has had no step since, so its trace is empty. */
+/* Begins a record in an open file. The handle has memory of its own. It was opened or copied, and has had no step since, so its trace is empty. A
+ * record has steps only: what rviommu_reset and rviommu_memory_write do isn't in it. */
 static inline struct rviommu_record rviommu_record_begin(const rviommu_t *handle, FILE *script) {
     struct rviommu_record record = {script, rviommu_steps(handle), rviommu_steps(handle)};
     return record;
