@@ -1,3 +1,4 @@
+pub mod Fast
 pub mod Forms
 pub mod Pairs
 pub mod Rings

@@ -7,7 +7,7 @@ use Rattle.std.proofs.lemmas.List.{take_all, length-take-le}
 use Rattle.std.proofs.lemmas.List.Concat.{flat_map-append}
 use Rattle.iom_core.specs.Table.{next}
 use Rattle.iom_core.specs.declared.step.Step.{Step}
-use Rattle.iom_tool.specs.Script.{line_of}
+use Rattle.iom_tool.specs.Script.{line_in, line_of}
 use Rattle.iom_tool.specs.Console.{Console, console, console_after, traced}
 use Rattle.iom_tool.specs.Output.{steps_of, printed, after, output_to, output_of}
 
@@ -45,7 +45,7 @@ printed_none None is = refl
 
 -- more than 512 bytes of a line say that it is too long
 pub line_of-take : (count : ℕ) (line : List ℕ) → 512 < count → line_of (take count line) ≡ line_of line
-unfolding line_of
+unfolding line_in
 line_of-take count line more =
     elim (cases_lt count (length line)) as (λ _. line_of (take count line) ≡ line_of line) [
       | inl longer ↦

@@ -17,8 +17,8 @@ use Rattle.iom_items.specs.Lines.{context_text, item_line_on}
 use Rattle.iom_tool.specs.Console.{Console}
 use Rattle.iom_text.specs.Texts.{hexed}
 use Rattle.iom_tool.specs.Texts.{entry_text}
-use Rattle.iom_tool.specs.declared.script.Question.{Question}
-use Rattle.iom_tool.specs.declared.script.Question.TheVariants as question
+use Rattle.iom_tool.specs.declared.language.Question.{Question}
+use Rattle.iom_tool.specs.declared.language.Question.TheVariants as question
 
 -- a value and its name
 abbrev pub named : List ℕ → List ℕ → List ℕ

@@ -1,5 +1,8 @@
 pub mod Words
+pub mod Names
+pub mod Values
 pub mod Script
+pub mod Parsed
 pub mod Operands
 pub mod Texts
 pub mod Ring

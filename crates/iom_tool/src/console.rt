@@ -1,16 +1,31 @@
 //! What the lines of a script drive.
 
-ghost use Rattle.std.specs.Prelude.{◌≡◌, ◌++◌, ◌∷◌, [], ◌==◌, ◌<◌, false, length, is_err, IfErr, OnErr, OnOk};
+ghost use Rattle.std.specs.Prelude.{◌≡◌, ◌++◌, ◌∷◌, [], ◌==◌, ◌<◌, false, length, is_err, is_some, IfErr, OnErr, OnOk};
 ghost use Rattle.std.specs.Io.KnownBytes.{Appends};
+ghost use Rattle.std.specs.List.{list_any};
+ghost use Rattle.std.specs.Option.{unwrap_or};
+ghost use Rattle.iom_core.specs.Run.{end_of};
 ghost use Rattle.iom_reader.specs.Running.{WritesFront};
 ghost use Rattle.iom_reader.specs.Watching.{write_failed};
+ghost use Rattle.iom_tool.specs.Console.{console, trace_after};
+ghost use Rattle.iom_tool.specs.Output.{reply, steps_in, steps_of};
+ghost use Rattle.iom_tool.specs.Parsed.{line_as};
+ghost use Rattle.iom_tool.specs.Script.{line_of, plain};
 
-use crate::answering::answer_to;
+use crate::debugger::push_answer_in;
 use crate::draft::Draft;
+use crate::language::{Language, Line};
+use crate::matching::{MOST_BYTES_OF_A_LINE, line_by_table, line_of};
+use crate::text::{push_answer, push_text};
 use crate::trace::Trace;
+use arrayvec::ArrayVec;
 use iom_core::Platform;
 use iom_reader::{Answerer, RunFault, WatchedWriter, write_out};
+use iom_text::take_word;
 use std::io::Write;
+
+/// The text of one answer, at most 320 bytes, without a line end.
+pub type Reply = ArrayVec<u8, 320>;
 
 /// A platform with the trace of its steps, which the lines of a script drive.
 #[derive(Drop)]
@@ -37,6 +52,80 @@ impl<'a> Console<'a> {
             draft: Draft::new(),
         }
     }
+
+    /// Carries out a line, given without its line end, and answers its text: empty for a blank line, and `bad` for what is no line of
+    /// `run`, as where the text is above 512 bytes or holds a line end.
+    pub fn line(&mut self, text: &[u8]) -> Reply
+        ensures reply { result.items
+            ≡ unwrap_or (reply (console self.old.platform.now self.old.trace.now) (line_of text.now)) [] }
+        ensures state { self.new.platform.now ≡ end_of self.old.platform.now (steps_of text.now) }
+        ensures trace { self.new.trace.now
+            ≡ trace_after self.old.trace.now self.old.platform.now (steps_of text.now) }
+        ensures same_platform { self.new.platform.ghost_name ≡ self.old.platform.ghost_name }
+        ensures same_trace { self.new.trace.ghost_name ≡ self.old.trace.ghost_name }
+    {
+        let _said = self.carry_out(line_of(Language::Run, text));
+        let mut reply = Reply::new();
+        let _fits = reply.try_extend_from_slice(self.draft.as_slice());
+        reply
+    }
+
+    // Carries out a line, drafts its answer, and answers whether there is one.
+    fn carry_out(&mut self, line: Line) -> bool
+        ensures reply { self.new.draft
+            ≡ unwrap_or (reply (console self.old.platform.now self.old.trace.now) (plain (line_as line))) [] }
+        ensures said { result
+            ≡ is_some (reply (console self.old.platform.now self.old.trace.now) (plain (line_as line))) }
+        ensures room { length self.new.draft < 320 }
+        ensures state { self.new.platform.now ≡ end_of self.old.platform.now (steps_in (plain (line_as line))) }
+        ensures trace { self.new.trace.now
+            ≡ trace_after self.old.trace.now self.old.platform.now (steps_in (plain (line_as line))) }
+        ensures same_platform { self.new.platform.ghost_name ≡ self.old.platform.ghost_name }
+        ensures same_trace { self.new.trace.ghost_name ≡ self.old.trace.ghost_name }
+    {
+        self.draft.clear();
+        match line {
+            Line::Blank => return false,
+            Line::Does(step) => {
+                let answer = self.platform.step(&step);
+                push_answer(&mut self.draft, &answer);
+                self.trace.keep(step, answer);
+            }
+            Line::Asks(question) => push_answer_in(&mut self.draft, self.platform, self.trace, question),
+            _ => push_text(&mut self.draft, b"bad"),
+        }
+        true
+    }
+
+    // Carries out the line of this text, which has no line end, drafts its answer, and answers whether there is one.
+    #[inline(always)]
+    fn answer_to(&mut self, text: &[u8]) -> bool
+        requires { list_any (λ c. c == 10) text.now ≡ false }
+        ensures reply { self.new.draft
+            ≡ unwrap_or (reply (console self.old.platform.now self.old.trace.now) (line_of text.now)) [] }
+        ensures said { result ≡ is_some (reply (console self.old.platform.now self.old.trace.now) (line_of text.now)) }
+        ensures room { length self.new.draft < 320 }
+        ensures state { self.new.platform.now ≡ end_of self.old.platform.now (steps_of text.now) }
+        ensures trace { self.new.trace.now
+            ≡ trace_after self.old.trace.now self.old.platform.now (steps_of text.now) }
+        ensures same_platform { self.new.platform.ghost_name ≡ self.old.platform.ghost_name }
+        ensures same_trace { self.new.trace.ghost_name ≡ self.old.trace.ghost_name }
+    {
+        if text.len() > MOST_BYTES_OF_A_LINE {
+            return self.carry_out(Line::Bad);
+        }
+        let Some((verb, rest)) = take_word(text) else {
+            return self.carry_out(Line::Blank);
+        };
+        self.draft.clear();
+        if self
+            .trace
+            .carry_out(self.platform, verb, rest, &mut self.draft)
+        {
+            return true;
+        }
+        self.carry_out(line_by_table(Language::Run, text))
+    }
 }
 
 impl Answerer for Console<'_> {
@@ -56,7 +145,7 @@ impl Answerer for Console<'_> {
         line: &[u8],
         writer: &mut WatchedWriter<'_, W>,
     ) -> Result<(), RunFault> {
-        if !answer_to(self.platform, self.trace, line, &mut self.draft) {
+        if !self.answer_to(line) {
             return Ok(());
         }
         write_answer(&mut self.draft, writer)

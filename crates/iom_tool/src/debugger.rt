@@ -4,7 +4,7 @@ ghost use Rattle.iom_tool.specs.Console.{console};
 ghost use Rattle.iom_tool.specs.Debugger.{answer_in, context_place_text, id_text, kind_text, named, page_text, place_text, shown_text};
 
 use crate::draft::Draft;
-use crate::script::Question;
+use crate::language::Question;
 use crate::text::{push_entry, push_hexed, push_text};
 use crate::trace::Trace;
 use iom_bits::{Features, Kind};

@@ -1,7 +1,7 @@
-ghost use Rattle.std.specs.Prelude.{◌≡◌, ◌==◌, ◌+◌, ◌++◌, ◌||◌, ◌<◌, ◌≤◌, Some, None, true, false, length, IfOk, if◌then◌else◌};
+ghost use Rattle.std.specs.Prelude.{◌≡◌, ◌==◌, ◌+◌, ◌++◌, ◌∷◌, ◌||◌, ◌<◌, ◌≤◌, Some, None, true, false, length, IfOk, if◌then◌else◌};
 ghost use Rattle.iom_core.specs.Table.{next};
 ghost use Rattle.iom_text.specs.Words.{words_of};
-ghost use Rattle.iom_tool.specs.Script.{step_of};
+ghost use Rattle.iom_tool.specs.Parsed.{IsStep};
 ghost use Rattle.iom_tool.specs.Texts.{text_of};
 
 use crate::draft::Draft;
@@ -49,12 +49,12 @@ impl Model for Trace {
 }
 
 impl Trace {
-    ghost use Rattle.std.specs.Prelude.{◌≡◌, ◌++◌, ◌+◌, ◌<◌, ◌≤◌, [], Some, None, true, false, slice_get, IfOk, length};
+    ghost use Rattle.std.specs.Prelude.{◌≡◌, ◌++◌, ◌∷◌, ◌+◌, ◌<◌, ◌≤◌, [], Some, None, true, false, slice_get, IfOk, length};
     ghost use Rattle.std.specs.Option.{option_copied};
     ghost use Rattle.iom_core.specs.Table.{next};
     ghost use Rattle.iom_core.specs.declared.step.Step.{Step};
     ghost use Rattle.iom_text.specs.Words.{words_of};
-    ghost use Rattle.iom_tool.specs.Script.{step_of};
+    ghost use Rattle.iom_tool.specs.Parsed.{IsStep};
     ghost use Rattle.iom_tool.specs.Texts.{text_of};
     ghost use Rattle.iom_tool.specs.Console.{traced};
 
@@ -78,7 +78,7 @@ impl Trace {
     }
 
     /// Carries out the step that a line is, by its first word and what follows it, puts its answer's text, keeps both, and answers whether
-    /// the line is a step; else nothing changes.
+    /// it is one that is read the fast way; else nothing changes.
     #[inline(always)]
     pub(crate) fn carry_out(
         &mut self,
@@ -88,12 +88,11 @@ impl Trace {
         out: &mut Draft,
     ) -> bool
         requires { length out.old ≡ 0 }
-        ensures step { result ≡ true → (step : Step) × (step_of verb.now (words_of text.now) ≡ Some step)
+        ensures step { result ≡ true → (step : Step) × IsStep (verb.now ∷ words_of text.now) step
             × (platform.new ≡ (next platform.old step).state)
             × (out.new ≡ out.old ++ text_of (next platform.old step).answer)
             × (self.new ≡ traced self.old step (next platform.old step).answer) }
-        ensures none { result ≡ false → (step_of verb.now (words_of text.now) ≡ None)
-            × (platform.new ≡ platform.old) × (out.new ≡ out.old) × (self.new ≡ self.old) }
+        ensures none { result ≡ false → (platform.new ≡ platform.old) × (out.new ≡ out.old) × (self.new ≡ self.old) }
         ensures room { length out.new ≤ length out.old + 128 }
     {
         let entry = &mut self.places[self.spare];
@@ -167,8 +166,7 @@ fn carried_out(
     out: &mut Draft,
 ) -> bool
     requires { length out.old ≡ 0 }
-    ensures step { result ≡ true → step_of verb.now (words_of text.now) ≡ Some entry.new.step }
-    ensures none { result ≡ false → step_of verb.now (words_of text.now) ≡ None }
+    ensures step { result ≡ true → IsStep (verb.now ∷ words_of text.now) entry.new.step }
     ensures answer { result ≡ true → entry.new.answer ≡ (next platform.old entry.new.step).answer }
     ensures state { result ≡ true → platform.new ≡ (next platform.old entry.new.step).state }
     ensures told { result ≡ true → out.new ≡ out.old ++ text_of entry.new.answer }

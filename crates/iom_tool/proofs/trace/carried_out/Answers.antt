@@ -1,8 +1,5 @@
 use Rattle.iom_tool.proofs.trace.carried_out.Goals as goal
 
-pub returns-clause-none : goal.returns-clause-none
-returns-clause-none c = λ none. absurd (cc none)
-
 pub returns-clause-same : goal.returns-clause-same
 returns-clause-same c = λ none. absurd (cc none)
 
