@@ -1,12 +1,15 @@
 -- The steps that are read the fast way are those of the table.
-use Rattle.std.proofs.Common.{◌≡◌, ℕ, List, [], ◌∷◌, Some, true, codes, length, subst, sym, refl, ◌==◌}
+use Rattle.std.proofs.Common.{◌≡◌, ◌≤◌, ◌==◌, ℕ, List, [], ◌∷◌, Some, true, false, codes, length, nat_lt, subst, sym, refl, arith}
+use Rattle.std.specs.List.{list_any}
+use Rattle.iom_text.specs.Words.{words_of}
 use Rattle.std.specs.Prelude.{bytes_eq}
 use Rattle.std.proofs.lemmas.Slice.Eq.{bytes_eq-Decides}
 use Rattle.iom_core.specs.declared.step.Step.{Step}
 use Rattle.iom_core.specs.declared.step.Step.TheVariants as step
-use Rattle.iom_tool.specs.Script.{Data, Number, all_say, first_of, line_by, meaning, rows, step_by}
+use Rattle.iom_tool.specs.Script.{Data, Does, Number, Plain, all_say, first_of, line_by, line_in, meaning, rows, step_by}
 use Rattle.iom_tool.specs.Parsed.{IsStep}
 use Rattle.iom_tool.specs.Values.{nothing, numbers_only}
+use Rattle.iom_tool.specs.declared.language.Language.{Language}
 use Rattle.iom_tool.specs.declared.language.Language.TheVariants.{Run, Debug}
 
 same_word : (word name : List ℕ) → bytes_eq word name ≡ true → word ≡ name
@@ -80,3 +83,11 @@ pub cmd : (words : List (List ℕ)) → (length words == 0) ≡ true → IsStep 
 unfolding IsStep meaning first_of rows all_say line_by step_by
 cmd words is Run = rw is refl
 cmd words is Debug = rw is refl
+
+-- such a line says so in each script
+pub fast : (text verb : List ℕ) (words : List (List ℕ)) (step : Step) (language : Language) → list_any (λ c. c == 10) text ≡ false →
+    length text ≤ 512 → words_of text ≡ verb ∷ words → IsStep (verb ∷ words) step → line_in language text ≡ Plain (Does step)
+unfolding line_in IsStep
+fast text verb words step language cut short split told =
+    let within : nat_lt 512 (length text) ≡ false = grind arith in
+    rw (within, cut, split) (told language)

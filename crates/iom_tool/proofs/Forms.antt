@@ -57,3 +57,7 @@ enough_for_item (name ∷ operands) = by (nat_le (length operands) 9) refl where
       let all : take 10 operands ≡ operands = grind (arith, common_steps) in rw all refl
   by false many =
       let cut : nat_le (length (take 10 operands)) 9 ≡ false = grind (arith, common_steps) in rw (cut, many) refl
+
+pub none_left : words_of [] ≡ []
+unfolding words_of
+none_left = refl

@@ -102,6 +102,7 @@ step_by action.RegWrite said = step.RegWrite (at said 0) (at said 1) (at said 2)
 step_by action.Command said = step.Command
 step_by action.DmaRead said = step.DmaRead (at said 0) (at said 1) (at said 2)
 step_by action.DmaWrite said = step.DmaWrite (at said 0) (at said 1) (record { items = said.bytes })
+step_by (action.Translate kind) said = step.Translate (at said 0) (at said 1) kind
 step_by action.DevRead said = step.DevRead (at said 0) (at said 1) (at said 2)
 step_by action.DevWrite said = step.DevWrite (at said 0) (at said 1) (at said 2) (at said 3)
 step_by action.DevStep said = step.Device (at said 0)
@@ -192,6 +193,8 @@ rows =
     ∷ row Debug (form.Does action.RegWrite) (Word (codes "reg") ∷ Word (codes "write") ∷ Register ∷ Number ∷ [])
     ∷ row Debug (form.Does action.DevRead) (Word (codes "dev") ∷ Word (codes "read") ∷ Number ∷ BlockRegister ∷ [])
     ∷ row Debug (form.Does action.DevWrite) (Word (codes "dev") ∷ Word (codes "write") ∷ Number ∷ BlockRegister ∷ Number ∷ [])
+    ∷ row Debug (form.Does (action.Translate kind.Read)) (Word (codes "translate") ∷ Word (codes "read") ∷ Number ∷ Number ∷ [])
+    ∷ row Debug (form.Does (action.Translate kind.Write)) (Word (codes "translate") ∷ Word (codes "write") ∷ Number ∷ Number ∷ [])
     ∷ row Debug (form.Queue which.Commands) (Word (codes "queue") ∷ Word (codes "cmd") ∷ [])
     ∷ row Debug (form.Queue which.Faults) (Word (codes "queue") ∷ Word (codes "fault") ∷ [])
     ∷ row Debug form.Vectors (Word (codes "vectors") ∷ [])

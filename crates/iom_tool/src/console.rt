@@ -1,21 +1,14 @@
 //! What the lines of a script drive.
 
-ghost use Rattle.std.specs.Prelude.{◌≡◌, ◌++◌, ◌∷◌, [], ◌==◌, ◌<◌, false, length, is_err, is_some, IfErr, OnErr, OnOk};
+ghost use Rattle.std.specs.Prelude.{◌≡◌, ◌++◌, ◌∷◌, [], ◌<◌, false, length, is_err, IfErr, OnErr, OnOk};
 ghost use Rattle.std.specs.Io.KnownBytes.{Appends};
-ghost use Rattle.std.specs.List.{list_any};
-ghost use Rattle.std.specs.Option.{unwrap_or};
-ghost use Rattle.iom_core.specs.Run.{end_of};
 ghost use Rattle.iom_reader.specs.Running.{WritesFront};
 ghost use Rattle.iom_reader.specs.Watching.{write_failed};
-ghost use Rattle.iom_tool.specs.Console.{console, trace_after};
-ghost use Rattle.iom_tool.specs.Output.{reply, steps_in, steps_of};
-ghost use Rattle.iom_tool.specs.Parsed.{line_as};
-ghost use Rattle.iom_tool.specs.Script.{line_of, plain};
 
 use crate::debugger::push_answer_in;
 use crate::draft::Draft;
 use crate::language::{Language, Line};
-use crate::matching::{MOST_BYTES_OF_A_LINE, line_by_table, line_of};
+use crate::matching::{MOST_BYTES_OF_A_LINE, line_of};
 use crate::text::{push_answer, push_text};
 use crate::trace::Trace;
 use arrayvec::ArrayVec;
@@ -39,6 +32,19 @@ pub struct Console<'a> {
 }
 
 impl<'a> Console<'a> {
+    ghost use Rattle.std.specs.Prelude.{◌≡◌, ◌==◌, ◌<◌, ◌≤◌, [], true, false, length, is_some};
+    ghost use Rattle.std.specs.List.{list_any};
+    ghost use Rattle.std.specs.Option.{unwrap_or};
+    ghost use Rattle.iom_core.specs.Run.{end_of};
+    ghost use Rattle.iom_core.specs.Table.{next};
+    ghost use Rattle.iom_core.specs.declared.step.Step.{Step};
+    ghost use Rattle.iom_tool.specs.Console.{console, trace_after, traced};
+    ghost use Rattle.iom_tool.specs.Output.{reply, steps_in, steps_of};
+    ghost use Rattle.iom_tool.specs.Parsed.{line_as};
+    ghost use Rattle.iom_tool.specs.Script.{Does, Plain, line_in, line_of, plain};
+    ghost use Rattle.iom_tool.specs.Texts.{text_of};
+    ghost use Rattle.iom_tool.specs.declared.language.Language.TheVariants.{Run};
+
     /// A console of this platform and this trace.
     pub fn new(platform: &'a mut Platform, trace: &'a mut Trace) -> Console<'a>
         ensures same_platform { result.platform.ghost_name ≡ platform.entry.ghost_name }
@@ -91,10 +97,41 @@ impl<'a> Console<'a> {
                 push_answer(&mut self.draft, &answer);
                 self.trace.keep(step, answer);
             }
-            Line::Asks(question) => push_answer_in(&mut self.draft, self.platform, self.trace, question),
+            Line::Asks(question) => push_answer_in(
+                &mut self.draft,
+                self.platform,
+                self.trace,
+                question,
+            ),
             _ => push_text(&mut self.draft, b"bad"),
         }
         true
+    }
+
+    // Carries out the line of this text, which has no line end, if it is a step that is read the fast way, drafts its answer, and answers
+    // whether it did; else nothing but the draft changes.
+    #[inline(always)]
+    #[tactic(auto, using(crate::proofs::Fast::fast))]
+    fn stepped(&mut self, text: &[u8]) -> bool
+        requires { list_any (λ c. c == 10) text.now ≡ false }
+        ensures step { result ≡ true → (step : Step) × (line_in Run text.now ≡ Plain (Does step))
+            × (self.new.draft ≡ text_of (next self.old.platform.now step).answer)
+            × (self.new.platform.now ≡ (next self.old.platform.now step).state)
+            × (self.new.trace.now ≡ traced self.old.trace.now step (next self.old.platform.now step).answer) }
+        ensures none { result ≡ false → (self.new.platform.now ≡ self.old.platform.now) × (self.new.trace.now ≡ self.old.trace.now) }
+        ensures room { length self.new.draft ≤ 128 }
+        ensures same_platform { self.new.platform.ghost_name ≡ self.old.platform.ghost_name }
+        ensures same_trace { self.new.trace.ghost_name ≡ self.old.trace.ghost_name }
+    {
+        self.draft.clear();
+        if text.len() > MOST_BYTES_OF_A_LINE {
+            return false;
+        }
+        let Some((verb, rest)) = take_word(text) else {
+            return false;
+        };
+        self.trace
+            .carry_out(self.platform, verb, rest, &mut self.draft)
     }
 
     // Carries out the line of this text, which has no line end, drafts its answer, and answers whether there is one.
@@ -111,20 +148,10 @@ impl<'a> Console<'a> {
         ensures same_platform { self.new.platform.ghost_name ≡ self.old.platform.ghost_name }
         ensures same_trace { self.new.trace.ghost_name ≡ self.old.trace.ghost_name }
     {
-        if text.len() > MOST_BYTES_OF_A_LINE {
-            return self.carry_out(Line::Bad);
-        }
-        let Some((verb, rest)) = take_word(text) else {
-            return self.carry_out(Line::Blank);
-        };
-        self.draft.clear();
-        if self
-            .trace
-            .carry_out(self.platform, verb, rest, &mut self.draft)
-        {
+        if self.stepped(text) {
             return true;
         }
-        self.carry_out(line_by_table(Language::Run, text))
+        self.carry_out(line_of(Language::Run, text))
     }
 }
 

@@ -5,6 +5,7 @@ ghost use Rattle.std.specs.List.{AllByRecursion, list_any};
 ghost use Rattle.std.specs.Option.{option_map};
 ghost use Rattle.iom_text.specs.Words.{words_of};
 ghost use Rattle.iom_tool.specs.Values.{nothing};
+ghost use Rattle.iom_tool.specs.Script.{rows as table};
 ghost use Rattle.iom_tool.specs.Script.{all_say, at, first_of, fitted, is_count, is_limit, item_words, left, line_by, line_in, may_use, meaning, line_of as run_line_of, request_by, row, says, step_by, step_in, with_register};
 ghost use Rattle.iom_tool.specs.Parsed.{Fits, InRange, IsShort, line_as, part_as, row_as};
 
@@ -110,6 +111,7 @@ impl Part {
     ghost use Rattle.iom_tool.specs.Parsed.{part_as};
 
     // Adds what a text says as this part, and answers the rest after it; None where it says nothing.
+    #[tactic(auto, using(crate::proofs::Forms::none_left))]
     fn take<'a>(self, text: &'a [u8], values: &mut Values) -> Option<&'a [u8]>
         requires { length values.old.numbers + 2 ≤ 12 }
         ensures said { option_map (λ rest. values.new) result ≡ says (part_as self) (words_of text.now) values.old }
@@ -163,15 +165,51 @@ fn step_by(action: Action, values: Values) -> Step
 {
     let (first, second, third) = (values.at(0), values.at(1), values.at(2));
     match action {
-        Action::Load => Step::Load { addr: first, size: second },
-        Action::Store => Step::Store { addr: first, size: second, value: third },
-        Action::RegRead => Step::RegRead { off: first, size: second },
-        Action::RegWrite => Step::RegWrite { off: first, size: second, value: third },
+        Action::Load => Step::Load {
+            addr: first,
+            size: second,
+        },
+        Action::Store => Step::Store {
+            addr: first,
+            size: second,
+            value: third,
+        },
+        Action::RegRead => Step::RegRead {
+            off: first,
+            size: second,
+        },
+        Action::RegWrite => Step::RegWrite {
+            off: first,
+            size: second,
+            value: third,
+        },
         Action::Command => Step::Command,
-        Action::DmaRead => Step::DmaRead { did: first, iova: second, len: third },
-        Action::DmaWrite => Step::DmaWrite { did: first, iova: second, bytes: values.bytes },
-        Action::DevRead => Step::DevRead { dev: first, off: second, size: third },
-        Action::DevWrite => Step::DevWrite { dev: first, off: second, size: third, value: values.at(3) },
+        Action::DmaRead => Step::DmaRead {
+            did: first,
+            iova: second,
+            len: third,
+        },
+        Action::DmaWrite => Step::DmaWrite {
+            did: first,
+            iova: second,
+            bytes: values.bytes,
+        },
+        Action::Translate(kind) => Step::Translate {
+            did: first,
+            iova: second,
+            kind,
+        },
+        Action::DevRead => Step::DevRead {
+            dev: first,
+            off: second,
+            size: third,
+        },
+        Action::DevWrite => Step::DevWrite {
+            dev: first,
+            off: second,
+            size: third,
+            value: values.at(3),
+        },
         Action::DevStep => Step::Device { dev: first },
     }
 }
@@ -199,7 +237,11 @@ fn request_by(kind: Kind, values: &Values) -> Option<Request>
     if did >= 1 << 24 {
         return None;
     }
-    Some(Request { did: did as u32, iova: values.at(1), kind })
+    Some(Request {
+        did: did as u32,
+        iova: values.at(1),
+        kind,
+    })
 }
 
 // Whether this number of words of 8 bytes, at most eight, ends at 2^64 or below.
@@ -225,7 +267,10 @@ fn line_by(form: Form, values: Values) -> Option<Line>
         Form::Trace => return Some(Line::Asks(Question::Trace(first))),
         Form::DevRun if is_limit(second) => return Some(Line::Again(Actor::Device(first), second)),
         Form::CmdRun if is_limit(first) => return Some(Line::Again(Actor::Commands, first)),
-        Form::Put if is_below_end(first, values.items.len()) => return Some(Line::Put(first, values.items)),
+        Form::Put if is_below_end(first, values.items.len()) => return Some(Line::Put(
+            first,
+            values.items,
+        )),
         Form::Stale(kind) => Inquiry::Stale(request_by(kind, &values)?),
         Form::StaleContext => Inquiry::StaleContext(first),
         Form::StalePage => Inquiry::StalePage(first),
@@ -267,7 +312,7 @@ fn may_use(language: Language, row: &Row) -> bool
     }
 }
 
-// The first row that a text fits, of those that a script may use.
+// The first row that a text fits, of these that a script may use.
 #[tactic(auto, unfolding(crate::specs::Script::first_of))]
 fn first_of(language: Language, rows: &[Row], text: &[u8]) -> Option<Line>
     requires { AllByRecursion IsShort rows.now }
@@ -285,20 +330,17 @@ fn first_of(language: Language, rows: &[Row], text: &[u8]) -> Option<Line>
     first_of(language, more, text)
 }
 
-/// What a text without a line end that has a word says by the table; `Bad` where it fits no row.
-#[cold]
+// The line of the first row of the table that a text fits.
 #[inline(never)]
-#[tactic(auto, unfolding(crate::specs::Script::meaning, crate::specs::Script::rows))]
-pub fn line_by_table(language: Language, text: &[u8]) -> Line
-    requires { words_of text.now ≢ [] }
-    ensures line { line_as result ≡ meaning language (words_of text.now) }
-    ensures fits { Fits result }
+fn found(language: Language, text: &[u8]) -> Option<Line>
+    ensures line { option_map line_as result ≡ first_of language table (words_of text.now) }
+    ensures fits { IfSome result Fits }
 {
-    first_of(language, &ROWS, text).unwrap_or(Line::Bad)
+    first_of(language, &ROWS, text)
 }
 
 /// What a line says, given without its line end: `Bad` also of a text above 512 bytes or with a line end.
-#[tactic(auto, unfolding(crate::specs::Script::line_in, crate::specs::Script::meaning))]
+#[tactic(auto, unfolding(crate::specs::Script::line_in, crate::specs::Script::meaning), using(crate::proofs::Fast::fast))]
 pub fn line_of(language: Language, text: &[u8]) -> Line
     ensures line { line_as result ≡ line_in language text.now }
     ensures fits { Fits result }
@@ -313,7 +355,7 @@ pub fn line_of(language: Language, text: &[u8]) -> Line
     if put_step_of(verb, rest, &mut step) {
         return Line::Does(step);
     }
-    line_by_table(language, text)
+    found(language, text).unwrap_or(Line::Bad)
 }
 
 /// The step that a line of `run` is, given without its line end; None if it is none.

@@ -28,7 +28,11 @@ pub fn two(text: &[u8]) -> Option<(u64, u64)>
 {
     let (first, rest) = take_number(text)?;
     let (second, rest) = take_number(rest)?;
-    if is_over(rest) { Some((first, second)) } else { None }
+    if is_over(rest) {
+        Some((first, second))
+    } else {
+        None
+    }
 }
 
 /// The three numbers that a text is; None if it is anything else.
@@ -41,7 +45,11 @@ pub fn three(text: &[u8]) -> Option<(u64, u64, u64)>
     let (first, rest) = take_number(text)?;
     let (second, rest) = take_number(rest)?;
     let (third, rest) = take_number(rest)?;
-    if is_over(rest) { Some((first, second, third)) } else { None }
+    if is_over(rest) {
+        Some((first, second, third))
+    } else {
+        None
+    }
 }
 
 /// The four numbers that a text is; None if it is anything else.
@@ -55,7 +63,11 @@ pub fn four(text: &[u8]) -> Option<(u64, u64, u64, u64)>
     let (second, rest) = take_number(rest)?;
     let (third, rest) = take_number(rest)?;
     let (fourth, rest) = take_number(rest)?;
-    if is_over(rest) { Some((first, second, third, fourth)) } else { None }
+    if is_over(rest) {
+        Some((first, second, third, fourth))
+    } else {
+        None
+    }
 }
 
 // Puts the bytes that the only word of a text writes, and answers whether it writes some.

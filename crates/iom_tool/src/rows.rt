@@ -1,10 +1,10 @@
 //! The table of forms: what a line may be. A test compares it with help, man page, README and completions.
 
+use crate::language::Language;
 use Action::*;
 use Form::*;
 use Language::*;
 use Part::*;
-use crate::language::Language;
 use iom_bits::Kind;
 use iom_items::Item;
 use iom_regs::Which;
@@ -43,6 +43,8 @@ pub enum Action {
     DmaRead,
     /// `Step::DmaWrite`.
     DmaWrite,
+    /// `Step::Translate`, of an access of this kind.
+    Translate(Kind),
     /// `Step::DevRead`.
     DevRead,
     /// `Step::DevWrite`.
@@ -102,7 +104,7 @@ pub struct Row(pub Language, pub Form, pub &'static [Part]);
 
 /// The table.
 #[rattlefmt::skip]
-pub const ROWS: [Row; 41] = [
+pub const ROWS: [Row; 43] = [
     Row(Run, Does(Load), &[Word(b"load"), Number, Number]),
     Row(Run, Does(Store), &[Word(b"store"), Number, Number, Number]),
     Row(Run, Does(RegRead), &[Word(b"reg"), Word(b"read"), Number, Number]),
@@ -126,6 +128,8 @@ pub const ROWS: [Row; 41] = [
     Row(Debug, Does(RegWrite), &[Word(b"reg"), Word(b"write"), Register, Number]),
     Row(Debug, Does(DevRead), &[Word(b"dev"), Word(b"read"), Number, BlockRegister]),
     Row(Debug, Does(DevWrite), &[Word(b"dev"), Word(b"write"), Number, BlockRegister, Number]),
+    Row(Debug, Does(Translate(Kind::Read)), &[Word(b"translate"), Word(b"read"), Number, Number]),
+    Row(Debug, Does(Translate(Kind::Write)), &[Word(b"translate"), Word(b"write"), Number, Number]),
     Row(Debug, Queue(Which::Commands), &[Word(b"queue"), Word(b"cmd")]),
     Row(Debug, Queue(Which::Faults), &[Word(b"queue"), Word(b"fault")]),
     Row(Debug, Vectors, &[Word(b"vectors")]),

@@ -3,8 +3,8 @@
 ghost use Rattle.std.specs.Prelude.{◌≡◌, ◌≤◌, length, Some};
 ghost use Rattle.iom_tool.specs.Texts.{entry_text, text_of};
 
-use crate::draft::Draft;
 use crate::console::Reply;
+use crate::draft::Draft;
 use crate::text::{push_answer, push_entry};
 use crate::trace::Entry;
 use iom_core::Answer;
