@@ -1,5 +1,6 @@
 pub mod Fast
 pub mod Forms
+pub mod Languages
 pub mod Pairs
 pub mod Rings
 pub mod Values

@@ -2,7 +2,7 @@
 use Rattle.std.specs.Prelude.{ℕ, ◌≡◌, ◌+◌, ◌*◌, ◌^◌, ◌<◌, ◌≤◌, List, map, length}
 use Rattle.iom_core.specs.declared.step.Step.{Step}
 use Rattle.iom_core.specs.declared.step.Step.TheVariants as step
-use Rattle.iom_tool.specs.Script.{Again, Asks, Bad, Blank, DebugLine, Does, Inquires, Plain, Row, Stores, meaning, row, stores_at}
+use Rattle.iom_tool.specs.Script.{Again, Asks, Bad, Blank, DebugLine, Does, Inquires, Named, Plain, Row, Stores, meaning, row, stores_at}
 use Rattle.iom_tool.specs.Script as part
 use Rattle.iom_tool.specs.declared.language.Language.{Language}
 use Rattle.iom_tool.specs.declared.language.Inquiry.{Inquiry}
@@ -38,6 +38,7 @@ abbrev pub line_as : Line → DebugLine
 line_as line.Blank = Plain Blank
 line_as line.Bad = Plain Bad
 line_as (line.Does step) = Plain (Does step)
+line_as (line.Named step) = Named step
 line_as (line.Asks question) = Plain (Asks question)
 line_as (line.Inquires inquiry) = Inquires inquiry
 line_as (line.Again actor most) = Again (step_of actor) most
@@ -62,6 +63,7 @@ abbrev pub Fits : Line → Type 0
 Fits line.Blank = Unit {0}
 Fits line.Bad = Unit {0}
 Fits (line.Does step) = Unit {0}
+Fits (line.Named step) = Unit {0}
 Fits (line.Asks question) = Unit {0}
 Fits (line.Inquires inquiry) = InRange inquiry
 Fits (line.Again actor most) = Unit {0}

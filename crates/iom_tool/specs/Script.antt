@@ -39,6 +39,8 @@ pub data Line : Type 0 where
 pub data DebugLine : Type 0 where
   -- what `run` has too
   Plain : Line → DebugLine
+  -- a step on a register that is named
+  Named : Step → DebugLine
   -- a question that `debug` alone has
   Inquires : Inquiry → DebugLine
   -- a step, again and again while it is done: at most this number of times
@@ -138,6 +140,7 @@ inquires inquiry = Some (Inquires inquiry)
 -- what a line of a form says, by its operands
 unfoldable pub line_by : Form → Values → Option DebugLine
 line_by (form.Does action) said = Some (Plain (Does (step_by action said)))
+line_by (form.Named action) said = Some (Named (step_by action said))
 line_by (form.Show kind) said = asks (question.Show kind (at said 0))
 line_by form.PlaceContext said = asks (question.Context (at said 0))
 line_by form.PlacePage said = asks (question.Page (at said 0))
@@ -189,10 +192,10 @@ rows =
     ∷ row Run form.PlaceContext (Word (codes "place") ∷ Word (codes "context") ∷ Number ∷ [])
     ∷ row Run form.PlacePage (Word (codes "place") ∷ Word (codes "page") ∷ Number ∷ [])
     ∷ row Run form.Trace (Word (codes "trace") ∷ Number ∷ [])
-    ∷ row Debug (form.Does action.RegRead) (Word (codes "reg") ∷ Word (codes "read") ∷ Register ∷ [])
-    ∷ row Debug (form.Does action.RegWrite) (Word (codes "reg") ∷ Word (codes "write") ∷ Register ∷ Number ∷ [])
-    ∷ row Debug (form.Does action.DevRead) (Word (codes "dev") ∷ Word (codes "read") ∷ Number ∷ BlockRegister ∷ [])
-    ∷ row Debug (form.Does action.DevWrite) (Word (codes "dev") ∷ Word (codes "write") ∷ Number ∷ BlockRegister ∷ Number ∷ [])
+    ∷ row Debug (form.Named action.RegRead) (Word (codes "reg") ∷ Word (codes "read") ∷ Register ∷ [])
+    ∷ row Debug (form.Named action.RegWrite) (Word (codes "reg") ∷ Word (codes "write") ∷ Register ∷ Number ∷ [])
+    ∷ row Debug (form.Named action.DevRead) (Word (codes "dev") ∷ Word (codes "read") ∷ Number ∷ BlockRegister ∷ [])
+    ∷ row Debug (form.Named action.DevWrite) (Word (codes "dev") ∷ Word (codes "write") ∷ Number ∷ BlockRegister ∷ Number ∷ [])
     ∷ row Debug (form.Does (action.Translate kind.Read)) (Word (codes "translate") ∷ Word (codes "read") ∷ Number ∷ Number ∷ [])
     ∷ row Debug (form.Does (action.Translate kind.Write)) (Word (codes "translate") ∷ Word (codes "write") ∷ Number ∷ Number ∷ [])
     ∷ row Debug (form.Queue which.Commands) (Word (codes "queue") ∷ Word (codes "cmd") ∷ [])
@@ -253,6 +256,7 @@ debug_line_of text = line_in Debug text
 -- `run` answers `bad` to what it does not have
 abbrev pub plain : DebugLine → Line
 plain (Plain line) = line
+plain (Named step) = Bad
 plain (Inquires inquiry) = Bad
 plain (Again step most) = Bad
 plain (Stores steps) = Bad

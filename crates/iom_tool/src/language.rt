@@ -75,6 +75,8 @@ pub enum Line {
     Bad,
     /// A step.
     Does(Step),
+    /// A step on a register that is named.
+    Named(Step),
     /// A question.
     Asks(Question),
     /// A question that `debug` alone has.

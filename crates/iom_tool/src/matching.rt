@@ -159,57 +159,23 @@ fn take_all(parts: &[Part], text: &[u8], values: &mut Values) -> bool
 }
 
 // The step of these operands.
+#[rattlefmt::skip]
 #[tactic(auto, unfolding(crate::specs::Script::step_by))]
 fn step_by(action: Action, values: Values) -> Step
     ensures { result ≡ step_by action values }
 {
     let (first, second, third) = (values.at(0), values.at(1), values.at(2));
     match action {
-        Action::Load => Step::Load {
-            addr: first,
-            size: second,
-        },
-        Action::Store => Step::Store {
-            addr: first,
-            size: second,
-            value: third,
-        },
-        Action::RegRead => Step::RegRead {
-            off: first,
-            size: second,
-        },
-        Action::RegWrite => Step::RegWrite {
-            off: first,
-            size: second,
-            value: third,
-        },
+        Action::Load => Step::Load { addr: first, size: second },
+        Action::Store => Step::Store { addr: first, size: second, value: third },
+        Action::RegRead => Step::RegRead { off: first, size: second },
+        Action::RegWrite => Step::RegWrite { off: first, size: second, value: third },
         Action::Command => Step::Command,
-        Action::DmaRead => Step::DmaRead {
-            did: first,
-            iova: second,
-            len: third,
-        },
-        Action::DmaWrite => Step::DmaWrite {
-            did: first,
-            iova: second,
-            bytes: values.bytes,
-        },
-        Action::Translate(kind) => Step::Translate {
-            did: first,
-            iova: second,
-            kind,
-        },
-        Action::DevRead => Step::DevRead {
-            dev: first,
-            off: second,
-            size: third,
-        },
-        Action::DevWrite => Step::DevWrite {
-            dev: first,
-            off: second,
-            size: third,
-            value: values.at(3),
-        },
+        Action::DmaRead => Step::DmaRead { did: first, iova: second, len: third },
+        Action::DmaWrite => Step::DmaWrite { did: first, iova: second, bytes: values.bytes },
+        Action::Translate(kind) => Step::Translate { did: first, iova: second, kind },
+        Action::DevRead => Step::DevRead { dev: first, off: second, size: third },
+        Action::DevWrite => Step::DevWrite { dev: first, off: second, size: third, value: values.at(3) },
         Action::DevStep => Step::Device { dev: first },
     }
 }
@@ -261,6 +227,7 @@ fn line_by(form: Form, values: Values) -> Option<Line>
     let (first, second, third) = (values.at(0), values.at(1), values.at(2));
     let inquiry = match form {
         Form::Does(action) => return Some(Line::Does(step_by(action, values))),
+        Form::Named(action) => return Some(Line::Named(step_by(action, values))),
         Form::Show(kind) => return Some(Line::Asks(Question::Show(kind, first))),
         Form::PlaceContext => return Some(Line::Asks(Question::Context(first))),
         Form::PlacePage => return Some(Line::Asks(Question::Page(first))),

@@ -58,6 +58,8 @@ pub enum Action {
 pub enum Form {
     /// A step.
     Does(Action),
+    /// A step on a register that is named.
+    Named(Action),
     /// An item of memory.
     Show(Item),
     /// A place of the context cache.
@@ -124,10 +126,10 @@ pub const ROWS: [Row; 43] = [
     Row(Run, PlaceContext, &[Word(b"place"), Word(b"context"), Number]),
     Row(Run, PlacePage, &[Word(b"place"), Word(b"page"), Number]),
     Row(Run, Trace, &[Word(b"trace"), Number]),
-    Row(Debug, Does(RegRead), &[Word(b"reg"), Word(b"read"), Register]),
-    Row(Debug, Does(RegWrite), &[Word(b"reg"), Word(b"write"), Register, Number]),
-    Row(Debug, Does(DevRead), &[Word(b"dev"), Word(b"read"), Number, BlockRegister]),
-    Row(Debug, Does(DevWrite), &[Word(b"dev"), Word(b"write"), Number, BlockRegister, Number]),
+    Row(Debug, Named(RegRead), &[Word(b"reg"), Word(b"read"), Register]),
+    Row(Debug, Named(RegWrite), &[Word(b"reg"), Word(b"write"), Register, Number]),
+    Row(Debug, Named(DevRead), &[Word(b"dev"), Word(b"read"), Number, BlockRegister]),
+    Row(Debug, Named(DevWrite), &[Word(b"dev"), Word(b"write"), Number, BlockRegister, Number]),
     Row(Debug, Does(Translate(Kind::Read)), &[Word(b"translate"), Word(b"read"), Number, Number]),
     Row(Debug, Does(Translate(Kind::Write)), &[Word(b"translate"), Word(b"write"), Number, Number]),
     Row(Debug, Queue(Which::Commands), &[Word(b"queue"), Word(b"cmd")]),
