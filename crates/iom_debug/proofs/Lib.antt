@@ -1,7 +1,6 @@
-pub mod Forms
-pub mod Apart
 pub mod Blanks
 pub mod Bounds
+pub mod Lines
 pub mod Newest
 pub mod Remaining
 pub mod Summing

@@ -9,8 +9,8 @@ use Rattle.iom_account.proofs.Telling.{along_more, along_none}
 use Rattle.iom_tool.specs.declared.trace.Entry.{Entry}
 use Rattle.iom_tool.specs.Console.{trace_after}
 use Rattle.iom_debug.specs.Reasons.{GoesAlong, Reasons, last_stale}
-use Rattle.iom_debug.specs.Script.{stores_at}
-use Rattle.iom_debug.specs.Taking.{Desk, Took, is_done, last_answer, taken}
+use Rattle.iom_tool.specs.Script.{stores_at}
+use Rattle.iom_debug.specs.Taking.{Desk, Took, TookAll, is_done, last_answer, taken}
 
 -- some steps of one number from a start, after `count` of them that were done: `rest` is left here
 pub record Left (start : Desk) (number : ℕ) (all : List Step) (here : Desk) (rest : List Step) (count : ℕ) : Type 0 where
@@ -35,10 +35,7 @@ begins start number all = record {
 
 -- where the next step isn't done
 pub record Stopped (start : Desk) (number : ℕ) (all : List Step) (here : Desk) (step : Step) (count : ℕ) (after : Desk) : Type 0 where
-  pub state_is : after.state ≡ end_of start.state (taken start.state all)
-  pub trace_is : after.trace ≡ trace_after start.trace start.state (taken start.state all)
-  pub stale_is : after.reasons.stale ≡ last_stale start.reasons.stale start.state (taken start.state all)
-  pub along : GoesAlong start.reasons start.state (taken start.state all) number after.reasons after.state
+  pub took : TookAll start all number after
   pub count_is : length (taken start.state all) ≡ count + 1
   pub last_is : last_answer start.state all ≡ (next here.state step).answer
 
@@ -71,11 +68,13 @@ module _ (start : Desk) (number : ℕ) (all : List Step) (here : Desk) (step : S
   stops other =
       let is : taken here.state (step ∷ rest) ≡ step ∷ [] = rw other refl in
       record {
-        state_is = took.state ∙ sym (left.state_is ∙ ap (end_of here.state) is);
-        trace_is = took.trace ∙ sym (left.trace_is ∙ ap (trace_after here.trace here.state) is);
-        stale_is = took.stale ∙ sym (left.stale_is ∙ ap (last_stale here.reasons.stale here.state) is);
-        along = left.along after.reasons after.state
-            (subst (λ (steps : List Step). GoesAlong here.reasons here.state steps number after.reasons after.state) (sym is) took.along);
+        took = record {
+          state = took.state ∙ sym (left.state_is ∙ ap (end_of here.state) is);
+          trace = took.trace ∙ sym (left.trace_is ∙ ap (trace_after here.trace here.state) is);
+          stale = took.stale ∙ sym (left.stale_is ∙ ap (last_stale here.reasons.stale here.state) is);
+          along = left.along after.reasons after.state
+              (subst (λ (steps : List Step). GoesAlong here.reasons here.state steps number after.reasons after.state) (sym is) took.along);
+        };
         count_is =
             let one : length (taken here.state (step ∷ rest)) ≡ 1 = ap length is in
             let before = left.count_is in omega (arith, one, before);
@@ -83,10 +82,13 @@ module _ (start : Desk) (number : ℕ) (all : List Step) (here : Desk) (step : S
       }
 
 -- where none is left
-pub ends : (start : Desk) (number : ℕ) (all : List Step) (here : Desk) (count : ℕ) → Left start number all here [] count →
-    GoesAlong start.reasons start.state (taken start.state all) number here.reasons here.state
-ends start number all here count left =
-    left.along here.reasons here.state (along_none here.reasons.account here.state number)
+pub ends : (start : Desk) (number : ℕ) (all : List Step) (here : Desk) (count : ℕ) → Left start number all here [] count → TookAll start all number here
+ends start number all here count left = record {
+  state = sym left.state_is;
+  trace = sym left.trace_is;
+  stale = sym left.stale_is;
+  along = left.along here.reasons here.state (along_none here.reasons.account here.state number);
+}
 
 -- a step that is repeated
 pub again : (step : Step) (most i : ℕ) → i < most → replicate (most - i) step ≡ step ∷ replicate (most - (i + 1)) step

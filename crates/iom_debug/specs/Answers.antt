@@ -6,8 +6,8 @@ use Rattle.iom_debug.specs.Walks.{walk_text}
 use Rattle.iom_debug.specs.Reasons.{context_origin_text, page_origin_text, why_text}
 use Rattle.iom_debug.specs.Ways.{stale_address, stale_context_text, stale_page_text, stale_text}
 use Rattle.iom_debug.specs.Texts.{bytes_text, device_text, disk_text, queue_text, vectors_text}
-use Rattle.iom_debug.specs.declared.form.Inquiry.{Inquiry}
-use Rattle.iom_debug.specs.declared.form.Inquiry.TheVariants as inquiry
+use Rattle.iom_tool.specs.declared.language.Inquiry.{Inquiry}
+use Rattle.iom_tool.specs.declared.language.Inquiry.TheVariants as inquiry
 use Rattle.iom_account.specs.Account.{Account}
 
 -- by what is told of the last steps, and of which steps filled the caches

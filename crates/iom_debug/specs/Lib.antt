@@ -1,6 +1,3 @@
-pub mod Names
-pub mod Script
-pub mod Forms
 pub mod Ways
 pub mod Reasons
 pub mod Taking
@@ -8,6 +5,7 @@ pub mod Walks
 pub mod Texts
 pub mod Answers
 pub mod Output
+pub mod Desks
 pub mod Wanted
 pub mod Summary
 pub mod Telling

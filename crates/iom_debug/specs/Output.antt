@@ -1,12 +1,11 @@
 -- What is answered to a line, and which steps it is.
-use Rattle.std.specs.Prelude.{ℕ, ◌≡◌, List, [], replicate, Option, Some, None}
+use Rattle.std.specs.Prelude.{ℕ, ◌≡◌, List, [], ◌∷◌, replicate, Option, Some, None}
 use Rattle.std.specs.Option.{unwrap_or}
 use Rattle.iom_core.specs.State.{State}
 use Rattle.iom_core.specs.declared.step.Step.{Step}
 use Rattle.iom_tool.specs.Console.{Console, console_after}
 use Rattle.iom_tool.specs.Output.{reply, steps_in, steps_of}
-use Rattle.iom_tool.specs.Script.{line_of}
-use Rattle.iom_debug.specs.Script.{DebugLine, Plain, Inquires, Again, Stores, debug_line_of}
+use Rattle.iom_tool.specs.Script.{Again, DebugLine, Does, Inquires, Named, Plain, Stores, debug_line_of, line_of}
 use Rattle.iom_tool.specs.Texts.{text_of}
 use Rattle.iom_debug.specs.Taking.{last_answer, run_text, taken}
 use Rattle.iom_debug.specs.Answers.{inquired}
@@ -15,6 +14,7 @@ use Rattle.iom_account.specs.Account.{Account}
 -- by what is told of the last steps; None: nothing
 abbrev pub debug_reply : Console → Account → DebugLine → Option (List ℕ)
 debug_reply now account (Plain line) = reply now line
+debug_reply now account (Named step) = reply now (Does step)
 debug_reply now account (Inquires inquiry) = Some (inquired now account inquiry)
 debug_reply now account (Again step most) = Some (run_text now.state (replicate most step))
 debug_reply now account (Stores steps) = Some (text_of (last_answer now.state steps))
@@ -22,19 +22,13 @@ debug_reply now account (Stores steps) = Some (text_of (last_answer now.state st
 -- the steps that a line is
 abbrev pub debug_steps : State → DebugLine → List Step
 debug_steps state (Plain line) = steps_in line
+debug_steps state (Named step) = step ∷ []
 debug_steps state (Inquires inquiry) = []
 debug_steps state (Again step most) = taken state (replicate most step)
 debug_steps state (Stores steps) = taken state steps
 
 abbrev pub debug_steps_of : State → List ℕ → List Step
 debug_steps_of state text = debug_steps state (debug_line_of text)
-
--- the step of a line that repeats one, and how often at most
-abbrev pub repeated_in : DebugLine → Option (Step × ℕ)
-repeated_in (Plain line) = None
-repeated_in (Inquires inquiry) = None
-repeated_in (Again step most) = Some (step, most)
-repeated_in (Stores steps) = None
 
 -- an answer, empty where there is none, and what stands after it, are those that `run` has
 pub record IsAsRun (now : Console) (text given : List ℕ) (left : Console) : Type 0 where

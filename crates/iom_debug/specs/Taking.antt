@@ -2,14 +2,15 @@
 use Rattle.std.specs.Prelude.{ℕ, ◌≡◌, ◌++◌, Bool, true, false, List, [], ◌∷◌, length, codes, if◌then◌else◌}
 use Rattle.iom_text.specs.Texts.{hexed}
 use Rattle.iom_core.specs.State.{State}
+use Rattle.iom_core.specs.Run.{end_of}
 use Rattle.iom_core.specs.Table.{next, request_of_step}
 use Rattle.iom_core.specs.declared.step.Step.{Step}
 use Rattle.iom_core.specs.declared.step.Answer.{Answer}
 use Rattle.iom_core.specs.declared.step.Answer.TheVariants as answer
-use Rattle.iom_tool.specs.Console.{traced}
+use Rattle.iom_tool.specs.Console.{trace_after, traced}
 use Rattle.iom_tool.specs.Texts.{text_of}
 use Rattle.iom_tool.specs.declared.trace.Entry.{Entry}
-use Rattle.iom_debug.specs.Reasons.{GoesAlong, Reasons, later, stale_in}
+use Rattle.iom_debug.specs.Reasons.{GoesAlong, Reasons, last_stale, later, stale_in}
 
 -- what the lines of `debug` drive: a platform, the trace of its last steps, and what is told beside them
 pub record Desk : Type 0 where
@@ -42,6 +43,13 @@ abbrev pub last_answer : State → List Step → Answer
 last_answer state [] = answer.Done
 last_answer state (step ∷ steps) =
     if is_done (next state step).answer then last_answer (next state step).state steps else (next state step).answer
+
+-- what steps of a line of this number leave that are taken one after the other
+pub record TookAll (before : Desk) (steps : List Step) (number : ℕ) (after : Desk) : Type 0 where
+  pub state : after.state ≡ end_of before.state (taken before.state steps)
+  pub trace : after.trace ≡ trace_after before.trace before.state (taken before.state steps)
+  pub stale : after.reasons.stale ≡ last_stale before.reasons.stale before.state (taken before.state steps)
+  pub along : GoesAlong before.reasons before.state (taken before.state steps) number after.reasons after.state
 
 -- how many steps were taken, and the last answer
 unfoldable pub count_text : ℕ → Answer → List ℕ

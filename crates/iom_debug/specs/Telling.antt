@@ -14,7 +14,7 @@ use Rattle.iom_reader.specs.Speaking.{Speaking, Speaks, by_lines}
 use Rattle.iom_tool.specs.Console.{console, trace_after}
 use Rattle.iom_debug.specs.Output.{debug_reply, debug_steps_of}
 use Rattle.iom_debug.specs.Reasons.{GoesAlong, last_stale, stale_only}
-use Rattle.iom_debug.specs.Script.{debug_line_of}
+use Rattle.iom_tool.specs.Script.{debug_line_of}
 use Rattle.iom_debug.specs.Summary.{and_one, up_to_64_bits}
 use Rattle.iom_debug.specs.Taking.{Desk}
 use Rattle.iom_debug.specs.Wanted.{wanted, past_blanks, before_blanks}

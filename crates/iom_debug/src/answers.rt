@@ -7,12 +7,11 @@ ghost use Rattle.iom_mem.specs.Memory.{bytes_at};
 ghost use Rattle.iom_blk.specs.Wants.{wanted};
 ghost use Rattle.iom_tool.specs.Console.{console};
 ghost use Rattle.iom_debug.specs.Answers.{inquired};
-ghost use Rattle.iom_debug.specs.Forms.{InRange};
+ghost use Rattle.iom_tool.specs.Parsed.{InRange};
 ghost use Rattle.iom_debug.specs.Texts.{ask_text, blk_text, broken_text, bytes_text, device_text, disk_text, part_of, phase_text, queue_text, reason_text, stop_text, vectors_text, view_text, with_line};
 
-use crate::form::Inquiry;
+use crate::debugger::Debugger;
 use crate::reason::{context_origin_line, page_origin_line, why_line};
-use crate::reasons::Reasons;
 use crate::standings::{context_standing_line, page_standing_line};
 use crate::text::{push_bytes, push_hexed, push_operand, push_text, said};
 use crate::walks::walk_line;
@@ -22,14 +21,16 @@ use iom_blk::{Blk, Broken, Phase, Want};
 use iom_core::Platform;
 use iom_mem::Ram;
 use iom_regs::{Queue, Regs, Which};
-use iom_tool::{Reply, Trace};
+use iom_tool::{Inquiry, Reply};
 use iom_virtq::ChainFault;
 
 /// The answer to a question. Nothing is changed.
-pub fn answer_to(platform: &Platform, trace: &Trace, reasons: &Reasons, inquiry: &Inquiry) -> Reply
+pub fn answer_to(debugger: &Debugger<'_>, inquiry: &Inquiry) -> Reply
     requires { InRange inquiry.now }
-    ensures { result.items ≡ inquired (console platform.now trace.now) reasons.now.account inquiry.now }
+    ensures { result.items ≡ inquired (console debugger.now.platform.now debugger.now.trace.now) debugger.now.reasons.now.account inquiry.now }
 {
+    let platform = &*debugger.platform;
+    let reasons = &*debugger.reasons;
     match *inquiry {
         Inquiry::Stale(request) => stale_line(platform, &request),
         Inquiry::StaleContext(i) => context_standing_line(platform, i),

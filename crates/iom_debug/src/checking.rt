@@ -3,7 +3,7 @@
 ghost use Rattle.std.specs.Prelude.{◌≡◌, ◌++◌, ◌≤◌, false, codes, length, IfOk, IfSome};
 ghost use Rattle.std.specs.Option.{option_map};
 ghost use Rattle.iom_reader.specs.Watching.{read_failed, write_failed};
-ghost use Rattle.iom_debug.specs.Taking.{desk};
+ghost use Rattle.iom_debug.specs.Desks.{desk_of};
 ghost use Rattle.iom_debug.specs.Telling.{IsChecked, escaped, fails, misses, passes, report, tables_text, tally_text, verdict, wish_text};
 
 use crate::debugger::Debugger;
@@ -145,21 +145,20 @@ impl<'a> Checking<'a> {
 }
 
 impl Answerer for Checking<'_> {
-    ghost use Rattle.std.specs.Prelude.{◌∷◌, []};
-    ghost use Rattle.iom_debug.specs.Taking.{desk};
+    ghost use Rattle.iom_debug.specs.Desks.{desk_of, names_of};
     ghost use Rattle.iom_debug.specs.Telling.{by_check};
 
     ghost answering = { by_check };
 
     ghost state = { λ c. record {
-      desk = desk c.debugger.platform.now c.debugger.trace.now c.debugger.reasons.now;
+      desk = desk_of c.debugger;
       number = c.number;
       is_stale_told = c.is_stale_told;
       passed = c.passed;
       failed = c.failed;
     } };
 
-    ghost names = { λ c. c.debugger.platform.ghost_name ∷ c.debugger.trace.ghost_name ∷ c.debugger.reasons.ghost_name ∷ [] };
+    ghost names = { λ c. names_of c.debugger };
 
     fn answer<W: Write>(
         &mut self,
@@ -225,7 +224,7 @@ pub fn check<R: Read, W: Write>(
     requires can_read { read_failed reader.old ≡ false }
     requires can_write { write_failed writer.old ≡ false }
     ensures checked { IfOk result (λ passed. IsChecked (record {
-      desk = desk checking.old.debugger.platform.now checking.old.debugger.trace.now checking.old.debugger.reasons.now;
+      desk = desk_of checking.old.debugger;
       number = checking.old.number;
       is_stale_told = checking.old.is_stale_told;
       passed = checking.old.passed;

@@ -1,21 +1,8 @@
-ghost use Rattle.std.specs.Prelude.{◌≡◌, ◌≢◌, [], None};
-ghost use Rattle.std.specs.Option.{option_map, unwrap_or};
-ghost use Rattle.iom_core.specs.Run.{end_of};
-ghost use Rattle.iom_tool.specs.Script.{Bad, line_of};
-ghost use Rattle.iom_tool.specs.Console.{console, trace_after};
-ghost use Rattle.iom_tool.specs.Output.{reply, steps_of};
-ghost use Rattle.iom_debug.specs.Reasons.{GoesAlong, last_stale, stale_only};
-ghost use Rattle.iom_debug.specs.Script.{debug_line_of};
-ghost use Rattle.iom_debug.specs.Forms.{step_by};
-ghost use Rattle.iom_debug.specs.Output.{IsAsRun, debug_reply, debug_steps_of, repeated_in};
-
 use crate::answers::answer_to;
-use crate::form::{Actor, Form, form_of};
 use crate::reasons::Reasons;
-use crate::taking::{store_all, take_again, take_told};
 use crate::ways::address_line;
 use iom_core::Platform;
-use iom_tool::{Reply, Session, Trace, step_of};
+use iom_tool::{Console, Language, Line, Reply, Trace, line_of};
 
 /// A script of `debug`, given a line at a time.
 #[derive(Drop)]
@@ -29,6 +16,16 @@ pub struct Debugger<'a> {
 }
 
 impl<'a> Debugger<'a> {
+    ghost use Rattle.std.specs.Prelude.{◌≡◌, ◌≢◌, [], None};
+    ghost use Rattle.std.specs.Option.{unwrap_or};
+    ghost use Rattle.iom_core.specs.Run.{end_of};
+    ghost use Rattle.iom_tool.specs.Console.{console, trace_after};
+    ghost use Rattle.iom_tool.specs.Parsed.{Fits, line_as};
+    ghost use Rattle.iom_tool.specs.Script.{Bad, debug_line_of, line_of};
+    ghost use Rattle.iom_debug.specs.Desks.{desk_of, names_of};
+    ghost use Rattle.iom_debug.specs.Output.{IsAsRun, debug_reply, debug_steps, debug_steps_of};
+    ghost use Rattle.iom_debug.specs.Reasons.{GoesAlong, last_stale, stale_only};
+
     /// A debugger of this platform with this trace and these reasons, to which no line was given yet.
     pub fn new(
         platform: &'a mut Platform,
@@ -68,11 +65,34 @@ impl<'a> Debugger<'a> {
             self.new.reasons.now self.new.platform.now }
         ensures stale { self.new.reasons.now.stale
             ≡ last_stale None self.old.platform.now (debug_steps_of self.old.platform.now text.now) }
-        ensures same_platform { self.new.platform.ghost_name ≡ self.old.platform.ghost_name }
-        ensures same_trace { self.new.trace.ghost_name ≡ self.old.trace.ghost_name }
-        ensures same_reasons { self.new.reasons.ghost_name ≡ self.old.reasons.ghost_name }
+        ensures same { names_of self.new ≡ names_of self.old }
     {
-        answer_line(self.platform, self.trace, self.reasons, number, text)
+        self.carry_out(number, line_of(Language::Debug, text))
+    }
+
+    /// Carries out a line that was read, whose steps have this number, and answers its text, as `line` does.
+    pub fn carry_out(&mut self, number: u64, line: Line) -> Reply
+        requires { Fits line }
+        ensures reply { result.items ≡ unwrap_or
+            (debug_reply (console self.old.platform.now self.old.trace.now) self.old.reasons.now.account (line_as line)) [] }
+        ensures state { self.new.platform.now ≡ end_of self.old.platform.now (debug_steps self.old.platform.now (line_as line)) }
+        ensures trace { self.new.trace.now
+            ≡ trace_after self.old.trace.now self.old.platform.now (debug_steps self.old.platform.now (line_as line)) }
+        ensures along { GoesAlong self.old.reasons.now self.old.platform.now (debug_steps self.old.platform.now (line_as line)) number
+            self.new.reasons.now self.new.platform.now }
+        ensures stale { self.new.reasons.now.stale
+            ≡ last_stale None self.old.platform.now (debug_steps self.old.platform.now (line_as line)) }
+        ensures same { names_of self.new ≡ names_of self.old }
+    {
+        self.reasons.begin_line();
+        match line {
+            Line::Does(step) => self.take(number, step).text,
+            Line::Named(step) => self.take(number, step).text,
+            Line::Inquires(inquiry) => answer_to(self, &inquiry),
+            Line::Again(actor, most) => self.take_again(number, actor, most),
+            Line::Put(addr, words) => self.store_all(number, addr, words.as_slice()),
+            plain => Console::new(self.platform, self.trace).reply_to(plain),
+        }
     }
 
     /// Where the tables led the last access of the last line that was stale, before its step, as `stale` tells it (`denied 13`,
@@ -83,68 +103,6 @@ impl<'a> Debugger<'a> {
         match self.reasons.stale() {
             Some(address) => address_line(address),
             None => Reply::new(),
-        }
-    }
-}
-
-/// Whose step a line `dev run N MAX` or `cmd run MAX` repeats while it is done, and how often at most, 1 to 2^20. None of any other line.
-#[tactic(auto, using(crate::proofs::Apart::as_run, crate::proofs::Apart::more))]
-pub fn repeated(text: &[u8]) -> Option<(Actor, u64)>
-    ensures { option_map (λ found. (step_by found.0, found.1)) result ≡ repeated_in (debug_line_of text.now) }
-{
-    match form_of(text) {
-        Some(Form::Again(actor, most)) => Some((actor, most)),
-        _ => None,
-    }
-}
-
-// Carries out a line.
-fn answer_line(
-    platform: &mut Platform,
-    trace: &mut Trace,
-    reasons: &mut Reasons,
-    number: u64,
-    text: &[u8],
-) -> Reply
-    ensures reply { result.items
-        ≡ unwrap_or (debug_reply (console platform.old trace.old) reasons.old.account (debug_line_of text.now)) [] }
-    ensures state { platform.new ≡ end_of platform.old (debug_steps_of platform.old text.now) }
-    ensures trace { trace.new ≡ trace_after trace.old platform.old (debug_steps_of platform.old text.now) }
-    ensures along { GoesAlong reasons.old platform.old (debug_steps_of platform.old text.now) number reasons.new platform.new }
-    ensures stale { reasons.new.stale ≡ last_stale None platform.old (debug_steps_of platform.old text.now) }
-{
-    reasons.begin_line();
-    carry_out(platform, trace, reasons, number, text)
-}
-
-// Carries out a line that begins.
-#[tactic(auto, using(crate::proofs::Apart::as_run, crate::proofs::Apart::more, crate::proofs::Apart::stepped, crate::proofs::Apart::no_steps))]
-fn carry_out(
-    platform: &mut Platform,
-    trace: &mut Trace,
-    reasons: &mut Reasons,
-    number: u64,
-    text: &[u8],
-) -> Reply
-    ensures reply { result.items
-        ≡ unwrap_or (debug_reply (console platform.old trace.old) reasons.old.account (debug_line_of text.now)) [] }
-    ensures state { platform.new ≡ end_of platform.old (debug_steps_of platform.old text.now) }
-    ensures trace { trace.new ≡ trace_after trace.old platform.old (debug_steps_of platform.old text.now) }
-    ensures along { GoesAlong reasons.old platform.old (debug_steps_of platform.old text.now) number reasons.new platform.new }
-    ensures stale { reasons.new.stale ≡ last_stale reasons.old.stale platform.old (debug_steps_of platform.old text.now) }
-{
-    if let Some(step) = step_of(text) {
-        return take_told(platform, trace, reasons, number, step).text;
-    }
-    match form_of(text) {
-        None => Session::new(platform, trace).line(text),
-        Some(Form::Does(step)) => take_told(platform, trace, reasons, number, step).text,
-        Some(Form::Inquires(inquiry)) => answer_to(platform, trace, reasons, &inquiry),
-        Some(Form::Again(actor, most)) => {
-            take_again(platform, trace, reasons, number, actor, most)
-        }
-        Some(Form::Put(addr, words)) => {
-            store_all(platform, trace, reasons, number, addr, words.as_slice())
         }
     }
 }

@@ -4,7 +4,7 @@ ghost use Rattle.std.specs.Prelude.{◌≡◌, ◌≤◌, ◌++◌, false, lengt
 ghost use Rattle.iom_reader.specs.Answering.{progress};
 ghost use Rattle.iom_reader.specs.Running.{Ends};
 ghost use Rattle.iom_reader.specs.Watching.{read_failed, write_failed};
-ghost use Rattle.iom_debug.specs.Taking.{desk};
+ghost use Rattle.iom_debug.specs.Desks.{desk_of};
 ghost use Rattle.iom_debug.specs.Telling.{by_debug, line_told};
 
 use crate::debugger::Debugger;
@@ -39,18 +39,17 @@ impl<'a> Debugging<'a> {
 }
 
 impl Answerer for Debugging<'_> {
-    ghost use Rattle.std.specs.Prelude.{◌∷◌, []};
-    ghost use Rattle.iom_debug.specs.Taking.{desk};
+    ghost use Rattle.iom_debug.specs.Desks.{desk_of, names_of};
     ghost use Rattle.iom_debug.specs.Telling.{by_debug};
 
     ghost answering = { by_debug };
 
     ghost state = { λ d. record {
-      desk = desk d.debugger.platform.now d.debugger.trace.now d.debugger.reasons.now;
+      desk = desk_of d.debugger;
       number = d.number;
     } };
 
-    ghost names = { λ d. d.debugger.platform.ghost_name ∷ d.debugger.trace.ghost_name ∷ d.debugger.reasons.ghost_name ∷ [] };
+    ghost names = { λ d. names_of d.debugger };
 
     fn answer<W: Write>(
         &mut self,
@@ -88,11 +87,11 @@ pub fn debug<R: Read, W: Write>(
     requires can_write { write_failed writer.old ≡ false }
     ensures ends { Ends by_debug (R.remaining reader.old.inner.now) (R.remaining reader.new.inner.now)
         (progress (W.contents writer.old.inner.now) (record {
-          desk = desk debugging.old.debugger.platform.now debugging.old.debugger.trace.now debugging.old.debugger.reasons.now;
+          desk = desk_of debugging.old.debugger;
           number = debugging.old.number;
         }))
         (progress (W.contents writer.new.inner.now) (record {
-          desk = desk debugging.new.debugger.platform.now debugging.new.debugger.trace.now debugging.new.debugger.reasons.now;
+          desk = desk_of debugging.new.debugger;
           number = debugging.new.number;
         })) result }
 {

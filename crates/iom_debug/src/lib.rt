@@ -2,11 +2,10 @@
 #![tactic(auto)]
 
 pub use checking::{Checking, check};
-pub use debugger::{Debugger, repeated};
+pub use debugger::Debugger;
 pub use debugging::{Debugging, debug};
-pub use form::Actor;
 pub use iom_account::Reason;
-pub use iom_tool::Reply;
+pub use iom_tool::{Actor, Reply};
 pub use page::{Page, first_bytes, put, put_escaped, put_number, write_told};
 pub use parts::{is_told_alike, put_cached, put_part};
 pub use reason::origin_line;
@@ -20,8 +19,6 @@ mod answers;
 mod checking;
 mod debugger;
 mod debugging;
-mod form;
-mod names;
 mod page;
 mod parts;
 mod reason;

@@ -70,7 +70,20 @@ impl<'a> Console<'a> {
         ensures same_platform { self.new.platform.ghost_name ≡ self.old.platform.ghost_name }
         ensures same_trace { self.new.trace.ghost_name ≡ self.old.trace.ghost_name }
     {
-        let _said = self.carry_out(line_of(Language::Run, text));
+        self.reply_to(line_of(Language::Run, text))
+    }
+
+    /// Carries out a line that was read, and answers its text, as `line` does.
+    pub fn reply_to(&mut self, line: Line) -> Reply
+        ensures reply { result.items
+            ≡ unwrap_or (reply (console self.old.platform.now self.old.trace.now) (plain (line_as line))) [] }
+        ensures state { self.new.platform.now ≡ end_of self.old.platform.now (steps_in (plain (line_as line))) }
+        ensures trace { self.new.trace.now
+            ≡ trace_after self.old.trace.now self.old.platform.now (steps_in (plain (line_as line))) }
+        ensures same_platform { self.new.platform.ghost_name ≡ self.old.platform.ghost_name }
+        ensures same_trace { self.new.trace.ghost_name ≡ self.old.trace.ghost_name }
+    {
+        let _said = self.carry_out(line);
         let mut reply = Reply::new();
         let _fits = reply.try_extend_from_slice(self.draft.as_slice());
         reply

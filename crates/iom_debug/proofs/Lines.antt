@@ -1,0 +1,24 @@
+-- What `run` answers to a line, `debug` answers too.
+use Rattle.std.proofs.Common.{◌≡◌, ◌≢◌, ◌∙◌, ℕ, List, [], ap, sym}
+use Rattle.std.specs.Option.{unwrap_or}
+use Rattle.iom_core.specs.State.{State}
+use Rattle.iom_core.specs.Run.{end_of}
+use Rattle.iom_account.specs.Account.{Account}
+use Rattle.iom_tool.specs.Console.{Console, console, trace_after}
+use Rattle.iom_tool.specs.Script.{Bad, DebugLine, debug_line_of, line_of}
+use Rattle.iom_tool.proofs.Languages.{as_run as same_line}
+use Rattle.iom_tool.specs.declared.trace.Entry.{Entry}
+use Rattle.iom_tool.specs.Output.{steps_of}
+use Rattle.iom_debug.specs.Output.{IsAsRun, debug_reply, debug_steps, debug_steps_of}
+
+pub as_run : (now : Console) (account : Account) (text given : List ℕ) (state : State) (trace : List Entry) → line_of text ≢ Bad →
+    given ≡ unwrap_or (debug_reply now account (debug_line_of text)) [] → state ≡ end_of now.state (debug_steps_of now.state text) →
+    trace ≡ trace_after now.trace now.state (debug_steps_of now.state text) → IsAsRun now text given (console state trace)
+as_run now account text given state trace other answered moved kept =
+    let same = same_line text other in
+    record {
+      answered = answered ∙ ap (λ (l : DebugLine). unwrap_or (debug_reply now account l) []) same;
+      stepped =
+          ap (λ s. console s trace) (moved ∙ ap (λ (l : DebugLine). end_of now.state (debug_steps now.state l)) same)
+          ∙ ap (console (end_of now.state (steps_of text))) (kept ∙ ap (λ (l : DebugLine). trace_after now.trace now.state (debug_steps now.state l)) same);
+    }

@@ -1,0 +1,14 @@
+use Rattle.iom_debug.proofs.debugger.Debugger.carry_out.Goals as goal
+
+pub returns-in-Does-clause-along : goal.returns-in-Does-clause-along
+returns-in-Does-clause-along c = rw c.in-Does.is (rw c.begin_line.ensures at c.take.ensures.took.along)
+
+pub returns-in-Named-clause-along : goal.returns-in-Named-clause-along
+returns-in-Named-clause-along c = rw c.in-Named.is (rw c.begin_line.ensures at c.take-in-Named.ensures.took.along)
+
+pub returns-in-Again-clause-along : goal.returns-in-Again-clause-along
+returns-in-Again-clause-along c = rw c.in-Again.is (rw c.begin_line.ensures at c.take_again.ensures.took.along)
+
+pub returns-in-Put-clause-along : goal.returns-in-Put-clause-along
+returns-in-Put-clause-along c =
+    rw c.in-Put.is (rw (c.begin_line.ensures, c.as_slice.ensures.value) at c.store_all.ensures.took.along)
