@@ -19,10 +19,12 @@ use Rattle.iom_reader.specs.declared.fault.RunFault.{RunFault}
 use Rattle.iom_reader.specs.Running.{Ends}
 use Rattle.iom_reader.proofs.Chains.{spoken, lawful as by_lines_lawful}
 use Rattle.iom_tool.specs.Console.{traced}
-use Rattle.iom_tool.specs.Script.{line_of, step_in}
+use Rattle.iom_tool.specs.Script.{DebugLine, debug_line_of}
+use Rattle.iom_tool.specs.Parsed.{line_as}
+use Rattle.iom_tool.specs.declared.language.Actor.{Actor}
+use Rattle.iom_tool.specs.declared.language.Line.{Line}
+use Rattle.iom_tool.specs.declared.language.Line.TheVariants as own
 use Rattle.iom_tool.specs.declared.trace.Entry.{Entry}
-use Rattle.iom_debug.specs.Output.{repeated_in}
-use Rattle.iom_debug.specs.Script.{debug_line_of}
 use Rattle.iom_debug.specs.Telling.{Leaves, answer_at}
 use Rattle.iom_tool.specs.Texts.{entry_text}
 use Rattle.iom_debug.specs.Reasons.{Reasons, newest_origin, stale_in}
@@ -32,7 +34,7 @@ use Rattle.iom_explain.specs.Walking.{walk_text}
 use Rattle.iom_debug.specs.Summary.{Counts, counts_of, up_to_64_bits}
 use Rattle.iom_debug.specs.Taking.{Desk, Took, run_text, taken}
 use Rattle.iom_debug.specs.declared.summary.Outcome.{Outcome}
-use Rattle.iom_explain.specs.Explaining.{Explained, ExplainSays, IsExplained, LineTold, Progressed, StepTold, StepsTold, access_by, access_text, by_explain, denied_for, explained, explaining, line_told, outcomes_by, summary_text}
+use Rattle.iom_explain.specs.Explaining.{Explained, ExplainSays, IsExplained, LineTold, OtherTold, Progressed, RunTold, StepTold, StepsTold, access_by, access_text, by_explain, denied_for, explained, explaining, line_told, outcomes_by, summary_text}
 
 pub lawful : IsAnswering by_explain
 lawful =
@@ -146,7 +148,7 @@ pub line_again : (result : Result (Unit {0}) RunFault) (a b c : Option (List ℕ
     ((said : List ℕ) × Appends a b said × (short ≡ false → StepsTold before number (taken before.desk.state (replicate most step)) said after
     × (reply ≡ run_text before.desk.state (replicate most step)))) →
     Wrote result b c short (λ said. said ≡ page) → page ≡ line_told number line reply →
-    Wrote result a c short (λ said. LineTold before number line None (Some (step, most)) said after)
+    Wrote result a c short (λ said. RunTold before number line step most said after)
 line_again (Ok done) a b c short before after number most line step page reply s w page_is = (
   s.0 ++ w.0,
   Appends-trans _ _ _ _ _ s.1 w.1,
@@ -158,7 +160,7 @@ line_again (Err f) a b c short before after number most line step page reply s w
 pub line_other : (result : Result (Unit {0}) RunFault) (b c : Option (List ℕ)) (short : Bool) (before after : Explained) (number : ℕ)
     (line : List ℕ) (page reply : List ℕ) → Leaves before.desk line number after.desk → after.counts ≡ before.counts →
     reply ≡ answer_at before.desk line → Wrote result b c short (λ said. said ≡ page) → page ≡ line_told number line reply →
-    Wrote result b c short (λ said. LineTold before number line None None said after)
+    Wrote result b c short (λ said. OtherTold before number line said after)
 line_other (Ok done) b c short before after number line page reply leaves same reply_is w page_is =
     (w.0, w.1, λ m. (leaves, same, w.2 m ∙ page_is ∙ ap (line_told number line) reply_is))
 line_other (Err f) b c short before after number line page reply leaves same reply_is w page_is = tt
@@ -172,22 +174,40 @@ unheard line now short =
       told = λ other. absurd (cc (short, other));
     }) (Appends-nil now.written)
 
-pub heard : (line cut : List ℕ) (old new : Progress Progressed) (result : Result (Unit {0}) RunFault) (step : Option Step) → cut ≡ take 513 line →
-    old.console.is_short ≡ false → new.console.number ≡ up_to_64_bits (old.console.number + 1) → step ≡ step_in (line_of cut) →
-    Wrote result old.written new.written new.console.is_short
-    (λ said. LineTold old.console.told new.console.number cut step (repeated_in (debug_line_of cut)) said new.console.told) →
+pub heard : (line cut : List ℕ) (old new : Progress Progressed) (result : Result (Unit {0}) RunFault) (number : ℕ) (own : DebugLine) →
+    cut ≡ take 513 line → old.console.is_short ≡ false → number ≡ up_to_64_bits (old.console.number + 1) → new.console.number ≡ number →
+    own ≡ debug_line_of cut → Wrote result old.written new.written new.console.is_short (λ said. LineTold old.console.told number cut own said new.console.told) →
     AnswersNext by_explain line old new result
-heard line cut old new (Ok done) step is long number step_is w =
-    let told : new.console.is_short ≡ false → LineTold old.console.told new.console.number cut (step_in (line_of cut))
-    (repeated_in (debug_line_of cut)) w.0 new.console.told =
-    λ m. subst (λ (s : Option Step). LineTold old.console.told new.console.number cut s (repeated_in (debug_line_of cut)) w.0 new.console.told)
-    step_is (w.2 m) in
+heard line cut old new (Ok done) number own is long counted same own_is w =
+    let told : new.console.is_short ≡ false → LineTold old.console.told new.console.number cut (debug_line_of cut) w.0 new.console.told =
+    λ m. subst (λ n. LineTold old.console.told n cut (debug_line_of cut) w.0 new.console.told) (sym same)
+    (subst (λ (l : DebugLine). LineTold old.console.told number cut l w.0 new.console.told) own_is (w.2 m)) in
     spoken explaining line w.0 old new (subst (λ l. ExplainSays old.console l w.0 new.console) is (record {
       short = λ other. absurd (cc (long, other));
-      number = λ m. number;
+      number = λ m. same ∙ counted;
       told = told;
     })) w.1
-heard line cut old new (Err f) step is long number step_is w = λ start lines h. tt
+heard line cut old new (Err f) number own is long counted same own_is w = λ start lines h. tt
+
+other_told : (line : Line) (before after : Explained) (number : ℕ) (cut said : List ℕ) → ((step : Step) → line ≡ own.Does step → ⊥) →
+    ((actor : Actor) (most : ℕ) → line ≡ own.Again actor most → ⊥) → OtherTold before number cut said after →
+    LineTold before number cut (line_as line) said after
+other_told own.Blank before after number cut said no_step no_run told = told
+other_told own.Bad before after number cut said no_step no_run told = told
+other_told (own.Does step) before after number cut said no_step no_run told = absurd (no_step step refl)
+other_told (own.Named step) before after number cut said no_step no_run told = told
+other_told (own.Asks question) before after number cut said no_step no_run told = told
+other_told (own.Inquires inquiry) before after number cut said no_step no_run told = told
+other_told (own.Again actor most) before after number cut said no_step no_run told = absurd (no_run actor most refl)
+other_told (own.Put addr words) before after number cut said no_step no_run told = told
+
+pub others : (result : Result (Unit {0}) RunFault) (a b : Option (List ℕ)) (short : Bool) (line : Line) (before after : Explained) (number : ℕ)
+    (cut : List ℕ) → ((step : Step) → line ≡ own.Does step → ⊥) → ((actor : Actor) (most : ℕ) → line ≡ own.Again actor most → ⊥) →
+    Wrote result a b short (λ said. OtherTold before number cut said after) →
+    Wrote result a b short (λ said. LineTold before number cut (line_as line) said after)
+others (Ok done) a b short line before after number cut no_step no_run w =
+    (w.0, w.1, λ m. other_told line before after number cut w.0 no_step no_run (w.2 m))
+others (Err f) a b short line before after number cut no_step no_run w = tt
 
 pub four_written : (result : Result (Unit {0}) RunFault) (a b c d e : Option (List ℕ)) (s t u v : List ℕ) → Appends a b s → Appends b c t →
     Appends c d u → OnOk result (Appends d e v) → OnOk result (Appends a e (s ++ t ++ u ++ v))

@@ -21,12 +21,10 @@ use Rattle.iom_reader.specs.Answering.{Answering}
 use Rattle.iom_reader.specs.Lines.{lines_of}
 use Rattle.iom_reader.specs.Running.{IsWithinLimits}
 use Rattle.iom_reader.specs.Speaking.{Speaking, Speaks, Spoken}
-use Rattle.iom_tool.specs.Script.{line_of, step_in}
+use Rattle.iom_tool.specs.Script.{Again, DebugLine, Does, Plain, debug_line_of}
 use Rattle.iom_tool.specs.Texts.{entry_text}
 use Rattle.iom_tool.specs.declared.trace.Entry.{Entry}
-use Rattle.iom_debug.specs.Output.{repeated_in}
 use Rattle.iom_debug.specs.Reasons.{Reasons, newest_origin}
-use Rattle.iom_debug.specs.Script.{debug_line_of}
 use Rattle.iom_debug.specs.Summary.{Counts, counts_of, up_to_64_bits}
 use Rattle.iom_debug.specs.Taking.{Desk, Took, desk, run_text, taken}
 use Rattle.iom_debug.specs.Telling.{Leaves, answer_at, before_comment, escaped}
@@ -96,15 +94,23 @@ line_told number line answer =
     then numeral 10 number ++ codes ": " ++ escaped (before_comment line) ++ codes " -> " ++ escaped answer ++ 10 ∷ []
     else []
 
--- a line of this number: a step; a step again and again, and after them the line; or any other
-abbrev pub LineTold : Explained → ℕ → List ℕ → Option Step → Option (Step × ℕ) → List ℕ → Explained → Type 0
-LineTold before number line (Some step) again said after = StepTold before number step said after
-LineTold before number line None (Some (step, most)) said after =
+-- a line that takes a step again and again: each step, and after them the line
+abbrev pub RunTold : Explained → ℕ → List ℕ → Step → ℕ → List ℕ → Explained → Type 0
+RunTold before number line step most said after =
     (text : List ℕ) × StepsTold before number (taken before.desk.state (replicate most step)) text after
     × (said ≡ text ++ line_told number line (run_text before.desk.state (replicate most step)))
-LineTold before number line None None said after =
+
+-- any other line
+abbrev pub OtherTold : Explained → ℕ → List ℕ → List ℕ → Explained → Type 0
+OtherTold before number line said after =
     Leaves before.desk line number after.desk × (after.counts ≡ before.counts)
     × (said ≡ line_told number line (answer_at before.desk line))
+
+-- a line of this number, by what it says
+abbrev pub LineTold : Explained → ℕ → List ℕ → DebugLine → List ℕ → Explained → Type 0
+LineTold before number line (Plain (Does step)) said after = StepTold before number step said after
+LineTold before number line (Again step most) said after = RunTold before number line step most said after
+LineTold before number line other said after = OtherTold before number line said after
 
 -- the same, how many lines were read, and whether memory was refused
 pub record Progressed : Type 0 where
@@ -117,7 +123,7 @@ pub record ExplainSays (before : Progressed) (line said : List ℕ) (after : Pro
   pub short : before.is_short ≡ true → after.is_short ≡ true
   pub number : after.is_short ≡ false → after.number ≡ up_to_64_bits (before.number + 1)
   pub told : after.is_short ≡ false
-      → LineTold before.told after.number line (step_in (line_of line)) (repeated_in (debug_line_of line)) said after.told
+      → LineTold before.told after.number line (debug_line_of line) said after.told
 
 abbrev pub explaining : Speaking
 explaining = record { State = Progressed; says = ExplainSays; breaks = λ before line front after. Unit {0} }

@@ -1,3 +1,4 @@
 pub mod Accesses
 pub mod Walking
 pub mod Explaining
+pub mod Drives

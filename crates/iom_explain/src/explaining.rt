@@ -1,27 +1,21 @@
 //! The lines of a script, told.
 
-ghost use Rattle.std.specs.Prelude.{◌≡◌, ◌++◌, ◌∷◌, [], ◌≤◌, ℕ, List, None, Some, false, true, length, replicate, IfErr, IfOk, OnOk};
+ghost use Rattle.std.specs.Prelude.{◌≡◌, ◌≤◌, ℕ, List, false, true, length, IfErr, IfOk, OnOk};
 ghost use Rattle.std.specs.Io.KnownBytes.{Appends};
-ghost use Rattle.iom_core.specs.Table.{next};
 ghost use Rattle.iom_reader.specs.Running.{is_write};
 ghost use Rattle.iom_reader.specs.Watching.{read_failed, write_failed};
-ghost use Rattle.iom_tool.specs.Script.{line_of, step_in};
-ghost use Rattle.iom_tool.specs.Texts.{text_of};
-ghost use Rattle.iom_debug.specs.Forms.{step_by};
-ghost use Rattle.iom_debug.specs.Output.{repeated_in};
-ghost use Rattle.iom_debug.specs.Script.{debug_line_of};
-ghost use Rattle.iom_debug.specs.Taking.{desk, is_done, run_text, taken};
-ghost use Rattle.iom_explain.specs.Explaining.{IsExplained, LineTold, StepTold, StepsTold, explained, line_told};
+ghost use Rattle.iom_explain.specs.Drives.{progressed};
+ghost use Rattle.iom_explain.specs.Explaining.{IsExplained, line_told};
 
 use crate::steps::{Teller, take};
 use crate::summary::write_summary;
 use iom_core::{Answer, Step};
 use iom_debug::{
-    Actor, Debugger, Page, Reply, StepAnswer, before_comment, counted, first_bytes, is_done, put,
-    put_escaped, put_number, repeated, step_by, write_told,
+    Debugger, Page, StepAnswer, before_comment, counted, first_bytes, is_done, put, put_escaped,
+    put_number, step_by, write_told,
 };
 use iom_reader::{Answerer, RunFault, WatchedReader, WatchedWriter, answer_all};
-use iom_tool::{Entry, answer_text, step_of};
+use iom_tool::{Actor, Entry, Language, Line, Reply, answer_text, line_of};
 use std::alloc::{AllocError, Global};
 use std::io::{Read, Write};
 
@@ -90,182 +84,152 @@ fn put_line(out: &mut Page, number: u64, line: &[u8], answer: &[u8])
     }
 }
 
-// Takes a step of the line of this number, and tells it.
-fn tell_step<W: Write>(
-    debugger: &mut Debugger<'_>,
-    teller: &mut Teller,
-    number: u64,
-    step: Step,
-    writer: &mut WatchedWriter<'_, W>,
-) -> Result<StepAnswer, RunFault>
-    requires { write_failed writer.old ≡ false }
-    ensures ok { OnOk result ((said : List ℕ) × Appends (W.contents writer.old.inner.now) (W.contents writer.new.inner.now) said
-        × (teller.new.is_short ≡ false → StepTold
-        (explained debugger.old.platform.now debugger.old.trace.now debugger.old.reasons.now teller.old.summary) number step said
-        (explained debugger.new.platform.now debugger.new.trace.now debugger.new.reasons.now teller.new.summary))) }
-    ensures done { IfOk result (λ a. a.is_done ≡ is_done (next debugger.old.platform.now step).answer) }
-    ensures text { IfOk result (λ a. a.text.items ≡ text_of (next debugger.old.platform.now step).answer) }
-    ensures room { IfOk result (λ a. length a.text.items ≤ 128) }
-    ensures short { teller.old.is_short ≡ true → teller.new.is_short ≡ true }
-    ensures fault { IfErr result (λ fault. fault ≡ RunFault.Write) }
-    ensures told { write_failed writer.new ≡ is_write result }
-    ensures same_writer { writer.new.inner.ghost_name ≡ writer.old.inner.ghost_name }
-    ensures same_platform { debugger.new.platform.ghost_name ≡ debugger.old.platform.ghost_name }
-    ensures same_trace { debugger.new.trace.ghost_name ≡ debugger.old.trace.ghost_name }
-    ensures same_reasons { debugger.new.reasons.ghost_name ≡ debugger.old.reasons.ghost_name }
-{
-    let mut entry = Entry {
-        step,
-        answer: Answer::Done,
-    };
-    take(debugger, teller, number, &mut entry);
-    let answered = StepAnswer {
-        is_done: is_done(&entry.answer),
-        text: answer_text(&entry.answer),
-    };
-    debugger.trace.keep(entry.step, entry.answer);
-    write(&teller.page, teller.is_short, writer)?;
-    Ok(answered)
-}
+impl Explaining<'_> {
+    ghost use Rattle.std.specs.Prelude.{◌≡◌, ◌≤◌, ℕ, List, true, false, length, replicate, IfErr, IfOk, OnOk};
+    ghost use Rattle.std.specs.Io.KnownBytes.{Appends};
+    ghost use Rattle.iom_core.specs.Table.{next};
+    ghost use Rattle.iom_reader.specs.Running.{is_write};
+    ghost use Rattle.iom_reader.specs.Watching.{write_failed};
+    ghost use Rattle.iom_tool.specs.Parsed.{Fits, line_as, step_of};
+    ghost use Rattle.iom_tool.specs.Script.{debug_line_of};
+    ghost use Rattle.iom_tool.specs.Texts.{text_of};
+    ghost use Rattle.iom_debug.specs.Desks.{names_of};
+    ghost use Rattle.iom_debug.specs.Taking.{is_done, run_text, taken};
+    ghost use Rattle.iom_explain.specs.Drives.{told};
+    ghost use Rattle.iom_explain.specs.Explaining.{OtherTold, RunTold, StepTold, StepsTold};
 
-// Takes the step of one that goes on by itself again and again while it is done, so often at most, and tells each. The answer to the line
-// comes back.
-fn tell_again<W: Write>(
-    debugger: &mut Debugger<'_>,
-    teller: &mut Teller,
-    number: u64,
-    actor: Actor,
-    most: u64,
-    writer: &mut WatchedWriter<'_, W>,
-) -> Result<Reply, RunFault>
-    requires can { write_failed writer.old ≡ false }
-    requires memory { teller.old.is_short ≡ false }
-    ensures ok { IfOk result (λ reply. (said : List ℕ) × Appends (W.contents writer.old.inner.now) (W.contents writer.new.inner.now) said
-        × (teller.new.is_short ≡ false → StepsTold
-        (explained debugger.old.platform.now debugger.old.trace.now debugger.old.reasons.now teller.old.summary) number
-        (taken debugger.old.platform.now (replicate most (step_by actor))) said
-        (explained debugger.new.platform.now debugger.new.trace.now debugger.new.reasons.now teller.new.summary)
-        × (reply.items ≡ run_text debugger.old.platform.now (replicate most (step_by actor))))) }
-    ensures fault { IfErr result (λ fault. fault ≡ RunFault.Write) }
-    ensures told { write_failed writer.new ≡ is_write result }
-    ensures same_writer { writer.new.inner.ghost_name ≡ writer.old.inner.ghost_name }
-    ensures same_platform { debugger.new.platform.ghost_name ≡ debugger.old.platform.ghost_name }
-    ensures same_trace { debugger.new.trace.ghost_name ≡ debugger.old.trace.ghost_name }
-    ensures same_reasons { debugger.new.reasons.ghost_name ≡ debugger.old.reasons.ghost_name }
-{
-    for i in 0..most {
-        let step = step_by(actor);
-        let answered = tell_step(debugger, teller, number, step, writer)?;
-        if teller.is_short {
-            return Ok(Reply::new());
-        }
-        if !answered.is_done {
-            return Ok(counted(i + 1, answered.text.as_slice()));
-        }
+    // Takes a step of the line that was read last, and tells it.
+    fn tell_step<W: Write>(
+        &mut self,
+        step: Step,
+        writer: &mut WatchedWriter<'_, W>,
+    ) -> Result<StepAnswer, RunFault>
+        requires { write_failed writer.old ≡ false }
+        ensures ok { OnOk result ((said : List ℕ) × Appends (W.contents writer.old.inner.now) (W.contents writer.new.inner.now) said
+            × (self.new.teller.is_short ≡ false → StepTold (told self.old) self.old.number step said (told self.new))) }
+        ensures done { IfOk result (λ a. a.is_done ≡ is_done (next self.old.debugger.platform.now step).answer) }
+        ensures text { IfOk result (λ a. a.text.items ≡ text_of (next self.old.debugger.platform.now step).answer) }
+        ensures room { IfOk result (λ a. length a.text.items ≤ 128) }
+        ensures short { self.old.teller.is_short ≡ true → self.new.teller.is_short ≡ true }
+        ensures fault { IfErr result (λ fault. fault ≡ RunFault.Write) }
+        ensures told { write_failed writer.new ≡ is_write result }
+        ensures same_writer { writer.new.inner.ghost_name ≡ writer.old.inner.ghost_name }
+        ensures same { names_of self.new.debugger ≡ names_of self.old.debugger }
+        ensures number { self.new.number ≡ self.old.number }
+    {
+        let mut entry = Entry {
+            step,
+            answer: Answer::Done,
+        };
+        take(
+            &mut self.debugger,
+            &mut self.teller,
+            self.number,
+            &mut entry,
+        );
+        let answered = StepAnswer {
+            is_done: is_done(&entry.answer),
+            text: answer_text(&entry.answer),
+        };
+        self.debugger.trace.keep(entry.step, entry.answer);
+        write(&self.teller.page, self.teller.is_short, writer)?;
+        Ok(answered)
     }
-    Ok(counted(most, b"done"))
-}
 
-// Tells a line that takes the step of one that goes on by itself again and again: each step, and after them the line.
-#[inline(never)]
-fn tell_run<W: Write>(
-    debugger: &mut Debugger<'_>,
-    teller: &mut Teller,
-    number: u64,
-    line: &[u8],
-    actor: Actor,
-    most: u64,
-    writer: &mut WatchedWriter<'_, W>,
-) -> Result<(), RunFault>
-    requires can { write_failed writer.old ≡ false }
-    requires memory { teller.old.is_short ≡ false }
-    requires short { length line.now ≤ 513 }
-    ensures ok { OnOk result ((said : List ℕ) × Appends (W.contents writer.old.inner.now) (W.contents writer.new.inner.now) said
-        × (teller.new.is_short ≡ false → LineTold
-        (explained debugger.old.platform.now debugger.old.trace.now debugger.old.reasons.now teller.old.summary) number line.now
-        None (Some (step_by actor, most)) said
-        (explained debugger.new.platform.now debugger.new.trace.now debugger.new.reasons.now teller.new.summary))) }
-    ensures fault { IfErr result (λ fault. fault ≡ RunFault.Write) }
-    ensures told { write_failed writer.new ≡ is_write result }
-    ensures same_writer { writer.new.inner.ghost_name ≡ writer.old.inner.ghost_name }
-    ensures same_platform { debugger.new.platform.ghost_name ≡ debugger.old.platform.ghost_name }
-    ensures same_trace { debugger.new.trace.ghost_name ≡ debugger.old.trace.ghost_name }
-    ensures same_reasons { debugger.new.reasons.ghost_name ≡ debugger.old.reasons.ghost_name }
-{
-    let reply = tell_again(debugger, teller, number, actor, most, writer)?;
-    put_line(&mut teller.page, number, line, reply.as_slice());
-    write(&teller.page, teller.is_short, writer)
-}
+    // Takes the step of one that goes on by itself again and again while it is done, at most this number of times, and tells each. The
+    // answer to the line comes back.
+    fn tell_again<W: Write>(
+        &mut self,
+        actor: Actor,
+        most: u64,
+        writer: &mut WatchedWriter<'_, W>,
+    ) -> Result<Reply, RunFault>
+        requires can { write_failed writer.old ≡ false }
+        requires memory { self.old.teller.is_short ≡ false }
+        ensures ok { IfOk result (λ reply. (said : List ℕ) × Appends (W.contents writer.old.inner.now) (W.contents writer.new.inner.now) said
+            × (self.new.teller.is_short ≡ false → StepsTold (told self.old) self.old.number
+            (taken self.old.debugger.platform.now (replicate most (step_of actor))) said (told self.new)
+            × (reply.items ≡ run_text self.old.debugger.platform.now (replicate most (step_of actor))))) }
+        ensures fault { IfErr result (λ fault. fault ≡ RunFault.Write) }
+        ensures told { write_failed writer.new ≡ is_write result }
+        ensures same_writer { writer.new.inner.ghost_name ≡ writer.old.inner.ghost_name }
+        ensures same { names_of self.new.debugger ≡ names_of self.old.debugger }
+        ensures number { self.new.number ≡ self.old.number }
+    {
+        for i in 0..most {
+            let answered = self.tell_step(step_by(actor), writer)?;
+            if self.teller.is_short {
+                return Ok(Reply::new());
+            }
+            if !answered.is_done {
+                return Ok(counted(i + 1, answered.text.as_slice()));
+            }
+        }
+        Ok(counted(most, b"done"))
+    }
 
-// Carries out a line that is no step by itself and repeats none, and tells it.
-#[inline(never)]
-fn tell_line<W: Write>(
-    debugger: &mut Debugger<'_>,
-    teller: &mut Teller,
-    number: u64,
-    line: &[u8],
-    writer: &mut WatchedWriter<'_, W>,
-) -> Result<(), RunFault>
-    requires can { write_failed writer.old ≡ false }
-    requires short { length line.now ≤ 513 }
-    ensures ok { OnOk result ((said : List ℕ) × Appends (W.contents writer.old.inner.now) (W.contents writer.new.inner.now) said
-        × (teller.new.is_short ≡ false → LineTold
-        (explained debugger.old.platform.now debugger.old.trace.now debugger.old.reasons.now teller.old.summary) number line.now None None said
-        (explained debugger.new.platform.now debugger.new.trace.now debugger.new.reasons.now teller.new.summary))) }
-    ensures fault { IfErr result (λ fault. fault ≡ RunFault.Write) }
-    ensures told { write_failed writer.new ≡ is_write result }
-    ensures same_writer { writer.new.inner.ghost_name ≡ writer.old.inner.ghost_name }
-    ensures same_platform { debugger.new.platform.ghost_name ≡ debugger.old.platform.ghost_name }
-    ensures same_trace { debugger.new.trace.ghost_name ≡ debugger.old.trace.ghost_name }
-    ensures same_reasons { debugger.new.reasons.ghost_name ≡ debugger.old.reasons.ghost_name }
-{
-    let reply = debugger.line(number, line);
-    put_line(&mut teller.page, number, line, reply.as_slice());
-    write(&teller.page, teller.is_short, writer)
-}
+    // Tells a line that takes the step of one that goes on by itself again and again: each step, and after them the line.
+    #[inline(never)]
+    fn tell_run<W: Write>(
+        &mut self,
+        line: &[u8],
+        actor: Actor,
+        most: u64,
+        writer: &mut WatchedWriter<'_, W>,
+    ) -> Result<(), RunFault>
+        requires can { write_failed writer.old ≡ false }
+        requires memory { self.old.teller.is_short ≡ false }
+        requires short { length line.now ≤ 513 }
+        ensures ok { OnOk result ((said : List ℕ) × Appends (W.contents writer.old.inner.now) (W.contents writer.new.inner.now) said
+            × (self.new.teller.is_short ≡ false
+            → RunTold (told self.old) self.old.number line.now (step_of actor) most said (told self.new))) }
+        ensures fault { IfErr result (λ fault. fault ≡ RunFault.Write) }
+        ensures told { write_failed writer.new ≡ is_write result }
+        ensures same_writer { writer.new.inner.ghost_name ≡ writer.old.inner.ghost_name }
+        ensures same { names_of self.new.debugger ≡ names_of self.old.debugger }
+        ensures number { self.new.number ≡ self.old.number }
+    {
+        let reply = self.tell_again(actor, most, writer)?;
+        put_line(&mut self.teller.page, self.number, line, reply.as_slice());
+        write(&self.teller.page, self.teller.is_short, writer)
+    }
 
-// Carries out a line that is no step by itself, and tells it.
-fn tell_other<W: Write>(
-    debugger: &mut Debugger<'_>,
-    teller: &mut Teller,
-    number: u64,
-    line: &[u8],
-    writer: &mut WatchedWriter<'_, W>,
-) -> Result<(), RunFault>
-    requires can { write_failed writer.old ≡ false }
-    requires memory { teller.old.is_short ≡ false }
-    requires short { length line.now ≤ 513 }
-    ensures ok { OnOk result ((said : List ℕ) × Appends (W.contents writer.old.inner.now) (W.contents writer.new.inner.now) said
-        × (teller.new.is_short ≡ false → LineTold
-        (explained debugger.old.platform.now debugger.old.trace.now debugger.old.reasons.now teller.old.summary) number line.now
-        None (repeated_in (debug_line_of line.now)) said
-        (explained debugger.new.platform.now debugger.new.trace.now debugger.new.reasons.now teller.new.summary))) }
-    ensures fault { IfErr result (λ fault. fault ≡ RunFault.Write) }
-    ensures told { write_failed writer.new ≡ is_write result }
-    ensures same_writer { writer.new.inner.ghost_name ≡ writer.old.inner.ghost_name }
-    ensures same_platform { debugger.new.platform.ghost_name ≡ debugger.old.platform.ghost_name }
-    ensures same_trace { debugger.new.trace.ghost_name ≡ debugger.old.trace.ghost_name }
-    ensures same_reasons { debugger.new.reasons.ghost_name ≡ debugger.old.reasons.ghost_name }
-{
-    match repeated(line) {
-        Some((actor, most)) => tell_run(debugger, teller, number, line, actor, most, writer),
-        None => tell_line(debugger, teller, number, line, writer),
+    // Carries out any other line, of this text, and tells it.
+    #[inline(never)]
+    fn tell_other<W: Write>(
+        &mut self,
+        text: &[u8],
+        line: Line,
+        writer: &mut WatchedWriter<'_, W>,
+    ) -> Result<(), RunFault>
+        requires can { write_failed writer.old ≡ false }
+        requires short { length text.now ≤ 513 }
+        requires fits { Fits line }
+        requires said { line_as line ≡ debug_line_of text.now }
+        ensures ok { OnOk result ((said : List ℕ) × Appends (W.contents writer.old.inner.now) (W.contents writer.new.inner.now) said
+            × (self.new.teller.is_short ≡ false → OtherTold (told self.old) self.old.number text.now said (told self.new))) }
+        ensures fault { IfErr result (λ fault. fault ≡ RunFault.Write) }
+        ensures told { write_failed writer.new ≡ is_write result }
+        ensures same_writer { writer.new.inner.ghost_name ≡ writer.old.inner.ghost_name }
+        ensures same { names_of self.new.debugger ≡ names_of self.old.debugger }
+        ensures number { self.new.number ≡ self.old.number }
+    {
+        let reply = self.debugger.carry_out(self.number, line);
+        put_line(&mut self.teller.page, self.number, text, reply.as_slice());
+        write(&self.teller.page, self.teller.is_short, writer)
     }
 }
 
 impl Answerer for Explaining<'_> {
-    ghost use Rattle.std.specs.Prelude.{◌∷◌, []};
-    ghost use Rattle.iom_explain.specs.Explaining.{by_explain, explained};
+    ghost use Rattle.iom_debug.specs.Desks.{names_of};
+    ghost use Rattle.iom_explain.specs.Drives.{progressed};
+    ghost use Rattle.iom_explain.specs.Explaining.{by_explain};
 
     ghost answering = { by_explain };
 
-    ghost state = { λ e. record {
-      told = explained e.debugger.platform.now e.debugger.trace.now e.debugger.reasons.now e.teller.summary;
-      number = e.number;
-      is_short = e.teller.is_short;
-    } };
+    ghost state = { progressed };
 
-    ghost names = { λ e. e.debugger.platform.ghost_name ∷ e.debugger.trace.ghost_name ∷ e.debugger.reasons.ghost_name ∷ [] };
+    ghost names = { λ e. names_of e.debugger };
 
     fn answer<W: Write>(
         &mut self,
@@ -277,12 +241,14 @@ impl Answerer for Explaining<'_> {
         }
         self.number = self.number.saturating_add(1);
         let line = first_bytes(line);
-        let (debugger, teller) = (&mut self.debugger, &mut self.teller);
-        if let Some(step) = step_of(line) {
-            let _answered = tell_step(debugger, teller, self.number, step, writer)?;
-            return Ok(());
+        match line_of(Language::Debug, line) {
+            Line::Does(step) => {
+                let _answered = self.tell_step(step, writer)?;
+                Ok(())
+            }
+            Line::Again(actor, most) => self.tell_run(line, actor, most, writer),
+            other => self.tell_other(line, other, writer),
         }
-        tell_other(debugger, teller, self.number, line, writer)
     }
 }
 
@@ -297,12 +263,7 @@ pub fn explain<R: Read, W: Write>(
 ) -> Result<bool, RunFault>
     requires can_read { read_failed reader.old ≡ false }
     requires can_write { write_failed writer.old ≡ false }
-    ensures explained { IfOk result (λ all. all ≡ true → IsExplained (record {
-      told = explained explaining.old.debugger.platform.now explaining.old.debugger.trace.now explaining.old.debugger.reasons.now
-          explaining.old.teller.summary;
-      number = explaining.old.number;
-      is_short = explaining.old.teller.is_short;
-    }) (R.remaining reader.old.inner.now) (R.remaining reader.new.inner.now)
+    ensures explained { IfOk result (λ all. all ≡ true → IsExplained (progressed explaining.old) (R.remaining reader.old.inner.now) (R.remaining reader.new.inner.now)
         (W.contents writer.old.inner.now) (W.contents writer.new.inner.now)) }
 {
     answer_all(explaining, reader, writer)?;

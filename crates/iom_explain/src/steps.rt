@@ -6,6 +6,7 @@ ghost use Rattle.iom_core.specs.Looking.{is_cached, seen_in};
 ghost use Rattle.iom_core.specs.Table.{next, request_of_step};
 ghost use Rattle.iom_text.specs.Texts.{numeral};
 ghost use Rattle.iom_tool.specs.Console.{traced};
+ghost use Rattle.iom_debug.specs.Desks.{names_of};
 ghost use Rattle.iom_debug.specs.Summary.{counts_of};
 ghost use Rattle.iom_debug.specs.declared.summary.Outcome.{Outcome};
 ghost use Rattle.iom_explain.specs.Accesses.{asks_text, caches_by, filler, stale_text, warrant_text};
@@ -204,9 +205,7 @@ pub fn take(debugger: &mut Debugger<'_>, teller: &mut Teller, number: u64, entry
         debugger.new.reasons.now teller.new.summary) }
     ensures short { teller.old.is_short ≡ true → teller.new.is_short ≡ true }
     ensures trace { debugger.new.trace.now ≡ debugger.old.trace.now }
-    ensures same_platform { debugger.new.platform.ghost_name ≡ debugger.old.platform.ghost_name }
-    ensures same_trace { debugger.new.trace.ghost_name ≡ debugger.old.trace.ghost_name }
-    ensures same_reasons { debugger.new.reasons.ghost_name ≡ debugger.old.reasons.ghost_name }
+    ensures same { names_of debugger.new ≡ names_of debugger.old }
 {
     let known = look(
         &mut teller.asks,
