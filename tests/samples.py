@@ -9,7 +9,8 @@ FORMS = [
 ]
 # The lines that scripts of debug and check have besides.
 DEBUG_FORMS = [
-    "reg read NAME", "reg write NAME VALUE", "dev read N NAME", "dev write N NAME VALUE", "queue cmd", "vectors",
+    "reg read NAME", "reg write NAME VALUE", "dev read N NAME", "dev write N NAME VALUE", "translate read DID IOVA",
+    "translate write DID IOVA", "queue cmd", "vectors",
     "dump ADDR LEN", "disk N BYTE LEN", "dev show N", "dev run N MAX", "cmd run MAX", "put ADDR ITEM",
     "stale read DID IOVA", "stale write DID IOVA", "stale context I", "stale page I", "origin context I",
     "origin page I", "walk read DID IOVA I", "walk write DID IOVA I", "why I",
