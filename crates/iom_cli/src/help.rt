@@ -71,10 +71,11 @@ The script has the lines of `rviommu --help`. An example:
 
 /// The end of the help of `check`.
 pub const CHECK: &str = "\
-A line may end with its expected answer, in a comment '# => ANSWER'. Prints
-each line with another answer, each unexpected bad, and at the end how many
-lines passed and failed. The exit status is 1 if a line failed. The script has
-the lines of `rviommu debug --help`.
+A line may end with its expected answer, in a comment '# => ANSWER'. It fails
+if it has another answer; a line that expects none fails only if it is bad.
+Prints each line that fails, and at the end how many passed and failed. The
+exit status is 1 if a line failed. The script has the lines of
+`rviommu debug --help`.
 
 With --stale, a line also fails if an access of a device, by dma, dev step or
 dev run, used a cached translation or context that no longer matches the
@@ -94,8 +95,10 @@ The script has the lines of `rviommu --help` and these:
   reg write NAME VALUE
   dev read N NAME               a register of block device N, as Status
   dev write N NAME VALUE
+  translate read DID IOVA       a device asks where its access would lead, and
+  translate write DID IOVA      makes none: the address, or denied CAUSE
   queue cmd, queue fault        whether a queue is on, its head and tail, and
-                                what stopped it
+                                the reason why it stopped
   vectors                       which interrupt lines are high
   dump ADDR LEN                 1 to 64 bytes of memory
   disk N BYTE LEN               1 to 64 bytes of the disk of block device N
@@ -125,11 +128,11 @@ The script has the lines of `rviommu debug --help`. Each line is printed with
 its number and its answer; if it makes several steps, each step comes first.
 Below each access of a device come the reasons for its answer:
 
-  asks: ..      what a block device asks for
-  caches: ..    what the caches held for it, and which lines had filled that
+  asks: ..      the access that a block device asks for
+  caches: ..    the cached entries for it, and the lines that filled them
   walk: ..      the parts of its walk, if it was not fully cached
   warrant: ..   the lines that its translation comes from
-  stale: ..     what the tables said, if that was something else
+  stale: ..     the answer of the tables, if it is another one
 
 At the end it counts the accesses: granted, denied by cause, served from the
 caches, and stale, with their lines.

@@ -114,7 +114,7 @@ impl<'a> Checking<'a> {
     ghost use Rattle.std.specs.Prelude.{◌≡◌};
     ghost use Rattle.iom_debug.specs.Telling.{tables_told};
 
-    /// A check of what this debugger drives, of no line yet. If `is_stale_told`, a line fails also where an access of it was stale.
+    /// A check of what this debugger drives, of no line yet. If `is_stale_told`, a line fails also if an access of it was stale.
     pub fn new(debugger: Debugger<'a>, is_stale_told: bool) -> Checking<'a>
         ensures debugger { result.debugger ≡ debugger.entry }
         ensures number { result.number ≡ 0 }
@@ -213,7 +213,7 @@ fn put_tally(out: &mut Page, passed: u64, failed: u64)
     put(out, b" failed\n");
 }
 
-/// Checks the script that `reader` gives: tells each line that fails, and at the end how many lines passed and how many failed. It answers
+/// Checks the script that `reader` gives. Writes each line that fails, and at the end how many lines passed and how many failed. Answers
 /// whether none failed. The faults are those of `run`.
 #[tactic(auto, using(crate::proofs::Telling::lawful, crate::proofs::Telling::checked))]
 pub fn check<R: Read, W: Write>(

@@ -11,7 +11,7 @@ pub struct Debugger<'a> {
     pub platform: &'a mut Platform,
     /// The trace that keeps its steps.
     pub trace: &'a mut Trace,
-    /// What is told of these steps.
+    /// The account of these steps.
     pub reasons: &'a mut Reasons,
 }
 
@@ -46,9 +46,9 @@ impl<'a> Debugger<'a> {
         }
     }
 
-    /// Carries out a line, given without its line end, whose steps have this number, and answers its text: empty for a blank line,
-    /// `bad` for what is no line, as where the text is above 512 bytes or holds a line end. A line that `run` answers otherwise than
-    /// `bad` is answered so here too, and leaves the same.
+    /// Carries out a line, given without its line end, whose steps have this number, and answers its text: empty for a blank line, `bad`
+    /// for what is no line, as for a text above 512 bytes or with a line end. A line that `run` answers otherwise than `bad` is answered so
+    /// here too, and leaves the same.
     pub fn line(&mut self, number: u64, text: &[u8]) -> Reply
         ensures reply { result.items ≡ unwrap_or
             (debug_reply (console self.old.platform.now self.old.trace.now) self.old.reasons.now.account (debug_line_of text.now)) [] }
@@ -95,8 +95,8 @@ impl<'a> Debugger<'a> {
         }
     }
 
-    /// Where the tables led the last access of the last line that was stale, before its step, as `stale` tells it (`denied 13`,
-    /// `addr=0x80010abc`). Empty where no access of it was stale.
+    /// The answer of the tables, as `stale` prints it (`denied 13`, `addr=0x80010abc`), just before the last stale access of the last line.
+    /// Empty if none of its accesses was stale.
     pub fn stale_told(&self) -> Reply
         ensures { result.items ≡ stale_only self.now.reasons.now.stale }
     {

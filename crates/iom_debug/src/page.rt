@@ -1,4 +1,4 @@
-//! What is told of a line or of a step, put together before it is written at once.
+//! The output for a line or a step, put together before it is written at once.
 
 ghost use Rattle.std.specs.Prelude.{◌≡◌, ◌+◌, ◌*◌, ◌++◌, ◌∷◌, [], ◌≤◌, length, take, codes, false, IfErr, OnErr, OnOk};
 ghost use Rattle.std.specs.Io.KnownBytes.{Appends};
@@ -79,7 +79,7 @@ pub fn put_escaped(out: &mut Page, text: &[u8])
     }
 }
 
-/// The first 513 bytes of a line, which tell all that it says.
+/// The first 513 bytes of a line, which decide its meaning.
 pub fn first_bytes(line: &[u8]) -> &[u8]
     ensures bytes { result.now ≡ take 513 line.now }
     ensures short { length result.now ≤ 513 }
@@ -88,7 +88,7 @@ pub fn first_bytes(line: &[u8]) -> &[u8]
     &line[..count]
 }
 
-/// Writes what is told, where it has a byte. The fault is `Write`.
+/// Writes a text if it isn't empty. The fault is `Write`.
 #[tactic(auto, using(crate::proofs::Telling::nothing_written))]
 pub fn write_told<W: Write>(writer: &mut WatchedWriter<'_, W>, text: &[u8]) -> Result<(), RunFault>
     requires { write_failed writer.old ≡ false }

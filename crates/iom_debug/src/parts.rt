@@ -52,7 +52,7 @@ pub fn put_cached(out: &mut Draft, context: &Context)
     out.append(context_line(context).as_slice());
 }
 
-/// Whether two parts are equal, and neither is the end of a walk. Then they are told alike on IOMMUs with the same features, whatever
+/// Whether two parts are equal, and neither is the end of a walk. Then they have the same text on IOMMUs with the same features, whatever
 /// their walks are: the text of an end has its request's address too.
 pub fn is_told_alike(part: &Part, other: &Part) -> bool
     ensures same { IsTrue result ↔ IsBeforeEnd part.now × (part.now ≡ other.now) }

@@ -8,7 +8,7 @@ use iom_account::{History, Origin, Reason};
 use iom_core::{Denial, Request};
 use iom_tool::Reply;
 
-/// Where the tables led the access of a step before it, a physical address or a denial; None where it was not stale.
+/// The answer of the tables, a physical address or a denial, just before a step's access; None if that was not stale.
 pub fn stale_of(reason: &Reason) -> Option<Result<u64, Denial>>
     ensures { result ≡ stale_of reason.now }
 {
@@ -83,7 +83,7 @@ fn push_tables(out: &mut Reply, stale: Option<Result<u64, Denial>>)
     }
 }
 
-/// The text of what is told of a step that there may be, at most 128 bytes; `none` where there is none.
+/// The text of a reason, at most 128 bytes; `none` if there is no reason.
 pub fn why_line(reason: Option<&Reason>) -> Reply
     ensures { result.items ≡ why_text (option_copied reason.entry) }
 {

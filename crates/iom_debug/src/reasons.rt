@@ -1,4 +1,4 @@
-//! What is told of the last steps.
+//! The reasons of the last steps.
 
 ghost use Rattle.std.specs.Prelude.{◌≡◌};
 
@@ -7,8 +7,8 @@ use iom_account::{Account, History, Origin, Reason};
 use iom_core::{Answer, Denial, Platform, Step};
 use std::marker::Model;
 
-/// What is told of the last 32 steps that a script's lines were, beside a platform and a trace: where the translation of each access
-/// came from, and where the tables led it then.
+/// The reasons of the last 32 steps of a script, beside a platform and a trace: the warrant of each access, and the address that the tables
+/// gave it then.
 #[derive(Drop)]
 pub struct Reasons {
     account: Account,
@@ -31,8 +31,7 @@ impl Reasons {
     ghost use Rattle.iom_core.specs.Table.{next, request_of_step};
     ghost use Rattle.iom_debug.specs.Reasons.{GoesAlong, later, newest_origin, stale_in, stale_of};
 
-    /// Reasons that begin at this platform, of no step yet. No call of theirs takes memory. Where translations come from is told if
-    /// both caches hold nothing now.
+    /// Empty reasons of this platform. No call of theirs takes memory. Origins are known only if both caches are empty now.
     pub fn new(platform: &Platform) -> Reasons
         ensures begins { Accounts result.account platform.now platform.now [] [] }
         ensures empty { result.account.told ≡ [] }
@@ -51,37 +50,36 @@ impl Reasons {
         self.account.history()
     }
 
-    /// What is told of step `i` of the last 32, any number; the oldest is 0, as in the trace. None where there are so many steps or
-    /// fewer. The way that it tells is one that the tables may say.
+    /// The reason of step `i` of the last 32, the oldest 0, as in the trace; None if there is none. The way in it is one that the tables
+    /// may give.
     pub fn reason(&self, i: u64) -> Option<&Reason>
         ensures reason { option_copied result ≡ slice_get self.now.account.told i }
     {
         self.account.reason(i)
     }
 
-    /// What is told of the last step; None where there was none.
+    /// The reason of the last step; None if there was no step.
     pub fn newest(&self) -> Option<&Reason>
         ensures reason { option_copied result ≡ last_item self.now.account.told }
     {
         self.account.newest()
     }
 
-    /// Where the translation came from that the access of the last step used, each step told by its number; None where it made none or was
-    /// denied.
+    /// The warrant of the last step's access, with the numbers of steps; None if it made none or was denied.
     pub fn newest_origin(&self) -> Option<Origin>
         ensures { result ≡ newest_origin self.now.account }
     {
         self.newest()?.origin
     }
 
-    /// Where the tables led the access of the last step before it, a physical address or a denial; None where it was not stale.
+    /// The answer of the tables, a physical address or a denial, just before the last step's access; None if that was not stale.
     pub fn newest_stale(&self) -> Option<Result<u64, Denial>>
         ensures { result ≡ option_and_then stale_of (last_item self.now.account.told) }
     {
         stale_of(self.newest()?)
     }
 
-    /// Where the tables led the last access of the last line that was stale; None where none was.
+    /// The answer of the tables just before the last stale access of the last line; None if none was stale.
     pub fn stale(&self) -> Option<Result<u64, Denial>>
         ensures { result ≡ self.now.stale }
     {
@@ -95,8 +93,8 @@ impl Reasons {
         self.stale = None;
     }
 
-    /// Carries out the next step on the platform, a step of the line of this number, puts its answer in place of what `answer` holds,
-    /// and keeps what is told of it. Of 32 steps the oldest leaves.
+    /// Carries out the next step on the platform, a step of the line of this number, writes its answer to `answer`, and keeps its reason.
+    /// If there are 32 the oldest leaves.
     #[tactic(auto, using(crate::proofs::Newest::stale_newest))]
     pub fn step(&mut self, platform: &mut Platform, step: &Step, number: u64, answer: &mut Answer)
         ensures answer { answer.new ≡ (next platform.old step.now).answer }

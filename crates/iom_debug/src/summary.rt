@@ -11,9 +11,9 @@ use std::marker::Model;
 pub struct Outcome {
     /// The number of the line that made it.
     pub number: u64,
-    /// For which cause it was denied ("Fault/Event-Queue (FQ)"); None where it was granted.
+    /// For which cause it was denied ("Fault/Event-Queue (FQ)"); None if it was granted.
     pub denied: Option<u16>,
-    /// Whether the caches alone led it.
+    /// Whether it was led by the caches without a look at memory.
     pub is_cached: bool,
     /// Whether the tables would have led it elsewhere.
     pub is_stale: bool,
@@ -131,7 +131,7 @@ impl Summary {
         &self.denied
     }
 
-    /// How many the caches alone led.
+    /// The number of those that were led by the caches without a look at memory.
     pub fn cached(&self) -> u64
         ensures { result ≡ self.now.cached }
     {
@@ -153,7 +153,7 @@ impl Summary {
     }
 }
 
-/// One more, where it counts.
+/// One more, if it counts.
 pub fn and_one(is: bool, count: u64) -> u64
     ensures { result ≡ and_one is count }
 {

@@ -10,7 +10,7 @@ use crate::text::{push_hexed, push_text};
 use iom_core::{Answer, Step};
 use iom_tool::{Actor, Reply, answer_text};
 
-/// What a step was answered, told.
+/// The text of a step's answer.
 #[derive(Drop)]
 pub struct StepAnswer {
     /// Whether it was done.

@@ -1,4 +1,4 @@
-//! The parts of a walk, told.
+//! The texts of the parts of a walk.
 
 ghost use Rattle.std.specs.Prelude.{◌≡◌, All, IfSome, slice_get};
 ghost use Rattle.std.specs.Option.{option_copied};

@@ -66,8 +66,8 @@ fn answer_in(comment: &[u8]) -> Option<&[u8]>
     }
 }
 
-/// The answer that a line's comment wants: of a comment `# => ANSWER` the ANSWER, without the blanks (spaces, tabs, CRs) around it,
-/// which may be empty. None where the line has no comment of this form. The comment begins behind the first `#`.
+/// The answer that a line's comment expects: the ANSWER of a comment `# => ANSWER`, without the blanks (spaces, tabs, CRs) around it. It
+/// may be empty. None if the line has no comment of this form. The comment begins after the first `#`.
 #[tactic(auto, unfolding(crate::specs::Wanted::wanted))]
 pub fn wanted(line: &[u8]) -> Option<&[u8]>
     ensures answer { option_map (λ answer. answer.now) result ≡ wanted line.now }

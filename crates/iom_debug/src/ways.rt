@@ -19,7 +19,7 @@ pub fn address_of(way: &Way, iova: u64) -> Result<u64, Denial>
     }
 }
 
-/// Where the tables lead a request that is stale, a physical address or a denial; None where it isn't stale.
+/// Where the tables lead a request that is stale, a physical address or a denial; None if it isn't stale.
 pub fn stale_address(platform: &Platform, request: &Request) -> Option<Result<u64, Denial>>
     ensures { result ≡ stale_address platform.now.machine request.now }
 {

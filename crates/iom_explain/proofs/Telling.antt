@@ -125,20 +125,6 @@ accessed before number step request seen line denied used stale answer asks walk
     ∙ ap (λ (os : List Outcome). counts_of (earlier ++ os))
     (outcome_is before.desk number step request seen denied stale (denied_is ∙ ap denied_for answered) seen_is told))
 
--- the trace keeps a step that was told
-pub kept : (before : Explained) (number : ℕ) (step own : Step) (page said : List ℕ) (state : State) (mid trace : List Entry) (answer : Answer)
-    (reasons : Reasons) (counts : Counts) →
-    StepTold before number step page (explained state (traced before.desk.trace step (next before.desk.state step).answer) reasons counts) →
-    mid ≡ before.desk.trace → own ≡ step → answer ≡ (next before.desk.state step).answer → trace ≡ traced mid own answer → said ≡ page →
-    StepTold before number step said (explained state trace reasons counts)
-kept before number step own page said state mid trace answer reasons counts told same its answered is said_is =
-    let there : trace ≡ traced before.desk.trace step (next before.desk.state step).answer =
-    is ∙ ap (λ (t : List Entry). traced t own answer) same ∙ ap (λ (s : Step). traced before.desk.trace s answer) its
-    ∙ ap (λ (a : Answer). traced before.desk.trace step a) answered in
-    subst (λ (t : List Entry). StepTold before number step said (explained state t reasons counts)) (sym there)
-    (subst (λ l. StepTold before number step l (explained state (traced before.desk.trace step (next before.desk.state step).answer) reasons counts))
-    (sym said_is) told)
-
 -- what was written is told of a line; of a refused memory nothing is known
 abbrev pub Wrote : Result (Unit {0}) RunFault → Option (List ℕ) → Option (List ℕ) → Bool → (List ℕ → Type 0) → Type 0
 Wrote result held holds short Told = OnOk result ((said : List ℕ) × Appends held holds said × (short ≡ false → Told said))

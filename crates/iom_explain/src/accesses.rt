@@ -130,7 +130,7 @@ pub fn put_warrant(out: &mut Page, used: Option<Origin>)
     put(out, b"\n");
 }
 
-/// Appends where the tables led an access that was stale, as a line; nothing of another.
+/// Appends the answer of the tables for a stale access, as a line; nothing for any other access.
 pub fn put_stale(out: &mut Page, stale: Option<Result<u64, Denial>>)
     requires { length out.old.items ≤ 15300 }
     ensures text { out.new.items ≡ out.old.items ++ stale_text stale }

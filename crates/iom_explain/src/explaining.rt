@@ -1,4 +1,4 @@
-//! The lines of a script, told.
+//! The output for the lines of a script.
 
 ghost use Rattle.std.specs.Prelude.{◌≡◌, ◌≤◌, ℕ, List, false, true, length, IfErr, IfOk, OnOk};
 ghost use Rattle.std.specs.Io.KnownBytes.{Appends};
@@ -19,7 +19,7 @@ use iom_tool::{Actor, Entry, Language, Line, Reply, answer_text, line_of};
 use std::alloc::{AllocError, Global};
 use std::io::{Read, Write};
 
-/// A script whose lines are told with the reasons of their accesses.
+/// A script whose lines are written with the reasons of their accesses.
 #[derive(Drop)]
 pub struct Explaining<'a> {
     /// What its lines drive.
@@ -252,9 +252,9 @@ impl Answerer for Explaining<'_> {
     }
 }
 
-/// Carries out the script that `reader` gives, and tells each line, the reasons of its accesses, and at the end how they went. It answers
-/// whether there was memory for the numbers of the lines that are stale; where there was none nothing more is told. The faults are those
-/// of `run`.
+/// Carries out the script that `reader` gives, and writes each line, the reasons of its accesses, and at the end how they went. Answers
+/// whether there was memory for the numbers of the lines that are stale; if there was none nothing more is written. The faults are those of
+/// `run`.
 #[tactic(auto, using(crate::proofs::Telling::lawful, crate::proofs::Telling::whole))]
 pub fn explain<R: Read, W: Write>(
     explaining: &mut Explaining<'_>,

@@ -1,4 +1,4 @@
-//! The word `explain`: each line of a script is told with its answer, each access with the reasons of that.
+//! The word `explain`: it writes each line of a script with its answer, and each access with its reasons.
 #![tactic(auto)]
 
 pub use explaining::{Explaining, explain};

@@ -1,4 +1,4 @@
-//! A step, told with its answer and the reasons of its access.
+//! The output for a step: its answer, and the reasons of its access.
 
 ghost use Rattle.std.specs.Prelude.{◌≡◌, ◌++◌, ◌∷◌, [], ◌≤◌, List, Some, false, true, codes, is_some, length, IfSome, OnOk};
 ghost use Rattle.std.specs.Option.{option_map};
@@ -23,10 +23,10 @@ use iom_debug::{Debugger, Outcome, Page, Summary, put};
 use iom_tool::{Draft, Entry, put_entry};
 use std::alloc::{AllocError, Global};
 
-/// What is told of a script's accesses.
+/// The output for a script's accesses.
 #[derive(Drop)]
 pub struct Teller {
-    /// What is told of a step or a line.
+    /// The output for a step or a line.
     pub page: Page,
     // what a block device asks, and the walk, told before the step
     asks: Page,
@@ -36,7 +36,7 @@ pub struct Teller {
     draft: Draft,
     /// How many accesses went how.
     pub summary: Summary,
-    /// Whether memory was refused: then nothing more is told.
+    /// Whether memory was refused: then nothing more is written.
     pub is_short: bool,
 }
 
@@ -135,7 +135,7 @@ impl Teller {
     ghost use Rattle.std.specs.Prelude.{◌≡◌, [], false, IfOk};
     ghost use Rattle.iom_debug.specs.Summary.{counts_of};
 
-    /// Nothing was told yet. The fault is want of memory.
+    /// No output yet. The fault is want of memory.
     pub fn new(alloc: Global) -> Result<Teller, AllocError>
         ensures counts { IfOk result (λ teller. teller.summary ≡ counts_of []) }
         ensures short { IfOk result (λ teller. teller.is_short ≡ false) }
@@ -192,8 +192,8 @@ fn tell_access(
     })
 }
 
-/// Carries out a step of the line of this number, whose answer comes into its entry, and tells it, and the reasons of its access if it makes
-/// one. The trace doesn't have it yet.
+/// Carries out a step of the line of this number, writes its answer to its entry, and puts the output: the step, and the reasons of its
+/// access if it makes one. The trace doesn't have it yet.
 pub fn take(debugger: &mut Debugger<'_>, teller: &mut Teller, number: u64, entry: &mut Entry)
     ensures step { entry.new.step ≡ entry.old.step }
     ensures answer { entry.new.answer ≡ (next debugger.old.platform.now entry.old.step).answer }

@@ -1,4 +1,4 @@
-//! How the accesses of a script went, told.
+//! The output for the summary of a script's accesses.
 
 ghost use Rattle.std.specs.Prelude.{◌≡◌, ◌+◌, ◌*◌, ◌++◌, ◌∷◌, [], ◌≤◌, ◌==◌, List, false, codes, length, IfErr, OnOk, if◌then◌else◌};
 ghost use Rattle.std.specs.List.{flat_map};

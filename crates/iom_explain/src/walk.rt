@@ -1,4 +1,4 @@
-//! The walk of an access, told.
+//! The output for the walk of an access.
 
 ghost use Rattle.std.specs.Prelude.{◌≡◌, ◌↔◌, ◌+◌, ◌++◌, ◌≤◌, All, IfOk, IsTrue, None, length};
 ghost use Rattle.iom_tables.specs.Bounds.{PartFits};
@@ -21,8 +21,8 @@ use std::marker::Model;
 /// How many parts a walk has at most.
 const MOST_PARTS: usize = 40;
 
-/// The parts of the last walk that was told, each with its line. Walks begin alike most times: a part that the walk before had at its place
-/// too isn't told anew.
+/// The parts of the last walk that was written, each with its line. Most walks begin alike: a part that the walk before had at its place
+/// too keeps its text.
 #[derive(Drop)]
 pub struct Walk {
     parts: Parts,
@@ -284,8 +284,9 @@ impl Walk {
         }
     }
 
-    /// Appends the walk of a request that is seen so, as the tables stand now: a line for each part. A cached context that the directory
-    /// doesn't have any more stands in place of ddtp and the directory. Nothing of a request that the caches lead alone.
+    /// Appends the walk of a request that is led so, as the tables stand now: a line for each part. A cached context that the directory
+    /// doesn't have any more stands in place of ddtp and the directory. Appends nothing if the caches lead the request without a look at
+    /// memory.
     pub fn put(
         &mut self,
         out: &mut Page,

@@ -38,11 +38,10 @@ pub struct Played {
 /// steps that were done, and of each front of them, whatever a device asked is denied or has a warrant in past states, none of
 /// whose moments lies before a full invalidation that is complete.
 ///
-/// Where the script isn't carried out to its end, the fault says why: `Read` only where a read failed, `Write` only where a write or a
-/// flush failed, and else the script is too long. At its end, and where a read failed, all is flushed.
+/// If the script isn't carried out to its end, the fault says why: `Read` only if a read failed, `Write` only if a write or a flush failed,
+/// and else the script is too long. At its end, and if a read failed, all is flushed.
 ///
-/// A refusal is that of `load`, or `OutOfMemory` where there is no memory for the trace; then nothing is read and nothing
-/// written.
+/// A refusal is that of `load`, or `OutOfMemory` if there is no memory for the trace; then nothing is read and nothing written.
 pub fn play<R: Read, W: Write>(
     alloc: Global,
     image: &[u8],

@@ -10,7 +10,7 @@ use crate::fault::RunFault;
 use crate::watched::WatchedWriter;
 use std::io::Write;
 
-/// Who carries out the lines of a script, and writes what is told of each.
+/// Code that carries out the lines of a script, and writes the output for each.
 pub trait Answerer {
     /// How the lines are answered.
     ghost answering: { Answering };
@@ -21,8 +21,8 @@ pub trait Answerer {
     /// Which references it holds.
     ghost names: { Self → List ℕ };
 
-    /// Carries out a line, which has no line end, and writes what is told of it. Of a line above 512 bytes it may be given the first 513
-    /// alone. The fault is `Write`.
+    /// Carries out a line, which has no line end, and writes its output. Of a line above 512 bytes it may be given only the first 513. The
+    /// fault is `Write`.
     fn answer<W: Write>(
         &mut self,
         line: &[u8],

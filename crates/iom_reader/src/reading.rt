@@ -12,8 +12,8 @@ use std::io::{Read, Write};
 /// The most bytes that are asked of a reader at once.
 const MOST_BYTES_OF_A_PIECE: usize = 0x8000;
 
-/// Has all lines of the script that `reader` gives answered, as `run` does, whoever answers them: what is told of them is written and
-/// flushed before it reads on, and at the end. It asks that the first 513 bytes of a line tell all that it says, and that a flush changes nothing.
+/// Has all lines of the script that `reader` gives answered by an answerer. Their output is written and flushed before it reads on, and at
+/// the end. The first 513 bytes of a line must decide its answer, and a flush must change nothing.
 pub fn answer_all<A: Answerer, R: Read, W: Write>(
     answerer: &mut A,
     reader: &mut WatchedReader<'_, R>,

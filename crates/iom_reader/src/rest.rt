@@ -26,10 +26,10 @@ fn cut_line(text: &[u8]) -> &[u8]
     if text.contains(&b'\n') { b"" } else { text }
 }
 
-/// What is kept of a script between its pieces.
+/// The rest of a script between its pieces.
 #[derive(Drop)]
 pub struct Rest {
-    /// The first bytes of the line that is open: 513 of them tell that it is too long.
+    /// The first bytes of the open line; if there are 513 it is too long.
     pub line: ArrayVec<u8, 513>,
     /// How many lines have their end: at most 2^20.
     pub lines: u64,
@@ -38,7 +38,7 @@ pub struct Rest {
 }
 
 impl Rest {
-    /// What is kept before the first piece: nothing.
+    /// Nothing kept yet.
     pub fn new() -> Self
         ensures line { result.line.items ≡ [] }
         ensures lines { result.lines ≡ 0 }
@@ -177,7 +177,7 @@ impl Rest {
         Ok(())
     }
 
-    /// Answers a last line that lacks its line end, where it has a byte, and flushes. The fault is `Write`.
+    /// Answers a last line that lacks its line end, if it has a byte, and flushes. The fault is `Write`.
     pub fn finish<A: Answerer, W: Write>(
         &mut self,
         answerer: &mut A,

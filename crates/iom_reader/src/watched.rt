@@ -27,8 +27,8 @@ impl<'a, R: Read> WatchedReader<'a, R> {
         }
     }
 
-    /// Reads into a front of `piece`, and answers how many bytes; None where the read failed. All answers are flushed before, so
-    /// that each is seen before more is waited for.
+    /// Reads into a front of `piece`, and answers how many bytes; None if the read failed. All answers are flushed before, so that each is
+    /// seen before more is waited for.
     pub(crate) fn read<W>(
         &mut self,
         piece: &mut [u8],
@@ -82,7 +82,7 @@ impl<'a, W: Write> WatchedWriter<'a, W> {
         }
     }
 
-    /// Writes a front of `text`, and answers how many bytes it has; None where the write failed or took no byte.
+    /// Writes a front of `text`, and answers how many bytes it has; None if the write failed or took no byte.
     #[inline(always)]
     pub(crate) fn write(&mut self, text: &[u8]) -> Option<usize>
         requires { write_failed self.old ≡ false }

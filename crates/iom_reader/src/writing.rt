@@ -1,4 +1,4 @@
-//! What is written by as few calls of a writer as it needs.
+//! Texts are written with few calls of a writer.
 
 ghost use Rattle.std.specs.Prelude.{◌≡◌, ◌<◌, length, is_err, false, true, IfErr, OnErr, OnOk};
 ghost use Rattle.std.specs.Io.KnownBytes.{Appends, Keeps};
@@ -9,7 +9,7 @@ use crate::fault::RunFault;
 use crate::watched::WatchedWriter;
 use std::io::Write;
 
-/// Writes a text with as few calls of the writer as it needs: one where the writer takes it whole. The fault is `Write`.
+/// Writes a text with as few calls of the writer as it needs: one if the writer takes it whole. The fault is `Write`.
 #[inline(always)]
 pub fn write_out<W: Write>(writer: &mut WatchedWriter<'_, W>, text: &[u8]) -> Result<(), RunFault>
     requires can { write_failed writer.old ≡ false }

@@ -2,7 +2,7 @@ ghost use Rattle.std.specs.Prelude.{Some};
 
 use iom_core::Platform;
 use iom_mem::Ram;
-use iom_tool::{RunFault, Session, Trace};
+use iom_tool::{Console, RunFault, Trace};
 use std::alloc::Global;
 use std::io::{self, Error, ErrorKind, Read, Write};
 use std::test::Fail;
@@ -156,7 +156,11 @@ fn run_filled(
         flushes: limits.flushes,
         most: limits.most,
     };
-    let ended = iom_tool::run(&mut platform, &mut trace, &mut reader, &mut writer);
+    let ended = iom_tool::run(
+        &mut Console::new(&mut platform, &mut trace),
+        &mut reader,
+        &mut writer,
+    );
     Ok(Outcome {
         ended,
         written: writer.held,
@@ -423,19 +427,19 @@ fn long_lines(rt: HostRuntime) -> Result<(), Fail> {
     Ok(())
 }
 
-fn is_replied(session: &mut Session, line: &[u8], want: &[u8]) -> bool {
-    session.line(line).as_slice() == want
+fn is_replied(console: &mut Console, line: &[u8], want: &[u8]) -> bool {
+    console.line(line).as_slice() == want
 }
 
-// The index of the first line to which a session gives another answer.
+// The index of the first line to which a console gives another answer.
 fn otherwise(
     platform: &mut Platform,
     trace: &mut Trace,
     cases: &[(&[u8], &[u8])],
 ) -> Option<usize> {
-    let mut session = Session::new(platform, trace);
+    let mut console = Console::new(platform, trace);
     for (i, (line, want)) in cases.iter().enumerate() {
-        if !is_replied(&mut session, line, want) {
+        if !is_replied(&mut console, line, want) {
             return Some(i);
         }
     }

@@ -1,4 +1,4 @@
-//! What the lines of a script drive.
+//! The platform and the trace that the lines of a script drive.
 
 ghost use Rattle.std.specs.Prelude.{◌≡◌, ◌++◌, ◌∷◌, [], ◌<◌, false, length, is_err, IfErr, OnErr, OnOk};
 ghost use Rattle.std.specs.Io.KnownBytes.{Appends};
@@ -60,7 +60,7 @@ impl<'a> Console<'a> {
     }
 
     /// Carries out a line, given without its line end, and answers its text: empty for a blank line, and `bad` for what is no line of
-    /// `run`, as where the text is above 512 bytes or holds a line end.
+    /// `run`, as for a text above 512 bytes or with a line end.
     pub fn line(&mut self, text: &[u8]) -> Reply
         ensures reply { result.items
             ≡ unwrap_or (reply (console self.old.platform.now self.old.trace.now) (line_of text.now)) [] }

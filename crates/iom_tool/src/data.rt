@@ -50,8 +50,8 @@ fn padded(word: &[u8]) -> [u8; 128]
     digits
 }
 
-/// Puts the 1 to 64 bytes that a word of 2 to 128 hex digits writes in place of what `bytes` holds, and answers whether the word is
-/// one; of any other word `bytes` may hold anything. All 64 places are decoded, since a loop over so many has no branch.
+/// Writes the 1 to 64 bytes of a word of 2 to 128 hex digits to `bytes`, and answers whether the word is one; for any other word `bytes`
+/// may hold anything. All 64 places are decoded, since such a loop has no branch.
 #[inline(always)]
 #[tactic(auto, unfolding(crate::specs::Words::bytes_of))]
 pub fn put_bytes_of(word: &[u8], bytes: &mut ArrayVec<u8, 64>) -> bool

@@ -18,7 +18,7 @@ pub struct Feeder<'a> {
     pub platform: &'a mut Platform,
     /// The trace that keeps its steps.
     pub trace: &'a mut Trace,
-    /// What is kept of the text between two pieces.
+    /// The rest of the text between two pieces.
     pub rest: Rest,
     /// What was refused once, and is from then on.
     pub refusal: Option<RunFault>,

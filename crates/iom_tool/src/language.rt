@@ -28,7 +28,7 @@ pub enum Question {
     Trace(u64),
 }
 
-/// A question that `debug` alone has. It is no step.
+/// A question that only `debug` has. It is no step.
 #[derive(Clone, Copy)]
 pub enum Inquiry {
     /// Whether a request is stale, and what the tables say of it then.
@@ -37,7 +37,7 @@ pub enum Inquiry {
     StaleContext(u64),
     /// Whether the tables say now what place I of the translation cache holds, the oldest 0, and what else.
     StalePage(u64),
-    /// What is told of step I of the trace, the oldest 0.
+    /// The reason of step I of the trace; the oldest is 0.
     Why(u64),
     /// Which line filled place I of the context cache, the oldest 0.
     ContextOrigin(u64),
@@ -45,7 +45,7 @@ pub enum Inquiry {
     PageOrigin(u64),
     /// The part of this number, from 0, of the walk of a request as the tables stand now.
     Walk(Request, u64),
-    /// What a queue's registers tell, and what stopped it.
+    /// The state of a queue by its registers, and the reason why it stopped.
     Queue(Which),
     /// Which interrupt lines are high.
     Vectors,

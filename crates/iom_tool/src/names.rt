@@ -71,8 +71,8 @@ fn named_in(table: &[Named], name: &[u8]) -> Option<(u64, u64)>
     }
 }
 
-/// The offset and the size, in bytes, of the register of the IOMMU with this name (RISC-V IOMMU Architecture 1.0, "Memory-mapped
-/// register interface"); None where this model has none.
+/// The offset and the size, in bytes, of the register of the IOMMU with this name (RISC-V IOMMU Architecture 1.0, "Memory-mapped register
+/// interface"); None if this model has none.
 #[tactic(auto, unfolding(crate::specs::Names::registers))]
 pub fn register_named(name: &[u8]) -> Option<(u64, u64)>
     ensures { result ≡ named_in registers name.now }
@@ -80,8 +80,8 @@ pub fn register_named(name: &[u8]) -> Option<(u64, u64)>
     named_in(&REGISTERS, name)
 }
 
-/// The offset and the size, in bytes, of the register of a block device with this name (VIRTIO 1.2, "MMIO Device Register Layout");
-/// None where there is none.
+/// The offset and the size, in bytes, of the register of a block device with this name (VIRTIO 1.2, "MMIO Device Register Layout"); None if
+/// there is none.
 #[tactic(auto, unfolding(crate::specs::Names::block_registers))]
 pub fn block_register_named(name: &[u8]) -> Option<(u64, u64)>
     ensures { result ≡ named_in block_registers name.now }

@@ -30,8 +30,8 @@ pub fn run<R: Read, W: Write>(
     run_watched(console, &mut reader, &mut writer)
 }
 
-/// The same over a reader and a writer that are watched: each fault is answered only where it happened, and all is flushed at
-/// the end, and where a read failed.
+/// `run` over a reader and a writer that are watched: each fault is answered only if it happened, and all is flushed at the end, and if a
+/// read failed.
 #[tactic(auto, using(crate::proofs::Steps::lawful))]
 pub fn run_watched<R: Read, W: Write>(
     console: &mut Console<'_>,

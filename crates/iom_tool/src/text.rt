@@ -130,7 +130,7 @@ fn push_step(out: &mut Draft, step: &Step)
     }
 }
 
-/// Puts the text of a step of a trace, and its answer; `none` where there is no such step.
+/// Puts the text of a step of a trace, and its answer; `none` if there is no such step.
 #[tactic(auto, unfolding(crate::specs::Texts::entry_text))]
 pub fn push_entry(out: &mut Draft, entry: Option<&Entry>)
     requires { length out.old ≡ 0 }

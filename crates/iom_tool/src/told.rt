@@ -1,4 +1,4 @@
-//! What steps answered, told outside a script.
+//! Texts of answers to steps outside a script.
 
 ghost use Rattle.std.specs.Prelude.{◌≡◌, ◌≤◌, length, Some};
 ghost use Rattle.iom_tool.specs.Texts.{entry_text, text_of};

@@ -103,7 +103,7 @@ impl Trace {
         true
     }
 
-    /// The step at place `i`, any number; the oldest is at place 0. None where the trace has `i` steps or fewer.
+    /// The step at place `i`, any number; the oldest is at place 0. None if the trace has `i` steps or fewer.
     pub fn entry(&self, i: u64) -> Option<&Entry>
         ensures { option_copied result ≡ slice_get self.now i }
     {

@@ -1,10 +1,10 @@
-//! How far a script is, told on standard error while it is read.
+//! The progress of a script, shown on standard error while it is read.
 
 use std::fs::{self, Files};
 use std::io::{self, Read};
 use std::time::{Clock, Duration, Instant};
 
-/// How many seconds a script is played before anything is told.
+/// The seconds for which a script is played before its progress is shown.
 const PATIENCE: u64 = 1;
 
 /// A script of a known size that is played.
@@ -42,8 +42,7 @@ fn watch_on(rt: &(impl Clock + Files)) -> Option<Watch> {
 }
 
 impl<'r, R: Clock + Eprint + Files, I: Read> Progress<'r, R, I> {
-    /// Of the script on standard input that this word plays. It is told only where there is a terminal to tell it on and the script
-    /// is a file.
+    /// The progress of the script on standard input that this word plays. It is shown only on a terminal, and only if the script is a file.
     pub fn new(rt: &'r R, word: &'r str, has_terminal: bool, input: I) -> Progress<'r, R, I> {
         Progress {
             rt,
@@ -54,7 +53,7 @@ impl<'r, R: Clock + Eprint + Files, I: Read> Progress<'r, R, I> {
         }
     }
 
-    /// Clears what was told.
+    /// Clears the line of progress.
     pub fn clear(&mut self) {
         if let Some(Watch { told: Some(_), .. }) = self.watch {
             let _ = self.rt.eprint("\r                \r");
