@@ -10,6 +10,7 @@
 #   make fuzz [OTHER=FILE]    compares the program with another one, or its own words, on cases made to harm; MINUTES=1, SEED=1
 #   make peer                 compares the program with QEMU's IOMMU (QEMU 10); CASES=5000, SEED=1
 #   make linux                runs the IOMMU driver of Linux over the C library; OPERATIONS=3000, SEED=1
+#   make boot                 boots a kernel on QEMU with our IOMMU (contrib/qemu); it needs a network
 #   make library              builds the C library, its header and its pkg-config file into c/out, where the Python module finds it
 #   make page                 builds the page that shows the model in a browser into web/out; it proves a copy of the crates (web/build.py)
 #   make install PREFIX=..    copies the program, its man page and its completions for bash and zsh, and the C library to PREFIX, or to
@@ -32,7 +33,7 @@ sources = $(shell find crates -name out -prune -o -type f \( -name '*.rt' -o -na
 has_rt = command -v rt >/dev/null || { echo "rt, the command of the Rattle kit, is not on the path" >&2; exit 1; }
 has_python = command -v python3 >/dev/null || { echo "python3 is not on the path" >&2; exit 1; }
 
-.PHONY: run build test edits rows bench fuzz peer linux library page install dist deb wheel
+.PHONY: run build test edits rows bench fuzz peer linux boot library page install dist deb wheel
 
 $(program): crates.txt $(sources)
 	@$(has_rt)
@@ -94,6 +95,11 @@ peer: $(program)
 
 linux: $(library)
 	tests/linux/linux.sh c/out/lib/librviommu.a $(OPERATIONS) $(SEED)
+
+boot: $(program) $(library)
+	@$(has_python)
+	contrib/qemu/build.py >/dev/null
+	contrib/qemu/boot.py contrib/qemu/out $(program)
 
 library:
 	@$(has_rt)

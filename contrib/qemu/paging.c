@@ -97,17 +97,20 @@ static bool write_is_refused(u64 iova, struct page *page, unsigned long offset)
 	return READ_ONCE(*word_of(page, offset)) == value;
 }
 
-/* Whether the device's read at an IOVA leaves its buffer as it is. The IOVA `good` leads to `good_page`, and fetches what the buffer has. */
-static bool read_is_refused(u64 iova, u64 good, struct page *good_page)
+/*
+ * Whether the device's read at an IOVA doesn't bring a word of memory. What its buffer then has, it writes at the IOVA `good`, which leads
+ * to `good_page`.
+ */
+static bool read_is_refused(u64 iova, struct page *page, unsigned long offset, u64 good, struct page *good_page)
 {
 	u32 value = ++last_value;
 
-	WRITE_ONCE(*word_of(good_page, 0), value);
+	WRITE_ONCE(*word_of(page, offset), value);
 	mb();
-	if (!edu_moves(good, false) || !edu_moves(iova, false) || !edu_moves(good + 4, true))
+	if (!edu_moves(iova + offset, false) || !edu_moves(good, true))
 		return false;
 	mb();
-	return READ_ONCE(*word_of(good_page, 4)) == value;
+	return READ_ONCE(*word_of(good_page, 0)) != value;
 }
 
 static int map(u64 iova, phys_addr_t place, size_t size, int kind)
@@ -159,7 +162,7 @@ static const char *test_unmap(void)
 		why = "the page isn't led to its frame";
 	if (!unmap(FIRST_IOVA, SZ_4K))
 		why = "iommu_unmap";
-	if (!read_is_refused(FIRST_IOVA, FIRST_IOVA + SZ_4K, other))
+	if (!read_is_refused(FIRST_IOVA, pages, 0x10, FIRST_IOVA + SZ_4K, other))
 		why = "the device still reads an unmapped page";
 	if (!write_is_refused(FIRST_IOVA, pages, 0))
 		why = "the device still writes an unmapped page";

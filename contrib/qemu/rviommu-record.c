@@ -417,7 +417,7 @@ struct rviommu_recorder *rviommu_record_begin(const char *file, const char *capa
     recorder->capabilities = g_strdup(capabilities ? capabilities : "");
     recorder->script = fopen(file, "w");
     if (!recorder->script) {
-        error_setg(errp, "rviommu-sys: cannot write %s: %s", file, strerror(errno));
+        error_setg(errp, "cannot write %s: %s", file, strerror(errno));
         return NULL;
     }
     /* A line at a time, so that the record of a QEMU that is killed ends with a whole line. */

@@ -307,7 +307,7 @@ static bool open_model(RviommuSys *s, Error **errp)
     enum rviommu_status status = rviommu_assemble(text, strlen(text), image, sizeof image, &length, &line);
 
     if (status != RVIOMMU_OK) {
-        error_setg(errp, "rviommu-sys: capabilities=%s is no statement of rviommu(1), \"IMAGE TEXTS\"", s->capabilities ? s->capabilities : "");
+        error_setg(errp, "capabilities=%s is no statement of rviommu(1), \"IMAGE TEXTS\"", s->capabilities ? s->capabilities : "");
         return false;
     }
     s->memory.words = memory_region_get_ram_ptr(machine->ram);
@@ -316,11 +316,11 @@ static bool open_model(RviommuSys *s, Error **errp)
     status = rviommu_open_lent_image(image, length, s->memory.base, machine->ram_size, &s->model);
     if (status != RVIOMMU_OK) {
         rviommu_text(status, words, sizeof words, &length);
-        error_setg(errp, "rviommu-sys: the model can't be opened: %s", words);
+        error_setg(errp, "the model can't be opened: %s", words);
         return false;
     }
     if (rviommu_keep_reasons(&s->model, s->stale ? 1 : 0, true) != RVIOMMU_OK) {
-        error_setg(errp, "rviommu-sys: no memory");
+        error_setg(errp, "no memory");
         return false;
     }
     return true;
@@ -355,7 +355,7 @@ static void realize(DeviceState *device, Error **errp)
     RviommuSys *s = RVIOMMU_SYS(device);
 
     if (object_resolve_path_type("", TYPE_RVIOMMU_SYS, NULL) != OBJECT(s)) {
-        error_setg(errp, "rviommu-sys: there may be only one");
+        error_setg(errp, "there may be only one rviommu-sys");
         return;
     }
     if (!open_model(s, errp)) {
