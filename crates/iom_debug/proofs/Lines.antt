@@ -1,5 +1,5 @@
 -- What `run` answers to a line, `debug` answers too.
-use Rattle.std.proofs.Common.{◌≡◌, ◌≢◌, ◌∙◌, ℕ, List, [], ap, sym}
+use Rattle.std.proofs.Common.{◌≡◌, ◌≢◌, ◌∙◌, ℕ, List, [], ap}
 use Rattle.std.specs.Option.{unwrap_or}
 use Rattle.iom_core.specs.State.{State}
 use Rattle.iom_core.specs.Run.{end_of}

@@ -1,10 +1,10 @@
 -- What is told of lines.
-use Rattle.std.proofs.Common.{◌≡◌, ◌+◌, ◌++◌, ◌==◌, ◌≤◌, min, inl, inr, arith, ℕ, Bool, List, [], length, take, Option, Result, Ok, Err, OnOk, OnErr, sym, ◌∙◌, ap, subst, refl, append_assoc}
-use Rattle.std.specs.Io.KnownBytes.{Appends, Keeps}
+use Rattle.std.proofs.Common.{◌≡◌, ◌+◌, ◌==◌, ◌≤◌, min, inl, inr, arith, ℕ, Bool, List, length, take, Option, Result, Ok, Err, OnOk, OnErr, sym, ◌∙◌, ap, subst, refl}
+use Rattle.std.specs.Io.KnownBytes.{Appends}
 use Rattle.std.proofs.KnownBytes.{Appends-nil, Appends-trans}
 use Rattle.std.proofs.lemmas.Bool.{cases_lt}
 use Rattle.std.proofs.lemmas.List.{nil_from_length, take_all, length-take}
-use Rattle.iom_reader.specs.Answering.{Progress, progress, AnswersNext, IsAnswering}
+use Rattle.iom_reader.specs.Answering.{Progress, AnswersNext, IsAnswering}
 use Rattle.iom_reader.specs.Running.{Ends, WritesFront}
 use Rattle.iom_reader.specs.Speaking.{by_lines}
 use Rattle.iom_reader.specs.declared.fault.RunFault.{RunFault}

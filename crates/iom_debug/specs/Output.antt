@@ -1,5 +1,5 @@
 -- What is answered to a line, and which steps it is.
-use Rattle.std.specs.Prelude.{ℕ, ◌≡◌, List, [], ◌∷◌, replicate, Option, Some, None}
+use Rattle.std.specs.Prelude.{ℕ, ◌≡◌, List, [], ◌∷◌, replicate, Option, Some}
 use Rattle.std.specs.Option.{unwrap_or}
 use Rattle.iom_core.specs.State.{State}
 use Rattle.iom_core.specs.declared.step.Step.{Step}

@@ -1,5 +1,5 @@
 -- What the words `debug` and `check` write for the lines of a script.
-use Rattle.std.specs.Prelude.{ℕ, ◌≡◌, ◌+◌, ◌==◌, ◌++◌, ◌&&◌, ◌||◌, Bool, false, true, not, nat_lt, nat_le, List, [], ◌∷◌, length, take, codes, bytes_eq, Option, Some, None, Result, is_some, if◌then◌else◌}
+use Rattle.std.specs.Prelude.{ℕ, ◌≡◌, ◌+◌, ◌==◌, ◌++◌, ◌&&◌, ◌||◌, Bool, not, nat_lt, nat_le, List, [], ◌∷◌, length, take, codes, bytes_eq, Option, Some, None, Result, is_some, if◌then◌else◌}
 use Rattle.std.specs.List.{flat_map, position}
 use Rattle.std.specs.Option.{unwrap_or}
 use Rattle.std.specs.Io.KnownBytes.{Appends, Consumes, IsAtEnd}

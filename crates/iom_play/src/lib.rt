@@ -13,7 +13,7 @@ ghost use Rattle.iom_play.specs.Playing.{Plays};
 
 use iom_core::Platform;
 use iom_image::{LoadFault, load};
-use iom_tool::{Console, RunFault, Trace, WatchedReader, WatchedWriter, run_watched};
+use iom_tool::{RunFault, Trace, WatchedReader, WatchedWriter, run_watched};
 use std::alloc::Global;
 use std::io::{Read, Write};
 
@@ -68,8 +68,7 @@ pub fn play<R: Read, W: Write>(
     let Ok(mut trace) = Trace::new(alloc) else {
         return Err(LoadFault::OutOfMemory);
     };
-    let mut console = Console::new(&mut platform, &mut trace);
-    let ended = run_watched(&mut console, reader, writer);
+    let ended = run_watched(&mut platform, &mut trace, reader, writer);
     Ok(Played {
         platform,
         trace,

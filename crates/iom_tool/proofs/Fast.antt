@@ -10,7 +10,6 @@ use Rattle.iom_tool.specs.Script.{Data, Does, Number, Plain, all_say, first_of, 
 use Rattle.iom_tool.specs.Parsed.{IsStep}
 use Rattle.iom_tool.specs.Values.{nothing, numbers_only}
 use Rattle.iom_tool.specs.declared.language.Language.{Language}
-use Rattle.iom_tool.specs.declared.language.Language.TheVariants.{Run, Debug}
 
 same_word : (word name : List ℕ) → bytes_eq word name ≡ true → word ≡ name
 same_word word name is = (bytes_eq-Decides word name).0 is
@@ -27,62 +26,52 @@ second verb way name words rest step cut is told =
 pub load : (words : List (List ℕ)) (a b : ℕ) → all_say (Number ∷ Number ∷ []) words nothing ≡ Some (numbers_only (a ∷ b ∷ [])) →
     IsStep (codes "load" ∷ words) (step.Load a b)
 unfolding IsStep meaning first_of rows all_say line_by step_by
-load words a b is Run = rw is refl
-load words a b is Debug = rw is refl
+load words a b is = λ language. rw is refl
 
 pub store : (words : List (List ℕ)) (a b c : ℕ) → all_say (Number ∷ Number ∷ Number ∷ []) words nothing ≡ Some (numbers_only (a ∷ b ∷ c ∷ [])) →
     IsStep (codes "store" ∷ words) (step.Store a b c)
 unfolding IsStep meaning first_of rows all_say line_by step_by
-store words a b c is Run = rw is refl
-store words a b c is Debug = rw is refl
+store words a b c is = λ language. rw is refl
 
 pub reg_read : (words : List (List ℕ)) (a b : ℕ) → all_say (Number ∷ Number ∷ []) words nothing ≡ Some (numbers_only (a ∷ b ∷ [])) →
     IsStep (codes "reg" ∷ codes "read" ∷ words) (step.RegRead a b)
 unfolding IsStep meaning first_of rows all_say line_by step_by
-reg_read words a b is Run = rw is refl
-reg_read words a b is Debug = rw is refl
+reg_read words a b is = λ language. rw is refl
 
 pub reg_write : (words : List (List ℕ)) (a b c : ℕ) → all_say (Number ∷ Number ∷ Number ∷ []) words nothing ≡ Some (numbers_only (a ∷ b ∷ c ∷ [])) →
     IsStep (codes "reg" ∷ codes "write" ∷ words) (step.RegWrite a b c)
 unfolding IsStep meaning first_of rows all_say line_by step_by
-reg_write words a b c is Run = rw is refl
-reg_write words a b c is Debug = rw is refl
+reg_write words a b c is = λ language. rw is refl
 
 pub dma_read : (words : List (List ℕ)) (a b c : ℕ) → all_say (Number ∷ Number ∷ Number ∷ []) words nothing ≡ Some (numbers_only (a ∷ b ∷ c ∷ [])) →
     IsStep (codes "dma" ∷ codes "read" ∷ words) (step.DmaRead a b c)
 unfolding IsStep meaning first_of rows all_say line_by step_by
-dma_read words a b c is Run = rw is refl
-dma_read words a b c is Debug = rw is refl
+dma_read words a b c is = λ language. rw is refl
 
 pub dev_read : (words : List (List ℕ)) (a b c : ℕ) → all_say (Number ∷ Number ∷ Number ∷ []) words nothing ≡ Some (numbers_only (a ∷ b ∷ c ∷ [])) →
     IsStep (codes "dev" ∷ codes "read" ∷ words) (step.DevRead a b c)
 unfolding IsStep meaning first_of rows all_say line_by step_by
-dev_read words a b c is Run = rw is refl
-dev_read words a b c is Debug = rw is refl
+dev_read words a b c is = λ language. rw is refl
 
 pub dev_write : (words : List (List ℕ)) (a b c d : ℕ) → all_say (Number ∷ Number ∷ Number ∷ Number ∷ []) words nothing ≡ Some (numbers_only (a ∷ b ∷ c ∷ d ∷ [])) →
     IsStep (codes "dev" ∷ codes "write" ∷ words) (step.DevWrite a b c d)
 unfolding IsStep meaning first_of rows all_say line_by step_by
-dev_write words a b c d is Run = rw is refl
-dev_write words a b c d is Debug = rw is refl
+dev_write words a b c d is = λ language. rw is refl
 
 pub dev_step : (words : List (List ℕ)) (a : ℕ) → all_say (Number ∷ []) words nothing ≡ Some (numbers_only (a ∷ [])) →
     IsStep (codes "dev" ∷ codes "step" ∷ words) (step.Device a)
 unfolding IsStep meaning first_of rows all_say line_by step_by
-dev_step words a is Run = rw is refl
-dev_step words a is Debug = rw is refl
+dev_step words a is = λ language. rw is refl
 
 pub dma_write : (words : List (List ℕ)) (a b : ℕ) (bytes : List ℕ) →
     all_say (Number ∷ Number ∷ Data ∷ []) words nothing ≡ Some (record { numbers = a ∷ b ∷ []; bytes = bytes; items = [] }) →
     IsStep (codes "dma" ∷ codes "write" ∷ words) (step.DmaWrite a b (record { items = bytes }))
 unfolding IsStep meaning first_of rows all_say line_by step_by
-dma_write words a b bytes is Run = rw is refl
-dma_write words a b bytes is Debug = rw is refl
+dma_write words a b bytes is = λ language. rw is refl
 
 pub cmd : (words : List (List ℕ)) → (length words == 0) ≡ true → IsStep (codes "cmd" ∷ words) step.Command
 unfolding IsStep meaning first_of rows all_say line_by step_by
-cmd words is Run = rw is refl
-cmd words is Debug = rw is refl
+cmd words is = λ language. rw is refl
 
 -- such a line says so in each script
 pub fast : (text verb : List ℕ) (words : List (List ℕ)) (step : Step) (language : Language) → list_any (λ c. c == 10) text ≡ false →

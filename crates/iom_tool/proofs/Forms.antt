@@ -1,5 +1,5 @@
 -- Operands of lines: data that is the rest of its line, and the words of an item.
-use Rattle.std.proofs.Common.{◌≡◌, ◌<◌, nat_le, Bool, get_or, inl, inr, ℕ, List, [], ◌∷◌, Some, false, true, length, take, ◌∙◌, sym, ap, subst, refl, arith}
+use Rattle.std.proofs.Common.{◌≡◌, ◌<◌, nat_le, Bool, get_or, inl, inr, ℕ, List, [], ◌∷◌, Some, false, true, length, take, sym, ap, subst, refl, arith}
 use Rattle.iom_text.specs.Words.{is_end, words_of}
 use Rattle.std.specs.List.{list_all}
 use Rattle.hex.specs.Hex.{is_hex_digit}

@@ -1,27 +1,31 @@
 -- A line of `run` is the same line of `debug`, since the rows of `run` stand first in the table.
-use Rattle.std.proofs.Common.{◌≡◌, ◌≢◌, ◌&&◌, ◌||◌, ◌==◌, ℕ, List, [], ◌∷◌, Bool, true, false, not, Option, Some, None, length, nat_lt, refl, if◌then◌else◌}
+use Rattle.std.proofs.Common.{◌≡◌, ◌≢◌, ◌||◌, ◌==◌, ℕ, List, [], ◌∷◌, Bool, true, false, Option, Some, None, length, nat_lt, refl, if◌then◌else◌}
 use Rattle.std.specs.List.{list_any}
 use Rattle.std.specs.Option.{unwrap_or}
 use Rattle.iom_text.specs.Words.{words_of}
-use Rattle.iom_tool.specs.Script.{Again, Bad, DebugLine, Inquires, Named, Plain, Row, Stores, debug_line_of, first_of, fitted, is_run, line_in, line_of, meaning, or_else, plain, rows}
+use Rattle.iom_tool.specs.Script.{Again, Bad, DebugLine, Inquires, Named, Plain, Row, Stores, debug_line_of, first_of, fitted, line_in, line_of, may_use, meaning, or_else, plain, rows}
 use Rattle.iom_tool.specs.declared.language.Language.{Language}
 use Rattle.iom_tool.specs.declared.language.Language.TheVariants.{Run, Debug}
 
 abbrev has_none : List Row → Bool
 has_none [] = true
-has_none (row ∷ rows) = if is_run row.language then false else has_none rows
+has_none (row ∷ rows) = if may_use Run row.language then false else has_none rows
 
 abbrev is_sorted : List Row → Bool
 is_sorted [] = true
-is_sorted (row ∷ rows) = if is_run row.language then is_sorted rows else has_none rows
+is_sorted (row ∷ rows) = if may_use Run row.language then is_sorted rows else has_none rows
 
 none_first : (rows : List Row) (words : List (List ℕ)) → has_none rows ≡ true → first_of Run rows words ≡ None
 unfolding first_of
 none_first [] words none = refl
-none_first (row ∷ rows) words none = by (is_run row.language) refl (λ none. none_first rows words none) where
-  by : (b : Bool) → is_run row.language ≡ b → (has_none rows ≡ true → first_of Run rows words ≡ None) → first_of Run (row ∷ rows) words ≡ None
+none_first (row ∷ rows) words none = by (may_use Run row.language) refl (λ none. none_first rows words none) where
+  by : (b : Bool) → may_use Run row.language ≡ b → (has_none rows ≡ true → first_of Run rows words ≡ None) → first_of Run (row ∷ rows) words ≡ None
   by true is more = absurd (cc (rw is at none))
   by false is more = rw is (more (rw is at none))
+
+uses_all : (mark : Language) → may_use Debug mark ≡ true
+uses_all Run = refl
+uses_all Debug = refl
 
 same_first : (fit run all : Option DebugLine) (line : DebugLine) → (run ≡ Some line → all ≡ Some line) → or_else fit run ≡ Some line →
     or_else fit all ≡ Some line
@@ -32,10 +36,10 @@ run_first : (rows : List Row) (words : List (List ℕ)) (line : DebugLine) → i
     first_of Debug rows words ≡ Some line
 unfolding first_of
 run_first [] words line sorted is = absurd (cc is)
-run_first (row ∷ rows) words line sorted is = by (is_run row.language) refl (λ sorted is. run_first rows words line sorted is) where
-  by : (b : Bool) → is_run row.language ≡ b → (is_sorted rows ≡ true → first_of Run rows words ≡ Some line → first_of Debug rows words ≡ Some line) →
+run_first (row ∷ rows) words line sorted is = by (may_use Run row.language) refl (λ sorted is. run_first rows words line sorted is) where
+  by : (b : Bool) → may_use Run row.language ≡ b → (is_sorted rows ≡ true → first_of Run rows words ≡ Some line → first_of Debug rows words ≡ Some line) →
       first_of Debug (row ∷ rows) words ≡ Some line
-  by true own more = same_first (fitted row words) _ _ line (more (rw own at sorted)) (rw own at is)
+  by true own more = rw (uses_all row.language) (same_first (fitted row words) _ _ line (more (rw own at sorted)) (rw own at is))
   by false other more = absurd (cc (none_first rows words (rw other at sorted), rw other at is))
 
 in_words : (words : List (List ℕ)) → plain (meaning Run words) ≢ Bad → meaning Debug words ≡ Plain (plain (meaning Run words))

@@ -1,7 +1,7 @@
 -- How `run` answers lines.
-use Rattle.std.proofs.Common.{◌≡◌, ◌++◌, ℕ, List, [], ◌∷◌, take, true, false, Option, Some, None, Result, Ok, Err, OnOk, OnErr, is_some, sym, ◌∙◌, ap, subst, refl, lit<}
+use Rattle.std.proofs.Common.{◌≡◌, ◌++◌, ℕ, List, [], ◌∷◌, take, true, false, Result, Ok, Err, OnOk, OnErr, is_some, sym, ◌∙◌, ap, subst, refl, lit<}
 use Rattle.std.specs.Option.{unwrap_or}
-use Rattle.std.specs.Io.KnownBytes.{Appends, Keeps}
+use Rattle.std.specs.Io.KnownBytes.{Appends}
 use Rattle.std.proofs.KnownBytes.{Appends-nil, Appends-trans, Appends-kept}
 use Rattle.iom_core.specs.State.{State}
 use Rattle.iom_core.specs.Run.{end_of}

@@ -47,27 +47,15 @@ line_as (line.Put addr words) = Stores (stores_at addr words.items)
 -- the numbers of a question are in their ranges
 abbrev pub InRange : Inquiry → Type 0
 InRange (inquiry.Stale request) = request.did < 2 ^ 24
-InRange (inquiry.StaleContext i) = Unit {0}
-InRange (inquiry.StalePage i) = Unit {0}
-InRange (inquiry.Why i) = Unit {0}
-InRange (inquiry.ContextOrigin i) = Unit {0}
-InRange (inquiry.PageOrigin i) = Unit {0}
 InRange (inquiry.Walk request i) = request.did < 2 ^ 24
-InRange (inquiry.Queue which) = Unit {0}
-InRange inquiry.Vectors = Unit {0}
 InRange (inquiry.Dump addr count) = count ≤ 64
 InRange (inquiry.Disk dev at count) = count ≤ 64
-InRange (inquiry.Device dev) = Unit {0}
+InRange other = Unit {0}
 
 abbrev pub Fits : Line → Type 0
-Fits line.Blank = Unit {0}
-Fits line.Bad = Unit {0}
-Fits (line.Does step) = Unit {0}
-Fits (line.Named step) = Unit {0}
-Fits (line.Asks question) = Unit {0}
 Fits (line.Inquires inquiry) = InRange inquiry
-Fits (line.Again actor most) = Unit {0}
 Fits (line.Put addr words) = addr + 8 * length words.items ≤ 2 ^ 64
+Fits other = Unit {0}
 
 -- these words are this step in each script
 unfoldable pub IsStep : List (List ℕ) → Step → Type 0

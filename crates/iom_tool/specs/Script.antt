@@ -1,5 +1,5 @@
 -- What a line of a script says, by the table of forms: each row has words and operands, and the first row that a line fits decides.
-use Rattle.std.specs.Prelude.{ℕ, ◌+◌, ◌*◌, ◌^◌, ◌++◌, ◌==◌, ◌&&◌, ◌||◌, Bool, true, false, nat_lt, nat_le, List, [], ◌∷◌, length, map, drop, get_or, codes, bytes_eq, Option, Some, None, filter, if◌then◌else◌}
+use Rattle.std.specs.Prelude.{ℕ, ◌+◌, ◌*◌, ◌^◌, ◌==◌, ◌&&◌, ◌||◌, Bool, true, false, nat_lt, nat_le, List, [], ◌∷◌, length, drop, get_or, codes, bytes_eq, Option, Some, None, if◌then◌else◌}
 use Rattle.std.specs.List.{list_any}
 use Rattle.std.specs.Option.{option_map, unwrap_or}
 use Rattle.iom_bits.specs.declared.causes.Kind.{Kind}
@@ -8,7 +8,7 @@ use Rattle.iom_regs.specs.declared.views.Which.TheVariants as which
 use Rattle.iom_core.specs.declared.access.Request.{Request}
 use Rattle.iom_core.specs.declared.step.Step.{Step}
 use Rattle.iom_core.specs.declared.step.Step.TheVariants as step
-use Rattle.iom_text.specs.Words.{words_of, number, first_number}
+use Rattle.iom_text.specs.Words.{words_of, first_number}
 use Rattle.iom_items.specs.declared.item.Item.TheVariants as item
 use Rattle.iom_items.specs.Forms.{where_so, words_for}
 use Rattle.iom_items.specs.Operands.{◌>>=◌}
@@ -218,14 +218,14 @@ rows =
     ∷ row Debug form.Why (Word (codes "why") ∷ Number ∷ [])
     ∷ []
 
-abbrev pub is_run : Language → Bool
-is_run Run = true
-is_run Debug = false
+abbrev pub is_debug : Language → Bool
+is_debug Run = false
+is_debug Debug = true
 
--- whether a script may use a row: `run` those that are marked so
-abbrev pub may_use : Language → Row → Bool
-may_use Run row = is_run row.language
-may_use Debug row = true
+-- whether a script of this language may use what is marked by the second: `run` only what is marked so
+abbrev pub may_use : Language → Language → Bool
+may_use language Run = true
+may_use language Debug = is_debug language
 
 -- the first row that the words fit, of those that the script may use
 abbrev pub or_else : {A : Type 0} → Option A → Option A → Option A
@@ -239,7 +239,7 @@ fitted row words = all_say row.parts words nothing >>= line_by row.form
 unfoldable pub first_of : Language → List Row → List (List ℕ) → Option DebugLine
 first_of language [] words = None
 first_of language (row ∷ rows) words =
-    or_else (where_so (may_use language row) (fitted row words)) (first_of language rows words)
+    or_else (where_so (may_use language row.language) (fitted row words)) (first_of language rows words)
 
 unfoldable pub meaning : Language → List (List ℕ) → DebugLine
 meaning language [] = Plain Blank
@@ -256,10 +256,7 @@ debug_line_of text = line_in Debug text
 -- `run` answers `bad` to what it does not have
 abbrev pub plain : DebugLine → Line
 plain (Plain line) = line
-plain (Named step) = Bad
-plain (Inquires inquiry) = Bad
-plain (Again step most) = Bad
-plain (Stores steps) = Bad
+plain other = Bad
 
 abbrev pub line_of : List ℕ → Line
 line_of text = plain (line_in Run text)

@@ -269,11 +269,11 @@ fn line_of_row(row: &Row, text: &[u8]) -> Option<Line>
     }
 }
 
-// Whether a script may use a row.
-fn may_use(language: Language, row: &Row) -> bool
-    ensures { result ≡ may_use language (row_as row.now) }
+// Whether a script may use what is marked so.
+fn may_use(language: Language, mark: Language) -> bool
+    ensures { result ≡ may_use language mark }
 {
-    match (language, row.0) {
+    match (language, mark) {
         (Language::Run, Language::Debug) => false,
         _ => true,
     }
@@ -289,7 +289,7 @@ fn first_of(language: Language, rows: &[Row], text: &[u8]) -> Option<Line>
     let [row, more @ ..] = rows else {
         return None;
     };
-    if may_use(language, row)
+    if may_use(language, row.0)
         && let Some(line) = line_of_row(row, text)
     {
         return Some(line);

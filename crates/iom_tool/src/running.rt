@@ -6,6 +6,8 @@ ghost use Rattle.iom_tool.specs.Running.{by_steps};
 ghost use Rattle.iom_reader.specs.Watching.{read_failed, write_failed, is_flushed};
 
 use crate::console::Console;
+use crate::trace::Trace;
+use iom_core::Platform;
 use iom_reader::{RunFault, WatchedReader, WatchedWriter, answer_all};
 use std::io::{Read, Write};
 
@@ -21,33 +23,37 @@ pub fn run<R: Read, W: Write>(
     reader: &mut R,
     writer: &mut W,
 ) -> Result<(), RunFault>
-    ensures { Ends by_steps (R.remaining reader.old) (R.remaining reader.new)
+    ensures ends { Ends by_steps (R.remaining reader.old) (R.remaining reader.new)
         (progress (W.contents writer.old) (console_of console.old.platform.now console.old.trace.now))
         (progress (W.contents writer.new) (console_of console.new.platform.now console.new.trace.now)) result }
+    ensures same_platform { console.new.platform.ghost_name ≡ console.old.platform.ghost_name }
+    ensures same_trace { console.new.trace.ghost_name ≡ console.old.trace.ghost_name }
 {
     let mut reader = WatchedReader::new(reader);
     let mut writer = WatchedWriter::new(writer);
-    run_watched(console, &mut reader, &mut writer)
+    run_watched(console.platform, console.trace, &mut reader, &mut writer)
 }
 
-/// `run` over a reader and a writer that are watched: each fault is answered only if it happened, and all is flushed at the end, and if a
+/// `run` on this platform and this trace, over a reader and a writer that are watched: each fault is answered only if it happened, and all is flushed at the end, and if a
 /// read failed.
 #[tactic(auto, using(crate::proofs::Steps::lawful))]
 pub fn run_watched<R: Read, W: Write>(
-    console: &mut Console<'_>,
+    platform: &mut Platform,
+    trace: &mut Trace,
     reader: &mut WatchedReader<'_, R>,
     writer: &mut WatchedWriter<'_, W>,
 ) -> Result<(), RunFault>
     requires can_read { read_failed reader.old ≡ false }
     requires can_write { write_failed writer.old ≡ false }
     ensures ends { Ends by_steps (R.remaining reader.old.inner.now) (R.remaining reader.new.inner.now)
-        (progress (W.contents writer.old.inner.now) (console_of console.old.platform.now console.old.trace.now))
-        (progress (W.contents writer.new.inner.now) (console_of console.new.platform.now console.new.trace.now)) result }
+        (progress (W.contents writer.old.inner.now) (console_of platform.old trace.old))
+        (progress (W.contents writer.new.inner.now) (console_of platform.new trace.new)) result }
     ensures read_told { read_failed reader.new ≡ is_read result }
     ensures write_told { write_failed writer.new ≡ is_write result }
     ensures flushed { stops_at_a_read result ≡ true → is_flushed writer.new ≡ true }
     ensures same_reader { reader.new.inner.ghost_name ≡ reader.old.inner.ghost_name }
     ensures same_writer { writer.new.inner.ghost_name ≡ writer.old.inner.ghost_name }
 {
-    answer_all(console, reader, writer)
+    let mut console = Console::new(platform, trace);
+    answer_all(&mut console, reader, writer)
 }
