@@ -15,7 +15,7 @@ use crate::held::Held;
 use crate::owned::{Owned, carry_out};
 use iom_asm::{AsmFault, assemble};
 use iom_core::{Platform, Step};
-use iom_tool::{Reply, Console, Trace, answer_text, step_of};
+use iom_tool::{Console, Reply, Trace, answer_text, step_of};
 use std::alloc::Global;
 
 // Puts a text and a 0 behind it, and how many bytes it has.
