@@ -2,10 +2,11 @@
 
 A function stands in the place of the program there, and prints the words that it was called with.
 """
+import json
 import os
 import shutil
 
-from frame import TOP, Case
+from frame import TESTS, TOP, Case, commands
 from terminal import Terminal
 
 FOLDER = TOP / "completions"
@@ -18,23 +19,8 @@ SHELLS = {
         TELL, "fpath=($PWD/functions $fpath)", "autoload -Uz compinit", "compinit -u -D"]),
 }
 FILES = ["two words.asm", "brackets [1].asm", "it's $5.asm", "plain.asm", "line\nend.asm", "folder/plain.image"]
-WORDS = ["asm", "run", "check", "debug", "explain", "list", "upgrade"]
-# What is typed, and the words that it makes.
-TYPED = [
-    ("a\t", ["asm"]), ("up\t", ["upgrade"]), ("--v\t", ["--version"]), ("--h\t", ["--help"]),
-    ("help l\t", ["help", "list"]), ("asm tw\t", ["asm", "two words.asm"]), ("asm two\\ w\t", ["asm", "two words.asm"]),
-    ('asm "two\t', ["asm", "two words.asm"]), ("asm 'two\t", ["asm", "two words.asm"]),
-    ("asm plain.asm brack\t", ["asm", "plain.asm", "brackets [1].asm"]), ("asm it\t", ["asm", "it's $5.asm"]),
-    ("asm li\t", ["asm", "line\nend.asm"]), ("run pl\t", ["run", "plain.asm"]),
-    ("run folder/pl\t", ["run", "folder/plain.image"]),
-    ("list two\t u\t 0 1", ["list", "two words.asm", "u64", "0", "1"]),
-    ("list two\t fa\t", ["list", "two words.asm", "fault"]),
-    ("upgrade pl\t brack\t", ["upgrade", "plain.asm", "brackets [1].asm"]), ("check pl\t", ["check", "plain.asm"]),
-    ("check --st\t pl\t", ["check", "--stale", "plain.asm"]), ("ex\t pl\t", ["explain", "plain.asm"]),
-    *((f"{word} --h\t", [word, "--help"]) for word in WORDS), ("asm plain.asm --h\t", ["asm", "plain.asm", "--help"]),
-    # A folder of a word's name is no word.
-    ("ru\t", ["run"]),
-]
+# What is typed, and the words that it makes. In the last one, a folder of a word's name is no word.
+TYPED = json.loads((TESTS / "typed.json").read_text(encoding="utf-8"))
 
 
 class Completions(Case):
@@ -50,7 +36,7 @@ class Completions(Case):
         shell.wait_for(b"ready> ")
         for line in setup:
             shell.type(line.encode() + b"\r")
-        for keys, wanted in TYPED:
+        for keys, wanted in [*TYPED, *((f"{it} --h\t", [it, "--help"]) for it in commands() if it != "help")]:
             with self.subTest(keys):
                 self.assertEqual(shell.words(f"rviommu {keys}"), wanted)
 
