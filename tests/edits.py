@@ -36,7 +36,8 @@ HARMLESS = "an edit without meaning"
 NAMES = re.compile(r"has no field|is not in scope|has no `|was not admitted")
 PUBLIC = r"(?:pub(?:\([a-z ]+\))? )?"
 FUNCTION = re.compile(
-    rf'(?m)^(?: *(?:#\[|//).*\n)*( *){PUBLIC}(?:const )?(?:unsafe )?(?:extern "C" )?fn (\w+)(?:.*\}}|(?s:.*?)^\1\{{?\}}.*)\n')
+    rf'(?m)^(?: *(?:#\[|//).*\n)*( *){PUBLIC}(?:const )?(?:unsafe )?(?:extern "C" )?fn (\w+)'
+    r'(?:.*\}|(?s:.*?)^\1\{?\}.*)\n')
 CONSTANT = re.compile(rf"^{PUBLIC}(?:const|static) (\w+):.*?;$", re.MULTILINE | re.DOTALL)
 TYPE = re.compile(rf"^{PUBLIC}(?:struct|enum|union) (\w+)", re.MULTILINE)
 IMPL = re.compile(r"impl(?:<[^{]*?>)? (?:(\w+)(?:<[^{]*?>)? for )?(\w+)")
