@@ -71,15 +71,10 @@ class Bench:
     """The programs, and a folder for what they read and write."""
 
     def __init__(self, programs, room):
-        self.programs, self.room, self.is_well = programs, room, True
+        self.programs, self.room = programs, room
 
     def path(self, name):
         return os.path.join(self.room, name)
-
-    def judge(self, name, is_so, fault):
-        if not is_so:
-            print(f"{name}: {fault}", flush=True)
-            self.is_well = False
 
     def measured(self, name, runs, count, unit, times, starts=1, by_processor=False, given=os.devnull):
         """Carries out the runs in turn, prints their speeds, and returns the files of their outputs."""
@@ -96,8 +91,8 @@ class Bench:
         return outputs
 
     def want_same(self, name, written):
-        is_same = all(filecmp.cmp(written[0], it, shallow=False) for it in written[1:])
-        self.judge(name, is_same, "what was written DIFFERS")
+        if not all(filecmp.cmp(written[0], it, shallow=False) for it in written[1:]):
+            sys.exit(f"{name}: what was written DIFFERS")
 
     def written(self, stages, pages, lines):
         """The file of a script."""
@@ -109,8 +104,8 @@ class Bench:
         script = self.written(stages, pages, lines)
         outputs = self.measured(name, [[it] for it in self.programs], lines, "lines", times, starts, given=script)
         self.want_same(name, outputs)
-        answers = line_count(outputs[0])
-        self.judge(name, answers == lines, f"{answers:,} answers for {lines:,} lines")
+        if (answers := line_count(outputs[0])) != lines:
+            sys.exit(f"{name}: {answers:,} answers for {lines:,} lines")
 
     def explained(self, name, stages, pages):
         """The lines of a script that set the IOMMU up, and then device reads alone."""
@@ -125,7 +120,8 @@ class Bench:
         outputs = self.measured(f"explain and run, {name}", runs, lines, "lines", 9, by_processor=True, given=script)
         with open(outputs[0], "rb") as file:
             told = sum(line[:1].isdigit() for line in file)
-        self.judge(name, told == lines, f"{told:,} lines are told of {lines:,}")
+        if told != lines:
+            sys.exit(f"{name}: {told:,} lines are told of {lines:,}")
 
     def used(self, name, words, count, unit, made=()):
         """A use of an image or a text; `made` names what each program writes, where that is a file."""
@@ -145,7 +141,8 @@ class Bench:
             costs = [(int(cost), name) for cost, name in re.findall(r"(?m)^ *(\d+)  \S*?:?(.*)$", told)]
             of = lambda pattern: sum(cost for cost, name in costs if re.search(pattern, name))
             found.append((int(re.search(r"(\d+) +PROGRAM TOTALS", told)[1]), of("mem(cpy|move|set)"), of("memset")))
-        self.judge("instructions", len(outputs) == 1, "the outputs DIFFER")
+        if len(outputs) > 1:
+            sys.exit("instructions: the outputs DIFFER")
         return found
 
     def instructions(self):
@@ -196,16 +193,14 @@ def main(*words):
     with tempfile.TemporaryDirectory(prefix="rviommu-bench-") as room:
         bench = Bench(programs, room)
         if "--instructions" in words:
-            bench.instructions()
-            return bench.is_well
+            return bench.instructions()
         for script in (BARE, *STAGED):
             bench.script(*script, LINES, 1, 25)
         bench.script("32 lines, a thousand starts", 0, 256, SHORT, STARTS, 5)
         for script in STAGED:
             bench.explained(*script)
         bench.images()
-        return bench.is_well
 
 
 if __name__ == "__main__":
-    sys.exit(0 if main(*sys.argv[1:]) else 1)
+    main(*sys.argv[1:])
