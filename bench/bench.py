@@ -1,5 +1,5 @@
 #!/usr/bin/env -S python3 -B
-"""bench.py PROGRAM [OTHER]    Times PROGRAM, and OTHER beside it, on scripts, images and texts.
+"""bench.py [--instructions] PROGRAM [OTHER]    Times PROGRAM, and OTHER beside it, on scripts, images and texts.
 
 - Six scripts: mode Bare, one stage and both, with 24 pages (all found in the translation cache once it is warm) and
   with 176 (most of them not), of 1,000,000 lines each; and one of 32 lines, on which each program is started a
@@ -11,13 +11,22 @@
 The programs take turns. The best time counts; a ratio is the median over the turns of their speeds, the first to the
 second, since a host's speed changes from one second to the next. What they write must be the same, byte for byte, and
 have a line for each line of a script. The status is 1 if it differs or a run fails.
+
+With --instructions no clock is read: callgrind, of valgrind, counts them. The instructions of a line are the difference
+of two lengths of a script, divided by the lines between them, so that the start falls out; with them those of the C
+library's copies and fills. The start is that of 32 lines under mode Bare without the fills, since callgrind counts a
+byte that `rep stosb` writes as an instruction; below it the pages that the system has to give, which callgrind doesn't
+see. The kernel's instructions aren't counted.
 """
 import filecmp
 import itertools
 import os
 import random
+import re
+import resource
 import statistics
 import struct
+import subprocess
 import sys
 import tempfile
 import time
@@ -32,6 +41,8 @@ STAGED = [
     for pages in (24, 176)
 ]
 LINES, SHORT, STARTS, READS = 1_000_000, 32, 1000, 300_000
+# Of the scripts whose instructions are counted.
+FEWER, MORE = 2_000, 22_000
 BASE, SIZE, LISTED = 0x80000000, 1 << 26, 1 << 23
 TEXTS = (10_000, 100_000, 200_000)
 ITEM_BYTES = {"u64": 8, "context": 32}
@@ -60,15 +71,10 @@ class Bench:
     """The programs, and a folder for what they read and write."""
 
     def __init__(self, programs, room):
-        self.programs, self.room, self.is_well = programs, room, True
+        self.programs, self.room = programs, room
 
     def path(self, name):
         return os.path.join(self.room, name)
-
-    def judge(self, name, is_so, fault):
-        if not is_so:
-            print(f"{name}: {fault}", flush=True)
-            self.is_well = False
 
     def measured(self, name, runs, count, unit, times, starts=1, by_processor=False, given=os.devnull):
         """Carries out the runs in turn, prints their speeds, and returns the files of their outputs."""
@@ -85,17 +91,21 @@ class Bench:
         return outputs
 
     def want_same(self, name, written):
-        is_same = all(filecmp.cmp(written[0], it, shallow=False) for it in written[1:])
-        self.judge(name, is_same, "what was written DIFFERS")
+        if not all(filecmp.cmp(written[0], it, shallow=False) for it in written[1:]):
+            sys.exit(f"{name}: what was written DIFFERS")
+
+    def written(self, stages, pages, lines):
+        """The file of a script."""
+        with open(self.path("script"), "w", encoding="ascii") as out:
+            generate.write(out, stages, pages, lines)
+        return out.name
 
     def script(self, name, stages, pages, lines, starts, times):
-        script = self.path("script")
-        with open(script, "w", encoding="ascii") as out:
-            generate.write(out, stages, pages, lines)
+        script = self.written(stages, pages, lines)
         outputs = self.measured(name, [[it] for it in self.programs], lines, "lines", times, starts, given=script)
         self.want_same(name, outputs)
-        answers = line_count(outputs[0])
-        self.judge(name, answers == lines, f"{answers:,} answers for {lines:,} lines")
+        if (answers := line_count(outputs[0])) != lines:
+            sys.exit(f"{name}: {answers:,} answers for {lines:,} lines")
 
     def explained(self, name, stages, pages):
         """The lines of a script that set the IOMMU up, and then device reads alone."""
@@ -110,13 +120,47 @@ class Bench:
         outputs = self.measured(f"explain and run, {name}", runs, lines, "lines", 9, by_processor=True, given=script)
         with open(outputs[0], "rb") as file:
             told = sum(line[:1].isdigit() for line in file)
-        self.judge(name, told == lines, f"{told:,} lines are told of {lines:,}")
+        if told != lines:
+            sys.exit(f"{name}: {told:,} lines are told of {lines:,}")
 
     def used(self, name, words, count, unit, made=()):
         """A use of an image or a text; `made` names what each program writes, where that is a file."""
         runs = [[program, *words, *made[at : at + 1]] for at, program in enumerate(self.programs)]
         outputs = self.measured(name, runs, count, unit, 7)
         self.want_same(name, made[: len(runs)] or outputs)
+
+    def counted(self, *script):
+        """For each program the instructions of a run, those of the C library's copies and fills, and of its fills."""
+        found, outputs, profile = [], set(), self.path("profile")
+        for program in self.programs:
+            with open(self.written(*script), "rb") as read:
+                words = ["valgrind", "-q", "--tool=callgrind", f"--callgrind-out-file={profile}", program]
+                outputs.add(subprocess.run(words, stdin=read, stdout=subprocess.PIPE, check=True).stdout)
+            words = ["callgrind_annotate", "--threshold=100", "--show-percs=no", profile]
+            told = subprocess.run(words, capture_output=True, text=True, check=True).stdout.replace(",", "")
+            costs = [(int(cost), name) for cost, name in re.findall(r"(?m)^ *(\d+)  \S*?:?(.*)$", told)]
+            of = lambda pattern: sum(cost for cost, name in costs if re.search(pattern, name))
+            found.append((int(re.search(r"(\d+) +PROGRAM TOTALS", told)[1]), of("mem(cpy|move|set)"), of("memset")))
+        if len(outputs) > 1:
+            sys.exit("instructions: the outputs DIFFER")
+        return found
+
+    def instructions(self):
+        def row(name, numbers):
+            ratio = f"{numbers[-1] / numbers[0]:8.2f}" if len(numbers) == 2 else ""
+            print(f"{name:30}" + "".join(f"{number:12,.0f}" for number in numbers) + ratio, flush=True)
+
+        for name, *how in (BARE, *STAGED):
+            fewer, more = self.counted(*how, FEWER), self.counted(*how, MORE)
+            for part, title in enumerate((f"a line, {name}", "  copies and fills of libc")):
+                row(title, [(after[part] - before[part]) / (MORE - FEWER) for before, after in zip(fewer, more)])
+        row("a start and 32 lines", [total - fills for total, _, fills in self.counted(*BARE[1:], SHORT)])
+        touched = []
+        for program in self.programs:
+            before = resource.getrusage(resource.RUSAGE_CHILDREN).ru_minflt
+            timed([program], self.path("script"), self.path("output0"), 1)
+            touched.append(resource.getrusage(resource.RUSAGE_CHILDREN).ru_minflt - before)
+        row("  pages that it touches", touched)
 
     def images(self):
         image, text = self.path("image"), self.path("text")
@@ -142,20 +186,21 @@ def write_text(path, count):
         out.writelines(f"at {BASE + 16 * place:#x}\nu64 {numbers.getrandbits(64):#x}\n" for place in places)
 
 
-def main():
-    programs = [os.path.abspath(word) for word in sys.argv[1:]]
+def main(*words):
+    programs = [os.path.abspath(word) for word in words if word != "--instructions"]
     if len(programs) not in (1, 2) or not all(os.access(it, os.X_OK) for it in programs):
         sys.exit(__doc__)
     with tempfile.TemporaryDirectory(prefix="rviommu-bench-") as room:
         bench = Bench(programs, room)
+        if "--instructions" in words:
+            return bench.instructions()
         for script in (BARE, *STAGED):
             bench.script(*script, LINES, 1, 25)
         bench.script("32 lines, a thousand starts", 0, 256, SHORT, STARTS, 5)
         for script in STAGED:
             bench.explained(*script)
         bench.images()
-    sys.exit(0 if bench.is_well else 1)
 
 
 if __name__ == "__main__":
-    main()
+    main(*sys.argv[1:])

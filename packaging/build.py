@@ -92,10 +92,14 @@ class Tree:
             self.kept.parent.mkdir(parents=True, exist_ok=True)
             (self.folder / "out").rename(self.kept)
 
-    def run(self, words):
-        """Runs rt in the crate's folder; returns what it wrote if it failed."""
-        done = subprocess.run(words, cwd=self.folder, **HOW)
-        return done.stdout.decode(errors="replace") if done.returncode else None
+    def run(self, words, tell=lambda line: None):
+        """Runs rt in the crate's folder, and tells each line that it writes; returns all of them if it failed."""
+        lines = []
+        with subprocess.Popen(words, cwd=self.folder, encoding="utf-8", errors="replace", **HOW) as rt:
+            for line in rt.stdout:
+                lines.append(line)
+                tell(line)
+        return "".join(lines) if rt.returncode else None
 
     def close(self):
         self.keep()
@@ -184,24 +188,17 @@ class Build:
         return 1 if self.failed else 0
 
 
-class WholeTree(Tree):
-    def run(self, words):
-        """Runs rt as in a crate's tree, and says how far it is."""
-        lines, started = [], time.monotonic()
-        with subprocess.Popen(words, cwd=self.folder, encoding="utf-8", errors="replace", **HOW) as rt:
-            for line in rt.stdout:
-                lines.append(line)
-                if far := re.match(r"so far: (\d+) of (\d+) functions", line):
-                    left = minutes_left(time.monotonic() - started, int(far[1]) / int(far[2]))
-                    say(f"{self.folder.name}: {far[1]} of {far[2]} functions{left}")
-        return "".join(lines) if rt.returncode else None
-
-
 def build_whole(top):
-    """Builds a crate and all below it as one crate."""
-    out = crates.FOLDER / top / "out"
-    tree = WholeTree(top, out / "whole", lambda folder: whole.Whole(top).write(folder, crates.listed()[top][0]))
-    fault = tree.run(["rt", "run" if crates.is_program(top) else "lib", "--jobs", str(at_once())])
+    """Builds a crate and all below it as one crate, and says how far it is."""
+    started, out = time.monotonic(), crates.FOLDER / top / "out"
+    tree = Tree(top, out / "whole", lambda folder: whole.Whole(top).write(folder, crates.listed()[top][0]))
+
+    def tell(line):
+        if far := re.match(r"so far: (\d+) of (\d+) functions", line):
+            left = minutes_left(time.monotonic() - started, int(far[1]) / int(far[2]))
+            say(f"{top}: {far[1]} of {far[2]} functions{left}")
+
+    fault = tree.run(["rt", "run" if crates.is_program(top) else "lib", "--jobs", str(at_once())], tell)
     tree.close()
     if fault is None:
         made = top if crates.is_program(top) else f"lib{top}.a"

@@ -35,7 +35,9 @@ HARMLESS = "an edit without meaning"
 # What a proof says that names what an edit took away, or a function that isn't proved: nothing of the contract.
 NAMES = re.compile(r"has no field|is not in scope|has no `|was not admitted")
 PUBLIC = r"(?:pub(?:\([a-z ]+\))? )?"
-HEAD = re.compile(rf'( *){PUBLIC}(?:const )?(?:unsafe )?(?:extern "C" )?fn (\w+)')
+FUNCTION = re.compile(
+    rf'(?m)^(?: *(?:#\[|//).*\n)*( *){PUBLIC}(?:const )?(?:unsafe )?(?:extern "C" )?fn (\w+)'
+    r'(?:.*\}|(?s:.*?)^\1\{?\}.*)\n')
 CONSTANT = re.compile(rf"^{PUBLIC}(?:const|static) (\w+):.*?;$", re.MULTILINE | re.DOTALL)
 TYPE = re.compile(rf"^{PUBLIC}(?:struct|enum|union) (\w+)", re.MULTILINE)
 IMPL = re.compile(r"impl(?:<[^{]*?>)? (?:(\w+)(?:<[^{]*?>)? for )?(\w+)")
@@ -68,29 +70,19 @@ class Sources:
             raise BadEdit(f"an old text stands in {file} {count} times, and not once")
         return Sources({**self.texts, file: self.texts[file].replace(old, new)}, self.modules)
 
-    def owner(self, line, file):
-        """The path below which an impl's methods stand: the module of its type, and the names of type and trait."""
-        named = IMPL.match(line)
-        return [*self.modules.get(named[2], module_of(file)), named[2] + (named[1] or "")] if named else []
+    def owner(self, file, place):
+        """The path below which the function at a place stands: in an impl the module of its type, and the names of type
+        and trait, else the module of the file."""
+        above = self.texts[file][:place]
+        impl = IMPL.match(above, max(above.rfind("\nimpl"), above.rfind("\n}")) + 1)
+        return [*self.modules.get(impl[2], module_of(file)), impl[2] + (impl[1] or "")] if impl else module_of(file)
 
     def functions(self, file):
         """The functions of a file of src/ in its layout: each begins with the attributes and comments above its head,
         and ends with the brace below its first column."""
-        found, owner, head, at, above = [], [], None, 0, None
-        for line in self.texts[file].splitlines(keepends=True):
-            if head is None and line.startswith(("impl", "}")):
-                owner = self.owner(line, file)
-            begins = HEAD.match(line) if head is None else None
-            if begins:
-                path = [*(owner if owner and begins[1] else module_of(file)), begins[2]]
-                head = (begins[1], "::".join(path), at if above is None else above)
-            is_above = re.match(r" *(#\[|//)", line)
-            above = (at if above is None else above) if is_above else None
-            at += len(line)
-            if head and (line.startswith((head[0] + "}", head[0] + "{}")) or begins and line.rstrip().endswith("}")):
-                found.append(Function(head[1], head[2], at))
-                head = None
-        return found
+        for it in FUNCTION.finditer(self.texts[file]):
+            path = [*(self.owner(file, it.start()) if it[1] else module_of(file)), it[2]]
+            yield Function("::".join(path), it.start(), it.end())
 
     def at(self, file, place):
         """The paths of the functions at a place of a file."""

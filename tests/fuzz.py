@@ -274,7 +274,7 @@ def main(one, other=None, minutes="1", seed="1"):
                 tries += 1
                 if differs:
                     told, text, script = differs
-                    print(f"difference: {told}", "--- the text of the image", *text, "--- the script", *script, sep="\n")
+                    print(f"difference: {told}\n--- the text of the image", *text, "--- the script", *script, sep="\n")
                     return 1
     for theme, lines in counts.items():
         print(f"{theme}: {lines} lines")

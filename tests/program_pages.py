@@ -1,10 +1,9 @@
-"""What help and the man page say, where the program can be asked: words, lines, answers, registers, commands, causes."""
+"""What help and the man page say, where the program can be asked: words, lines, answers, registers, causes."""
 import re
 
 from documents import man_page, plain, played, section, table
-from frame import Case, commands, forms, program, run, text_of
+from frame import Case, commands, forms, run, text_of
 from fuzz import KINDS
-from terminal import Terminal
 
 WIDTH = 80
 IMAGE = "ram 0x80000000 0x80000\n"
@@ -41,8 +40,8 @@ class Page(Case):
         self.assertEqual(lacking, [])
 
     def test_help(self):
-        """help: `help WORD` and `WORD --help` are the word's help, a word after --help is not looked at, no line has more
-        than 80 characters, and its examples are answered as they say"""
+        """help: `help WORD` and `WORD --help` are the word's help, a word after --help is not looked at, no line has
+        more than 80 characters, and its examples are answered as they say"""
         general = self.written(["--help"])
         self.assertEqual(self.written(["-h"]), general)
         helps = {word: self.written([word, "--help"]) for word in commands() if word != "help"}
@@ -70,14 +69,6 @@ class Page(Case):
         """man page: its commands are answered as it says"""
         shown = [plain(it) for it in re.findall(r"(?ms)^\.EX\n(.*?)^\.EE$", text_of("man/rviommu.1"))]
         self.want_shown("".join(it for it in shown if it.startswith("$ ")))
-
-    def test_rlwrap(self):
-        """man page: at a terminal `rlwrap rviommu` answers each line, and brings one back to be edited"""
-        shell = Terminal(self, ["rlwrap", program()])
-        for keys, answer in ((b"reg read 8 4", b"0x2"), (b"cmx\x7fd", b"idle"), (b"\x1b[A\x1b[A", b"0x2")):
-            shell.type(keys)
-            shell.type(b"\r")
-            shell.wait_for(b"\n" + answer + b"\r")
 
 
 class Facts(Case):

@@ -1,7 +1,8 @@
 """The program beside the standard's model of tests/peer, without QEMU; and that model beside a hart's own walks.
 
-A debugger tells the parts of each access, too: those of the model, before its step and with nothing cached. walks.txt
-has page-table walks that a RISC-V hart of QEMU made by itself (walks.py says how), on the program and on the model.
+Debug tells the parts of each access, too: those of the model, before its step and with nothing cached; and explain
+what leads it. walks.txt has page-table walks that a RISC-V hart of QEMU made by itself (walks.py says how), on the
+program and on the model.
 """
 import re
 from collections import Counter
@@ -23,30 +24,101 @@ TO_MEET = {f"{stage} {it}" for stage in ("first", "second") for it in JUDGED} | 
 # What is too wide for a table, with the part that follows.
 TO_MEET |= {"dir width, denied 260", *(f"first width, denied {cause}" for cause in (13, 15))}
 TO_MEET |= {f"second width, {it}" for it in (f"first {GUEST}", "denied 21", "denied 23")}
+# What explain is to have told.
+TO_MEET |= {"stale: the tables", "walk: cached context"}
 # Pages of the hart's memory that its walks leave alone, and what is written to have directory and fault queue there.
 DIRECTORY, FAULTS, HARTS_SIZE = 0x800F8, 0x800FA, 1 << 20
 SET_UP = [("reg", DDTP, 8, DIRECTORY << 10 | 2), ("reg", FQB, 8, FAULTS << 10 | 6), ("reg", FQCSR, 4, 1)]
 
 
+def address_in(part):
+    return next(iter(re.findall(r"addr=0x\w+", part)), None)
+
+
+def outcome(context, address, parts):
+    """What an access comes to: where it is led and by which context, or the cause of its denial."""
+    return (context.line(), address) if address else (None, parts[-1].partition(" iotval2")[0])
+
+
+class Told(Parts):
+    """What debug and explain tell of the accesses of a case, by the model before each."""
+
+    def __init__(self, walk):
+        super().__init__(walk.model.load, walk.model.features)
+        self.model, self.explained = walk.model, {}
+
+    def explain(self, line, parts, did, iova, kind):
+        """Notes what explain tells of the access of a line, whose parts these are if nothing is cached."""
+        now, said = self.context, address_in(parts[-1])
+        has_context = not re.match("ddtp mode=0x[01] ", parts[0]) and not parts[1].startswith("dir did")
+        places = self.model.contexts if has_context else []
+        cached = next((it[1] for it in places if it and it[0] == did), None)
+        used = cached or now
+        if not used:
+            warrant = "warrant: register" if said else "warrant: none, it is denied"
+            self.explained[line] = [*(f"walk: {it}" for it in parts), warrant]
+            return
+        is_bare = not used.first and not used.second
+        entry = None if is_bare else self.model.found(did, used, iova, kind)
+        is_other = cached and not (now and cached.line() == now.line())
+        shown = self.parts_under(cached, iova, kind) if is_other else parts
+        found = f"addr={entry.frame << 12 | iova & 4095:#x}" if entry else address_in(shown[-1])
+        caches = f"caches: context of line {cached.filled}" if cached else "caches: no context"
+        if not is_bare:
+            caches += f", page of line {entry.filled}, {found}" if entry else ", no page"
+        elif cached:
+            caches += f", {found}"
+        lines = [caches, *(f"walk: {it}" for it in shown if not (cached and (entry or is_bare)))]
+        current = cached.filled if cached else line
+        origin = f"context={entry.context} walk={entry.filled}" if entry else f"context={current} walk={line}"
+        if not found:
+            lines.append("warrant: none, it is denied")
+        else:
+            lines.append(f"warrant: context {current}" if is_bare else f"warrant: walked {origin} current={current}")
+        now = outcome(now, said, parts)
+        if outcome(used, found, shown) != now:
+            lines.append(f"stale: the tables now say {now[1]}")
+        self.explained[line] = lines
+
+    def note(self, line):
+        """Notes that what the caches have now, and hadn't before, was filled in this line."""
+        filled = {}
+        for did, context in filter(None, self.model.contexts):
+            context.filled = filled[did] = getattr(context, "filled", line)
+        for entry in filter(None, self.model.pages):
+            entry.context = getattr(entry, "context", filled.get(entry.did))
+            entry.filled = getattr(entry, "filled", line)
+
+
 class Peer(Case):
-    def differing(self, case, met=None):
+    def differing(self, case, met):
         """Where the program says something else than the standard's model in a case; notes which parts it met."""
         walk, script = peer.Walk(case, ()), peer.Script(case)
-        told = Parts(walk.model.load, case.features)
-        for script.number, step in enumerate(peer.cut(case, ())):
-            if step[0] in ("read", "write"):
-                did, iova = walk.ids[step[1]], step[2]
+        told = Told(walk)
+        for script.number, (kind, *rest) in enumerate(peer.cut(case, ())):
+            line = 0
+            if kind in ("read", "write"):
+                access = walk.ids[rest[0]], rest[1], READ if kind == "read" else WRITE
                 try:
-                    parts = told.parts(walk.model.registers[DDTP], did, iova, READ if step[0] == "read" else WRITE)
+                    parts = told.parts(walk.model.registers[DDTP], *access)
+                    for at, part in enumerate([*parts, "none"]):
+                        script.line(f"walk {kind} {access[0]:#x} {access[1]:#x} {at}", part)
+                    line = len(script.rows) + 1
+                    told.explain(line, parts, *access)
+                    parts = [FIELDS.sub("", part) for part in parts]
+                    met.update([*parts, *map(", ".join, zip(parts, parts[1:]))])
                 except OtherDevice:
-                    parts = []
-                for at, part in enumerate([*parts, "none"] if parts else []):
-                    script.line(f"walk {step[0]} {did:#x} {iova:#x} {at}", part)
-                parts = [FIELDS.sub("", part) for part in parts]
-                met.update([*parts, *map(", ".join, zip(parts, parts[1:]))])
-            script.add(script.number, step, walk, *walk.step(*step))
+                    pass
+            script.add(script.number, (kind, *rest), walk, *walk.step(kind, *rest))
+            told.note(line)
         script.end(walk, sorted(walk.model.touched))
-        return script.played(program(), word="debug")[0]
+        said = peer.program_answers(program(), script.image, [it[1] for it in script.rows], "explain")
+        heads = [at for at, it in enumerate(said) if not it.startswith("    ")]
+        below = {said[at].partition(":")[0]: said[at + 1 : end] for at, end in zip(heads, heads[1:])}
+        met.update(" ".join(it.split()[:3]) for lines in told.explained.values() for it in lines)
+        wanted = {str(line): ["    " + it for it in lines] for line, lines in told.explained.items()}
+        others = [(line, below[line], lines) for line, lines in wanted.items() if below[line] != lines]
+        return script.played(program(), word="debug")[0] + others[:1]
 
     def test_directed(self):
         """peer: the program is as the standard's model in the directed cases"""
@@ -76,8 +148,8 @@ class Peer(Case):
 
 class Walks(Case):
     def world(self, lines):
-        """A world as a case, in which each walk is that of a device of its own; what the hart was told at each walk, the
-        words that it left, and how many walks went through both stages."""
+        """A world as a case, in which each walk is that of a device of its own; what the hart was told at each walk,
+        the words that it left, and how many walks went through both stages."""
         case, told, left, stages, nested = Memory(), [], {}, (0, 0), 0
         case.ids, case.size = range(128), HARTS_SIZE
         for word, *rest in map(str.split, lines):

@@ -46,7 +46,7 @@ PART = b"first level=0x1 at=0x80003008 in=0x80003008 pte ppn=0x80004 flags=0x1 p
 
 class Scripts(Case):
     def test_at_a_pipe(self):
-        """at a pipe each line is answered before the next is sent, once its end is there, by each word and the player"""
+        """at a pipe each line is answered before the next is sent, by each word and the player"""
         for word, (sent, end) in TALKS.items():
             with self.subTest(word):
                 for talk in [self.talk([word])] if word else [self.talk(), self.talk(at=PLAYER)]:
@@ -54,20 +54,9 @@ class Scripts(Case):
                         talk.send(some, answer)
                     talk.end(end, (int(word == "check"), b""))
 
-    def test_file_and_pipe(self):
-        """a long script gives the same from a file and through a pipe"""
-        lines, answers = [], []
-        for at in range(20_000):
-            address, value = 0x80000000 + at * 40 % 0x100000, at * 0x9E3779B97F4A7C15 % 2**64
-            lines.append(f"store {address:#x} 8 {value:#x}\nload {address} 8{' ' * (at % 97)}\n")
-            answers.append(f"done\n{value:#x}\n")
-        given, wanted = "".join(lines).encode(), "".join(answers).encode()
-        self.assertEqual(run([], given)[1], wanted)
-        self.assertEqual(subprocess.run([program()], input=given, stdout=subprocess.PIPE).stdout, wanted)
-
     def test_words(self):
-        """examples and rows: `debug` and `explain` answer each as `run` does, one that wants its answers passes `check`,
-        and of one with a changed wish only that line is printed; an upgraded image answers alike"""
+        """examples and rows: `debug` and `explain` answer each as `run` does, one that wants its answers passes
+        `check`, and of one with a changed wish only that line is printed; an upgraded image answers alike"""
         played, steps = 0, {}
         for path, script, text in scripts():
             word = words_of(script)[0]
@@ -102,8 +91,8 @@ class Scripts(Case):
 
 class Faults(Case):
     def test_closed_pipe(self):
-        """write failed: nobody reads standard output, SIGPIPE ignored, as Python has it, or at its default; or the reader
-        leaves after the first answer"""
+        """write failed: nobody reads standard output, SIGPIPE ignored, as Python has it, or at its default; or the
+        reader leaves after the first answer"""
         for given in (SHORT, LONG):
             for restored in (False, True):
                 reader, writer = os.pipe()

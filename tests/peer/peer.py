@@ -140,7 +140,8 @@ def program_answers(program, image, lines, word):
         file.write(image)
         file.flush()
         script = "".join(f"{line}\n" for line in lines).encode()
-        return subprocess.run([program, word, file.name], input=script, capture_output=True).stdout.decode().splitlines()
+        out = subprocess.run([program, word, file.name], input=script, stdout=subprocess.PIPE).stdout
+        return out.decode().splitlines()
 
 
 def head_of(features):

@@ -223,3 +223,12 @@ So has explain, which writes blank and bad lines as it writes others.
   1048576: reg read 0x8 0x4 -> 0x2
   rviommu: script too long
   [1]
+
+A long script gives the same from a file and through a pipe.
+
+  $ awk 'BEGIN { for (at = 0; at < 20000; at++) {
+  >   place = 2147483648 + at * 40 % 1048576
+  >   printf "store %.0f 8 %d\nload %.0f 8%*s\n", place, at, place, at % 97, "" > "script"
+  >   printf "done\n0x%x\n", at > "wanted" } }'
+  $ rviommu < script | cmp - wanted
+  $ cat script | rviommu | cmp - wanted
