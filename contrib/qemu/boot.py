@@ -192,10 +192,12 @@ def main():
     def start(device, archive=plain, **more):
         return Boot(program, kernel, archive, device, **more)
 
+    # Each twice, in turn: the faster one counts.
     boots = {}
-    for name, device in (("QEMU's own", ""), ("rviommu-sys", "rviommu-sys")):
-        boots[name] = start(device)
-        check_guest(checks, boots[name], name)
+    for name, device in 2 * (("QEMU's own", ""), ("rviommu-sys", "rviommu-sys")):
+        boot = start(device)
+        check_guest(checks, boot, name)
+        boots[name] = min(boots.get(name, boot), boot, key=lambda it: it.seconds)
     own, ours = boots.values()
     checks.check("rviommu-sys: probe", ours.found(r"dmesg: .*riscv,iommu .*wire"), f"{ours.found('dmesg: (.*riscv,iommu.*)')}")
     print(f"       {ours.counts()}")

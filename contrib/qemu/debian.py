@@ -47,20 +47,24 @@ class Packages:
         text = "".join(f'{key} "{value}";\n' for key, value in settings.items())
         (self.folder / "apt.conf").write_text(text + f'APT::Architectures {{ "{architecture}"; }};\n')
         self.options = ["-c", str(self.folder / "apt.conf"), "-q"]
+        self.records = {}
         said(["apt-get", *self.options, "update"])
 
-    def record(self, name):
-        """The fields of a package."""
-        text = said(["apt-cache", *self.options, "show", "--no-all-versions", name])
-        return dict(re.findall(r"(?m)^([A-Z][\w-]*): (.*)$", text))
+    def look_up(self, names):
+        """Keeps the fields of these packages."""
+        text = said(["apt-cache", *self.options, "show", "--no-all-versions", *names])
+        for part in text.split("\n\n"):
+            fields = dict(re.findall(r"(?m)^([A-Z][\w-]*): (.*)$", part))
+            self.records.setdefault(fields.get("Package"), fields)
 
     def depends(self, name):
         """The names of the packages that one depends on, alternatives too."""
-        return re.findall(r"(?:^|[,|]) *([^\s,|(]+)", self.record(name).get("Depends", ""))
+        self.look_up([name])
+        return re.findall(r"(?:^|[,|]) *([^\s,|(]+)", self.records[name].get("Depends", ""))
 
     def fetched(self, name):
-        """The file of a package."""
-        version = self.record(name)["Version"].replace(":", "%3a")
+        """The file of a package that was looked up."""
+        version = self.records[name]["Version"].replace(":", "%3a")
         there = list((self.folder / "fetched").glob(f"{name}_{version}_*.deb"))
         if not there:
             said(["apt-get", *self.options, "download", name], cwd=self.folder / "fetched")
@@ -70,6 +74,7 @@ class Packages:
     def unpacked(self, names, target):
         """Unpacks packages into a folder, each one once."""
         target.mkdir(parents=True, exist_ok=True)
+        self.look_up(names)
         for name in names:
             package = self.fetched(name)
             mark = target / f".{package.name}"

@@ -384,6 +384,9 @@ static void instance_init(Object *object)
     QLIST_INIT(&s->spaces);
 }
 
+/* The model's state can't be saved, so migration and snapshots are refused. */
+static const VMStateDescription state = {.name = TYPE_RVIOMMU_SYS, .unmigratable = 1};
+
 static const Property properties[] = {
     DEFINE_PROP_BOOL("stale", RviommuSys, stale, false),
     DEFINE_PROP_STRING("record", RviommuSys, record),
@@ -395,6 +398,7 @@ static void class_init(ObjectClass *class, RVIOMMU_CLASS_DATA)
     DeviceClass *device = DEVICE_CLASS(class);
 
     device->realize = realize;
+    device->vmsd = &state;
     device->desc = "proved model of the RISC-V IOMMU, in the place of the machine's own";
     device->user_creatable = true;
     device->hotpluggable = false;
