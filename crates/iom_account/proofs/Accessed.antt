@@ -14,7 +14,7 @@ use Rattle.iom_cache.specs.Origins.{stamped_by}
 use Rattle.iom_cache.specs.Places.{Look, emptied_by, filled_by, find}
 use Rattle.iom_cache.specs.declared.key.Key.{Key}
 use Rattle.iom_cache.proofs.Same.{same_did_exact, same_did_itself, same_key_exact, same_key_itself}
-use Rattle.iom_core.specs.Access.{Led, context_look, context_told, led, page_look, page_told, request_key, source_of, told}
+use Rattle.iom_core.specs.Access.{Led, context_look, context_told, led, page_look, page_told, request_key, source_of, witness_after}
 use Rattle.iom_core.specs.Looking.{is_context_read, is_page_read, is_read, is_read_context, nothing_seen, noticed, seen_in}
 use Rattle.iom_core.specs.declared.way.Way.{Way}
 use Rattle.iom_core.specs.declared.way.Way.TheVariants.{Register as ByRegister, Context as ByContext, Walked, Denied}
@@ -22,7 +22,7 @@ use Rattle.iom_core.specs.State.{Machine, State, context_room, page_room}
 use Rattle.iom_core.specs.Table.{Asking, asked, executed, next, request_in, request_of_step, told_by_step}
 use Rattle.iom_core.specs.Warrants.{context_filled, page_filled}
 use Rattle.iom_core.specs.declared.access.Request.{Request}
-use Rattle.iom_core.specs.declared.looking.Seen.{Seen}
+use Rattle.iom_core.specs.declared.looking.Lookup.{Lookup}
 use Rattle.iom_core.specs.declared.step.Step.{Step}
 use Rattle.iom_core.specs.declared.witness.Event.{Event}
 use Rattle.iom_core.specs.declared.witness.Event.TheVariants as event
@@ -32,7 +32,7 @@ use Rattle.iom_core.proofs.Filled.{found_after}
 use Rattle.iom_core.proofs.Moments.{next-contexts, next-pages}
 use Rattle.iom_core.proofs.Ways.{WasOff, WasByRegister, WasNowhere, WasByContext, WasWalked, WasFault, context_refused, context_used-cached, how_led, look_of_context, page_refused}
 use Rattle.iom_account.specs.Beside.{beside}
-use Rattle.iom_account.specs.Following.{Notes, context_noted, noted, noted_reading, noted_so, walk_noted}
+use Rattle.iom_account.specs.Following.{HistoryView, context_noted, noted, noted_reading, noted_so, walk_noted}
 use Rattle.iom_account.specs.Reads.{nothing_read, read_noticed, reads_of}
 use Rattle.iom_account.specs.declared.reads.Reads.{Reads}
 
@@ -137,7 +137,7 @@ context_read context (Some entry) = refl
 
 seen_context : (m : Machine) (request : Request) → is_context_read (seen_in m request) ≡ is_some (led m request).context
 seen_context m request =
-    let P : Led → Type 0 = λ l. is_context_read (told noticed nothing_seen request l) ≡ is_some l.context in
+    let P : Led → Type 0 = λ l. is_context_read (witness_after noticed nothing_seen request l) ≡ is_some l.context in
     elim (how_led m request) [
       | WasOff e ↦ subst P (sym e) refl
       | WasByRegister bare e ↦ subst P (sym e) refl
@@ -153,7 +153,7 @@ page_read (Some entry) = refl
 
 seen_page : (m : Machine) (request : Request) → is_page_read (seen_in m request) ≡ is_some (led m request).page
 seen_page m request =
-    let P : Led → Type 0 = λ l. is_page_read (told noticed nothing_seen request l) ≡ is_some l.page in
+    let P : Led → Type 0 = λ l. is_page_read (witness_after noticed nothing_seen request l) ≡ is_some l.page in
     elim (how_led m request) [
       | WasOff e ↦ subst P (sym e) refl
       | WasByRegister bare e ↦ subst P (sym e) refl
@@ -164,56 +164,56 @@ seen_page m request =
     ]
 
 -- the notes of a step, by what it is told to have read
-by_fills : (context : Option (ℕ × Context)) (page : Option (Key × Hit)) (after : State) (request : Request) (number : ℕ) (history : Notes) →
+by_fills : (context : Option (ℕ × Context)) (page : Option (Key × Hit)) (after : State) (request : Request) (number : ℕ) (history : HistoryView) →
     walk_noted (is_some page) number
     (beside (same_did request.did) after.machine.contexts (context_noted (is_some context) number history).contexts number)
     (context_noted (is_some context) number history)
     ≡ record {
       contexts = stamped_by context_room number context history.contexts;
       walks = stamped_by page_room number page history.walks;
-      bases = stamped_by page_room
-          (beside (same_did request.did) after.machine.contexts (stamped_by context_room number context history.contexts) number) page history.bases;
+      walk_contexts = stamped_by page_room
+          (beside (same_did request.did) after.machine.contexts (stamped_by context_room number context history.contexts) number) page history.walk_contexts;
     }
 by_fills None None after request number history = refl
 by_fills None (Some page) after request number history = refl
 by_fills (Some context) None after request number history = refl
 by_fills (Some context) (Some page) after request number history = refl
 
-pub noted_is : (before after : State) (asking : Option Asking) (seen : Seen) (number : ℕ) (history : Notes) →
+pub noted_is : (before after : State) (asking : Option Asking) (seen : Lookup) (number : ℕ) (history : HistoryView) →
     seen ≡ told_by_step noticed nothing_seen before.machine asking →
     noted_so after (option_map request_in asking) seen number history ≡ noted before after (option_map request_in asking) number history
 noted_is before after None seen number history is = refl
 noted_is before after (Some asking) seen number history is =
     let request = request_in asking in
     let m = before.machine in
-    let at : Bool → Bool → Notes = λ context page. walk_noted page number
+    let at : Bool → Bool → HistoryView = λ context page. walk_noted page number
     (beside (same_did request.did) after.machine.contexts (context_noted context number history).contexts number)
     (context_noted context number history) in
-    ap (λ (s : Seen). noted_so after (Some request) s number history) is
+    ap (λ (s : Lookup). noted_so after (Some request) s number history) is
     ∙ ap (λ (b : Bool). at b (is_page_read (seen_in m request))) (seen_context m request)
     ∙ ap (at (is_some (led m request).context)) (seen_page m request)
     ∙ by_fills (led m request).context (led m request).page after request number history
 
 -- What a step read is the same, whether all that it was told is kept or only that.
-read_alike : (seen : Seen) (told : Event) → reads_of (noticed seen told) ≡ read_noticed (reads_of seen) told
+read_alike : (seen : Lookup) (told : Event) → reads_of (noticed seen told) ≡ read_noticed (reads_of seen) told
 read_alike seen (event.Context source.Found did context) = refl
 read_alike seen (event.Context source.Read did context) = refl
 read_alike seen (event.Page from key hit) = refl
 read_alike seen (event.Way way) = refl
 
-context_alike : (seen : Seen) (did : ℕ) (by : Option Context) (fill : Option (ℕ × Context)) →
+context_alike : (seen : Lookup) (did : ℕ) (by : Option Context) (fill : Option (ℕ × Context)) →
     reads_of (context_told noticed seen did by fill) ≡ context_told read_noticed (reads_of seen) did by fill
 context_alike seen did None fill = refl
 context_alike seen did (Some context) fill = read_alike seen (event.Context (source_of fill) did context)
 
-page_alike : (seen : Seen) (request : Request) (way : Way) (fill : Option (Key × Hit)) →
+page_alike : (seen : Lookup) (request : Request) (way : Way) (fill : Option (Key × Hit)) →
     reads_of (page_told noticed seen request way fill) ≡ page_told read_noticed (reads_of seen) request way fill
 page_alike seen request ByRegister fill = refl
 page_alike seen request (ByContext context) fill = refl
 page_alike seen request (Walked context hit) fill = read_alike seen (event.Page (source_of fill) (request_key request context) hit)
 page_alike seen request (Denied denial) fill = refl
 
-led_alike : (request : Request) (l : Led) → reads_of (told noticed nothing_seen request l) ≡ told read_noticed nothing_read request l
+led_alike : (request : Request) (l : Led) → reads_of (witness_after noticed nothing_seen request l) ≡ witness_after read_noticed nothing_read request l
 led_alike request l =
     let context = context_told noticed nothing_seen request.did l.by l.context in
     read_alike (page_told noticed context request l.way l.page) (event.Way l.way)
@@ -225,7 +225,7 @@ reads_alike : (m : Machine) (asking : Option Asking) →
 reads_alike m None = refl
 reads_alike m (Some asking) = led_alike (request_in asking) (led m (request_in asking))
 
-pub noted_by_reads : (before after : State) (taken : Step) (request : Option Request) (reads : Reads) (number : ℕ) (history new : Notes) →
+pub noted_by_reads : (before after : State) (taken : Step) (request : Option Request) (reads : Reads) (number : ℕ) (history new : HistoryView) →
     request ≡ request_of_step before taken → reads ≡ told_by_step read_noticed nothing_read before.machine (asked before taken) →
     new ≡ noted_reading after request reads number history → new ≡ noted before after (request_of_step before taken) number history
 noted_by_reads before after taken request reads number history new own is kept =

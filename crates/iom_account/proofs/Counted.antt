@@ -11,8 +11,8 @@ use Rattle.iom_core.specs.declared.access.Request.{Request}
 use Rattle.iom_core.specs.declared.step.Step.{Step}
 use Rattle.iom_core.specs.declared.warrant.Warrant.{Warrant}
 use Rattle.iom_core.specs.declared.warrant.Warrant.TheVariants as warrant
-use Rattle.iom_account.specs.Following.{ComesFrom, Follows, Notes, counted, notes_at, number_of, told, warrant_of}
-use Rattle.iom_account.specs.declared.origin.Origin.{Origin}
+use Rattle.iom_account.specs.Following.{ComesFrom, Follows, HistoryView, counted, notes_at, number_of, numbered_warrant, warrant_of}
+use Rattle.iom_account.specs.declared.origin.NumberedWarrant.{NumberedWarrant}
 use Rattle.iom_account.proofs.Runs.{length_more}
 
 -- the step at an index of the first ones is the step of all
@@ -37,13 +37,13 @@ number_counted (suc n) k low = elim (cases_lt k n) [
 ]
 
 -- a history of no step yet
-pub none_noted : (start : State) (steps : List Step) (n : ℕ) (history : Notes) → Follows history start start [] [] →
+pub none_noted : (start : State) (steps : List Step) (n : ℕ) (history : HistoryView) → Follows history start start [] [] →
     history ≡ notes_at start steps (counted n) 0
-none_noted start steps n history h = λ i. record { contexts = h.contexts i; walks = h.walks i; bases = h.bases i }
+none_noted start steps n history h = λ i. record { contexts = h.contexts i; walks = h.walks i; walk_contexts = h.walk_contexts i }
 
 -- the moments of a warrant are those of steps up to n
 told_back : (start : State) (steps : List Step) (n : ℕ) (request : Request) (found : Warrant) → IsWarrant start steps n request found →
-    warrant_of (told (counted (suc n)) found) ≡ found
+    warrant_of (numbered_warrant (counted (suc n)) found) ≡ found
 told_back start steps n request warrant.Register is = refl
 told_back start steps n request (warrant.Context context) is =
     let within = is.fresh.origin.within in ap (λ (c : ℕ). warrant.Context c) (number_counted (suc n) context (omega arith))
@@ -57,12 +57,12 @@ told_back start steps n request (warrant.Walked context walk current) is =
     λ i. warrant.Walked (c i) (w i) (k i)
 
 explained_so : (start : State) (steps : List Step) (n : ℕ) (found : Option Warrant) → Explains start steps n found →
-    Explains start steps n (option_map warrant_of (option_map (told (counted (suc n))) found))
+    Explains start steps n (option_map warrant_of (option_map (numbered_warrant (counted (suc n))) found))
 explained_so start steps n None has = has
 explained_so start steps n (Some found) (request, asked, is) =
     subst (λ (w : Warrant). Explains start steps n (Some w)) (sym (told_back start steps n request found is)) (request, asked, is)
 
-pub explained_by : (start : State) (steps : List Step) (n : ℕ) (origin : Option Origin) (found : Option Warrant) →
+pub explained_by : (start : State) (steps : List Step) (n : ℕ) (origin : Option NumberedWarrant) (found : Option Warrant) →
     ComesFrom start steps (counted (suc n)) n origin → found ≡ option_map warrant_of origin → Explains start steps n found
 explained_by start steps n origin found from is =
     subst (Explains start steps n) (sym (is ∙ ap (option_map warrant_of) from.told)) (explained_so start steps n from.warrant from.explains)

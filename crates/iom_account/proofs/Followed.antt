@@ -6,7 +6,7 @@ use Rattle.iom_cache.specs.Origins.{first_stamps}
 use Rattle.iom_core.specs.State.{State, context_room, page_room}
 use Rattle.iom_core.specs.Warrants.{context_filled, context_filled_at, moment, page_filled, page_filled_at, request_at}
 use Rattle.iom_core.specs.declared.step.Step.{Step}
-use Rattle.iom_account.specs.Following.{base_at, base_by, bases_at, contexts_at, number_of, walks_at}
+use Rattle.iom_account.specs.Following.{base_at, base_by, walk_contexts_at, contexts_at, number_of, walks_at}
 use Rattle.iom_account.proofs.Beside.{noted_at-same}
 use Rattle.iom_account.proofs.Runs.{moment_below, request_below}
 
@@ -56,7 +56,7 @@ module _ (start : State) (steps : List Step) (taken : Step) (numbers : List ℕ)
       noted_at-same page_room (page_filled_at start more) (page_filled_at start steps) (number_of told) (number_of numbers)
       (first_stamps start.machine.pages) n page_below number_below
 
-  pub bases_kept : bases_at start more told n ≡ bases_at start steps numbers n
+  pub bases_kept : walk_contexts_at start more told n ≡ walk_contexts_at start steps numbers n
   bases_kept =
       noted_at-same page_room (page_filled_at start more) (page_filled_at start steps) (base_at start more told) (base_at start steps numbers)
       (first_stamps start.machine.pages) n page_below base_below

@@ -21,9 +21,9 @@ use Rattle.iom_core.specs.declared.step.Step.TheVariants as step
 use Rattle.iom_core.specs.declared.warrant.Warrant.{Warrant}
 use Rattle.iom_core.specs.declared.warrant.Warrant.TheVariants as warrant
 use Rattle.iom_core.proofs.Stores.{played, warranted_among}
-use Rattle.iom_account.specs.Following.{ComesFrom, ContextFrom, Follows, Notes, PageFrom, noted, number_of, told}
+use Rattle.iom_account.specs.Following.{ComesFrom, ContextFrom, Follows, HistoryView, PageFrom, noted, number_of, numbered_warrant}
 use Rattle.iom_account.specs.Others.{AreNamed, ComesFromPassed, Counted, Event, FollowsAmong, IsNamed, Written, happenings_of, numbers_among, passed, steps_among}
-use Rattle.iom_account.specs.declared.origin.Origin.{Origin}
+use Rattle.iom_account.specs.declared.origin.NumberedWarrant.{NumberedWarrant}
 use Rattle.iom_account.proofs.Stepped.{follows_step}
 
 -- a store of a hart makes no access
@@ -31,7 +31,7 @@ store_unseen : (state : State) (addr size value : ℕ) → nothing_seen ≡ told
 unfolding asked
 store_unseen state addr size value = refl
 
-store_unnoted : (state after : State) (addr size value number : ℕ) (history : Notes) →
+store_unnoted : (state after : State) (addr size value number : ℕ) (history : HistoryView) →
     history ≡ noted state after (request_of_step state (step.Store addr size value)) number history
 unfolding asked
 store_unnoted state after addr size value number history = refl
@@ -41,7 +41,7 @@ unfolding asked
 store_unasked state addr size value = refl
 
 -- a history goes along with stores of others
-stores_followed : (history : Notes) (platform start : State) (steps : List Step) (numbers : List ℕ) (addr : ℕ) (bytes : List ℕ) →
+stores_followed : (history : HistoryView) (platform start : State) (steps : List Step) (numbers : List ℕ) (addr : ℕ) (bytes : List ℕ) →
     Follows history platform start steps numbers →
     Follows history (end_of platform (stores_of addr bytes)) start (steps ++ stores_of addr bytes) (numbers ++ replicate (length (stores_of addr bytes)) 0)
 stores_followed history platform start steps numbers addr [] h =
@@ -59,7 +59,7 @@ stores_followed history platform start steps numbers addr (byte ∷ bytes) h =
     (stores_followed history after start (steps ++ first ∷ []) (numbers ++ 0 ∷ []) (addr + 1) bytes one))
 
 -- the same in place of what others write
-writing_followed : (history : Notes) (platform start : State) (steps : List Step) (numbers : List ℕ) (memory : Memory) →
+writing_followed : (history : HistoryView) (platform start : State) (steps : List Step) (numbers : List ℕ) (memory : Memory) →
     Follows history platform start steps numbers → IsWritten platform.machine.memory memory →
     Follows history (with_memory platform memory) start (steps ++ stores_of memory.base memory.bytes)
     (numbers ++ replicate (length (stores_of memory.base memory.bytes)) 0)
@@ -118,7 +118,7 @@ written_more start [] memory w now = (now, tt)
 written_more start (Counted own count ∷ more) memory w now = written_more (next start own).state more memory w now
 written_more start (Written old ∷ more) memory w now = (w.0, written_more (with_memory start old) more memory w.1 now)
 
-pub among_counted : (history after : Notes) (platform left start : State) (events : List Event) (taken : Step) (number : ℕ) →
+pub among_counted : (history after : HistoryView) (platform left start : State) (events : List Event) (taken : Step) (number : ℕ) →
     FollowsAmong history platform start events →
     Follows after left start (steps_among events ++ taken ∷ []) (numbers_among events ++ number ∷ []) →
     FollowsAmong after left start (events ++ Counted taken number ∷ [])
@@ -128,7 +128,7 @@ among_counted history after platform left start events taken number h more = rec
       (subst (λ (l : List ℕ). Follows after left start (steps_among events ++ taken ∷ []) l) (sym (numbers_counted events taken number)) more);
 }
 
-pub among_written : (history : Notes) (platform start : State) (events : List Event) (memory : Memory) →
+pub among_written : (history : HistoryView) (platform start : State) (events : List Event) (memory : Memory) →
     FollowsAmong history platform start events → IsWritten platform.machine.memory memory →
     FollowsAmong history (with_memory platform memory) start (events ++ Written memory ∷ [])
 among_written history platform start events memory h w =
@@ -248,7 +248,7 @@ module _ (start : State) (events : List Event) (written : AreWritten start (happ
         state = passed_at event.j ∙ ap (moment start steps) event.place;
       }
 
-  named_all : (n : ℕ) (found : Option Warrant) → Explains start steps n found → AreNamed start events found (option_map (told numbers) found)
+  named_all : (n : ℕ) (found : Option Warrant) → Explains start steps n found → AreNamed start events found (option_map (numbered_warrant numbers) found)
   named_all n None h = tt
   named_all n (Some warrant.Register) h = tt
   named_all n (Some (warrant.Context c)) h = named c (asked_context start steps h.0.did c h.2.fresh.origin.passes)
@@ -258,7 +258,7 @@ module _ (start : State) (events : List Event) (written : AreWritten start (happ
     named c' (asked_context start steps h.0.did c' h.2.now_context.origin.passes),
   )
 
-  came : (n : ℕ) (found : Option Origin) → ComesFrom start steps numbers (place_of (happenings_of events) n) found → ComesFromPassed start events n found
+  came : (n : ℕ) (found : Option NumberedWarrant) → ComesFrom start steps numbers (place_of (happenings_of events) n) found → ComesFromPassed start events n found
   came n found h = record {
     warrant = h.warrant;
     state = passed_at n;
@@ -275,7 +275,7 @@ place_last (Written memory ∷ more) last =
     ∙ ap (λ (n : ℕ). length stores + n) (place_last more last)
     ∙ sym (length-append stores (steps_among more))
 
-pub among_origin : (history : Notes) (platform start : State) (events : List Event) (taken : Step) (number : ℕ) (found : Option Origin) →
+pub among_origin : (history : HistoryView) (platform start : State) (events : List Event) (taken : Step) (number : ℕ) (found : Option NumberedWarrant) →
     FollowsAmong history platform start events →
     ComesFrom start (steps_among events ++ taken ∷ []) (numbers_among events ++ number ∷ []) (length (steps_among events)) found →
     ComesFromPassed start (events ++ Counted taken number ∷ []) (length events) found
@@ -288,7 +288,7 @@ among_origin history platform start events taken number found h from =
     from)))
 
 -- what the caches hold was filled by steps of the caller's
-pub among_context : (history : Notes) (platform start : State) (events : List Event) (did : ℕ) (context : Context) (number : ℕ) →
+pub among_context : (history : HistoryView) (platform start : State) (events : List Event) (did : ℕ) (context : Context) (number : ℕ) →
     FollowsAmong history platform start events →
     (from : ContextFrom start (steps_among events) (numbers_among events) did context number) → IsNamed start events from.k number
 among_context history platform start events did context number h from =
@@ -296,7 +296,7 @@ among_context history platform start events did context number h from =
     subst (IsNamed start events from.k) (sym from.told)
     (named start events h.written h.follows.uncached from.k (asked_context start steps did from.k from.fresh.origin.passes))
 
-pub among_page : (history : Notes) (platform start : State) (events : List Event) (key : Key) (hit : Hit) (base walk : ℕ) →
+pub among_page : (history : HistoryView) (platform start : State) (events : List Event) (key : Key) (hit : Hit) (base walk : ℕ) →
     FollowsAmong history platform start events →
     (from : PageFrom start (steps_among events) (numbers_among events) key hit base walk) →
     IsNamed start events from.c base × IsNamed start events from.w walk

@@ -6,7 +6,7 @@ use Rattle.iom_core.specs.Others.{IsWritten, after, end_after}
 use Rattle.iom_core.specs.State.{State}
 use Rattle.iom_core.specs.Table.{next, with_memory}
 use Rattle.iom_core.specs.declared.step.Step.{Step}
-use Rattle.iom_account.specs.Account.{Account, Accounts, CountsStep, IsReasonOf, most_reasons}
+use Rattle.iom_account.specs.Account.{AccountView, Accounts, CountsStep, IsReasonOf, most_reasons}
 use Rattle.iom_account.specs.Others.{AccountsAmong, AreReasons, Counted, Event, IsReasonAfter, Written, happening_of, happenings_of, numbers_among, steps_among}
 use Rattle.iom_account.specs.declared.reason.Reason.{Reason}
 use Rattle.iom_account.proofs.Passed.{among_counted, among_origin, among_written, written_counted, written_more}
@@ -48,7 +48,7 @@ no_reasons : (start : State) (all : List Reason) → length all ≡ 0 → AreRea
 no_reasons start [] none = tt
 no_reasons start (reason ∷ all) none = absurd (cc)
 
-pub account_begins : (account : Account) (platform : State) → Accounts account platform platform [] [] → AccountsAmong account platform platform []
+pub account_begins : (account : AccountView) (platform : State) → Accounts account platform platform [] [] → AccountsAmong account platform platform []
 account_begins account platform h = record {
   reached = refl;
   written = tt;
@@ -58,7 +58,7 @@ account_begins account platform h = record {
   kept = h.tells.kept;
 }
 
-pub account_counted : (before left : Account) (state new start : State) (events : List Event) (step : Step) (number : ℕ) →
+pub account_counted : (before left : AccountView) (state new start : State) (events : List Event) (step : Step) (number : ℕ) →
     AccountsAmong before state start events → new ≡ (next state step).state → CountsStep before state step number left new →
     AccountsAmong left new start (events ++ Counted step number ∷ [])
 account_counted before left state new start events step number h is c =
@@ -81,7 +81,7 @@ account_counted before left state new start events step number h is c =
       kept = c.told ∙ ap (λ (l : List Reason). keep_last most_reasons (l ++ c.reason ∷ [])) h.kept ∙ kept_more most_reasons h.all c.reason;
     }
 
-pub account_written : (account : Account) (platform start : State) (events : List Event) (memory : Memory) →
+pub account_written : (account : AccountView) (platform start : State) (events : List Event) (memory : Memory) →
     AccountsAmong account platform start events → IsWritten platform.machine.memory memory →
     AccountsAmong account (with_memory platform memory) start (events ++ Written memory ∷ [])
 account_written account platform start events memory h w = record {

@@ -23,7 +23,7 @@ use Rattle.iom_core.specs.declared.access.Request.{Request}
 use Rattle.iom_core.specs.declared.step.Step.{Step}
 use Rattle.iom_core.proofs.Fresh.{fresh_context}
 use Rattle.iom_core.proofs.Ways.{filled_context}
-use Rattle.iom_account.specs.Following.{ContextFrom, Follows, Notes, PageFrom, base_at, number_of, numbers_of}
+use Rattle.iom_account.specs.Following.{ContextFrom, Follows, HistoryView, PageFrom, base_at, number_of, numbers_of}
 use Rattle.iom_account.proofs.Noted.{Noted}
 use Rattle.iom_account.proofs.Runs.{moment_all}
 use Rattle.iom_account.proofs.Told.{base_told, contexts_noted, device_of, filler, walks_noted}
@@ -131,7 +131,7 @@ module _ (start : State) (steps : List Step) (numbers : List ℕ) (none : IsUnca
         walk_told = h.told;
       }
 
-module _ (history : Notes) (platform start : State) (steps : List Step) (numbers : List ℕ) (h : Follows history platform start steps numbers) where
+module _ (history : HistoryView) (platform start : State) (steps : List Step) (numbers : List ℕ) (h : Follows history platform start steps numbers) where
   here : moment start steps (length steps) ≡ platform
   here = moment_all start steps ∙ sym h.reached
 
@@ -146,7 +146,7 @@ module _ (history : Notes) (platform start : State) (steps : List Step) (numbers
       (context_filled_by start steps numbers h.uncached did context b.note b.says)
 
   pub page_at_place : (i : ℕ) (key : Key) (hit : Hit) → slice_get platform.machine.pages i ≡ Some (Some (key, hit)) →
-      IsSomeAnd (numbers_of (slice_get history.bases i) (slice_get history.walks i))
+      IsSomeAnd (numbers_of (slice_get history.walk_contexts i) (slice_get history.walks i))
       (λ filled. PageFrom start steps numbers key hit filled.context filled.walk)
   page_at_place i key hit is =
       let n = length steps in
@@ -154,7 +154,7 @@ module _ (history : Notes) (platform start : State) (steps : List Step) (numbers
       let w = beside_place _ (moment start steps n).machine.pages _ i (key, hit) (walks_noted start steps numbers h.uncached (number_of numbers) n) at in
       let b = beside_place _ (moment start steps n).machine.pages _ i (key, hit) (walks_noted start steps numbers h.uncached (base_at start steps numbers) n) at in
       let walk_there : slice_get history.walks i ≡ Some w.note = ap (λ (ns : List ℕ). slice_get ns i) h.walks ∙ w.is in
-      let base_there : slice_get history.bases i ≡ Some b.note = ap (λ (ns : List ℕ). slice_get ns i) h.bases ∙ b.is in
+      let base_there : slice_get history.walk_contexts i ≡ Some b.note = ap (λ (ns : List ℕ). slice_get ns i) h.walk_contexts ∙ b.is in
       let Told : Option ℕ → Option ℕ → Type 0 = λ base walk. IsSomeAnd (numbers_of base walk) (λ filled. PageFrom start steps numbers key hit filled.context filled.walk) in
       subst (λ (o : Option ℕ). Told o (slice_get history.walks i)) (sym base_there)
       (subst (λ (o : Option ℕ). Told (Some b.note) o) (sym walk_there)

@@ -8,63 +8,63 @@ use Rattle.iom_core.specs.State.{State}
 use Rattle.iom_core.specs.Table.{Asking, asked, next, request_in, request_of_step, told_by_step}
 use Rattle.iom_core.specs.Warrants.{IsDenied, IsUncached, moment, request_at, way_at}
 use Rattle.iom_core.specs.declared.access.Request.{Request}
-use Rattle.iom_core.specs.declared.looking.Seen.{Seen}
+use Rattle.iom_core.specs.declared.looking.Lookup.{Lookup}
 use Rattle.iom_core.specs.declared.step.Step.{Step}
 use Rattle.iom_core.specs.declared.way.Way.{Way}
 use Rattle.iom_core.specs.declared.way.Way.TheVariants.{Context as ByContext, Register as ByRegister, Denied, Walked}
 use Rattle.iom_core.proofs.Moments.{moment-suc, next_by}
-use Rattle.iom_account.specs.Following.{ComesFrom, Follows, HasNoAccess, Notes, noted, noted_so, notes_at, number_of, origin_on, origin_so}
-use Rattle.iom_account.specs.declared.origin.Origin.{Origin}
+use Rattle.iom_account.specs.Following.{ComesFrom, Follows, HasNoAccess, HistoryView, noted, noted_so, notes_at, number_of, origin_on, origin_so}
+use Rattle.iom_account.specs.declared.origin.NumberedWarrant.{NumberedWarrant}
 use Rattle.iom_account.proofs.Accessed.{noted_is}
 use Rattle.iom_account.proofs.Followed.{bases_kept, contexts_kept, number_last, walks_kept}
 use Rattle.iom_account.proofs.Runs.{end_more, item_last, length_more, moment_last}
 use Rattle.iom_account.proofs.Told.{by_asked}
 
 -- no origin is told where an access is denied, and of no other
-none_denied : (notes : Notes) (after : State) (request : Request) (number : ℕ) (way : Way) →
+none_denied : (notes : HistoryView) (after : State) (request : Request) (number : ℕ) (way : Way) →
     (origin_on notes after request number way ≡ None) ↔ IsDenied way
 none_denied notes after request number ByRegister = (λ is. absurd (cc), λ no. absurd no)
 none_denied notes after request number (ByContext context) = (λ is. absurd (cc), λ no. absurd no)
 none_denied notes after request number (Walked context hit) = (λ is. absurd (cc), λ no. absurd no)
 none_denied notes after request number (Denied denial) = (λ is. tt, λ no. refl)
 
-none_asked : (before after : State) (asking : Option Asking) (notes : Notes) (seen : Seen) (number : ℕ) →
+none_asked : (before after : State) (asking : Option Asking) (notes : HistoryView) (seen : Lookup) (number : ℕ) →
     seen ≡ told_by_step noticed nothing_seen before.machine asking →
     (origin_so notes after (option_map request_in asking) number seen.way ≡ None) ↔ HasNoAccess before (option_map request_in asking)
 none_asked before after None notes seen number is = (λ same. tt, λ no. refl)
 none_asked before after (Some asking) notes seen number is =
     let request = request_in asking in
-    let way : seen.way ≡ (led before.machine request).way = ap (λ (s : Seen). s.way) is in
+    let way : seen.way ≡ (led before.machine request).way = ap (λ (s : Lookup). s.way) is in
     subst (λ (w : Way). (origin_on notes after request number w ≡ None) ↔ IsDenied (led before.machine request).way) (sym way)
     (none_denied notes after request number (led before.machine request).way)
 
-pub none_told : (before after : State) (taken : Step) (notes : Notes) (seen : Seen) (number : ℕ) (found : Option Origin) →
+pub none_told : (before after : State) (taken : Step) (notes : HistoryView) (seen : Lookup) (number : ℕ) (found : Option NumberedWarrant) →
     seen ≡ told_by_step noticed nothing_seen before.machine (asked before taken) →
     found ≡ origin_so notes after (request_of_step before taken) number seen.way → (found ≡ None) ↔ HasNoAccess before (request_of_step before taken)
 none_told before after taken notes seen number found is told =
-    subst (λ (o : Option Origin). (o ≡ None) ↔ HasNoAccess before (request_of_step before taken)) (sym told)
+    subst (λ (o : Option NumberedWarrant). (o ≡ None) ↔ HasNoAccess before (request_of_step before taken)) (sym told)
     (none_asked before after (asked before taken) notes seen number is)
 
 -- what a step notes, and the way that it saw
-pub notes_of_step : (history new : Notes) (platform after : State) (taken : Step) (request : Option Request) (seen : Seen) (number : ℕ) →
+pub notes_of_step : (history new : HistoryView) (platform after : State) (taken : Step) (request : Option Request) (seen : Lookup) (number : ℕ) →
     request ≡ request_of_step platform taken → seen ≡ told_by_step noticed nothing_seen platform.machine (asked platform taken) →
     new ≡ noted_so after request seen number history → new ≡ noted platform after (request_of_step platform taken) number history
 notes_of_step history new platform after taken request seen number own is kept =
     kept ∙ ap (λ (r : Option Request). noted_so after r seen number history) own ∙ noted_is platform after (asked platform taken) seen number history is
 
-pub origin_of_step : (new : Notes) (after : State) (request asked : Option Request) (number : ℕ) (seen : Seen) (found : Option Origin) →
+pub origin_of_step : (new : HistoryView) (after : State) (request asked : Option Request) (number : ℕ) (seen : Lookup) (found : Option NumberedWarrant) →
     found ≡ origin_so new after request number seen.way → request ≡ asked → found ≡ origin_so new after asked number seen.way
 origin_of_step new after request asked number seen found told own = told ∙ ap (λ (r : Option Request). origin_so new after r number seen.way) own
 
-way_seen : (state : State) (asking : Option Asking) (seen : Seen) → seen ≡ told_by_step noticed nothing_seen state.machine asking →
+way_seen : (state : State) (asking : Option Asking) (seen : Lookup) → seen ≡ told_by_step noticed nothing_seen state.machine asking →
     IfSome (option_map request_in asking) (λ request. (led state.machine request).way ≡ seen.way)
 way_seen state None seen is = tt
-way_seen state (Some asking) seen is = sym (ap (λ (s : Seen). s.way) is)
+way_seen state (Some asking) seen is = sym (ap (λ (s : Lookup). s.way) is)
 
 -- Step k of a run that a history goes along with: what it leaves, and where the translation comes from that it used.
 module _ (start : State) (steps : List Step) (numbers : List ℕ) (k : ℕ) (taken : Step) (number : ℕ)
     (is : slice_get steps k ≡ Some taken) (own : number ≡ number_of numbers k)
-    (history new : Notes) (platform after : State) (seen : Seen)
+    (history new : HistoryView) (platform after : State) (seen : Lookup)
     (at : platform ≡ moment start steps k) (kept : history ≡ notes_at start steps numbers k)
     (left : after ≡ (next platform taken).state) (so : seen ≡ told_by_step noticed nothing_seen platform.machine (asked platform taken))
     (notes : new ≡ noted platform after (request_of_step platform taken) number history) where
@@ -86,7 +86,7 @@ module _ (start : State) (steps : List Step) (numbers : List ℕ) (k : ℕ) (tak
       ∙ ap (λ (s : ℕ). noted (moment start steps k) (moment start steps (suc k)) (request_at start steps k) s history) own
       ∙ ap (noted (moment start steps k) (moment start steps (suc k)) (request_at start steps k) (number_of numbers k)) kept
 
-  pub origin_there : IsUncached start → (found : Option Origin) → found ≡ origin_so new after (request_of_step platform taken) number seen.way →
+  pub origin_there : IsUncached start → (found : Option NumberedWarrant) → found ≡ origin_so new after (request_of_step platform taken) number seen.way →
       ComesFrom start steps numbers k found
   origin_there none found told =
       let led_so : IfSome (request_at start steps k) (λ request. way_at start steps k request ≡ seen.way) =
@@ -95,12 +95,12 @@ module _ (start : State) (steps : List Step) (numbers : List ℕ) (k : ℕ) (tak
       (way_seen platform (asked platform taken) seen so)) in
       subst (ComesFrom start steps numbers k)
       (sym (told ∙ ap (λ (r : Option Request). origin_so new after r number seen.way) asked_there
-      ∙ ap (λ (ns : Notes). origin_so ns after (request_at start steps k) number seen.way) leaves_notes
+      ∙ ap (λ (ns : HistoryView). origin_so ns after (request_at start steps k) number seen.way) leaves_notes
       ∙ ap (λ (s : State). origin_so (notes_at start steps numbers (suc k)) s (request_at start steps k) number seen.way) leaves_moment))
       (by_asked start steps numbers none k number (request_at start steps k) seen.way refl led_so)
 
 -- the same of steps with one step more
-module _ (history new : Notes) (platform after : State) (taken : Step) (seen : Seen) (number : ℕ)
+module _ (history new : HistoryView) (platform after : State) (taken : Step) (seen : Lookup) (number : ℕ)
     (left : after ≡ (next platform taken).state)
     (so : seen ≡ told_by_step noticed nothing_seen platform.machine (asked platform taken))
     (notes : new ≡ noted platform after (request_of_step platform taken) number history)
@@ -124,7 +124,7 @@ module _ (history new : Notes) (platform after : State) (taken : Step) (seen : S
   kept = λ i. record {
     contexts = (h.contexts ∙ sym (contexts_kept start steps taken numbers number h.numbered)) i;
     walks = (h.walks ∙ sym (walks_kept start steps taken numbers number h.numbered)) i;
-    bases = (h.bases ∙ sym (bases_kept start steps taken numbers number h.numbered)) i;
+    walk_contexts = (h.walk_contexts ∙ sym (bases_kept start steps taken numbers number h.numbered)) i;
   }
 
   pub follows_step : Follows new after start more told
@@ -137,12 +137,12 @@ module _ (history new : Notes) (platform after : State) (taken : Step) (seen : S
         uncached = h.uncached;
         reached = left ∙ ap (λ (s : State). (next s taken).state) h.reached ∙ sym (end_more start steps taken);
         numbered = length_more numbers number ∙ ap suc h.numbered ∙ sym (length_more steps taken);
-        contexts = ap (λ (ns : Notes). ns.contexts) kept_on;
-        walks = ap (λ (ns : Notes). ns.walks) kept_on;
-        bases = ap (λ (ns : Notes). ns.bases) kept_on;
+        contexts = ap (λ (ns : HistoryView). ns.contexts) kept_on;
+        walks = ap (λ (ns : HistoryView). ns.walks) kept_on;
+        walk_contexts = ap (λ (ns : HistoryView). ns.walk_contexts) kept_on;
       }
 
-  pub origin_step : (found : Option Origin) → found ≡ origin_so new after (request_of_step platform taken) number seen.way →
+  pub origin_step : (found : Option NumberedWarrant) → found ≡ origin_so new after (request_of_step platform taken) number seen.way →
       ComesFrom start more told n found
   origin_step found is =
       origin_there start more told n taken number (item_last steps taken) own history new platform after seen at kept left so notes h.uncached found is

@@ -10,13 +10,13 @@ use Rattle.iom_core.specs.Looking.{by_tables, nothing_seen, noticed}
 use Rattle.iom_core.specs.Table.{Asking, asked, next, request_in, request_of_step, told_by_step}
 use Rattle.iom_core.specs.Warrants.{IsUncached, moment, request_at}
 use Rattle.iom_core.specs.declared.access.Request.{Request}
-use Rattle.iom_core.specs.declared.looking.Seen.{Seen}
+use Rattle.iom_core.specs.declared.looking.Lookup.{Lookup}
 use Rattle.iom_core.specs.declared.step.Step.{Step}
 use Rattle.iom_core.specs.declared.way.Way.{Way}
 use Rattle.iom_tables.specs.Stale.{differing, stale_way}
-use Rattle.iom_account.specs.Following.{Follows, Notes, number_of}
+use Rattle.iom_account.specs.Following.{Follows, HistoryView, number_of}
 use Rattle.iom_account.proofs.Runs.{end_more, length_more, moment_last, request_last}
-use Rattle.iom_account.specs.Account.{Account, Accounts, CountsStep, GoesAlong, IsReason, IsReasonOf, Tells, address_by, granted_address, stale_in}
+use Rattle.iom_account.specs.Account.{AccountView, Accounts, CountsStep, GoesAlong, IsReason, IsReasonOf, Tells, address_by, granted_address, stale_in}
 use Rattle.iom_account.specs.declared.reason.Reason.{Reason}
 
 -- an item stands before the last one, or is it
@@ -95,7 +95,7 @@ number_last numbers number n end =
     ap (number_of (numbers ++ number ∷ [])) (sym end) ∙ get_or-append_seam numbers number [] 0
 
 -- one step
-pub along_step : (before : Account) (state : State) (step : Step) (number : ℕ) (after : Account) (left : State) →
+pub along_step : (before : AccountView) (state : State) (step : Step) (number : ℕ) (after : AccountView) (left : State) →
     left ≡ (next state step).state → CountsStep before state step number after left → GoesAlong before state (step ∷ []) number after left
 along_step before state step number after left left_is c start steps numbers h =
     let reason = c.reason in
@@ -118,16 +118,16 @@ along_step before state step number after left left_is c start steps numbers h =
       numbered = length_more numbers number ∙ ap suc h.numbered ∙ sym (length_more steps step);
       follows = λ uncached. c.follows start steps numbers (h.follows uncached);
       tells = subst (Tells start more (numbers ++ number ∷ [])) (sym c.told)
-          (told_more start steps numbers step number h.numbered before.told reason h.tells is);
+          (told_more start steps numbers step number h.numbered before.reasons reason h.tells is);
     }
 
 -- no step, and one before others
-pub along_none : (account : Account) (state : State) (number : ℕ) → GoesAlong account state [] number account state
+pub along_none : (account : AccountView) (state : State) (number : ℕ) → GoesAlong account state [] number account state
 along_none account state number start steps numbers h =
     subst (λ (l : List Step). Accounts account state start l (numbers ++ [])) (sym (append-nil steps))
     (subst (λ (l : List ℕ). Accounts account state start steps l) (sym (append-nil numbers)) h)
 
-pub along_more : (a b c : Account) (s t u : State) (step : Step) (more : List Step) (number : ℕ) → GoesAlong a s (step ∷ []) number b t →
+pub along_more : (a b c : AccountView) (s t u : State) (step : Step) (more : List Step) (number : ℕ) → GoesAlong a s (step ∷ []) number b t →
     GoesAlong b t more number c u → GoesAlong a s (step ∷ more) number c u
 along_more a b c s t u step more number first rest start steps numbers h =
     subst (λ (l : List Step). Accounts c u start l (numbers ++ replicate (length (step ∷ more)) number)) (append_assoc steps (step ∷ []) more)
@@ -158,8 +158,8 @@ newest_told told before state step number reason is own =
     let last : last_item told ≡ Some reason = ap last_item is ∙ last_kept 32 before reason (omega arith) in
     subst (λ (r : Option Reason). IsSomeAnd r (IsReasonOf state step number)) (sym last) own
 
-pub nothing_told : (history : Notes) (platform : State) → (IsUncached platform → Follows history platform platform [] []) →
-    Accounts (record { history = history; told = [] }) platform platform [] []
+pub nothing_told : (history : HistoryView) (platform : State) → (IsUncached platform → Follows history platform platform [] []) →
+    Accounts (record { history = history; reasons = [] }) platform platform [] []
 nothing_told history platform follows = record {
   reached = refl;
   numbered = refl;
@@ -168,15 +168,15 @@ nothing_told history platform follows = record {
 }
 
 -- what the tables said of an access, by the way that it was told to be led
-stale_asked : (state : State) (asking : Option Asking) (seen : Seen) → seen ≡ told_by_step noticed nothing_seen state.machine asking →
+stale_asked : (state : State) (asking : Option Asking) (seen : Lookup) → seen ≡ told_by_step noticed nothing_seen state.machine asking →
     option_and_then (differing seen.way) (option_map (by_tables state.machine) (option_map request_in asking))
     ≡ stale_in state (option_map request_in asking)
 unfolding stale_way
 stale_asked state None seen is = refl
 stale_asked state (Some asking) seen is =
-    ap (λ (s : Seen). differing s.way (by_tables state.machine (request_in asking))) is
+    ap (λ (s : Lookup). differing s.way (by_tables state.machine (request_in asking))) is
 
-stale_told : (state : State) (step : Step) (seen : Seen) (tables found : Option Way) →
+stale_told : (state : State) (step : Step) (seen : Lookup) (tables found : Option Way) →
     seen ≡ told_by_step noticed nothing_seen state.machine (asked state step) →
     tables ≡ option_map (by_tables state.machine) (request_of_step state step) → found ≡ option_and_then (differing seen.way) tables →
     found ≡ stale_in state (request_of_step state step)
@@ -184,13 +184,13 @@ stale_told state step seen tables found is tables_are told =
     told ∙ ap (option_and_then (differing seen.way)) tables_are ∙ stale_asked state (asked state step) seen is
 
 -- where an access was led, by the way that it was told to be led
-address_asked : (state : State) (asking : Option Asking) (seen : Seen) → seen ≡ told_by_step noticed nothing_seen state.machine asking →
+address_asked : (state : State) (asking : Option Asking) (seen : Lookup) → seen ≡ told_by_step noticed nothing_seen state.machine asking →
     address_by (option_map request_in asking) seen.way ≡ granted_address state (option_map request_in asking)
 address_asked state None seen is = refl
-address_asked state (Some asking) seen is = ap (λ (s : Seen). address_by (Some (request_in asking)) s.way) is
+address_asked state (Some asking) seen is = ap (λ (s : Lookup). address_by (Some (request_in asking)) s.way) is
 
 -- a reason of what was asked, seen and found before the step
-pub own_reason : (state : State) (step : Step) (number : ℕ) (request : Option Request) (seen : Seen) (tables : Option Way) (reason : Reason) →
+pub own_reason : (state : State) (step : Step) (number : ℕ) (request : Option Request) (seen : Lookup) (tables : Option Way) (reason : Reason) →
     request ≡ request_of_step state step → seen ≡ told_by_step noticed nothing_seen state.machine (asked state step) →
     tables ≡ option_map (by_tables state.machine) request → reason.number ≡ number → reason.request ≡ request →
     reason.address ≡ address_by request seen.way → reason.stale ≡ option_and_then (differing seen.way) tables →

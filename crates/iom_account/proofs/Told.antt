@@ -27,7 +27,7 @@ use Rattle.iom_core.proofs.Moments.{context_filled-unused, moment-suc, next-cont
 use Rattle.iom_core.proofs.Ways.{FilledPage, filled_page}
 use Rattle.iom_account.specs.Beside.{beside, noted_at}
 use Rattle.iom_account.specs.Following.{ComesFrom, base_at, base_by, contexts_at, number_of, notes_at, origin_on, origin_so}
-use Rattle.iom_account.specs.declared.origin.Origin.TheVariants as origin
+use Rattle.iom_account.specs.declared.origin.NumberedWarrant.TheVariants as origin
 use Rattle.iom_account.proofs.Accessed.{accessed_contexts, accessed_pages, found_context, found_led, found_page, leading}
 use Rattle.iom_account.proofs.Noted.{LastNoted, Noted, Noted-always, last_noted}
 

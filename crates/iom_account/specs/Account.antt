@@ -11,7 +11,7 @@ use Rattle.iom_core.specs.declared.access.Request.{Request}
 use Rattle.iom_core.specs.declared.step.Step.{Step}
 use Rattle.iom_tables.specs.Stale.{stale_way}
 use Rattle.iom_core.specs.declared.way.Way.{Way}
-use Rattle.iom_account.specs.Following.{ComesFrom, Follows, Notes, number_of}
+use Rattle.iom_account.specs.Following.{ComesFrom, Follows, HistoryView, number_of}
 use Rattle.iom_account.specs.declared.reason.Reason.{Reason}
 
 -- the way that the tables lead an access that is stale, before the step that makes it; None: it isn't stale, or there is none
@@ -57,29 +57,29 @@ pub record Tells (start : State) (steps : List Step) (numbers : List ℕ) (told 
   pub kept : told ≡ keep_last most_reasons all
 
 -- which steps filled the caches, and the reasons of the last steps
-pub record Account : Type 0 where
-  pub history : Notes
-  pub told : List Reason
+pub record AccountView : Type 0 where
+  pub history : HistoryView
+  pub reasons : List Reason
 
 -- The account goes along with the platform: since the start these steps were taken, under these numbers.
-pub record Accounts (account : Account) (platform start : State) (steps : List Step) (numbers : List ℕ) : Type 0 where
+pub record Accounts (account : AccountView) (platform start : State) (steps : List Step) (numbers : List ℕ) : Type 0 where
   pub reached : platform ≡ end_of start steps
   pub numbered : length numbers ≡ length steps
   pub follows : IsUncached start → Follows account.history platform start steps numbers
-  pub tells : Tells start steps numbers account.told
+  pub tells : Tells start steps numbers account.reasons
 
 -- It went along with these steps, all under one number.
-abbrev pub GoesAlong : Account → State → List Step → ℕ → Account → State → Type 0
+abbrev pub GoesAlong : AccountView → State → List Step → ℕ → AccountView → State → Type 0
 GoesAlong before state more number after left =
     (start : State) (steps : List Step) (numbers : List ℕ) → Accounts before state start steps numbers →
     Accounts after left start (steps ++ more) (numbers ++ replicate (length more) number)
 
 -- What a step under this number leaves of an account: its reason is kept after the others, and the history and the origin that the reason
 -- has go along with any steps before it.
-pub record CountsStep (before : Account) (state : State) (step : Step) (number : ℕ) (after : Account) (left : State) : Type 0 where
+pub record CountsStep (before : AccountView) (state : State) (step : Step) (number : ℕ) (after : AccountView) (left : State) : Type 0 where
   pub reason : Reason
   pub own : IsReasonOf state step number reason
-  pub told : after.told ≡ keep_last most_reasons (before.told ++ reason ∷ [])
+  pub told : after.reasons ≡ keep_last most_reasons (before.reasons ++ reason ∷ [])
   pub follows : (start : State) (steps : List Step) (numbers : List ℕ) → Follows before.history state start steps numbers →
       Follows after.history left start (steps ++ step ∷ []) (numbers ++ number ∷ [])
   pub origin : (start : State) (steps : List Step) (numbers : List ℕ) → Follows before.history state start steps numbers →

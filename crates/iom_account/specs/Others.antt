@@ -9,10 +9,10 @@ use Rattle.iom_core.specs.Warrants.{Explains, IsUncached, moment}
 use Rattle.iom_core.specs.declared.step.Step.{Step}
 use Rattle.iom_core.specs.declared.warrant.Warrant.{Warrant}
 use Rattle.iom_core.specs.declared.warrant.Warrant.TheVariants as warrant
-use Rattle.iom_account.specs.Account.{Account, IsReasonOf, most_reasons}
-use Rattle.iom_account.specs.Following.{Follows, Notes}
-use Rattle.iom_account.specs.declared.origin.Origin.{Origin}
-use Rattle.iom_account.specs.declared.origin.Origin.TheVariants as origin
+use Rattle.iom_account.specs.Account.{AccountView, IsReasonOf, most_reasons}
+use Rattle.iom_account.specs.Following.{Follows, HistoryView}
+use Rattle.iom_account.specs.declared.origin.NumberedWarrant.{NumberedWarrant}
+use Rattle.iom_account.specs.declared.origin.NumberedWarrant.TheVariants as origin
 use Rattle.iom_account.specs.declared.reason.Reason.{Reason}
 
 -- a step is taken, under the number that its caller gives it; or others write memory, so that it is this one from then on
@@ -42,7 +42,7 @@ abbrev pub passed : State → List Event → ℕ → State
 passed start events j = end_after start (take j (happenings_of events))
 
 -- The history goes along with the platform: from a start whose caches are empty all this happened.
-pub record FollowsAmong (history : Notes) (platform start : State) (events : List Event) : Type 0 where
+pub record FollowsAmong (history : HistoryView) (platform start : State) (events : List Event) : Type 0 where
   pub written : AreWritten start (happenings_of events)
   pub follows : Follows history platform start (steps_among events) (numbers_among events)
 
@@ -54,7 +54,7 @@ pub record IsNamed (start : State) (events : List Event) (k number : ℕ) : Type
   pub state : passed start events j ≡ moment start (steps_among events) k
 
 -- each moment of a warrant is named by the origin's number
-abbrev pub AreNamed : State → List Event → Option Warrant → Option Origin → Type 0
+abbrev pub AreNamed : State → List Event → Option Warrant → Option NumberedWarrant → Type 0
 AreNamed start events None None = Unit {0}
 AreNamed start events None (Some found) = ⊥
 AreNamed start events (Some warrant) None = ⊥
@@ -66,7 +66,7 @@ AreNamed start events (Some warrant) (Some found) = ⊥
 
 -- The origin of the translation that event n, a step, used: a warrant in the states that were passed, by the caller's numbers; None: it
 -- made no access, or was denied.
-pub record ComesFromPassed (start : State) (events : List Event) (n : ℕ) (found : Option Origin) : Type 0 where
+pub record ComesFromPassed (start : State) (events : List Event) (n : ℕ) (found : Option NumberedWarrant) : Type 0 where
   pub warrant : Option Warrant
   pub state : passed start events n ≡ moment start (steps_among events) (place_of (happenings_of events) n)
   pub explains : Explains start (steps_among events) (place_of (happenings_of events) n) warrant
@@ -87,10 +87,10 @@ AreReasons start before (Counted step number ∷ more) (reason ∷ reasons) =
 AreReasons start before (Written memory ∷ more) reasons = AreReasons start (before ++ Written memory ∷ []) more reasons
 
 -- The account goes along with the platform: since the start all this happened, and it has the reasons of the last steps.
-pub record AccountsAmong (account : Account) (platform start : State) (events : List Event) : Type 0 where
+pub record AccountsAmong (account : AccountView) (platform start : State) (events : List Event) : Type 0 where
   pub reached : platform ≡ end_after start (happenings_of events)
   pub written : AreWritten start (happenings_of events)
   pub follows : IsUncached start → FollowsAmong account.history platform start events
   pub all : List Reason
   pub each : AreReasons start [] events all
-  pub kept : account.told ≡ keep_last most_reasons all
+  pub kept : account.reasons ≡ keep_last most_reasons all

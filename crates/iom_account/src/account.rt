@@ -5,7 +5,7 @@ ghost use Rattle.iom_mem.specs.Memory.{Memory};
 ghost use Rattle.iom_core.specs.State.{state_on};
 
 use crate::history::History;
-use crate::kept::Kept;
+use crate::kept::LastReasons;
 use crate::reason::Reason;
 use iom_core::{Answer, Board, Platform, Step};
 use iom_mem::WritableRegion;
@@ -16,15 +16,15 @@ use std::marker::Model;
 #[derive(Drop)]
 pub struct Account {
     history: History,
-    told: Kept,
+    reasons: LastReasons,
 }
 
 impl Model for Account {
-    ghost use Rattle.iom_account.specs.Account.{Account};
+    ghost use Rattle.iom_account.specs.Account.{AccountView};
 
-    ghost Value = { Account };
+    ghost Value = { AccountView };
 
-    ghost view = { λ a. record { history = a.history; told = a.told } };
+    ghost view = { λ a. record { history = a.history; reasons = a.reasons } };
 }
 
 impl Account {
@@ -37,7 +37,7 @@ impl Account {
     /// An empty account of this platform. Origins are known only if both caches are empty now.
     pub fn new(platform: &Platform) -> Account
         ensures begins { Accounts result platform.now platform.now [] [] }
-        ensures empty { result.told ≡ [] }
+        ensures empty { result.reasons ≡ [] }
     {
         Account::new_on(&platform.board)
     }
@@ -46,11 +46,11 @@ impl Account {
     pub fn new_on(board: &Board) -> Account
         ensures begins { (memory : Memory) →
             Accounts result (state_on memory board.now) (state_on memory board.now) [] [] }
-        ensures empty { result.told ≡ [] }
+        ensures empty { result.reasons ≡ [] }
     {
         Account {
             history: History::new_on(board),
-            told: Kept::new(),
+            reasons: LastReasons::new(),
         }
     }
 
@@ -60,7 +60,7 @@ impl Account {
     {
         Account {
             history: self.history.copied(),
-            told: self.told.copied(),
+            reasons: self.reasons.copied(),
         }
     }
 
@@ -73,16 +73,16 @@ impl Account {
 
     /// The reason of step `i` of the last 32, any number; the oldest is 0. None if there is no such step.
     pub fn reason(&self, i: u64) -> Option<&Reason>
-        ensures reason { option_copied result ≡ slice_get self.now.told i }
+        ensures reason { option_copied result ≡ slice_get self.now.reasons i }
     {
-        self.told.get(i as usize)
+        self.reasons.get(i as usize)
     }
 
     /// The reason of the last step; None if there was none.
     pub fn newest(&self) -> Option<&Reason>
-        ensures reason { option_copied result ≡ last_item self.now.told }
+        ensures reason { option_copied result ≡ last_item self.now.reasons }
     {
-        self.told.newest()
+        self.reasons.newest()
     }
 
     /// Carries out the next step on the platform, under the caller's `number`, writes its answer to `answer`, and keeps its reason. After 32
@@ -90,7 +90,7 @@ impl Account {
     pub fn step(&mut self, platform: &mut Platform, step: &Step, number: u64, answer: &mut Answer)
         ensures answer { answer.new ≡ (next platform.old step.now).answer }
         ensures state { platform.new ≡ (next platform.old step.now).state }
-        ensures newest { IsSomeAnd (last_item self.new.told) (IsReasonOf platform.old step.now number) }
+        ensures newest { IsSomeAnd (last_item self.new.reasons) (IsReasonOf platform.old step.now number) }
 
         // What it leaves is known whatever it was, so also after others wrote memory.
         ensures counted { CountsStep self.old platform.old step.now number self.new platform.new }
@@ -114,7 +114,7 @@ impl Account {
         ensures answer { answer.new ≡ (next (state_on (M.memory ram.old) board.old) step.now).answer }
         ensures state { state_on (M.memory ram.new) board.new ≡ (next (state_on (M.memory ram.old) board.old) step.now).state }
         ensures borrow { M.name ram.new ≡ M.name ram.old }
-        ensures newest { IsSomeAnd (last_item self.new.told) (IsReasonOf (state_on (M.memory ram.old) board.old) step.now number) }
+        ensures newest { IsSomeAnd (last_item self.new.reasons) (IsReasonOf (state_on (M.memory ram.old) board.old) step.now number) }
         ensures counted { CountsStep self.old (state_on (M.memory ram.old) board.old) step.now number
             self.new (state_on (M.memory ram.new) board.new) }
         ensures along { GoesAlong self.old (state_on (M.memory ram.old) board.old) (step.now ∷ []) number
@@ -123,6 +123,6 @@ impl Account {
         let reason = self
             .history
             .step_with_reason(board, ram, step, number, answer);
-        self.told.keep(reason);
+        self.reasons.keep(reason);
     }
 }

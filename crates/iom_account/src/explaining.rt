@@ -6,7 +6,7 @@ ghost use Rattle.iom_core.specs.Warrants.{Explains, IsUncached};
 ghost use Rattle.iom_account.specs.Following.{warrant_of};
 
 use crate::history::History;
-use crate::origin::Origin;
+use crate::origin::NumberedWarrant;
 use iom_core::{Answer, Platform, Step, Warrant};
 use std::alloc::{AllocError, Global};
 
@@ -33,15 +33,15 @@ pub fn explain(
 }
 
 // The warrant of an origin whose numbers count the steps from 0.
-fn warrant_of(origin: Option<Origin>) -> Option<Warrant>
+fn warrant_of(origin: Option<NumberedWarrant>) -> Option<Warrant>
     ensures { result ≡ option_map warrant_of origin }
 {
     Some(match origin? {
-        Origin::Register => Warrant::Register,
-        Origin::Context { context } => Warrant::Context {
+        NumberedWarrant::Register => Warrant::Register,
+        NumberedWarrant::Context { context } => Warrant::Context {
             context: context as usize,
         },
-        Origin::Walked {
+        NumberedWarrant::Walked {
             context,
             walk,
             current,

@@ -11,13 +11,13 @@ ghost use Rattle.iom_core.specs.Warrants.{IsUncached};
 ghost use Rattle.iom_account.specs.Beside.{beside};
 ghost use Rattle.iom_account.specs.Following.{ComesFrom, ContextFrom, Follows, HasNoAccess, PageFrom, context_noted, noted, noted_reading, noted_so, numbers_of, origin_on, origin_so, walk_noted};
 
-use crate::notes::{equal, note, zeros};
-use crate::origin::Origin;
+use crate::notes::{copy_of, note, zeros};
+use crate::origin::NumberedWarrant;
 use crate::reads::Reads;
 use crate::reason::{Reason, address_by, stale_by, tables_for};
 use arrayvec::ArrayVec;
 use iom_cache::key_of;
-use iom_core::{Answer, Board, Platform, Request, Seen, Step, Way};
+use iom_core::{Answer, Board, Lookup, Platform, Request, Step, Way};
 use iom_mem::WritableRegion;
 use std::marker::Model;
 
@@ -29,15 +29,15 @@ pub struct History {
     // Beside each place of the translation cache, the number of the step that filled it.
     walks: ArrayVec<u64, 64>,
     // Beside the same place, the number of the step that had filled the context under which it walked.
-    bases: ArrayVec<u64, 64>,
+    walk_contexts: ArrayVec<u64, 64>,
 }
 
 impl Model for History {
-    ghost use Rattle.iom_account.specs.Following.{Notes};
+    ghost use Rattle.iom_account.specs.Following.{HistoryView};
 
-    ghost Value = { Notes };
+    ghost Value = { HistoryView };
 
-    ghost view = { λ h. record { contexts = h.contexts.items; walks = h.walks.items; bases = h.bases.items } };
+    ghost view = { λ h. record { contexts = h.contexts.items; walks = h.walks.items; walk_contexts = h.walk_contexts.items } };
 }
 
 /// A step's access.
@@ -46,14 +46,14 @@ pub struct Taken {
     /// The request; None if the step made no access.
     pub request: Option<Request>,
     /// The context, page and way that it was led by; nothing if it made no access.
-    pub seen: Seen,
+    pub seen: Lookup,
     /// The origin of the translation that it used; None if it made no access, or was denied.
-    pub origin: Option<Origin>,
+    pub origin: Option<NumberedWarrant>,
 }
 
 /// Which steps filled a place of the translation cache.
 #[derive(Clone, Copy, Debug, PartialEq)]
-pub struct Filled {
+pub struct FilledBy {
     /// The number of the step that had filled the context under which it walked.
     pub context: u64,
     /// The number of the step that filled the place.
@@ -84,7 +84,7 @@ impl History {
         History {
             contexts: zeros(board.contexts().len()),
             walks: zeros(pages),
-            bases: zeros(pages),
+            walk_contexts: zeros(pages),
         }
     }
 
@@ -93,9 +93,9 @@ impl History {
         ensures { result ≡ self.now }
     {
         History {
-            contexts: equal(&self.contexts),
-            walks: equal(&self.walks),
-            bases: equal(&self.bases),
+            contexts: copy_of(&self.contexts),
+            walks: copy_of(&self.walks),
+            walk_contexts: copy_of(&self.walk_contexts),
         }
     }
 
@@ -243,7 +243,7 @@ impl History {
         ensures noted { self.new ≡ noted_so (state_on (M.memory ram.new) board.new) request result.seen number self.old }
         ensures told { result.origin ≡ origin_so self.new (state_on (M.memory ram.new) board.new) request number result.seen.way }
     {
-        let mut seen = Seen::nothing();
+        let mut seen = Lookup::nothing();
         board.step_into(ram, step, answer, &mut seen);
         let origin = self.note_step(board, request, &seen, number);
         Taken {
@@ -267,8 +267,8 @@ impl History {
 
     /// The numbers of the steps that filled place `i` of the translation cache, and the context of its walk; the oldest place is 0. Both
     /// are 0 if the place was empty from the start on. None if there is no such place.
-    pub fn page(&self, i: u64) -> Option<Filled>
-        ensures numbers { result ≡ numbers_of (slice_get self.now.bases i) (slice_get self.now.walks i) }
+    pub fn page(&self, i: u64) -> Option<FilledBy>
+        ensures numbers { result ≡ numbers_of (slice_get self.now.walk_contexts i) (slice_get self.now.walks i) }
         ensures from { (platform start : State) (steps : List Step) (numbers : List ℕ) (key : Key) (hit : Hit) →
             Follows self.now platform start steps numbers →
             slice_get platform.machine.pages i ≡ Some (Some (key, hit)) →
@@ -299,13 +299,13 @@ impl History {
     }
 
     // The numbers beside place `i` of the translation cache.
-    fn page_beside(&self, i: u64) -> Option<Filled>
-        ensures { result ≡ numbers_of (slice_get self.now.bases i) (slice_get self.now.walks i) }
+    fn page_beside(&self, i: u64) -> Option<FilledBy>
+        ensures { result ≡ numbers_of (slice_get self.now.walk_contexts i) (slice_get self.now.walks i) }
     {
         let place = i as usize;
-        let context = self.bases.as_slice().get(place).copied()?;
+        let context = self.walk_contexts.as_slice().get(place).copied()?;
         let walk = self.walks.as_slice().get(place).copied()?;
-        Some(Filled { context, walk })
+        Some(FilledBy { context, walk })
     }
 
     // Notes what a step with this request read, as it was seen, and returns the origin of the translation that it used.
@@ -313,9 +313,9 @@ impl History {
         &mut self,
         board: &Board,
         request: Option<Request>,
-        seen: &Seen,
+        seen: &Lookup,
         number: u64,
-    ) -> Option<Origin>
+    ) -> Option<NumberedWarrant>
         ensures noted { (memory : Memory) → self.new ≡ noted_so (state_on memory board.now) request seen.now number self.old }
         ensures origin { (memory : Memory) → result ≡ origin_so self.new (state_on memory board.now) request number seen.now.way }
     {
@@ -349,26 +349,32 @@ impl History {
         if read {
             let base = self.context_number(board, did, number);
             note(&mut self.walks, number);
-            note(&mut self.bases, base);
+            note(&mut self.walk_contexts, base);
         }
     }
 
     // The origin of the translation that the last step used for this request, which was led this way.
-    fn origin(&self, board: &Board, request: &Request, number: u64, way: &Way) -> Option<Origin>
+    fn origin(
+        &self,
+        board: &Board,
+        request: &Request,
+        number: u64,
+        way: &Way,
+    ) -> Option<NumberedWarrant>
         ensures { (memory : Memory) → result ≡ origin_on self.now (state_on memory board.now) request.now number way.now }
     {
         match way {
             Way::Denied(_) => None,
-            Way::Register => Some(Origin::Register),
+            Way::Register => Some(NumberedWarrant::Register),
             Way::Context(_) => {
                 let context = self.context_number(board, request.did, number);
-                Some(Origin::Context { context })
+                Some(NumberedWarrant::Context { context })
             }
             Way::Walked(context, _) => {
                 let key = key_of(context, request.did, request.iova, request.kind);
                 let place = board.trans().place_of(&key);
-                Some(Origin::Walked {
-                    context: number_at(self.bases.as_slice(), place, number),
+                Some(NumberedWarrant::Walked {
+                    context: number_at(self.walk_contexts.as_slice(), place, number),
                     walk: number_at(self.walks.as_slice(), place, number),
                     current: self.context_number(board, request.did, number),
                 })

@@ -3,7 +3,7 @@
 ghost use Rattle.std.specs.Prelude.{◌≡◌, ◌==◌, ◌≤◌, if◌then◌else◌};
 ghost use Rattle.iom_account.specs.Account.{most_reasons};
 
-use crate::notes::equal;
+use crate::notes::copy_of;
 use crate::reason::Reason;
 use arrayvec::ArrayVec;
 use std::marker::Model;
@@ -13,13 +13,13 @@ const MOST: usize = 32;
 
 /// The last 32 reasons, the oldest first. They stand in a ring, so none is moved if there are 32 and one more is kept.
 #[derive(Drop)]
-pub struct Kept {
+pub struct LastReasons {
     ring: ArrayVec<Reason, 32>,
     // How many of the newest stand before the others.
     newer: usize,
 }
 
-impl Model for Kept {
+impl Model for LastReasons {
     ghost use Rattle.std.specs.Prelude.{◌≡◌, ◌≤◌, ◌++◌, drop, length, take, List};
     ghost use Rattle.iom_account.specs.Account.{most_reasons};
     ghost use Rattle.iom_account.specs.declared.reason.Reason.{Reason};
@@ -31,27 +31,27 @@ impl Model for Kept {
     ghost invariant = { λ kept. (kept.newer ≤ length kept.ring.items) × (length kept.ring.items ≤ most_reasons) };
 }
 
-impl Kept {
+impl LastReasons {
     ghost use Rattle.std.specs.Prelude.{◌≡◌, ◌++◌, [], ◌∷◌, slice_get};
     ghost use Rattle.std.specs.Option.{option_copied};
     ghost use Rattle.circular_buffer.specs.Buffer.{keep_last, last_item};
 
     /// None yet.
-    pub fn new() -> Kept
+    pub fn new() -> LastReasons
         ensures { result ≡ [] }
     {
-        Kept {
+        LastReasons {
             ring: ArrayVec::new(),
             newer: 0,
         }
     }
 
     /// The same reasons, in a ring of their own.
-    pub fn copied(&self) -> Kept
+    pub fn copied(&self) -> LastReasons
         ensures { result ≡ self.now }
     {
-        Kept {
-            ring: equal(&self.ring),
+        LastReasons {
+            ring: copy_of(&self.ring),
             newer: self.newer,
         }
     }

@@ -5,8 +5,8 @@
 
 pub use account::Account;
 pub use explaining::explain;
-pub use history::{Filled, History, Taken};
-pub use origin::Origin;
+pub use history::{FilledBy, History, Taken};
+pub use origin::NumberedWarrant;
 pub use others::others_are_not_counted;
 pub use reason::Reason;
 

@@ -27,7 +27,7 @@ pub fn zeros<const N: usize>(count: usize) -> ArrayVec<u64, N>
 }
 
 /// The same items, each at its place.
-pub fn equal<T: Copy + Default, const N: usize>(items: &ArrayVec<T, N>) -> ArrayVec<T, N>
+pub fn copy_of<T: Copy + Default, const N: usize>(items: &ArrayVec<T, N>) -> ArrayVec<T, N>
     ensures { result.items ≡ items.now.items }
 {
     let mut same = ArrayVec::new();

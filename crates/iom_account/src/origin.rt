@@ -1,13 +1,13 @@
 //! Where a translation comes from.
 
 ghost use Rattle.std.specs.Prelude.{◌≡◌};
-ghost use Rattle.iom_account.specs.Following.{number_of, told};
+ghost use Rattle.iom_account.specs.Following.{number_of, numbered_warrant};
 
 use iom_core::Warrant;
 
 /// The origin of the translation that a device's access used: the steps that it comes from, by the numbers that their caller gave them.
 #[derive(Clone, Copy, Debug, PartialEq)]
-pub enum Origin {
+pub enum NumberedWarrant {
     /// ddtp's mode was Bare: the physical address was the IOVA.
     Register,
     /// Both stages of the device's context were Bare: the physical address was the IOVA. Step `context` had filled that context,
@@ -24,21 +24,21 @@ pub enum Origin {
     },
 }
 
-impl Origin {
+impl NumberedWarrant {
     /// The origin that names the steps of a warrant by these numbers, the first of which is that of step 0. A step beyond them gets 0.
-    pub fn told(warrant: Warrant, numbers: &[u64]) -> Origin
-        ensures { result ≡ told numbers.now warrant }
+    pub fn of_warrant(warrant: Warrant, numbers: &[u64]) -> NumberedWarrant
+        ensures { result ≡ numbered_warrant numbers.now warrant }
     {
         match warrant {
-            Warrant::Register => Origin::Register,
-            Warrant::Context { context } => Origin::Context {
+            Warrant::Register => NumberedWarrant::Register,
+            Warrant::Context { context } => NumberedWarrant::Context {
                 context: number_of(numbers, context),
             },
             Warrant::Walked {
                 context,
                 walk,
                 current,
-            } => Origin::Walked {
+            } => NumberedWarrant::Walked {
                 context: number_of(numbers, context),
                 walk: number_of(numbers, walk),
                 current: number_of(numbers, current),

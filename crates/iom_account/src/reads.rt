@@ -4,7 +4,7 @@ ghost use Rattle.std.specs.Prelude.{◌≡◌, Some};
 ghost use Rattle.iom_core.specs.Looking.{is_read};
 ghost use Rattle.iom_account.specs.Reads.{nothing_read, reads_of};
 
-use iom_core::{Event, Seen, Source, Witness};
+use iom_core::{Event, Lookup, Source, Witness};
 
 /// Whether an access read its context from the directory, and its page from the page tables.
 #[derive(Clone, Copy)]
@@ -27,7 +27,7 @@ impl Reads {
     }
 
     /// What an access read that was seen.
-    pub fn of(seen: &Seen) -> Reads
+    pub fn of(seen: &Lookup) -> Reads
         ensures { result ≡ reads_of seen.now }
     {
         Reads {
@@ -43,7 +43,7 @@ impl Witness for Reads {
     ghost next = { read_noticed };
 
     #[inline(always)]
-    fn tell(&mut self, event: Event) {
+    fn notice(&mut self, event: Event) {
         match event {
             Event::Context(from, _, _) => self.context = is_read(from),
             Event::Page(from, _, _) => self.page = is_read(from),

@@ -7,7 +7,7 @@ ghost use Rattle.iom_core.specs.State.{in_front_of};
 ghost use Rattle.iom_tables.specs.Stale.{differing};
 ghost use Rattle.iom_account.specs.Account.{address_by};
 
-use crate::origin::Origin;
+use crate::origin::NumberedWarrant;
 use iom_core::{Board, Request, Way};
 use iom_mem::Region;
 use iom_tables::differing;
@@ -20,7 +20,7 @@ pub struct Reason {
     /// The request that the step made of the IOMMU; None if it made no access.
     pub request: Option<Request>,
     /// The origin of the translation that its access used, by the numbers of steps; None if it made no access, or was denied.
-    pub origin: Option<Origin>,
+    pub origin: Option<NumberedWarrant>,
     /// The physical address that its access was led to, also if memory doesn't reach there; None if it made no access, or was denied.
     pub address: Option<u64>,
     /// If something cached led its access, and the tables in memory said otherwise before the step, the way that the tables said.
@@ -32,7 +32,7 @@ pub fn tables_for<M: Region>(board: &Board, ram: &M, request: Option<Request>) -
     ensures way { result ≡ option_map (by_tables (in_front_of (M.memory ram.now) board.now.iommu)) request }
 {
     let request = request?;
-    Some(board.seen_uncached(ram, &request).way)
+    Some(board.lookup_uncached(ram, &request).way)
 }
 
 /// The physical address that a way leads a request to; None if it is denied.

@@ -16,7 +16,7 @@ use Rattle.iom_image.specs.Image.{Chunk, Disk, IsChunk, AreChunks, IsDisk, AreDi
 use Rattle.iom_items.specs.Capabilities.{features_for}
 use Rattle.iom_items.specs.Forms.{where_so}
 use Rattle.iom_items.specs.Operands.{◌>>=◌}
-use Rattle.iom_asm.specs.Assembly.{Draft, meets, insert, is_inside, with_bytes, placed, with_disk, disk_for, joined, offering, offered, moved_to, moved, empty_draft, ram_draft, opened, bytes_for, or_bad, then_so, stated, started, after_words, after_lines}
+use Rattle.iom_asm.specs.Assembly.{ImageDraftView, meets, insert, is_inside, with_bytes, placed, with_disk, disk_for, joined, offering, offered, moved_to, moved, empty_draft, ram_draft, opened, bytes_for, or_bad, then_so, stated, started, after_words, after_lines}
 use Rattle.iom_image.proofs.Flags.{with_flags}
 use Rattle.iom_asm.proofs.Full.{some_byte}
 
@@ -68,25 +68,25 @@ one_more has_flags ids (first ∷ others) disk good new = (
 )
 
 -- statements
-abbrev pub Good : Draft → Type 0
+abbrev pub Good : ImageDraftView → Type 0
 Good draft = IsImage draft.image
 
-abbrev pub Fine : Option Draft → Type 0
+abbrev pub Fine : Option ImageDraftView → Type 0
 Fine draft = IfSome draft Good
 
-abbrev OkGood : Result Draft AsmFault → Type 0
+abbrev OkGood : Result ImageDraftView AsmFault → Type 0
 OkGood made = IfOk made Good
 
-or_bad_good : (line : ℕ) (found : Option Draft) → Fine found → OkGood (or_bad line found)
+or_bad_good : (line : ℕ) (found : Option ImageDraftView) → Fine found → OkGood (or_bad line found)
 or_bad_good line None good = tt
 or_bad_good line (Some draft) good = good
 
-pub placed_good : (line : ℕ) (draft : Draft) (bytes : List ℕ) → Good draft → 0 < length bytes → OkGood (placed line draft bytes)
+pub placed_good : (line : ℕ) (draft : ImageDraftView) (bytes : List ℕ) → Good draft → 0 < length bytes → OkGood (placed line draft bytes)
 unfolding placed
 placed_good line draft bytes good some =
     let image = draft.image in
-    let chunk : Chunk = record { addr = draft.place; bytes = bytes } in
-    cond_both (is_inside image draft.place (length bytes)) _ (Err (Outside line)) OkGood
+    let chunk : Chunk = record { addr = draft.next_address; bytes = bytes } in
+    cond_both (is_inside image draft.next_address (length bytes)) _ (Err (Outside line)) OkGood
     (λ inside.
     let parts = and_parts _ _ inside in
     let new : IsChunk image.base image.size 0 chunk = record {
@@ -95,7 +95,7 @@ placed_good line draft bytes good some =
       above = leb-true _ _ parts.0;
       below = leb-true _ _ parts.1;
     } in
-    cond_both (list_any (meets draft.place (length bytes)) image.chunks) (Err (Overlap line)) (Ok (with_bytes draft bytes)) OkGood
+    cond_both (list_any (meets draft.next_address (length bytes)) image.chunks) (Err (Overlap line)) (Ok (with_bytes draft bytes)) OkGood
     (λ _. tt)
     (λ none. record {
       base = good.base;
@@ -112,7 +112,7 @@ no_flags First false none = (refl, refl)
 no_flags Second read_only none = absurd cc
 no_flags (Third features) read_only none = absurd cc
 
-with_disk_good : (draft : Draft) (disk : Disk) → Good draft → is_next_disk draft.image.disks disk ≡ true → Good (with_disk draft disk)
+with_disk_good : (draft : ImageDraftView) (disk : Disk) → Good draft → is_next_disk draft.image.disks disk ≡ true → Good (with_disk draft disk)
 with_disk_good draft disk good next =
     let image = draft.image in
     let a = and_parts (nat_lt (length image.disks) 8) _ next in
@@ -133,13 +133,13 @@ with_disk_good draft disk good next =
           });
     }
 
-joined_good : (draft : Draft) (found : Option Disk) → Good draft →
+joined_good : (draft : ImageDraftView) (found : Option Disk) → Good draft →
     Fine (found >>= λ disk. where_so (is_next_disk draft.image.disks disk) (Some (with_disk draft disk)))
 joined_good draft None good = tt
 joined_good draft (Some disk) good =
     cond_both (is_next_disk draft.image.disks disk) (Some (with_disk draft disk)) None Fine (λ next. with_disk_good draft disk good next) (λ _. tt)
 
-offering_good : (draft : Draft) (features : Features) → Good draft → Good (offering draft features)
+offering_good : (draft : ImageDraftView) (features : Features) → Good draft → Good (offering draft features)
 offering_good draft features good = record {
   base = good.base;
   size = good.size;
@@ -148,28 +148,28 @@ offering_good draft features good = record {
   disks = with_flags (is_flagged draft.image.version) true [] draft.image.disks (λ none. absurd cc) good.disks;
 }
 
-offered_good : (draft : Draft) (found : Option Features) → Good draft →
+offered_good : (draft : ImageDraftView) (found : Option Features) → Good draft →
     Fine (found >>= λ features. where_so (not (is_third draft.image.version)) (Some (offering draft features)))
 offered_good draft None good = tt
 offered_good draft (Some features) good =
     cond_both (not (is_third draft.image.version)) (Some (offering draft features)) None Fine (λ _. offering_good draft features good) (λ _. tt)
 
-found_good : (draft : Draft) (place : Option ℕ) → Good draft → Fine (option_map (moved_to draft) place)
+found_good : (draft : ImageDraftView) (place : Option ℕ) → Good draft → Fine (option_map (moved_to draft) place)
 found_good draft None good = tt
 found_good draft (Some place) good = good
 
-moved_good : (draft : Draft) (words : List (List ℕ)) → Good draft → Fine (moved draft words)
+moved_good : (draft : ImageDraftView) (words : List (List ℕ)) → Good draft → Fine (moved draft words)
 unfolding moved
 moved_good draft [] good = tt
 moved_good draft (place ∷ []) good = found_good draft (number place) good
 moved_good draft (place ∷ more ∷ others) good = tt
 
-bytes_good : (line : ℕ) (draft : Draft) (name : List ℕ) (operands : List (List ℕ)) → Good draft → (found : Option (List ℕ)) →
+bytes_good : (line : ℕ) (draft : ImageDraftView) (name : List ℕ) (operands : List (List ℕ)) → Good draft → (found : Option (List ℕ)) →
     bytes_for (features_of draft.image.version) name operands ≡ found → OkGood (then_so (or_bad line found) (placed line draft))
 bytes_good line draft name operands good None is = tt
 bytes_good line draft name operands good (Some bytes) is = placed_good line draft bytes good (some_byte (features_of draft.image.version) name operands bytes is)
 
-stated_good : (line : ℕ) (draft : Draft) (name : List ℕ) (operands : List (List ℕ)) → Good draft → OkGood (stated line draft name operands)
+stated_good : (line : ℕ) (draft : ImageDraftView) (name : List ℕ) (operands : List (List ℕ)) → Good draft → OkGood (stated line draft name operands)
 unfolding stated joined offered
 stated_good line draft name operands good =
     cond_both (bytes_eq name (codes "at")) _ _ OkGood
@@ -211,26 +211,26 @@ started_good line name operands =
     (cond_both (bytes_eq name (codes "ram")) (opened operands) None Fine (λ _. opened_good operands) (λ _. tt))
 
 -- lines
-abbrev pub OkFine : Result (Option Draft) AsmFault → Type 0
+abbrev pub OkFine : Result (Option ImageDraftView) AsmFault → Type 0
 OkFine made = IfOk made Fine
 
-some_good : (made : Result Draft AsmFault) → OkGood made → OkFine (then_so made (λ draft. Ok (Some draft)))
+some_good : (made : Result ImageDraftView AsmFault) → OkGood made → OkFine (then_so made (λ draft. Ok (Some draft)))
 some_good (Ok draft) good = good
 some_good (Err fault) good = tt
 
-pub words_good : (line : ℕ) (draft : Option Draft) (words : List (List ℕ)) → Fine draft → OkFine (after_words line draft words)
+pub words_good : (line : ℕ) (draft : Option ImageDraftView) (words : List (List ℕ)) → Fine draft → OkFine (after_words line draft words)
 unfolding after_words
 words_good line draft [] good = good
 words_good line None (name ∷ operands) good = some_good (started line name operands) (started_good line name operands)
 words_good line (Some draft) (name ∷ operands) good = some_good (stated line draft name operands) (stated_good line draft name operands good)
 
-next_good : (line : ℕ) (made : Result (Option Draft) AsmFault) (texts : List (List ℕ)) → OkFine made →
-    ((draft : Option Draft) → Fine draft → OkFine (after_lines (line + 1) draft texts)) →
+next_good : (line : ℕ) (made : Result (Option ImageDraftView) AsmFault) (texts : List (List ℕ)) → OkFine made →
+    ((draft : Option ImageDraftView) → Fine draft → OkFine (after_lines (line + 1) draft texts)) →
     OkFine (then_so made (λ next. after_lines (line + 1) next texts))
 next_good line (Ok draft) texts good others = others draft good
 next_good line (Err fault) texts good others = tt
 
-pub lines_good : (line : ℕ) (draft : Option Draft) (texts : List (List ℕ)) → Fine draft → OkFine (after_lines line draft texts)
+pub lines_good : (line : ℕ) (draft : Option ImageDraftView) (texts : List (List ℕ)) → Fine draft → OkFine (after_lines line draft texts)
 unfolding after_lines
 lines_good line draft [] good = good
 lines_good line draft (text ∷ texts) good =

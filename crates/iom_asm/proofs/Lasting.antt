@@ -16,7 +16,7 @@ use Rattle.iom_image.specs.Image.{Chunk, Disk, is_next_disk}
 use Rattle.iom_items.specs.Capabilities.{features_for}
 use Rattle.iom_items.specs.Forms.{where_so}
 use Rattle.iom_items.specs.Operands as maybe
-use Rattle.iom_asm.specs.Assembly.{Draft, meets, insert, is_inside, with_bytes, placed, with_disk, disk_for, joined, offering, offered, moved_to, moved, bytes_for, or_bad, then_so, stated, after_words, after_lines}
+use Rattle.iom_asm.specs.Assembly.{ImageDraftView, meets, insert, is_inside, with_bytes, placed, with_disk, disk_for, joined, offering, offered, moved_to, moved, bytes_for, or_bad, then_so, stated, after_words, after_lines}
 use Rattle.iom_asm.proofs.Standing.{IsIn}
 
 -- a chunk that was placed stays
@@ -37,57 +37,57 @@ now_in new (first ∷ others) =
     cond_both (nat_lt new.addr first.addr) (new ∷ first ∷ others) (first ∷ insert new others) (IsIn new) (λ _. inl refl) (λ _. inr (now_in new others))
 
 -- it holds of a draft whatever the next statement does
-pub record Lasts (Holds : Draft → Type 0) : Type 0 where
-  pub placing : (draft : Draft) (bytes : List ℕ) → Holds draft → Holds (with_bytes draft bytes)
-  pub moving : (draft : Draft) (place : ℕ) → Holds draft → Holds (moved_to draft place)
-  pub joining : (draft : Draft) (disk : Disk) → Holds draft → Holds (with_disk draft disk)
-  pub stating : (draft : Draft) (features : Features) → not (is_third draft.image.version) ≡ true → Holds draft → Holds (offering draft features)
+pub record Lasts (Holds : ImageDraftView → Type 0) : Type 0 where
+  pub placing : (draft : ImageDraftView) (bytes : List ℕ) → Holds draft → Holds (with_bytes draft bytes)
+  pub moving : (draft : ImageDraftView) (place : ℕ) → Holds draft → Holds (moved_to draft place)
+  pub joining : (draft : ImageDraftView) (disk : Disk) → Holds draft → Holds (with_disk draft disk)
+  pub stating : (draft : ImageDraftView) (features : Features) → not (is_third draft.image.version) ≡ true → Holds draft → Holds (offering draft features)
 
-or_bad_lasts : (Holds : Draft → Type 0) (line : ℕ) (found : Option Draft) → IfSome found Holds → IfOk (or_bad line found) Holds
+or_bad_lasts : (Holds : ImageDraftView → Type 0) (line : ℕ) (found : Option ImageDraftView) → IfSome found Holds → IfOk (or_bad line found) Holds
 or_bad_lasts Holds line None holds = tt
 or_bad_lasts Holds line (Some draft) holds = holds
 
-placed_lasts : (Holds : Draft → Type 0) → Lasts Holds → (line : ℕ) (draft : Draft) (bytes : List ℕ) → Holds draft → IfOk (placed line draft bytes) Holds
+placed_lasts : (Holds : ImageDraftView → Type 0) → Lasts Holds → (line : ℕ) (draft : ImageDraftView) (bytes : List ℕ) → Holds draft → IfOk (placed line draft bytes) Holds
 unfolding placed
 placed_lasts Holds lasts line draft bytes holds =
-    cond_both (is_inside draft.image draft.place (length bytes)) _ (Err (Outside line)) (λ made. IfOk made Holds)
-    (λ _. cond_both (list_any (meets draft.place (length bytes)) draft.image.chunks) (Err (Overlap line)) (Ok (with_bytes draft bytes)) (λ made. IfOk made Holds)
+    cond_both (is_inside draft.image draft.next_address (length bytes)) _ (Err (Outside line)) (λ made. IfOk made Holds)
+    (λ _. cond_both (list_any (meets draft.next_address (length bytes)) draft.image.chunks) (Err (Overlap line)) (Ok (with_bytes draft bytes)) (λ made. IfOk made Holds)
     (λ _. tt) (λ _. lasts.placing draft bytes holds))
     (λ _. tt)
 
-joined_lasts : (Holds : Draft → Type 0) → Lasts Holds → (draft : Draft) (found : Option Disk) → Holds draft →
+joined_lasts : (Holds : ImageDraftView → Type 0) → Lasts Holds → (draft : ImageDraftView) (found : Option Disk) → Holds draft →
     IfSome (maybe.◌>>=◌ found (λ disk. where_so (is_next_disk draft.image.disks disk) (Some (with_disk draft disk)))) Holds
 joined_lasts Holds lasts draft None holds = tt
 joined_lasts Holds lasts draft (Some disk) holds =
     cond_both (is_next_disk draft.image.disks disk) (Some (with_disk draft disk)) None (λ found. IfSome found Holds) (λ _. lasts.joining draft disk holds) (λ _. tt)
 
-offered_lasts : (Holds : Draft → Type 0) → Lasts Holds → (draft : Draft) (found : Option Features) → Holds draft →
+offered_lasts : (Holds : ImageDraftView → Type 0) → Lasts Holds → (draft : ImageDraftView) (found : Option Features) → Holds draft →
     IfSome (maybe.◌>>=◌ found (λ features. where_so (not (is_third draft.image.version)) (Some (offering draft features)))) Holds
 offered_lasts Holds lasts draft None holds = tt
 offered_lasts Holds lasts draft (Some features) holds =
     cond_both (not (is_third draft.image.version)) (Some (offering draft features)) None (λ found. IfSome found Holds)
     (λ first. lasts.stating draft features first holds) (λ _. tt)
 
-place_lasts : (Holds : Draft → Type 0) → Lasts Holds → (draft : Draft) (place : Option ℕ) → Holds draft → IfSome (option_map (moved_to draft) place) Holds
+place_lasts : (Holds : ImageDraftView → Type 0) → Lasts Holds → (draft : ImageDraftView) (place : Option ℕ) → Holds draft → IfSome (option_map (moved_to draft) place) Holds
 place_lasts Holds lasts draft None holds = tt
 place_lasts Holds lasts draft (Some place) holds = lasts.moving draft place holds
 
-moved_lasts : (Holds : Draft → Type 0) → Lasts Holds → (draft : Draft) (words : List (List ℕ)) → Holds draft → IfSome (moved draft words) Holds
+moved_lasts : (Holds : ImageDraftView → Type 0) → Lasts Holds → (draft : ImageDraftView) (words : List (List ℕ)) → Holds draft → IfSome (moved draft words) Holds
 unfolding moved
 moved_lasts Holds lasts draft [] holds = tt
 moved_lasts Holds lasts draft (place ∷ []) holds = place_lasts Holds lasts draft (number place) holds
 moved_lasts Holds lasts draft (place ∷ more ∷ others) holds = tt
 
-bytes_last : (Holds : Draft → Type 0) → Lasts Holds → (line : ℕ) (draft : Draft) (found : Option (List ℕ)) → Holds draft →
+bytes_last : (Holds : ImageDraftView → Type 0) → Lasts Holds → (line : ℕ) (draft : ImageDraftView) (found : Option (List ℕ)) → Holds draft →
     IfOk (then_so (or_bad line found) (placed line draft)) Holds
 bytes_last Holds lasts line draft None holds = tt
 bytes_last Holds lasts line draft (Some bytes) holds = placed_lasts Holds lasts line draft bytes holds
 
-stated_lasts : (Holds : Draft → Type 0) → Lasts Holds → (line : ℕ) (draft : Draft) (name : List ℕ) (operands : List (List ℕ)) → Holds draft →
+stated_lasts : (Holds : ImageDraftView → Type 0) → Lasts Holds → (line : ℕ) (draft : ImageDraftView) (name : List ℕ) (operands : List (List ℕ)) → Holds draft →
     IfOk (stated line draft name operands) Holds
 unfolding stated joined offered
 stated_lasts Holds lasts line draft name operands holds =
-    let Goal : Result Draft AsmFault → Type 0 = λ made. IfOk made Holds in
+    let Goal : Result ImageDraftView AsmFault → Type 0 = λ made. IfOk made Holds in
     cond_both (bytes_eq name (codes "at")) _ _ Goal
     (λ _. or_bad_lasts Holds line (moved draft operands) (moved_lasts Holds lasts draft operands holds))
     (λ _. cond_both (bytes_eq name (codes "disk")) _ _ Goal
@@ -99,29 +99,29 @@ stated_lasts Holds lasts line draft name operands holds =
     (λ _. bytes_last Holds lasts line draft (bytes_for (features_of draft.image.version) name operands) holds))))
 
 -- a draft is there, and it holds of it
-abbrev pub There : (Draft → Type 0) → Option Draft → Type 0
+abbrev pub There : (ImageDraftView → Type 0) → Option ImageDraftView → Type 0
 There Holds None = ⊥
 There Holds (Some draft) = Holds draft
 
-some_lasts : (Holds : Draft → Type 0) (made : Result Draft AsmFault) → IfOk made Holds → IfOk (then_so made (λ draft. Ok (Some draft))) (There Holds)
+some_lasts : (Holds : ImageDraftView → Type 0) (made : Result ImageDraftView AsmFault) → IfOk made Holds → IfOk (then_so made (λ draft. Ok (Some draft))) (There Holds)
 some_lasts Holds (Ok draft) holds = holds
 some_lasts Holds (Err fault) holds = tt
 
-words_last : (Holds : Draft → Type 0) → Lasts Holds → (line : ℕ) (draft : Draft) (words : List (List ℕ)) → Holds draft →
+words_last : (Holds : ImageDraftView → Type 0) → Lasts Holds → (line : ℕ) (draft : ImageDraftView) (words : List (List ℕ)) → Holds draft →
     IfOk (after_words line (Some draft) words) (There Holds)
 unfolding after_words
 words_last Holds lasts line draft [] holds = holds
 words_last Holds lasts line draft (name ∷ operands) holds =
     some_lasts Holds (stated line draft name operands) (stated_lasts Holds lasts line draft name operands holds)
 
-next_lasts : (Holds : Draft → Type 0) (line : ℕ) (made : Result (Option Draft) AsmFault) (texts : List (List ℕ)) → IfOk made (There Holds) →
-    ((draft : Draft) → Holds draft → IfOk (after_lines (line + 1) (Some draft) texts) (There Holds)) →
+next_lasts : (Holds : ImageDraftView → Type 0) (line : ℕ) (made : Result (Option ImageDraftView) AsmFault) (texts : List (List ℕ)) → IfOk made (There Holds) →
+    ((draft : ImageDraftView) → Holds draft → IfOk (after_lines (line + 1) (Some draft) texts) (There Holds)) →
     IfOk (then_so made (λ next. after_lines (line + 1) next texts)) (There Holds)
 next_lasts Holds line (Ok None) texts holds others = absurd holds
 next_lasts Holds line (Ok (Some draft)) texts holds others = others draft holds
 next_lasts Holds line (Err fault) texts holds others = tt
 
-lines_last : (Holds : Draft → Type 0) → Lasts Holds → (line : ℕ) (draft : Draft) (texts : List (List ℕ)) → Holds draft →
+lines_last : (Holds : ImageDraftView → Type 0) → Lasts Holds → (line : ℕ) (draft : ImageDraftView) (texts : List (List ℕ)) → Holds draft →
     IfOk (after_lines line (Some draft) texts) (There Holds)
 unfolding after_lines
 lines_last Holds lasts line draft [] holds = holds
@@ -129,13 +129,13 @@ lines_last Holds lasts line draft (text ∷ texts) holds =
     next_lasts Holds line (after_words line (Some draft) (words_of text)) texts (words_last Holds lasts line draft (words_of text) holds)
     (λ next holds. lines_last Holds lasts (line + 1) next texts holds)
 
-abbrev pub Has : Chunk → Draft → Type 0
+abbrev pub Has : Chunk → ImageDraftView → Type 0
 Has chunk draft = IsIn chunk draft.image.chunks
 
-pub lines_has : (chunk : Chunk) (line : ℕ) (draft : Draft) (texts : List (List ℕ)) → Has chunk draft →
+pub lines_has : (chunk : Chunk) (line : ℕ) (draft : ImageDraftView) (texts : List (List ℕ)) → Has chunk draft →
     IfOk (after_lines line (Some draft) texts) (There (Has chunk))
 lines_has chunk = lines_last (Has chunk) (record {
-  placing = λ draft bytes has. still_in chunk (record { addr = draft.place; bytes = bytes }) draft.image.chunks has;
+  placing = λ draft bytes has. still_in chunk (record { addr = draft.next_address; bytes = bytes }) draft.image.chunks has;
   moving = λ draft place has. has;
   joining = λ draft disk has. has;
   stating = λ draft features first has. has;
@@ -145,7 +145,7 @@ lines_has chunk = lines_last (Has chunk) (record {
 abbrev pub Grows : Features → Features → Type 0
 Grows before after = (before ≡ after) ⊎ (before ≡ no_features)
 
-abbrev pub GrowsTo : Features → Draft → Type 0
+abbrev pub GrowsTo : Features → ImageDraftView → Type 0
 GrowsTo before draft = Grows before (features_of draft.image.version)
 
 from_first : (before : Features) (version : Version) (after : Features) → not (is_third version) ≡ true → Grows before (features_of version) → Grows before after
@@ -164,7 +164,7 @@ with_flags : (before : Features) (version : Version) (asked : Bool) → Grows be
 with_flags before version asked (inl same) = inl (same ∙ sym (flags_same version asked))
 with_flags before version asked (inr none) = inr none
 
-pub lines_grow : (before : Features) (line : ℕ) (draft : Draft) (texts : List (List ℕ)) → GrowsTo before draft →
+pub lines_grow : (before : Features) (line : ℕ) (draft : ImageDraftView) (texts : List (List ℕ)) → GrowsTo before draft →
     IfOk (after_lines line (Some draft) texts) (There (GrowsTo before))
 lines_grow before = lines_last (GrowsTo before) (record {
   placing = λ draft bytes grows. grows;

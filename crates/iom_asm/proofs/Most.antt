@@ -11,13 +11,13 @@ use Rattle.iom_queue.specs.Records.{record_words}
 use Rattle.iom_mem.specs.Words.{bytes_of_words}
 use Rattle.iom_asm.specs.declared.asm_fault.AsmFault.{AsmFault}
 use Rattle.iom_asm.specs.declared.asm_fault.AsmFault.TheVariants.{BadLine}
-use Rattle.iom_items.specs.Items.{Entry, dir_word, pte_word}
+use Rattle.iom_items.specs.Items.{PageTableEntry, dir_word, pte_word}
 use Rattle.iom_items.specs.Operands.{operand_of, has_key, is_given, is_one_of, are_operands, ◌>>=◌}
 use Rattle.iom_items.specs.Capabilities.{capability_keys, features_for}
 use Rattle.iom_bits.specs.declared.features.Features.{Features}
 use Rattle.iom_image.specs.Versions.{features_of}
 use Rattle.iom_items.specs.Forms.{where_so, are_offered, words_on, vma_keys, gvma_keys, fence_keys, fault_keys, context_keys, vma, gvma, fence, iodir, command, fault, context, dir, pte, each_number, numbers, words_for}
-use Rattle.iom_asm.specs.Assembly.{Draft, one_hex, bytes_for, opened, moved, first_bytes, disk_of, disk_for, joined, offered, or_bad, then_so, placed, stated, started, after_words}
+use Rattle.iom_asm.specs.Assembly.{ImageDraftView, one_hex, bytes_for, opened, moved, first_bytes, disk_of, disk_for, joined, offered, or_bad, then_so, placed, stated, started, after_words}
 
 -- how many of some keys are given
 abbrev given_among : List (List ℕ) → List (List ℕ) → ℕ
@@ -106,7 +106,7 @@ words_none name words lt =
     cond_both (bytes_eq name (codes "dir")) _ _ (λ found. found ≡ None)
     (λ _. nothing (λ ppn. dir_word ppn ∷ []) _ (too_many_for (codes "ppn" ∷ []) words _ (omega (arith, lt)))) (λ _.
     cond_both (bytes_eq name (codes "pte")) _ None (λ found. found ≡ None)
-    (λ _. nothing (λ (entry : Entry). pte_word entry.ppn entry.flags ∷ []) _ (too_many_for (codes "ppn" ∷ codes "flags" ∷ []) words _ (omega (arith, lt)))) (λ _. refl))))))
+    (λ _. nothing (λ (entry : PageTableEntry). pte_word entry.ppn entry.flags ∷ []) _ (too_many_for (codes "ppn" ∷ codes "flags" ∷ []) words _ (omega (arith, lt)))) (λ _. refl))))))
 
 -- the other statements
 one_hex_none : (words : List (List ℕ)) → 1 < length words → one_hex words ≡ None
@@ -125,7 +125,7 @@ bytes_none features name words lt =
     cond_both (bytes_eq name (codes "bytes")) _ _ (λ found. found ≡ None) (λ _. one_hex_none words (omega (arith, lt)))
     (λ _. nothing bytes_of_words (words_on features name words) (on_none features name words lt))
 
-moved_none : (draft : Draft) (words : List (List ℕ)) → 9 < length words → moved draft words ≡ None
+moved_none : (draft : ImageDraftView) (words : List (List ℕ)) → 9 < length words → moved draft words ≡ None
 unfolding moved
 moved_none draft [] lt = refl
 moved_none draft (place ∷ []) lt = absurd (omega (arith, lt))
@@ -156,18 +156,18 @@ disk_none read_only (id ∷ []) lt = refl
 disk_none read_only (id ∷ sectors ∷ words) lt =
     ends_none (number id) _ (λ id. ends_none (number sectors) _ (λ sectors. none_then (first_bytes words) _ (first_none words (omega (arith, lt)))))
 
-joined_none : (draft : Draft) (read_only : Bool) (words : List (List ℕ)) → 9 < length words → joined draft read_only words ≡ None
+joined_none : (draft : ImageDraftView) (read_only : Bool) (words : List (List ℕ)) → 9 < length words → joined draft read_only words ≡ None
 unfolding joined
 joined_none draft read_only words lt = none_then (disk_for read_only words) _ (disk_none read_only words lt)
 
-offered_none : (draft : Draft) (words : List (List ℕ)) → 9 < length words → offered draft words ≡ None
+offered_none : (draft : ImageDraftView) (words : List (List ℕ)) → 9 < length words → offered draft words ≡ None
 unfolding offered features_for
 offered_none draft words lt = none_then (features_for words) _ (too_many_for capability_keys words _ (omega (arith, lt)))
 
 bad : {A B : Type 0} (line : ℕ) (found : Option A) (f : A → Result B AsmFault) → found ≡ None → then_so (or_bad line found) f ≡ Err (BadLine line)
 bad line found f is = ap (λ found. then_so (or_bad line found) f) is
 
-stated_bad : (line : ℕ) (draft : Draft) (name : List ℕ) (words : List (List ℕ)) → 9 < length words → stated line draft name words ≡ Err (BadLine line)
+stated_bad : (line : ℕ) (draft : ImageDraftView) (name : List ℕ) (words : List (List ℕ)) → 9 < length words → stated line draft name words ≡ Err (BadLine line)
 unfolding stated
 stated_bad line draft name words lt =
     cond_both (bytes_eq name (codes "at")) _ _ (λ made. made ≡ Err (BadLine line)) (λ _. ap (or_bad line) (moved_none draft words lt)) (λ _.
@@ -187,7 +187,7 @@ started_bad line name words lt = ap (or_bad line) (no_more (bytes_eq name (codes
 stops : {A B : Type 0} (line : ℕ) (made : Result A AsmFault) (f : A → Result B AsmFault) → made ≡ Err (BadLine line) → then_so made f ≡ Err (BadLine line)
 stops line made f is = ap (λ made. then_so made f) is
 
-pub too_many : (line : ℕ) (draft : Option Draft) (words : List (List ℕ)) → 10 < length words → after_words line draft words ≡ Err (BadLine line)
+pub too_many : (line : ℕ) (draft : Option ImageDraftView) (words : List (List ℕ)) → 10 < length words → after_words line draft words ≡ Err (BadLine line)
 unfolding after_words
 too_many line draft [] lt = absurd (omega (arith, lt))
 too_many line None (name ∷ words) lt = stops line (started line name words) _ (started_bad line name words (omega (arith, lt)))

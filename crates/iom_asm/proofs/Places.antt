@@ -8,7 +8,7 @@ use Rattle.std.specs.BTreeMap.Range.{range_contains, entries_between}
 use Rattle.std.specs.declared.ops.Bound.TheVariants.{Excluded, Unbounded}
 use Rattle.std.proofs.lemmas.Bool.{cases_lt, cases_order, lt-ltb, le-ltb}
 use Rattle.iom_image.specs.Image.{Chunk, AreChunks, end_of}
-use Rattle.iom_asm.specs.Assembly.{Draft, is_inside, meets, insert, with_bytes, placed}
+use Rattle.iom_asm.specs.Assembly.{ImageDraftView, is_inside, meets, insert, with_bytes, placed}
 use Rattle.iom_image.specs.Own.{chunk_seen}
 
 pub in_front : (limit q : ℕ) → range_contains nat_cmp Unbounded (Excluded limit) q ≡ nat_lt q limit
@@ -105,7 +105,7 @@ inserted base size end addr bytes (e ∷ entries) good some none =
           grind (arith, not_less, lt, later)
     ]
 
-pub placed_there : (line : ℕ) (draft : Draft) (bytes : List ℕ) → is_inside draft.image draft.place (length bytes) ≡ true →
-    list_any (meets draft.place (length bytes)) draft.image.chunks ≡ false → placed line draft bytes ≡ Ok (with_bytes draft bytes)
+pub placed_there : (line : ℕ) (draft : ImageDraftView) (bytes : List ℕ) → is_inside draft.image draft.next_address (length bytes) ≡ true →
+    list_any (meets draft.next_address (length bytes)) draft.image.chunks ≡ false → placed line draft bytes ≡ Ok (with_bytes draft bytes)
 unfolding placed
 placed_there line draft bytes inside none = rw (inside, none) refl

@@ -30,7 +30,7 @@ use Rattle.iom_items.specs.Lines.{line_of, line_on, is_taken, all_of, item_line_
 use Rattle.iom_asm.specs.Listing.{listed}
 use Rattle.iom_image.specs.Loading.{opening_of}
 use Rattle.iom_image.specs.Reading.{image_of}
-use Rattle.iom_asm.specs.Assembly.{Draft, meets, is_inside, with_bytes, placed, bytes_for, or_bad, then_so, stated, after_words, after_lines, lines_of, ended, described}
+use Rattle.iom_asm.specs.Assembly.{ImageDraftView, meets, is_inside, with_bytes, placed, bytes_for, or_bad, then_so, stated, after_words, after_lines, lines_of, ended, described}
 use Rattle.iom_asm.specs.Retelling.{StandsIn, IsStated, AreStated, lines_told}
 use Rattle.iom_asm.proofs.Keeping.{Good, lines_good}
 use Rattle.iom_image.proofs.Images.{read_again}
@@ -51,14 +51,14 @@ either_ok true true outside overlap x y is = absurd cc
 either_ok true false outside overlap x y is = ok_is x y is
 either_ok false taken outside overlap x y is = absurd cc
 
-placed_is : (line : ℕ) (draft next : Draft) (bytes : List ℕ) → placed line draft bytes ≡ Ok next → with_bytes draft bytes ≡ next
+placed_is : (line : ℕ) (draft next : ImageDraftView) (bytes : List ℕ) → placed line draft bytes ≡ Ok next → with_bytes draft bytes ≡ next
 unfolding placed
 placed_is line draft next bytes is =
-    either_ok (is_inside draft.image draft.place (length bytes)) (list_any (meets draft.place (length bytes)) draft.image.chunks) (Outside line) (Overlap line)
+    either_ok (is_inside draft.image draft.next_address (length bytes)) (list_any (meets draft.next_address (length bytes)) draft.image.chunks) (Outside line) (Overlap line)
     (with_bytes draft bytes) next is
 
 -- the statement of an item
-stated_is : (kind : Item) (line : ℕ) (draft : Draft) (operands : List (List ℕ)) →
+stated_is : (kind : Item) (line : ℕ) (draft : ImageDraftView) (operands : List (List ℕ)) →
     stated line draft (name_of kind) operands
     ≡ then_so (or_bad line (option_map bytes_of_words (words_on (features_of draft.image.version) (name_of kind) operands))) (placed line draft)
 unfolding stated bytes_for
@@ -69,14 +69,14 @@ stated_is item.Dir line draft operands = refl
 stated_is item.Pte line draft operands = refl
 stated_is item.Word line draft operands = refl
 
-placed_next : (line : ℕ) (draft : Draft) (next : Option Draft) (words : List ℕ) →
+placed_next : (line : ℕ) (draft : ImageDraftView) (next : Option ImageDraftView) (words : List ℕ) →
     then_so (placed line draft (bytes_of_words words)) (λ draft. Ok (Some draft)) ≡ Ok next → Some (with_bytes draft (bytes_of_words words)) ≡ next
 placed_next line draft next words is =
     let step = step_ok (placed line draft (bytes_of_words words)) (λ draft. Ok (Some draft)) next is in
     ap (λ draft. Some draft) (placed_is line draft step.0 (bytes_of_words words) step.1) ∙ ok_is (Some step.0) next step.2
 
 -- the statement of an item on a line: its words are placed
-pub after_item : (kind : Item) (line : ℕ) (draft : Draft) (next : Option Draft) (words text : List ℕ) (operands : List (List ℕ)) →
+pub after_item : (kind : Item) (line : ℕ) (draft : ImageDraftView) (next : Option ImageDraftView) (words text : List ℕ) (operands : List (List ℕ)) →
     words_of text ≡ name_of kind ∷ operands → words_on (features_of draft.image.version) (name_of kind) operands ≡ Some words →
     after_words line (Some draft) (words_of text) ≡ Ok next → Some (with_bytes draft (bytes_of_words words)) ≡ next
 unfolding after_words
@@ -85,7 +85,7 @@ after_item kind line draft next words text operands parts are is =
     placed_next line draft next words (rw (stated_is kind line draft operands, are) at first)
 
 -- the lines behind it go on from there
-pub goes_past : (kind : Item) (line : ℕ) (draft last : Draft) (words text : List ℕ) (operands others : List (List ℕ)) →
+pub goes_past : (kind : Item) (line : ℕ) (draft last : ImageDraftView) (words text : List ℕ) (operands others : List (List ℕ)) →
     words_of text ≡ name_of kind ∷ operands → words_on (features_of draft.image.version) (name_of kind) operands ≡ Some words →
     after_lines line (Some draft) (text ∷ others) ≡ Ok (Some last) →
     after_lines (line + 1) (Some (with_bytes draft (bytes_of_words words))) others ≡ Ok (Some last)
@@ -208,15 +208,15 @@ still_taken before after kind words (inl same) is = subst (λ (features : Featur
 still_taken before after kind words (inr none) is = taken_any after kind words (subst (λ (features : Features). is_taken features kind words ≡ true) none is)
 
 -- lines before others
-next_then : (line : ℕ) (made : Result (Option Draft) AsmFault) (before after : List (List ℕ)) →
-    ((next : Option Draft) → after_lines (line + 1) next (before ++ after)
+next_then : (line : ℕ) (made : Result (Option ImageDraftView) AsmFault) (before after : List (List ℕ)) →
+    ((next : Option ImageDraftView) → after_lines (line + 1) next (before ++ after)
     ≡ then_so (after_lines (line + 1) next before) (λ next. after_lines (line + 1 + length before) next after)) →
     then_so made (λ next. after_lines (line + 1) next (before ++ after))
     ≡ then_so (then_so made (λ next. after_lines (line + 1) next before)) (λ next. after_lines (line + suc (length before)) next after)
 next_then line (Err fault) before after others = refl
 next_then line (Ok next) before after others = let same : line + suc (length before) ≡ line + 1 + length before = omega arith in rw same (others next)
 
-pub lines_then : (line : ℕ) (draft : Option Draft) (before after : List (List ℕ)) →
+pub lines_then : (line : ℕ) (draft : Option ImageDraftView) (before after : List (List ℕ)) →
     after_lines line draft (before ++ after) ≡ then_so (after_lines line draft before) (λ next. after_lines (line + length before) next after)
 unfolding after_lines
 lines_then line draft [] after = let same : line + 0 ≡ line = omega arith in rw same refl
@@ -224,18 +224,18 @@ lines_then line draft (text ∷ before) after =
     next_then line (after_words line draft (words_of text)) before after (λ next. lines_then (line + 1) next before after)
 
 -- the draft that a text ends with
-end_is : (made : Result (Option Draft) AsmFault) (next : Option Draft) (image : Image) → made ≡ Ok next → ended next ≡ Ok image →
-    (last : Draft) × (made ≡ Ok (Some last)) × (last.image ≡ image)
+end_is : (made : Result (Option ImageDraftView) AsmFault) (next : Option ImageDraftView) (image : Image) → made ≡ Ok next → ended next ≡ Ok image →
+    (last : ImageDraftView) × (made ≡ Ok (Some last)) × (last.image ≡ image)
 end_is made None image is end = absurd cc
 end_is made (Some last) image is end = (last, is, ok_is last.image image end)
 
-pub last_of : (text : List ℕ) (image : Image) → described text ≡ Ok image → (last : Draft) × (after_lines 1 None (lines_of text) ≡ Ok (Some last)) × (last.image ≡ image)
+pub last_of : (text : List ℕ) (image : Image) → described text ≡ Ok image → (last : ImageDraftView) × (after_lines 1 None (lines_of text) ≡ Ok (Some last)) × (last.image ≡ image)
 unfolding described
 last_of text image is =
     let step = step_ok (after_lines 1 None (lines_of text)) ended image is in
     end_is (after_lines 1 None (lines_of text)) step.0 image step.1 step.2
 
-good_last : (text : List ℕ) (last : Draft) → after_lines 1 None (lines_of text) ≡ Ok (Some last) → Good last
+good_last : (text : List ℕ) (last : ImageDraftView) → after_lines 1 None (lines_of text) ≡ Ok (Some last) → Good last
 good_last text last is = rw is at (lines_good 1 None (lines_of text) tt)
 
 pub image_good : (text : List ℕ) (image : Image) → described text ≡ Ok image → IsImage image
@@ -245,14 +245,14 @@ pub reads_again : (text : List ℕ) (image : Image) → described text ≡ Ok im
 reads_again text image is = read_again image (image_good text image is)
 
 -- the lines of a text from some on, after what the lines before them make
-pub going_on : (text : List ℕ) (draft last : Draft) (lines : List (List ℕ)) (stand : StandsIn lines text draft) →
+pub going_on : (text : List ℕ) (draft last : ImageDraftView) (lines : List (List ℕ)) (stand : StandsIn lines text draft) →
     after_lines 1 None (lines_of text) ≡ Ok (Some last) → after_lines (1 + length stand.before) (Some draft) (lines ++ stand.after) ≡ Ok (Some last)
 going_on text draft last lines stand made =
     sym (lines_then 1 None stand.before (lines ++ stand.after)
     ∙ ap (λ made. then_so made (λ next. after_lines (1 + length stand.before) next (lines ++ stand.after))) stand.made)
     ∙ ap (after_lines 1 None) (sym stand.parts) ∙ made
 
-stated_told : (text : List ℕ) (last : Draft) (kind : Item) (words : List ℕ) (addr : ℕ) → after_lines 1 None (lines_of text) ≡ Ok (Some last) →
+stated_told : (text : List ℕ) (last : ImageDraftView) (kind : Item) (words : List ℕ) (addr : ℕ) → after_lines 1 None (lines_of text) ≡ Ok (Some last) →
     IsStated text kind words addr →
     item_line_on (opening_of last.image).memory (opening_of last.image).features kind addr ≡ Some (line_of kind words)
 unfolding opening_of
@@ -262,18 +262,18 @@ stated_told text last kind words addr made it =
     let early = features_of it.draft.image.version in
     let all = states.before ++ (words ++ states.after) in
     let line = 1 + length it.stands.before in
-    let placed : Draft = with_bytes it.draft (bytes_of_words all) in
+    let placed : ImageDraftView = with_bytes it.draft (bytes_of_words all) in
     let next = goes_past kind line it.draft last all it.line states.operands it.stands.after states.statement states.parts
     (going_on text it.draft last (it.line ∷ []) it.stands made) in
-    let chunk : Chunk = record { addr = it.draft.place; bytes = bytes_of_words all } in
+    let chunk : Chunk = record { addr = it.draft.next_address; bytes = bytes_of_words all } in
     let has : IsIn chunk last.image.chunks = rw next at (lines_has chunk (line + 1) placed it.stands.after (now_in chunk it.draft.image.chunks)) in
     let grows : Grows early (features_of last.image.version) = rw next at (lines_grow early (line + 1) placed it.stands.after (inl refl)) in
     let taken = still_taken early (features_of last.image.version) kind words grows
     (part_taken early kind states.operands states.before words states.after states.one states.parts) in
     let fine : AreWords all = rw (for_on early (name_of kind) states.operands all states.parts).1 at (words_fine kind states.operands) in
-    let place : it.draft.place + 8 * length states.before ≡ addr = ap (λ n. it.draft.place + 8 * n) states.behind ∙ sym it.place in
+    let place : it.draft.next_address + 8 * length states.before ≡ addr = ap (λ n. it.draft.next_address + 8 * n) states.behind ∙ sym it.place in
     subst (λ (addr : ℕ). item_line_on (opening_of last.image).memory (opening_of last.image).features kind addr ≡ Some (line_of kind words)) place
-    (part_told (opening_of last.image).memory (opening_of last.image).features kind states.before words states.after it.draft.place states.one fine
+    (part_told (opening_of last.image).memory (opening_of last.image).features kind states.before words states.after it.draft.next_address states.one fine
     taken (stands last.image.base last.image.size last.image.chunks chunk good.chunks has))
 
 pub tells_items : (text : List ℕ) (image : Image) (kind : Item) (words : List ℕ) (addr : ℕ) → described text ≡ Ok image →

@@ -37,9 +37,9 @@ lines_of [] = []
 lines_of (byte ∷ bytes) = if byte == 10 then [] ∷ lines_of bytes else onto_line byte (lines_of bytes)
 
 -- What the statements so far make: an image, and the physical address of what is placed next.
-pub record Draft : Type 0 where
+pub record ImageDraftView : Type 0 where
   pub image : Image
-  pub place : ℕ
+  pub next_address : ℕ
 
 -- two or more hex digits, an even number of them: a byte for two
 unfoldable pub hex : List ℕ → Option (List ℕ)
@@ -56,26 +56,26 @@ bytes_for features name operands =
     if bytes_eq name (codes "bytes") then one_hex operands else option_map bytes_of_words (words_on features name operands)
 
 -- `ram BASE SIZE`: the place is the base
-abbrev pub empty_draft : ℕ → ℕ → Draft
-empty_draft base size = record { image = record { version = First; base = base; size = size; chunks = []; disks = [] }; place = base }
+abbrev pub empty_draft : ℕ → ℕ → ImageDraftView
+empty_draft base size = record { image = record { version = First; base = base; size = size; chunks = []; disks = [] }; next_address = base }
 
-unfoldable pub ram_draft : List ℕ → List ℕ → Option Draft
+unfoldable pub ram_draft : List ℕ → List ℕ → Option ImageDraftView
 ram_draft base size = do
   base ← number base
   size ← number size
   where_so (is_paged base && is_good_size base size) (Some (empty_draft base size))
 
-unfoldable pub opened : List (List ℕ) → Option Draft
+unfoldable pub opened : List (List ℕ) → Option ImageDraftView
 opened [] = None
 opened (base ∷ []) = None
 opened (base ∷ size ∷ []) = ram_draft base size
 opened (base ∷ size ∷ more ∷ others) = None
 
 -- `at ADDR`
-abbrev pub moved_to : Draft → ℕ → Draft
-moved_to draft place = record draft { place = place }
+abbrev pub moved_to : ImageDraftView → ℕ → ImageDraftView
+moved_to draft place = record draft { next_address = place }
 
-unfoldable pub moved : Draft → List (List ℕ) → Option Draft
+unfoldable pub moved : ImageDraftView → List (List ℕ) → Option ImageDraftView
 moved draft [] = None
 moved draft (place ∷ []) = option_map (moved_to draft) (number place)
 moved draft (place ∷ more ∷ others) = None
@@ -98,7 +98,7 @@ disk_for read_only (id ∷ []) = None
 disk_for read_only (id ∷ sectors ∷ words) = disk_of read_only id sectors words
 
 -- an image with a read-only disk is of version 2, where no capabilities are stated
-abbrev pub with_disk : Draft → Disk → Draft
+abbrev pub with_disk : ImageDraftView → Disk → ImageDraftView
 with_disk draft disk = record draft {
   image = record draft.image {
     version = flagged draft.image.version disk.read_only;
@@ -106,16 +106,16 @@ with_disk draft disk = record draft {
   };
 }
 
-unfoldable pub joined : Draft → Bool → List (List ℕ) → Option Draft
+unfoldable pub joined : ImageDraftView → Bool → List (List ℕ) → Option ImageDraftView
 joined draft read_only words = do
   disk ← disk_for read_only words
   where_so (is_next_disk draft.image.disks disk) (Some (with_disk draft disk))
 
 -- `capabilities KEY=NUMBER..`, which is stated once at most: an image with it is of version 3
-abbrev pub offering : Draft → Features → Draft
+abbrev pub offering : ImageDraftView → Features → ImageDraftView
 offering draft features = record draft { image = record draft.image { version = Third features } }
 
-unfoldable pub offered : Draft → List (List ℕ) → Option Draft
+unfoldable pub offered : ImageDraftView → List (List ℕ) → Option ImageDraftView
 offered draft words = do
   features ← features_for words
   where_so (not (is_third draft.image.version)) (Some (offering draft features))
@@ -134,20 +134,20 @@ insert chunk [] = chunk ∷ []
 insert chunk (first ∷ others) =
     if nat_lt chunk.addr first.addr then chunk ∷ first ∷ others else first ∷ insert chunk others
 
-abbrev pub with_bytes : Draft → List ℕ → Draft
+abbrev pub with_bytes : ImageDraftView → List ℕ → ImageDraftView
 with_bytes draft bytes = record {
-  image = record draft.image { chunks = insert (record { addr = draft.place; bytes = bytes }) draft.image.chunks };
-  place = draft.place + length bytes;
+  image = record draft.image { chunks = insert (record { addr = draft.next_address; bytes = bytes }) draft.image.chunks };
+  next_address = draft.next_address + length bytes;
 }
 
-unfoldable pub placed : ℕ → Draft → List ℕ → Result Draft AsmFault
+unfoldable pub placed : ℕ → ImageDraftView → List ℕ → Result ImageDraftView AsmFault
 placed line draft bytes =
-    if is_inside draft.image draft.place (length bytes)
-    then if list_any (meets draft.place (length bytes)) draft.image.chunks then Err (Overlap line) else Ok (with_bytes draft bytes)
+    if is_inside draft.image draft.next_address (length bytes)
+    then if list_any (meets draft.next_address (length bytes)) draft.image.chunks then Err (Overlap line) else Ok (with_bytes draft bytes)
     else Err (Outside line)
 
 -- The statement of a name on line `line`, after the first one. Data may use what `capabilities` stated before them.
-unfoldable pub stated : ℕ → Draft → List ℕ → List (List ℕ) → Result Draft AsmFault
+unfoldable pub stated : ℕ → ImageDraftView → List ℕ → List (List ℕ) → Result ImageDraftView AsmFault
 stated line draft name operands =
     if bytes_eq name (codes "at") then or_bad line (moved draft operands)
     else if bytes_eq name (codes "disk") then or_bad line (joined draft false operands)
@@ -156,22 +156,22 @@ stated line draft name operands =
     else then_so (or_bad line (bytes_for (features_of draft.image.version) name operands)) (placed line draft)
 
 -- the first statement
-unfoldable pub started : ℕ → List ℕ → List (List ℕ) → Result Draft AsmFault
+unfoldable pub started : ℕ → List ℕ → List (List ℕ) → Result ImageDraftView AsmFault
 started line name operands = or_bad line (where_so (bytes_eq name (codes "ram")) (opened operands))
 
 -- The words of a line, after nothing or after what the statements before make. A line without words is no statement.
-unfoldable pub after_words : ℕ → Option Draft → List (List ℕ) → Result (Option Draft) AsmFault
+unfoldable pub after_words : ℕ → Option ImageDraftView → List (List ℕ) → Result (Option ImageDraftView) AsmFault
 after_words line draft [] = Ok draft
 after_words line None (name ∷ operands) = then_so (started line name operands) (λ draft. Ok (Some draft))
 after_words line (Some draft) (name ∷ operands) = then_so (stated line draft name operands) (λ draft. Ok (Some draft))
 
 -- the lines of a text, the first of them line `line`, or the first fault
-unfoldable pub after_lines : ℕ → Option Draft → List (List ℕ) → Result (Option Draft) AsmFault
+unfoldable pub after_lines : ℕ → Option ImageDraftView → List (List ℕ) → Result (Option ImageDraftView) AsmFault
 after_lines line draft [] = Ok draft
 after_lines line draft (text ∷ texts) =
     then_so (after_words line draft (words_of text)) (λ next. after_lines (line + 1) next texts)
 
-abbrev pub ended : Option Draft → Result Image AsmFault
+abbrev pub ended : Option ImageDraftView → Result Image AsmFault
 ended None = Err (BadLine 0)
 ended (Some draft) = Ok draft.image
 

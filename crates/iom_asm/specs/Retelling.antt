@@ -14,10 +14,10 @@ use Rattle.iom_asm.specs.Listing.{listed}
 use Rattle.iom_items.specs.Operands.{◌>>=◌}
 use Rattle.iom_image.specs.Loading.{opening_of}
 use Rattle.iom_image.specs.Reading.{image_of}
-use Rattle.iom_asm.specs.Assembly.{Draft, lines_of, after_lines, described}
+use Rattle.iom_asm.specs.Assembly.{ImageDraftView, lines_of, after_lines, described}
 
 -- these lines of a text stand between others, and this is what the statements before them make
-pub record StandsIn (lines : List (List ℕ)) (text : List ℕ) (draft : Draft) : Type 0 where
+pub record StandsIn (lines : List (List ℕ)) (text : List ℕ) (draft : ImageDraftView) : Type 0 where
   pub before : List (List ℕ)
   pub after : List (List ℕ)
   pub parts : lines_of text ≡ before ++ (lines ++ after)
@@ -36,11 +36,11 @@ pub record States (features : Features) (line : List ℕ) (kind : Item) (words :
 -- a line of a text states an item, by the features stated before it, and places its words at this physical address
 pub record IsStated (text : List ℕ) (kind : Item) (words : List ℕ) (addr : ℕ) : Type 0 where
   pub line : List ℕ
-  pub draft : Draft
+  pub draft : ImageDraftView
   pub skipped : ℕ
   pub stands : StandsIn (line ∷ []) text draft
   pub states : States (features_of draft.image.version) line kind words skipped
-  pub place : addr ≡ draft.place + 8 * skipped
+  pub place : addr ≡ draft.next_address + 8 * skipped
 
 -- items of one kind are stated, each at the end of the one before, wherever the text does so
 abbrev pub AreStated : List ℕ → Item → List (List ℕ) → ℕ → Type 0
@@ -96,5 +96,5 @@ items_in features kind (line ∷ lines) = do
 -- Lines that state items of one kind and nothing else state them one behind the other.
 abbrev pub FollowItems : Type 0
 FollowItems =
-    (text : List ℕ) (image : Image) (draft : Draft) (kind : Item) (lines items : List (List ℕ)) → described text ≡ Ok image →
-    StandsIn lines text draft → items_in (features_of draft.image.version) kind lines ≡ Some items → AreStated text kind items draft.place
+    (text : List ℕ) (image : Image) (draft : ImageDraftView) (kind : Item) (lines items : List (List ℕ)) → described text ≡ Ok image →
+    StandsIn lines text draft → items_in (features_of draft.image.version) kind lines ≡ Some items → AreStated text kind items draft.next_address

@@ -6,7 +6,7 @@ ghost use Rattle.iom_asm.specs.Assembly.{lines_of, described, assembled, Makes};
 ghost use Rattle.iom_asm.specs.Drafts.{draft_seen};
 
 use crate::asm_fault::AsmFault;
-use crate::draft::Draft;
+use crate::draft::ImageDraft;
 use crate::statements::after_line;
 use iom_image::image_bytes;
 use iom_text::line_end;
@@ -25,7 +25,7 @@ fn cut(text: &[u8]) -> (&[u8], &[u8])
 }
 
 // What a whole text describes, line by line.
-fn described(alloc: Global, text: &[u8]) -> Result<Draft, AsmFault>
+fn described(alloc: Global, text: &[u8]) -> Result<ImageDraft, AsmFault>
     ensures made { Makes (λ draft. (draft_seen draft).image) result (described text.now) }
     ensures good { IfOk result (λ draft. IsImage (draft_seen draft).image) }
 {

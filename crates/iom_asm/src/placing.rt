@@ -10,19 +10,19 @@ ghost use Rattle.iom_items.specs.Forms.{where_so};
 ghost use Rattle.iom_asm.specs.Drafts.{draft_seen};
 
 use crate::asm_fault::AsmFault;
-use crate::draft::Draft;
+use crate::draft::ImageDraft;
 use iom_bits::Features;
 use iom_image::{OwnDisk, OwnImage, Version};
 use iom_mem::covers;
 use std::alloc::{AllocError, Global};
 use std::collections::BTreeMap;
 
-impl Draft {
+impl ImageDraft {
     /// What the statement `ram` makes: memory of this base, a physical address, and this size in bytes, of which nothing is placed.
-    pub fn new(alloc: Global, base: u64, size: u64) -> Draft
+    pub fn new(alloc: Global, base: u64, size: u64) -> ImageDraft
         ensures { draft_seen result ≡ empty_draft base size }
     {
-        Draft {
+        ImageDraft {
             image: OwnImage {
                 version: Version::First,
                 base,
@@ -30,33 +30,38 @@ impl Draft {
                 chunks: BTreeMap::new(alloc),
                 disks: Vec::new(alloc),
             },
-            place: base,
+            next_address: base,
         }
     }
 
     // Whether `len` bytes at the place are memory.
     fn is_inside(&self, len: u64) -> bool
         requires { self.now.image.base + self.now.image.size ≤ 2 ^ 56 }
-        ensures { result ≡ is_inside (draft_seen self.now).image self.now.place len }
+        ensures { result ≡ is_inside (draft_seen self.now).image self.now.next_address len }
     {
         let end = self.image.base + self.image.size;
-        covers(self.image.base, end, self.place, len)
+        covers(self.image.base, end, self.next_address, len)
     }
 
     // Whether one of `len` bytes at the place is placed already: only the last chunk that begins before their end may have one.
     fn is_taken(&self, len: u64) -> bool
         requires good { IsImage (draft_seen self.now).image }
-        requires fits { self.now.place + len ≤ 2 ^ 56 }
-        ensures { result ≡ list_any (meets self.now.place len) (draft_seen self.now).image.chunks }
+        requires fits { self.now.next_address + len ≤ 2 ^ 56 }
+        ensures { result ≡ list_any (meets self.now.next_address len) (draft_seen self.now).image.chunks }
     {
-        match self.image.chunks.range(..self.place + len).next_back() {
-            Some((addr, bytes)) => self.place < *addr + bytes.len() as u64,
+        match self
+            .image
+            .chunks
+            .range(..self.next_address + len)
+            .next_back()
+        {
+            Some((addr, bytes)) => self.next_address < *addr + bytes.len() as u64,
             None => false,
         }
     }
 
-    /// Places bytes, one or more, of line `line`, where the place is, which moves behind them. `Outside` where one of them isn't in
-    /// memory, then `Overlap` where one is placed already; `OutOfMemory` comes last.
+    /// Places bytes, one or more, of line `line` at the place, and moves the place past them. `Outside` if one of them isn't in memory,
+    /// then `Overlap` if one is placed already; `OutOfMemory` comes last.
     #[tactic(auto, unfolding(crate::specs::Assembly::placed))]
     pub fn put(&mut self, line: u64, bytes: Vec<u8>) -> Result<(), AsmFault>
         requires good { IsImage (draft_seen self.old).image }
@@ -70,12 +75,12 @@ impl Draft {
         if self.is_taken(len) {
             return Err(AsmFault::Overlap(line));
         }
-        self.image.chunks.insert(self.place, bytes)?;
-        self.place += len;
+        self.image.chunks.insert(self.next_address, bytes)?;
+        self.next_address += len;
         Ok(())
     }
 
-    /// States what the machine offers, and answers true; false where it is stated already.
+    /// States the features of the machine, and answers true; false if they are stated already.
     pub fn offer(&mut self, features: Features) -> bool
         ensures { (if result then Some (draft_seen self.new) else None) ≡ where_so (not (is_third (draft_seen self.old).image.version)) (Some (offering (draft_seen self.old) features)) }
     {
@@ -86,8 +91,8 @@ impl Draft {
         true
     }
 
-    /// Puts a disk behind the others, and answers true; false where it may not stand there: there are eight, its id is another's or
-    /// 2^24 or above, its sectors aren't 1 to 65,536, or its bytes don't fit in them. The fault is a refused allocation.
+    /// Puts a disk after the others, and answers true; false if it may not follow them: there are eight, its id is another's or 2^24 or
+    /// above, its sectors aren't 1 to 65,536, or its bytes don't fit in them. The fault is a refused allocation.
     pub fn join(&mut self, disk: OwnDisk) -> Result<bool, AllocError>
         ensures { IfOk result (λ takes. (if takes then Some (draft_seen self.new) else None)
             ≡ where_so (is_next_disk (draft_seen self.old).image.disks (disk_seen disk)) (Some (with_disk (draft_seen self.old) (disk_seen disk)))) }

@@ -1,4 +1,4 @@
-//! What a text says is told again.
+//! A law: the lines of an image's items state these items again.
 
 ghost use Rattle.iom_items.specs.Telling.{ReadsDirs, ReadsPtes, StatesWords, TellsOperands, TellsStatements};
 ghost use Rattle.iom_asm.specs.Retelling.{FollowItems, ListsItems, ReadsAgain, TellsItems};

@@ -2,7 +2,7 @@
 
 ghost use Rattle.std.specs.Prelude.{◌≡◌, ◌++◌, ◌<◌, ◌+◌, map, IfOk, IfSome, OnOk};
 ghost use Rattle.std.specs.Option.{option_map};
-ghost use Rattle.iom_asm.specs.Assembly.{Draft as AsmDraft, moved_to, hex, one_hex, bytes_for, ram_draft, opened, moved, disk_of, disk_for, first_bytes, joined, offered, stated, started, after_words, or_bad, Makes};
+ghost use Rattle.iom_asm.specs.Assembly.{ImageDraftView as AsmDraft, moved_to, hex, one_hex, bytes_for, ram_draft, opened, moved, disk_of, disk_for, first_bytes, joined, offered, stated, started, after_words, or_bad, Makes};
 ghost use Rattle.iom_text.specs.Words.{words_of};
 ghost use Rattle.iom_image.specs.Image.{IsImage};
 ghost use Rattle.iom_image.specs.Own.{disk_seen};
@@ -10,7 +10,7 @@ ghost use Rattle.iom_mem.specs.Words.{bytes_of_words};
 ghost use Rattle.iom_asm.specs.Drafts.{draft_seen, found_seen};
 
 use crate::asm_fault::AsmFault;
-use crate::draft::Draft;
+use crate::draft::ImageDraft;
 use hex::FromHexError;
 use iom_bits::Features;
 use iom_image::OwnDisk;
@@ -90,7 +90,7 @@ fn bytes_for(
 
 // The memory that a base and a size write, where there may be such a one.
 #[tactic(auto, unfolding(crate::specs::Assembly::ram_draft))]
-fn ram_draft(alloc: Global, base: &[u8], size: &[u8]) -> Option<Draft>
+fn ram_draft(alloc: Global, base: &[u8], size: &[u8]) -> Option<ImageDraft>
     ensures { option_map draft_seen result ≡ ram_draft base.now size.now }
 {
     let base = number(base)?;
@@ -98,12 +98,12 @@ fn ram_draft(alloc: Global, base: &[u8], size: &[u8]) -> Option<Draft>
     if !is_ram(base, size) {
         return None;
     }
-    Some(Draft::new(alloc, base, size))
+    Some(ImageDraft::new(alloc, base, size))
 }
 
 // What the operands of `ram` make.
 #[tactic(auto, unfolding(crate::specs::Assembly::opened))]
-fn opened(alloc: Global, operands: &[&[u8]]) -> Option<Draft>
+fn opened(alloc: Global, operands: &[&[u8]]) -> Option<ImageDraft>
     ensures { option_map draft_seen result ≡ opened (map (λ word. word.now) operands.now) }
 {
     match operands {
@@ -176,7 +176,7 @@ fn disk_for(
     }
 }
 
-impl Draft {
+impl ImageDraft {
     // A statement `disk` or `rodisk`.
     #[tactic(auto, unfolding(crate::specs::Assembly::joined))]
     fn state_disk(
@@ -232,7 +232,7 @@ impl Draft {
             let Some(place) = place_for(operands) else {
                 return Err(AsmFault::BadLine(line));
             };
-            self.place = place;
+            self.next_address = place;
             Ok(())
         } else if name == b"disk".as_slice() {
             self.state_disk(alloc, line, false, operands)
@@ -251,7 +251,12 @@ impl Draft {
 
 // The first statement.
 #[tactic(auto, unfolding(crate::specs::Assembly::started))]
-fn started(alloc: Global, line: u64, name: &[u8], operands: &[&[u8]]) -> Result<Draft, AsmFault>
+fn started(
+    alloc: Global,
+    line: u64,
+    name: &[u8],
+    operands: &[&[u8]],
+) -> Result<ImageDraft, AsmFault>
     ensures { Makes draft_seen result (started line name.now (map (λ word. word.now) operands.now)) }
 {
     if name != b"ram".as_slice() {
@@ -268,9 +273,9 @@ fn started(alloc: Global, line: u64, name: &[u8], operands: &[&[u8]]) -> Result<
 fn after_words(
     alloc: Global,
     line: u64,
-    draft: Option<Draft>,
+    draft: Option<ImageDraft>,
     words: &[&[u8]],
-) -> Result<Option<Draft>, AsmFault>
+) -> Result<Option<ImageDraft>, AsmFault>
     requires { IfSome draft (λ draft. IsImage (draft_seen draft).image) }
     ensures { Makes found_seen result (after_words line (found_seen draft) (map (λ word. word.now) words.now)) }
 {
@@ -290,9 +295,9 @@ fn after_words(
 pub fn after_line(
     alloc: Global,
     line: u64,
-    draft: Option<Draft>,
+    draft: Option<ImageDraft>,
     text: &[u8],
-) -> Result<Option<Draft>, AsmFault>
+) -> Result<Option<ImageDraft>, AsmFault>
     requires { IfSome draft (λ draft. IsImage (draft_seen draft).image) }
     ensures { Makes found_seen result (after_words line (found_seen draft) (words_of text.now)) }
 {

@@ -4,8 +4,8 @@ use Rattle.iom_bits.specs.Bits.{has_bit, with_bit}
 use Rattle.iom_virtq.specs.Bus.{Ask}
 use Rattle.iom_blk.specs.declared.broken.Broken.{Broken}
 use Rattle.iom_blk.specs.Device.{Device}
-use Rattle.iom_blk.specs.Phases.{ask_of, asks, is_active, is_broken, broken}
-use Rattle.iom_blk.specs.Registers.{written, with_status, status_after, with_ready, accepting, with_queue, is_queue, is_free}
+use Rattle.iom_blk.specs.Phases.{ask_of, asks, is_active, is_broken, break_down}
+use Rattle.iom_blk.specs.Registers.{with_write, with_status, status_after, with_ready, accepting, with_queue, is_queue, is_free}
 
 -- it asks for nothing
 not_active : (d : Device) → is_broken d ≡ true → is_active d ≡ false
@@ -24,8 +24,8 @@ pub bit_is_set : (word : ℕ) → has_bit (with_bit word 6) 6 ≡ true
 unfolding has_bit
 bit_is_set word = grind arith
 
-pub broken_is_broken : (d : Device) (reason : Broken) → is_broken (broken d reason) ≡ true
-unfolding broken
+pub broken_is_broken : (d : Device) (reason : Broken) → is_broken (break_down d reason) ≡ true
+unfolding break_down
 broken_is_broken d reason = bit_is_set d.status
 
 -- a reset mends it
@@ -78,8 +78,8 @@ with_status_keeps d value some =
 at_status : (off : ℕ) → (off == 0x70) ≡ true → off ≡ 0x70
 at_status off is = grind (arith, is)
 
-written_keeps : (d : Device) (off value : ℕ) → (off ≡ 0x70 → 0 < value) → Keeps d (written d off value)
-unfolding written
+written_keeps : (d : Device) (off value : ℕ) → (off ≡ 0x70 → 0 < value) → Keeps d (with_write d off value)
+unfolding with_write
 written_keeps d off value no_reset =
     of_both (Keeps d) (nat_le 0x100 off) _ _ (λ _. (refl, refl)) (λ _. of_both (Keeps d) (off == 0x14) _ _ (λ _. (refl, refl))
     (λ _. of_both (Keeps d) (off == 0x20) _ _ (λ _. accepting_keeps d value)
@@ -92,8 +92,8 @@ written_keeps d off value no_reset =
     (λ _. of_both (Keeps d) (is_free d) _ _ (λ _. queue_keeps d off value) (λ _. (refl, refl)))))))))))
 
 pub written_stays : (d : Device) (off value : ℕ) → (off ≡ 0x70 → 0 < value) → is_broken d ≡ true →
-    is_broken (written d off value) ≡ true
+    is_broken (with_write d off value) ≡ true
 written_stays d off value no_reset broke = (written_keeps d off value no_reset).1 ∙ broke
 
-pub written_reason : (d : Device) (off value : ℕ) → (off ≡ 0x70 → 0 < value) → (written d off value).broken ≡ d.broken
+pub written_reason : (d : Device) (off value : ℕ) → (off ≡ 0x70 → 0 < value) → (with_write d off value).broken ≡ d.broken
 written_reason d off value no_reset = (written_keeps d off value no_reset).0

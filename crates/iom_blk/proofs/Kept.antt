@@ -7,7 +7,7 @@ use Rattle.iom_virtq.specs.declared.parts.More.TheVariants.{Next, Complete}
 use Rattle.iom_virtq.specs.declared.parts.ChainFault.{ChainFault}
 use Rattle.iom_blk.specs.declared.broken.Broken.{Broken}
 use Rattle.iom_blk.specs.Device.{Device, sectors}
-use Rattle.iom_blk.specs.Phases.{broken, completed, after_index, after_ring, after_add, after_descriptor, with_descriptor, judged, after_header, after_data, after_used, after, is_ahead}
+use Rattle.iom_blk.specs.Phases.{break_down, completed, after_index, after_ring, after_add, after_descriptor, with_descriptor, judged, after_header, after_data, after_used, after, is_ahead}
 use Rattle.iom_blk.specs.Requests.{number_at, is_in, is_out, readable, writable, is_served, moves, moves_data}
 use Rattle.iom_blk.specs.Sound.{IsSound, HoldsIn}
 use Rattle.iom_blk.specs.declared.phase.Phase.{Phase}
@@ -17,8 +17,8 @@ use Rattle.iom_blk.proofs.Breaks.{of_both}
 abbrev Same : Device → Device → Type 0
 Same d e = e.disk ≡ d.disk
 
-pub broken_keeps : (d : Device) (reason : Broken) → (broken d reason).disk ≡ d.disk
-unfolding broken
+pub broken_keeps : (d : Device) (reason : Broken) → (break_down d reason).disk ≡ d.disk
+unfolding break_down
 broken_keeps d reason = refl
 
 index_keeps : (d : Device) (idx : ℕ) → Same d (after_index d idx)

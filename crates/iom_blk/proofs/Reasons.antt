@@ -14,7 +14,7 @@ use Rattle.iom_blk.specs.declared.phase.Phase.{Phase}
 use Rattle.iom_blk.specs.declared.phase.Phase.TheVariants.{Index, Ring, Descriptor, Header, Data, Status, UsedId, UsedLen, UsedIdx}
 use Rattle.iom_blk.specs.Breaking.{lack_of, broken_by_part, broken_by_bytes, broken_by}
 use Rattle.iom_blk.specs.Device.{Device}
-use Rattle.iom_blk.specs.Phases.{ask_of, asks, is_active, is_ahead, is_broken, broken, completed, after_index, after_ring, after_add, after_descriptor, with_descriptor, judged, after_header, after_data, after_used, after}
+use Rattle.iom_blk.specs.Phases.{ask_of, asks, is_active, is_ahead, is_broken, break_down, completed, after_index, after_ring, after_add, after_descriptor, with_descriptor, judged, after_header, after_data, after_used, after}
 use Rattle.iom_blk.specs.Requests.{number_at, is_in, readable, writable}
 use Rattle.iom_blk.specs.Sound.{IsSound}
 use Rattle.iom_blk.proofs.Breaks.{of_both}
@@ -37,8 +37,8 @@ unfolding asks
 asked_is_whole d sound some =
     none_kept d.broken (sym sound.broken ∙ active_is_whole d (then_active (is_active d) (ask_of d d.phase) some))
 
-pub broken_tells : (d : Device) (reason : Broken) → (broken d reason).broken ≡ Some reason
-unfolding broken
+pub broken_tells : (d : Device) (reason : Broken) → (break_down d reason).broken ≡ Some reason
+unfolding break_down
 broken_tells d reason = refl
 
 -- what each row leaves

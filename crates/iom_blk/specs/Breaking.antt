@@ -2,7 +2,7 @@
 -- "The Virtqueue Descriptor Table" and "Block Device", "Device Operation". `took` has the device after it.
 use Rattle.std.specs.Prelude.{ℕ, List, Option, Some, None, Result, Ok, Err, nat_le, nat_lt, if◌then◌else◌}
 use Rattle.iom_virtq.specs.Adding.{add_result, with_part}
-use Rattle.iom_virtq.specs.Bus.{Reply}
+use Rattle.iom_virtq.specs.Bus.{BusReply}
 use Rattle.iom_virtq.specs.Chains.{DescriptorChain}
 use Rattle.iom_virtq.specs.declared.access.Access.{Access}
 use Rattle.iom_virtq.specs.declared.access.Access.TheVariants as access
@@ -47,5 +47,5 @@ broken_by_access d access.Ok bytes = broken_by_bytes d d.phase bytes
 broken_by_access d (access.Denied cause) bytes = Some (broke.Denied cause)
 broken_by_access d access.Outside bytes = Some broke.Outside
 
-unfoldable pub broken_by : Device → Reply → Option Broken
+unfoldable pub broken_by : Device → BusReply → Option Broken
 broken_by d reply = broken_by_access d reply.access reply.bytes

@@ -4,7 +4,7 @@ use Rattle.std.specs.Prelude.{ℕ, ◌+◌, ◌-◌, ◌*◌, ◌%◌, ◌^◌, 
 use Rattle.iom_bits.specs.Bits.{has_bit, with_bit}
 use Rattle.iom_bits.specs.Bytes.{bytes_of_number}
 use Rattle.iom_virtq.specs.Adding.{add_result, with_part}
-use Rattle.iom_virtq.specs.Bus.{Ask, Read, Write, Reply}
+use Rattle.iom_virtq.specs.Bus.{Ask, Read, Write, BusReply}
 use Rattle.iom_virtq.specs.declared.access.Access.{Access}
 use Rattle.iom_virtq.specs.declared.access.Access.TheVariants as access
 use Rattle.iom_virtq.specs.declared.parts.More.{More}
@@ -53,8 +53,8 @@ unfoldable pub asks : Device → Option Ask
 asks d = if is_active d then Some (ask_of d d.phase) else None
 
 -- A device that breaks: DEVICE_NEEDS_RESET is set, and bit 1 of InterruptStatus, a configuration change; the reason is kept.
-unfoldable pub broken : Device → Broken → Device
-broken d reason = record d {
+unfoldable pub break_down : Device → Broken → Device
+break_down d reason = record d {
   status = with_bit d.status 6;
   interrupts = with_bit d.interrupts 1;
   phase = phase.Index;
@@ -69,13 +69,13 @@ is_ahead d idx = nat_lt d.size ((idx + 2 ^ 16 - d.seen) % 2 ^ 16)
 unfoldable pub after_index : Device → ℕ → Device
 after_index d idx =
     if idx == d.seen then record d { pending = false }
-    else if is_ahead d idx then broken d broke.IndexAhead
+    else if is_ahead d idx then break_down d broke.IndexAhead
     else record d { phase = phase.Ring }
 
 -- after the head of a request
 unfoldable pub after_ring : Device → ℕ → Device
 after_ring d head =
-    if nat_le d.size head then broken d broke.BadHead
+    if nat_le d.size head then break_down d broke.BadHead
     else record d {
       phase = phase.Descriptor head;
       head = head;
@@ -91,12 +91,12 @@ with_descriptor d addr len flags = record d { chain = with_part d.chain addr len
 
 unfoldable pub completed : Device → Device
 completed d =
-    if nat_lt (readable d.chain) 16 then broken d broke.ShortHeader
-    else if nat_lt (writable d.chain) 1 then broken d broke.NothingWritable
+    if nat_lt (readable d.chain) 16 then break_down d broke.ShortHeader
+    else if nat_lt (writable d.chain) 1 then break_down d broke.NothingWritable
     else record d { phase = phase.Header }
 
 abbrev pub after_add : Device → ℕ → ℕ → ℕ → Result More ChainFault → Device
-after_add d addr len flags (Err fault) = broken d (broke.Descriptor fault)
+after_add d addr len flags (Err fault) = break_down d (broke.Descriptor fault)
 after_add d addr len flags (Ok (Next next)) = record (with_descriptor d addr len flags) { phase = phase.Descriptor next }
 after_add d addr len flags (Ok Complete) = completed (with_descriptor d addr len flags)
 
@@ -158,10 +158,10 @@ after d phase.UsedIdx bytes = after_used d
 -- the device after a reply: a refusal breaks it
 abbrev pub replied : Device → Access → List ℕ → Device
 replied d access.Ok bytes = after d d.phase bytes
-replied d (access.Denied cause) bytes = broken d (broke.Denied cause)
-replied d access.Outside bytes = broken d broke.Outside
+replied d (access.Denied cause) bytes = break_down d (broke.Denied cause)
+replied d access.Outside bytes = break_down d broke.Outside
 
-unfoldable pub took : Device → Reply → Device
+unfoldable pub took : Device → BusReply → Device
 took d reply = replied d reply.access reply.bytes
 
 -- the outcome of a step

@@ -17,8 +17,8 @@ is_accepted read_only features =
     && field_of features 10 22 == 0 && field_of features 32 32 == 3
 
 -- the value of four bytes below 0x100
-unfoldable pub shown : Device → ℕ → ℕ
-shown d off =
+unfoldable pub read_value : Device → ℕ → ℕ
+read_value d off =
     if off == 0x00 then 0x74726976  -- MagicValue
     else if off == 0x04 then 2  -- Version
     else if off == 0x08 then 2  -- DeviceID: block device
@@ -46,7 +46,7 @@ is_legal off size =
 -- None: the access is not legal
 unfoldable pub read : Device → ℕ → ℕ → Option ℕ
 read d off size =
-    if is_legal off size then Some (if nat_lt off 0x100 then shown d off else configured d off size) else None
+    if is_legal off size then Some (if nat_lt off 0x100 then read_value d off else configured d off size) else None
 
 -- the registers of a queue are those of queue 0, while it is not ready
 abbrev pub is_free : Device → Bool
@@ -106,8 +106,8 @@ with_queue d off value =
     else d
 
 -- the device after a write of four bytes
-unfoldable pub written : Device → ℕ → ℕ → Device
-written d off value =
+unfoldable pub with_write : Device → ℕ → ℕ → Device
+with_write d off value =
     if nat_le 0x100 off then d  -- the configuration
     else if off == 0x14 then record d { features_sel = value }  -- DeviceFeaturesSel
     else if off == 0x20 then accepting d value  -- DriverFeatures

@@ -7,7 +7,7 @@ use crate::broken::Broken;
 use crate::bytes::{bytes_of_u16, bytes_of_u32};
 use crate::flags::{DRIVER_OK, FEATURES_OK, NEEDS_RESET};
 use crate::phase::Phase;
-use crate::request::{Request, SECTOR};
+use crate::request::{BlockRequest, SECTOR};
 use crate::want::{Moved, Want};
 use iom_bits::has_bit;
 use iom_virtq::Bus;
@@ -54,7 +54,7 @@ pub struct Blk {
     /// The purpose of the next access.
     pub(crate) phase: Phase,
     /// The request that is under way; if there is none, the one before.
-    pub(crate) request: Request,
+    pub(crate) request: BlockRequest,
 }
 
 /// A piece of a request's data: in memory, and on the disk.
@@ -128,7 +128,7 @@ impl Model for Blk {
 }
 
 impl Blk {
-    ghost use Rattle.iom_virtq.specs.Bus.{Reply, IsShort, IsShortAsk, is_granted};
+    ghost use Rattle.iom_virtq.specs.Bus.{BusReply, IsShort, IsShortAsk, is_granted};
     ghost use Rattle.iom_blk.specs.Breaking.{broken_by};
     ghost use Rattle.iom_blk.specs.Device.{at_reset, sectors};
     ghost use Rattle.iom_blk.specs.Phases.{is_active, is_broken, ask_of, asks, used_entry, took, moved_of};
@@ -179,7 +179,7 @@ impl Blk {
             seen: 0,
             used: 0,
             phase: Phase::Index,
-            request: Request::new(0, 1),
+            request: BlockRequest::new(0, 1),
         }
     }
 
@@ -206,14 +206,14 @@ impl Blk {
     }
 
     /// How many requests it took from the available ring, modulo 2^16 ("The Virtqueue Available Ring").
-    pub fn seen(&self) -> u16
+    pub fn taken_index(&self) -> u16
         ensures { result ≡ self.now.seen }
     {
         self.seen
     }
 
     /// How many requests it gave back, modulo 2^16: the idx of the used ring ("The Virtqueue Used Ring").
-    pub fn used(&self) -> u16
+    pub fn used_index(&self) -> u16
         ensures { result ≡ self.now.used }
     {
         self.used
@@ -221,7 +221,7 @@ impl Blk {
 
     /// Why it broke since it was reset; None exactly if bit 6 of Status, DEVICE_NEEDS_RESET, is 0 (VIRTIO 1.2, "Device Status Field").
     /// A device stays broken until it is reset.
-    pub fn broken(&self) -> Option<Broken>
+    pub fn breakage(&self) -> Option<Broken>
         ensures reason { result ≡ self.now.broken }
         ensures exact { is_some result ≡ is_broken self.now }
     {
@@ -249,7 +249,7 @@ impl Blk {
         ensures idle { IfNone (asks self.old)
             ((result ≡ moved.Idle) × (self.new ≡ self.old) × (bus.new ≡ bus.old)) }
         ensures moved { IfSome (asks self.old)
-            (λ ask. (reply : Reply) × B.answers bus.old ask reply bus.new
+            (λ ask. (reply : BusReply) × B.answers bus.old ask reply bus.new
             × (self.new ≡ took self.old reply) × (result ≡ moved_of reply.access)
             × OnTrue (is_granted reply.access) (Answers reply.bytes ask)
             × (self.new.broken ≡ broken_by self.old reply)) }

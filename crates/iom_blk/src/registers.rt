@@ -8,7 +8,7 @@ use crate::device::Blk;
 use crate::flags::{FEATURES_OK, NEEDS_RESET};
 use crate::offsets::*;
 use crate::phase::Phase;
-use crate::request::Request;
+use crate::request::BlockRequest;
 use iom_bits::{field, has_bit, with_field};
 
 /// The feature VIRTIO_BLK_F_RO, by its bit.
@@ -18,7 +18,7 @@ const READ_ONLY_FEATURE: u32 = 5;
 const LARGEST_QUEUE: u64 = 64;
 
 impl Blk {
-    ghost use Rattle.iom_blk.specs.Registers.{read, shown, configured, written, with_queue, is_queue, with_ready, accepting, with_status};
+    ghost use Rattle.iom_blk.specs.Registers.{read, read_value, configured, with_write, with_queue, is_queue, with_ready, accepting, with_status};
     ghost use Rattle.iom_blk.specs.Phases.{is_broken};
     ghost use Rattle.iom_blk.specs.Sound.{IsGoodQueue};
 
@@ -42,11 +42,11 @@ impl Blk {
     /// Writes the `size` bytes of `value` at offset `off`, in bytes. Returns whether the access is legal, by the rule of `reg_read`;
     /// if it isn't, nothing is changed. With size 4, `value` is below 2^32. Read-only registers and the configuration stay as they
     /// are.
-    #[tactic(auto, unfolding(crate::specs::Registers::written), using(crate::proofs::Breaks::written_stays, crate::proofs::Breaks::written_reason))]
+    #[tactic(auto, unfolding(crate::specs::Registers::with_write), using(crate::proofs::Breaks::written_stays, crate::proofs::Breaks::written_reason))]
     pub fn reg_write(&mut self, off: u64, size: u64, value: u64) -> bool
         requires { size ≡ 4 → value < 2 ^ 32 }
         ensures legal { result ≡ is_legal off size }
-        ensures written { OnTrue result (self.new ≡ written self.old off value) }
+        ensures written { OnTrue result (self.new ≡ with_write self.old off value) }
         ensures refused { OnFalse result (self.new ≡ self.old) }
         ensures broken { (off ≡ 0x70 → 0 < value) → is_broken self.old ≡ true → is_broken self.new ≡ true }
         ensures reason { (off ≡ 0x70 → 0 < value) → self.new.broken ≡ self.old.broken }
@@ -59,9 +59,9 @@ impl Blk {
     }
 
     // The value of the register at an offset below 0x100.
-    #[tactic(auto, unfolding(crate::specs::Registers::shown))]
+    #[tactic(auto, unfolding(crate::specs::Registers::read_value))]
     fn read_register(&self, off: u64) -> u64
-        ensures { result ≡ shown self.now off }
+        ensures { result ≡ read_value self.now off }
     {
         match off {
             MAGIC_VALUE => 0x7472_6976,
@@ -97,11 +97,11 @@ impl Blk {
     }
 
     // Writes a register below 0x100.
-    #[tactic(auto, unfolding(crate::specs::Registers::written))]
+    #[tactic(auto, unfolding(crate::specs::Registers::with_write))]
     fn set(&mut self, off: u64, value: u64)
         requires register { off < CONFIG }
         requires fits { value < 2 ^ 32 }
-        ensures { self.new ≡ written self.old off value }
+        ensures { self.new ≡ with_write self.old off value }
     {
         match off {
             DEVICE_FEATURES_SEL => self.features_sel = value,
@@ -217,7 +217,7 @@ impl Blk {
         self.pending = false;
         self.seen = 0;
         self.used = 0;
-        self.request = Request::new(0, 1);
+        self.request = BlockRequest::new(0, 1);
     }
 }
 

@@ -35,7 +35,7 @@ const UNSUPPORTED: u8 = 2;
 
 /// A request as far as it was read, and its result.
 #[derive(Drop)]
-pub struct Request {
+pub struct BlockRequest {
     /// The index of its first descriptor, below the queue's size.
     pub head: u16,
     /// The chain of the descriptors that were read; its parts' addresses are IOVAs.
@@ -48,9 +48,9 @@ pub struct Request {
     pub used_length: u32,
 }
 
-impl Request {
+impl BlockRequest {
     /// A request that begins at descriptor `head`, in a queue of `limit` descriptors, 1 to 64.
-    pub fn new(head: u16, limit: u16) -> Request
+    pub fn new(head: u16, limit: u16) -> BlockRequest
         requires some { 1 ≤ limit }
         requires most { limit ≤ 64 }
         ensures head { result.head ≡ head }
@@ -59,7 +59,7 @@ impl Request {
         ensures answer { result.answer ≡ 0 }
         ensures used_length { result.used_length ≡ 0 }
     {
-        Request {
+        BlockRequest {
             head,
             chain: Chain::new(limit),
             header: ArrayVec::new(),
@@ -69,7 +69,7 @@ impl Request {
     }
 
     /// A copy of the request.
-    pub fn copy(&self) -> Request
+    pub fn copy(&self) -> BlockRequest
         ensures head { result.head ≡ self.now.head }
         ensures chain { result.chain ≡ self.now.chain }
         ensures header { result.header.items ≡ self.now.header.items }
@@ -78,7 +78,7 @@ impl Request {
     {
         let mut header = ArrayVec::new();
         let _fits = header.try_extend_from_slice(&self.header);
-        Request {
+        BlockRequest {
             head: self.head,
             chain: self.chain.copy(),
             header,

@@ -8,7 +8,7 @@ use crate::bytes::{u16_at, u32_at, u64_at};
 use crate::device::{Blk, Piece};
 use crate::flags::{CHANGED, NEEDS_RESET, USED_BUFFER};
 use crate::phase::Phase;
-use crate::request::{HEADER, Request};
+use crate::request::{BlockRequest, HEADER};
 use crate::want::Moved;
 use iom_bits::with_field;
 use iom_virtq::{Access, More};
@@ -16,7 +16,7 @@ use iom_virtq::{Access, More};
 impl Blk {
     ghost use Rattle.iom_virtq.specs.Bus.{is_granted, reply_of};
     ghost use Rattle.iom_blk.specs.Breaking.{broken_by};
-    ghost use Rattle.iom_blk.specs.Phases.{ask_of, asks, broken, is_broken, data_phase, after_index, after_ring, completed, after_descriptor, after_header, after_data, after_used, after, took, moved_of};
+    ghost use Rattle.iom_blk.specs.Phases.{ask_of, asks, break_down, is_broken, data_phase, after_index, after_ring, completed, after_descriptor, after_header, after_data, after_used, after, took, moved_of};
     ghost use Rattle.iom_blk.specs.Requests.{readable, writable, is_in, data_length, data_count, header_count};
     ghost use Rattle.iom_blk.specs.Wants.{Answers};
 
@@ -51,9 +51,9 @@ impl Blk {
     }
 
     // Breaks the device: its access was refused, or it read bytes that aren't legal.
-    #[tactic(auto, unfolding(crate::specs::Phases::broken), using(crate::proofs::Breaks::bit_is_set))]
+    #[tactic(auto, unfolding(crate::specs::Phases::break_down), using(crate::proofs::Breaks::bit_is_set))]
     fn break_down(&mut self, reason: Broken)
-        ensures { self.new ≡ broken self.old reason }
+        ensures { self.new ≡ break_down self.old reason }
     {
         self.status = with_field(self.status, NEEDS_RESET, 1, 1);
         self.broken = Some(reason);
@@ -110,13 +110,13 @@ impl Blk {
         if head as u64 >= self.size {
             self.break_down(Broken::BadHead);
         } else {
-            self.request = Request::new(head, self.size as u16);
+            self.request = BlockRequest::new(head, self.size as u16);
             self.phase = Phase::Descriptor(head);
         }
     }
 
     // Takes a descriptor.
-    #[tactic(auto, unfolding(crate::specs::Phases::after_descriptor, crate::specs::Phases::completed, crate::specs::Phases::broken))]
+    #[tactic(auto, unfolding(crate::specs::Phases::after_descriptor, crate::specs::Phases::completed, crate::specs::Phases::break_down))]
     fn take_descriptor(&mut self, addr: u64, len: u32, flags: u16, next: u16)
         requires ready { self.old.ready ≡ true }
         requires limit { self.old.chain.limit ≡ self.old.size }

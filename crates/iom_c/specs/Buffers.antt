@@ -3,7 +3,7 @@ use Rattle.std.specs.Prelude.{ℕ, ◌+◌, ◌++◌, List, [], ◌∷◌, lengt
 use Rattle.std.specs.Option.{unwrap_or}
 use Rattle.iom_core.specs.State.{State}
 use Rattle.iom_tool.specs.Console.{console}
-use Rattle.iom_tool.specs.declared.trace.Entry.{Entry}
+use Rattle.iom_tool.specs.declared.trace.TracedStep.{TracedStep}
 use Rattle.iom_tool.specs.Output.{reply}
 use Rattle.iom_tool.specs.Script.{line_of}
 
@@ -16,5 +16,5 @@ abbrev pub told_in : List ℕ → List ℕ → List ℕ
 told_in text old = text ++ 0 ∷ drop (length text + 1) old
 
 -- the answer to a line; none: empty
-abbrev pub reply_to : State → List Entry → List ℕ → List ℕ
+abbrev pub reply_to : State → List TracedStep → List ℕ → List ℕ
 reply_to platform trace line = unwrap_or (reply (console platform trace) (line_of line)) []

@@ -11,7 +11,7 @@ use Rattle.iom_core.specs.State.{Board, State, board_with, state_on}
 use Rattle.iom_core.specs.Table.{next}
 use Rattle.iom_core.specs.declared.step.Answer.{Answer}
 use Rattle.iom_core.specs.declared.step.Step.{Step}
-use Rattle.iom_account.specs.Following.{Follows, Notes}
+use Rattle.iom_account.specs.Following.{Follows, HistoryView}
 use Rattle.iom_tool.specs.Console.{traced}
 use Rattle.iom_tool.specs.Script.{Asks, Bad, Blank, Does, Line}
 use Rattle.iom_core.specs.Warrants.{IsUncached}
@@ -81,7 +81,7 @@ abbrev pub number_after : ℕ → ℕ
 number_after count = min (count + 1) (2 ^ 64 - 1)
 
 -- a history that begins at this board, whatever memory it stands in front of; what it means is known if nothing is cached now
-abbrev pub BeginsAt : Notes → Board → Type 0
+abbrev pub BeginsAt : HistoryView → Board → Type 0
 BeginsAt history board = (memory : Memory) → IsUncached (state_on memory board) →
     Follows history (state_on memory board) (state_on memory board) [] []
 

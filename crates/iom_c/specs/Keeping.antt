@@ -5,7 +5,7 @@ use Rattle.iom_core.specs.State.{State}
 use Rattle.iom_core.specs.declared.access.Request.{Request}
 use Rattle.iom_core.specs.declared.step.Step.{Step}
 use Rattle.iom_account.specs.Account.{IsReasonOf}
-use Rattle.iom_account.specs.Following.{ComesFrom, Follows, Notes}
+use Rattle.iom_account.specs.Following.{ComesFrom, Follows, HistoryView}
 use Rattle.iom_account.specs.declared.reason.Reason.{Reason}
 use Rattle.iom_c.specs.declared.kept.Kept.{Kept}
 use Rattle.iom_c.specs.declared.told.Told.{Told}
@@ -37,7 +37,7 @@ kept_after kept reason = kept_asking kept kept.accesses_only reason.request reas
 
 -- why a step goes as it does from this platform on: what it asks, where that leads, whether it is stale, and, if the history followed the
 -- steps before it from a start whose caches held nothing, where the translation comes from that it uses
-pub record IsWhy (history : Notes) (state : State) (step : Step) (number : ℕ) (reason : Reason) : Type 0 where
+pub record IsWhy (history : HistoryView) (state : State) (step : Step) (number : ℕ) (reason : Reason) : Type 0 where
   pub own : IsReasonOf state step number reason
   pub origin : (start : State) (steps : List Step) (numbers : List ℕ) → Follows history state start steps numbers →
       ComesFrom start (steps ++ step ∷ []) (numbers ++ number ∷ []) (length steps) reason.origin

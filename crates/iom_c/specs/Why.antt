@@ -3,9 +3,9 @@ use Rattle.std.specs.Prelude.{ℕ, ◌≡◌, true, false, [], ◌∷◌, Option
 use Rattle.std.specs.Option.{unwrap_or}
 use Rattle.iom_core.specs.declared.access.Request.{Request}
 use Rattle.iom_core.specs.declared.way.Way.{Way}
-use Rattle.iom_account.specs.declared.history.Filled.{Filled}
-use Rattle.iom_account.specs.declared.origin.Origin.{Origin}
-use Rattle.iom_account.specs.declared.origin.Origin.TheVariants as origin
+use Rattle.iom_account.specs.declared.history.FilledBy.{FilledBy}
+use Rattle.iom_account.specs.declared.origin.NumberedWarrant.{NumberedWarrant}
+use Rattle.iom_account.specs.declared.origin.NumberedWarrant.TheVariants as origin
 use Rattle.iom_account.specs.declared.reason.Reason.{Reason}
 use Rattle.iom_c.specs.Faults.{not_there, ok}
 use Rattle.iom_c.specs.Looks.{is_write}
@@ -38,14 +38,14 @@ asked_by number kind request = record (plain_reason number kind) {
 }
 
 -- of one whose access was let through
-abbrev pub led_by : ℕ → Request → Origin → StepReason
+abbrev pub led_by : ℕ → Request → NumberedWarrant → StepReason
 led_by number request origin.Register = asked_by number 2 request
 led_by number request (origin.Context context) = record (asked_by number 3 request) { context = context }
 led_by number request (origin.Walked context walk current) =
     record (asked_by number 4 request) { context = context; walk = walk; current = current }
 
 -- what a step asked, and where the translation came from that it used
-abbrev pub used_by : ℕ → Option Request → Option Origin → StepReason
+abbrev pub used_by : ℕ → Option Request → Option NumberedWarrant → StepReason
 used_by number None used = plain_reason number 0
 used_by number (Some request) None = asked_by number 1 request
 used_by number (Some request) (Some found) = led_by number request found
@@ -76,7 +76,7 @@ OriginTold None answer old new = (answer ≡ not_there) × (new ≡ old)
 
 -- of a place of the translation cache, the numbers of the step that filled the context under which it was filled, and of that which
 -- filled it
-abbrev pub PageOriginTold : Option Filled → ℕ → ℕ → ℕ → ℕ → ℕ → Type 0
+abbrev pub PageOriginTold : Option FilledBy → ℕ → ℕ → ℕ → ℕ → ℕ → Type 0
 PageOriginTold (Some filled) answer old new old_walk new_walk =
     (answer ≡ ok) × (new ≡ filled.context) × (new_walk ≡ filled.walk)
 PageOriginTold None answer old new old_walk new_walk = (answer ≡ not_there) × (new ≡ old) × (new_walk ≡ old_walk)

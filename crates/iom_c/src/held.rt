@@ -8,7 +8,7 @@ ghost use Rattle.iom_c.specs.Keeping.{GoesOn};
 
 use crate::told::Told;
 use iom_account::History;
-use iom_core::{Answer, Board, Platform, Request, Seen, Step};
+use iom_core::{Answer, Board, Lookup, Platform, Request, Step};
 use iom_mem::{LentRam, SharedRam};
 use std::alloc::{AllocError, Global};
 use std::marker::Model;
@@ -151,13 +151,13 @@ impl Held {
 
     /// What leads a request now in front of these words, from the caches first and else from the tables. Nothing is cached, reported or
     /// changed.
-    pub fn seen(&self, words: &[u64], request: &Request) -> Seen
+    pub fn lookup(&self, words: &[u64], request: &Request) -> Lookup
         requires { length words.now ≡ count_of self.now }
         ensures { result ≡ seen_in (state_in self.now words.now).machine request.now }
     {
         match self {
-            Held::Own(platform) => platform.seen(request),
-            Held::Lent(lent) => lent.seen(words, request),
+            Held::Own(platform) => platform.lookup(request),
+            Held::Lent(lent) => lent.lookup(words, request),
         }
     }
 }
@@ -211,12 +211,12 @@ impl Lent {
     }
 
     // What leads a request now in front of these words.
-    fn seen(&self, words: &[u64], request: &Request) -> Seen
+    fn lookup(&self, words: &[u64], request: &Request) -> Lookup
         requires { length words.now ≡ self.now.count }
         ensures { result ≡ seen_in (state_on (memory_of self.now.base words.now) self.now.board).machine request.now }
     {
         let ram = SharedRam::new(self.base, words);
-        self.board.seen(&ram, request)
+        self.board.lookup(&ram, request)
     }
 }
 

@@ -32,7 +32,7 @@ fn put_way(held: &Held, words: &[u64], request: &Request, way: &mut RequestWay, 
     ensures address { address.new
         ≡ address_in (address_on (led (state_in held.now words.now).machine request.now).way request.now.iova) address.old }
 {
-    let seen = held.seen(words, request);
+    let seen = held.lookup(words, request);
     put_address(&seen.way, request.iova, address);
     *way = way_of(request.did, seen.way);
 }

@@ -92,7 +92,7 @@ pub extern "C" fn rviommu_context_origin(
 
 // Puts the numbers of the steps that filled a place of the translation cache and its context.
 fn put_page_origin(history: &History, i: u64, context: &mut u64, walk: &mut u64) -> u32
-    ensures { PageOriginTold (numbers_of (slice_get history.now.bases i) (slice_get history.now.walks i)) result
+    ensures { PageOriginTold (numbers_of (slice_get history.now.walk_contexts i) (slice_get history.now.walks i)) result
         context.old context.new walk.old walk.new }
 {
     match history.page(i) {
@@ -118,7 +118,7 @@ pub extern "C" fn rviommu_page_origin(
 ) -> u32
     ghost own: { Owned }
     requires open { handle.old.held ≡ Some own }
-    ensures numbers { PageOriginTold (numbers_of (slice_get own.told.history.bases i) (slice_get own.told.history.walks i)) result
+    ensures numbers { PageOriginTold (numbers_of (slice_get own.told.history.walk_contexts i) (slice_get own.told.history.walks i)) result
         context.old context.new walk.old walk.new }
 
     // If nothing was cached at the start, they filled what stands there, and nothing has dropped that since.

@@ -2,7 +2,7 @@ ghost use Rattle.std.specs.Prelude.{◌≡◌};
 ghost use Rattle.iom_c.specs.Why.{asked_by, led_by, plain_reason, reason_of, used_by};
 
 use crate::ways::{RequestWay, plain_way, way_of};
-use iom_account::{Origin, Reason};
+use iom_account::{NumberedWarrant, Reason};
 use iom_bits::Kind;
 use iom_core::Request;
 
@@ -70,16 +70,16 @@ fn asked_by(number: u64, kind: u32, request: Request) -> StepReason
 }
 
 // Of one whose access was let through.
-fn led_by(number: u64, request: Request, origin: Origin) -> StepReason
+fn led_by(number: u64, request: Request, origin: NumberedWarrant) -> StepReason
     ensures { result ≡ led_by number request origin }
 {
     match origin {
-        Origin::Register => asked_by(number, 2, request),
-        Origin::Context { context } => StepReason {
+        NumberedWarrant::Register => asked_by(number, 2, request),
+        NumberedWarrant::Context { context } => StepReason {
             context,
             ..asked_by(number, 3, request)
         },
-        Origin::Walked {
+        NumberedWarrant::Walked {
             context,
             walk,
             current,
@@ -93,7 +93,7 @@ fn led_by(number: u64, request: Request, origin: Origin) -> StepReason
 }
 
 // What a step asked, and where the translation came from that it used.
-fn used_by(number: u64, request: Option<Request>, origin: Option<Origin>) -> StepReason
+fn used_by(number: u64, request: Option<Request>, origin: Option<NumberedWarrant>) -> StepReason
     ensures { result ≡ used_by number request origin }
 {
     match (request, origin) {

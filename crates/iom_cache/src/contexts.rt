@@ -54,7 +54,7 @@ impl ContextCache {
         self.places.clear();
     }
 
-    /// A copy, which takes the memory of all places; where it is refused the original stands as it was.
+    /// A copy, which takes the memory of all places. If that is refused the original is unchanged.
     pub fn try_clone(&self, alloc: Global) -> Result<ContextCache, AllocError>
         ensures { IfOk result (λ copy. copy ≡ self.now) }
     {
@@ -65,7 +65,7 @@ impl ContextCache {
         Ok(ContextCache { places })
     }
 
-    /// The context in the live place of this device id, 24 bits; None where there is none.
+    /// The context in the live place of this device id, 24 bits; None if there is none.
     pub fn find(&self, did: u32) -> Option<Context>
         ensures found { result ≡ find (same_did did) self.now }
         ensures held { IsHeld did result self.now }
@@ -89,7 +89,7 @@ impl ContextCache {
         self.places.len()
     }
 
-    /// The place that is live with this device id, counted from the oldest, 0; as many as there are places where none is.
+    /// The number of the place that is live with this device id, the oldest 0; the number of places if there is none.
     pub fn place_of(&self, did: u32) -> usize
         ensures { result ≡ place_of (same_did did) self.now }
     {
@@ -103,7 +103,7 @@ impl ContextCache {
         self.places.len()
     }
 
-    /// Appends a place for a device id that no live place has. Where there are 16 places the oldest, live or empty, leaves.
+    /// Appends a place for a device id that no live place has. If there are 16 places the oldest, live or empty, leaves.
     pub fn fill(&mut self, did: u32, context: Context)
         requires absent { find (same_did did) self.old ≡ None }
         ensures { self.new ≡ filled_by 16 (Some (did, context)) self.old }
@@ -133,12 +133,12 @@ fn empty_matching(command: &Command, places: &mut [Option<(u32, Context)>])
     ensures { places.new ≡ map (dropped_by (drops_context command.now)) places.old }
 {
     for place in places.iter_mut() {
-        *place = kept(command, *place);
+        *place = place_after(command, *place);
     }
 }
 
 // What a command leaves of a place.
-fn kept(command: &Command, place: Option<(u32, Context)>) -> Option<(u32, Context)>
+fn place_after(command: &Command, place: Option<(u32, Context)>) -> Option<(u32, Context)>
     ensures { result ≡ dropped_by (drops_context command.now) place }
 {
     place.filter(|(did, _)| !drops_device(command, *did))

@@ -5,8 +5,8 @@ use crate::Key;
 use iom_nested::Hit;
 use iom_queue::Command;
 
-/// Whether a command drops a translation: IOTINVAL.VMA by its guest, process and page, IOTINVAL.GVMA by its guest alone, and no
-/// other ("IOTINVAL").
+/// Whether a command drops a translation: IOTINVAL.VMA by its guest, process and page, IOTINVAL.GVMA only by its guest, and no other
+/// ("IOTINVAL").
 #[tactic(auto, unfolding(crate::specs::Drops::drops_page))]
 pub fn drops_page(command: &Command, key: &Key, hit: &Hit) -> bool
     ensures { result ≡ drops_page command.now key.now hit.now }

@@ -50,7 +50,7 @@ impl Index {
         self.counts[tag] == 0
     }
 
-    /// The slot that a bucket, below 32, starts with: that of its newest place; 64 where it has none.
+    /// The slot that a bucket, below 32, starts with: that of its newest place; 64 if it has none.
     pub fn newest(&self, bucket: usize) -> usize
         requires { bucket < 32 }
         ensures { result ≡ get_or self.now.heads bucket 64 }
@@ -58,7 +58,7 @@ impl Index {
         self.heads[bucket]
     }
 
-    /// The slot behind a slot, below 64, in its bucket: that of an older place, where it has one.
+    /// The slot after a slot, below 64, in its bucket: that of an older place, if there is one.
     pub fn older(&self, slot: usize) -> usize
         requires { slot < 64 }
         ensures { result ≡ get_or self.now.links slot 64 }
@@ -66,7 +66,7 @@ impl Index {
         self.links[slot]
     }
 
-    /// The place at a slot, counted from the oldest, 0; 64 where there is no slot.
+    /// The place at a slot, counted from the oldest, 0; 64 if there is no slot.
     #[tactic(auto, unfolding(crate::specs::Index::position))]
     pub fn position(&self, slot: usize) -> usize
         requires { self.now.first < 64 }
@@ -79,7 +79,7 @@ impl Index {
         }
     }
 
-    /// The slot, below 64, of the place behind `at` others, at most 63.
+    /// The slot, below 64, of place `at`, at most 63; the oldest place is 0.
     pub fn slot(&self, at: usize) -> usize
         requires room { at < 64 }
         requires first { self.now.first < 64 }
@@ -88,7 +88,7 @@ impl Index {
         (self.first + at) % SLOTS
     }
 
-    /// A place is filled behind `at` others, at most 63.
+    /// Notes that place `at`, at most 63, is filled, after all others.
     pub fn append(&mut self, at: usize, place: &Option<(Key, Hit)>)
         requires room { at < 64 }
         requires first { self.old.first < 64 }

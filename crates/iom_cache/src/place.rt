@@ -13,7 +13,7 @@ impl<K: Copy, V: Copy> Place<K, V> {
     ghost use Rattle.std.specs.Prelude.{◌≡◌, option_copied};
     ghost use Rattle.iom_cache.specs.Places.{place_in};
 
-    /// What is said of a place that there may be: None is beyond the last one.
+    /// A place of a cache; None is a place beyond the last one.
     pub(crate) fn of(place: Option<&Option<(K, V)>>) -> Place<K, V>
         ensures { result ≡ place_in (option_copied place.entry) }
     {

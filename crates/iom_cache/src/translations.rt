@@ -16,8 +16,8 @@ use std::marker::Model;
 /// How many places there are.
 const PLACES: usize = 64;
 
-/// The translation cache, in the standard the IOTLB: at most 64 places, oldest first, each empty or with where a key leads
-/// ("Caching in-memory data structures").
+/// The translation cache, in the standard the IOTLB: at most 64 places, oldest first, each empty or a key with its hit ("Caching in-memory
+/// data structures").
 #[derive(Drop)]
 pub struct TransCache {
     places: HeapCircularBuffer<Option<(Key, Hit)>>,
@@ -69,7 +69,7 @@ impl TransCache {
         self.hints = [0; TAGS];
     }
 
-    /// A copy, which takes the memory of all places; where it is refused the original stands as it was.
+    /// A copy, which takes the memory of all places. If that is refused the original is unchanged.
     pub fn try_clone(&self, alloc: Global) -> Result<TransCache, AllocError>
         ensures { IfOk result (λ copy. copy ≡ self.now) }
     {
@@ -92,7 +92,7 @@ impl TransCache {
         self.places.len()
     }
 
-    /// What the live place with this key says; None where there is none.
+    /// What the live place with this key says; None if there is none.
     pub fn find(&self, key: &Key) -> Option<Hit>
         ensures found { result ≡ find (same_key key.now) self.now }
         ensures held { IsHeld key.now result self.now }
@@ -130,7 +130,7 @@ impl TransCache {
         self.hit_at(at, key)
     }
 
-    /// The place that is live with this key, counted from the oldest, 0; as many as there are places where none is.
+    /// The number of the place that is live with this key, the oldest 0; the number of places if there is none.
     pub fn place_of(&self, key: &Key) -> usize
         ensures { result ≡ place_of (same_key key.now) self.now }
     {
@@ -178,7 +178,7 @@ impl TransCache {
         }
     }
 
-    /// Appends a place for a key that no live place has. Where there are 64 places the oldest, live or empty, leaves.
+    /// Appends a place for a key that no live place has. If there are 64 places the oldest, live or empty, leaves.
     pub fn fill(&mut self, key: Key, hit: Hit)
         requires absent { find (same_key key) self.old ≡ None }
         ensures { self.new ≡ filled_by 64 (Some (key, hit)) self.old }
@@ -234,12 +234,12 @@ fn empty_matching(command: &Command, places: &mut [Option<(Key, Hit)>])
     ensures { places.new ≡ map (dropped_by (drops_page command.now)) places.old }
 {
     for place in places.iter_mut() {
-        *place = kept(command, *place);
+        *place = place_after(command, *place);
     }
 }
 
 // What a command leaves of a place.
-fn kept(command: &Command, place: Option<(Key, Hit)>) -> Option<(Key, Hit)>
+fn place_after(command: &Command, place: Option<(Key, Hit)>) -> Option<(Key, Hit)>
     ensures { result ≡ dropped_by (drops_page command.now) place }
 {
     place.filter(|(key, hit)| !drops_page(command, key, hit))

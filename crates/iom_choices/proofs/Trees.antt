@@ -2,7 +2,7 @@
 use Rattle.std.proofs.Common.{◌≡◌, ◌∙◌, ◌++◌, not, Bool, true, false, List, [], ◌∷◌, Option, Some, None, if◌then◌else◌, refl, sym, ap, subst, inl, inr, append_assoc}
 use Rattle.std.specs.Prelude.{filter, flat_map}
 use Rattle.std.specs.List.{AllByRecursion}
-use Rattle.iom_choices.specs.Systems.{System, Way, IsAmong, aimed, reads_of}
+use Rattle.iom_choices.specs.Systems.{System, ModelWalk, IsAmong, aimed, reads_of}
 use Rattle.iom_choices.specs.Settled.{EachUse, IsRead, IsSettled, MayHold}
 use Rattle.iom_choices.specs.Trees.{AreLedAlike, AreTrees, Ends, IsApart, Looks, Tree, held_after, picked, reads_in, way_over, ways_of, ways_over}
 use Rattle.iom_choices.proofs.Lists.{IsPassed, among-left, among-right, among_either, each_append, each_of, each_weaker, passed}
@@ -54,7 +54,7 @@ pub way_among : {K E L : Type 0} (held : List E) (asked : List K) (tree : Tree K
 way_among held asked (Ends way) apart source each = inl refl
 way_among {K} {E} {L} held asked (Looks look fits more) apart source each =
     let p : IsPicked held fits look (picked fits source) = picked_one held look fits apart.1 source each in
-    let later : E → List (Way E L) = λ entry. ways_over held (more (Some entry)) in
+    let later : E → List (ModelWalk E L) = λ entry. ways_over held (more (Some entry)) in
     let Goal : Option E → Type 0 = λ o. picked fits source ≡ o → IsAmong (ways_over held (more None) ++ flat_map later (filter (fits look) held)) (way_over source (more o)) in
     let by_pick : (o : Option E) → Goal o = λ o. elim o as Goal [
       | None ↦ λ is. among-left (ways_over held (more None)) (flat_map later (filter (fits look) held)) (way_over source (more None))
@@ -110,7 +110,7 @@ from_one {X} {Y} f (x ∷ xs) y h = elim (among_either (f x) (flat_map f xs) y h
 ]
 
 -- a way that a source of these entries has, whatever was asked before and is answered by others
-pub record IsAllowed {K E L : Type 0} (held : List E) (asked : List K) (tree : Tree K E L) (way : Way E L) : Type 0 where
+pub record IsAllowed {K E L : Type 0} (held : List E) (asked : List K) (tree : Tree K E L) (way : ModelWalk E L) : Type 0 where
   pub source : List (K × E)
   pub each : EachUse (IsAmong held) source
   pub others : AreOthers asked source
@@ -136,11 +136,11 @@ asked_more {K} {E} asked look front are =
 
 -- each of the ways is some source's
 pub allowed : {K E L : Type 0} (held : List E) (asked : List K) (tree : Tree K E L) → IsApart asked tree →
-    (way : Way E L) → IsAmong (ways_over held tree) way → IsAllowed held asked tree way
+    (way : ModelWalk E L) → IsAmong (ways_over held tree) way → IsAllowed held asked tree way
 allowed held asked (Ends own) apart way (inl same) = record { source = []; each = tt; others = tt; leads = λ front are. same }
 allowed held asked (Ends own) apart way (inr h) = absurd h
 allowed {K} {E} {L} held asked (Looks look fits more) apart way h =
-    let later : E → List (Way E L) = λ entry. ways_over held (more (Some entry)) in
+    let later : E → List (ModelWalk E L) = λ entry. ways_over held (more (Some entry)) in
     elim (among_either (ways_over held (more None)) (flat_map later (filter (fits look) held)) way h) [
       | inl here ↦
           let a : IsAllowed held (look ∷ asked) (more None) way = allowed held (look ∷ asked) (more None) (apart.2 None) way here in
@@ -186,11 +186,11 @@ read_may : {S T R K E L A : Type 0} (sys : System S T R K E L A) (tree : S → R
     IsAmong (reads_in (ways_of tree state held request)) entry → IsRead sys May state step entry
 read_may sys tree trees May held may state step entry None is h = absurd h
 read_may {S} {T} {R} {K} {E} {L} sys tree trees May held may state step entry (Some request) is h =
-    let f : IsFromOne (λ (way : Way E L). way.reads) (ways_over held (tree state request)) entry =
-    from_one (λ (way : Way E L). way.reads) (ways_over held (tree state request)) entry h in
+    let f : IsFromOne (λ (way : ModelWalk E L). way.reads) (ways_over held (tree state request)) entry =
+    from_one (λ (way : ModelWalk E L). way.reads) (ways_over held (tree state request)) entry h in
     let a : IsAllowed held [] (tree state request) f.source = allowed held [] (tree state request) (trees.apart state request) f.source f.at in
     let way : sys.way state a.source request ≡ f.source = sym (trees.way state a.source request) ∙ a.leads [] tt in
-    let reads : IsAmong (reads_of sys state a.source (Some request)) entry = subst (λ (way : Way E L). IsAmong way.reads entry) (sym way) f.among in
+    let reads : IsAmong (reads_of sys state a.source (Some request)) entry = subst (λ (way : ModelWalk E L). IsAmong way.reads entry) (sym way) f.among in
     record {
       target = None;
       source = a.source;
@@ -220,9 +220,9 @@ read_listed : {S T R K E L A : Type 0} (sys : System S T R K E L A) (tree : S �
     EachUse (IsAmong held) source → (entry : E) (request : Option R) → IsAmong (reads_of sys state source request) entry → IsAmong (reads_in (ways_of tree state held request)) entry
 read_listed sys tree trees held state source each entry None h = absurd h
 read_listed {S} {T} {R} {K} {E} {L} sys tree trees held state source each entry (Some request) h =
-    among_map (λ (way : Way E L). way.reads) (ways_over held (tree state request)) (way_over source (tree state request)) entry
+    among_map (λ (way : ModelWalk E L). way.reads) (ways_over held (tree state request)) (way_over source (tree state request)) entry
     (way_among held [] (tree state request) (trees.apart state request) source each)
-    (subst (λ (way : Way E L). IsAmong way.reads entry) (sym (trees.way state source request)) h)
+    (subst (λ (way : ModelWalk E L). IsAmong way.reads entry) (sym (trees.way state source request)) h)
 
 aimed_reads : {S T R K E L A : Type 0} (sys : System S T R K E L A) → sys.ahead ≡ false → (state : S) (step : T) (source : List (K × E)) (entry : E) (target : Option R) →
     IsAmong (reads_of sys state source (aimed sys state step target)) entry → IsAmong (reads_of sys state source (sys.asked state step)) entry
@@ -251,12 +251,12 @@ same_led is = search is
 pub settled_alike : {S T R K E L A : Type 0} (sys : System S T R K E L A) (tree : S → R → Tree K E L) → AreTrees sys tree → (May : E → Type 0) (held : List E) →
     ((entry : E) → IsAmong held entry → May entry) → (state : S) (request : R) → IsSettled sys May state (Some request) → AreLedAlike sys tree state held request
 settled_alike {S} {T} {R} {K} {E} {L} sys tree trees May held may state request settled =
-    each_of (λ (way : Way E L). way.led ≡ (sys.way state [] request).led) (ways_over held (tree state request)) (λ way among.
+    each_of (λ (way : ModelWalk E L). way.led ≡ (sys.way state [] request).led) (ways_over held (tree state request)) (λ way among.
     let a : IsAllowed held [] (tree state request) way = allowed held [] (tree state request) (trees.apart state request) way among in
     let is : sys.way state a.source request ≡ way = sym (trees.way state a.source request) ∙ a.leads [] tt in
     let uses : EachUse May a.source =
     each_weaker (λ (used : K × E). IsAmong held used.1) (λ (used : K × E). May used.1) a.source (λ used among. may used.1 among) a.each in
-    ap (λ (way : Way E L). way.led) (sym is) ∙ same_led (settled a.source uses))
+    ap (λ (way : ModelWalk E L). way.led) (sym is) ∙ same_led (settled a.source uses))
 
 pub alike_settled : {S T R K E L A : Type 0} (sys : System S T R K E L A) (tree : S → R → Tree K E L) → AreTrees sys tree → (May : E → Type 0) (held : List E) →
     ((entry : E) → May entry → IsAmong held entry) → (state : S) (request : R) → AreLedAlike sys tree state held request → IsSettled sys May state (Some request)
@@ -266,5 +266,5 @@ alike_settled {S} {T} {R} {K} {E} {L} sys tree trees May held listed state reque
     let among : IsAmong (ways_over held (tree state request)) (way_over source (tree state request)) =
     way_among held [] (tree state request) (trees.apart state request) source uses in
     let led : (way_over source (tree state request)).led ≡ (sys.way state [] request).led =
-    each_at (λ (way : Way E L). way.led ≡ (sys.way state [] request).led) (ways_over held (tree state request)) (way_over source (tree state request)) alike among in
-    ap Some (ap (λ (way : Way E L). way.led) (sym (trees.way state source request)) ∙ led)
+    each_at (λ (way : ModelWalk E L). way.led ≡ (sys.way state [] request).led) (ways_over held (tree state request)) (way_over source (tree state request)) alike among in
+    ap Some (ap (λ (way : ModelWalk E L). way.led) (sym (trees.way state source request)) ∙ led)

@@ -19,7 +19,7 @@ pub fn settled_runs_agree<M, S, T, R, K, E, L, A>()
 {}
 
 /// The model is one of these systems: with some choices the system does as the model, and holds exactly the entries that the model caches.
-/// No access need be settled. So the model's caches lead a settled request where memory does.
+/// No access need be settled. So the model's caches lead a settled request as memory does.
 pub fn model_is_one<M, S, T, R, K, E, L, A>()
     ensures does { (sys : System S T R K E L A) (model : Model M S T K E A) → IsCaching sys model →
         (start : M) → model.uses start ≡ [] → (steps : List T) →

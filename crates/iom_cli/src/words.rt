@@ -21,8 +21,8 @@ pub enum How {
     Run,
     /// Each line is answered, and may be one of `debug`.
     Debug,
-    /// Each line that fails is printed. If `is_stale_told`, a line with a stale access fails.
-    Check { is_stale_told: bool },
+    /// Each line that fails is printed. If `fails_if_stale`, a line with a stale access fails.
+    Check { fails_if_stale: bool },
     /// Each line is printed with its answer and the reasons of its accesses.
     Explain,
 }
@@ -274,8 +274,8 @@ fn task_in<'a>(matches: &ArgMatches<'a>) -> Result<Task<'a>, WordsFault<'a>> {
         Some(("debug", found)) => Ok(script(How::Debug, found)),
         Some(("explain", found)) => Ok(script(How::Explain, found)),
         Some(("check", found)) => {
-            let is_stale_told = found.get_flag(STALE);
-            Ok(script(How::Check { is_stale_told }, found))
+            let fails_if_stale = found.get_flag(STALE);
+            Ok(script(How::Check { fails_if_stale }, found))
         }
         Some(("upgrade", found)) => Ok(Task::Upgrade {
             image: value(found, "IMAGE"),

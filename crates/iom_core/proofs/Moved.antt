@@ -3,12 +3,12 @@ use Rattle.std.proofs.Common.{◌≡◌, ◌&&◌, ℕ, List, length, Bool, true
 use Rattle.std.specs.Prelude.{is_some, slice_get, slice_set}
 use Rattle.std.specs.Option.{option_map}
 use Rattle.iom_mem.specs.Memory.{bytes_at}
-use Rattle.iom_virtq.specs.Bus.{Ask, Read, Write, Reply}
+use Rattle.iom_virtq.specs.Bus.{Ask, Read, Write, BusReply}
 use Rattle.iom_virtq.specs.declared.access.Access.{Access}
 use Rattle.iom_virtq.specs.declared.access.Access.TheVariants as access
 use Rattle.iom_blk.specs.Device.{Device}
 use Rattle.iom_blk.specs.Phases.{asks, moved_of, took}
-use Rattle.iom_blk.specs.Registers.{is_legal, read, written}
+use Rattle.iom_blk.specs.Registers.{is_legal, read, with_write}
 use Rattle.iom_blk.proofs.Breaks.{broken_is_broken}
 use Rattle.iom_core.specs.State.{State, Machine, with_device}
 use Rattle.iom_core.specs.Access.{effect, effect_at, outside, read_there, served}
@@ -105,7 +105,7 @@ moved_goes_on state dev =
     ] in by_slot (slice_get state.devices dev) refl
 
 -- a refusal breaks it
-told_breaks : (device : Device) (reply : Reply) (slot : Option (ℕ × Device)) (did : ℕ) → slot ≡ Some (did, took device reply) →
+told_breaks : (device : Device) (reply : BusReply) (slot : Option (ℕ × Device)) (did : ℕ) → slot ≡ Some (did, took device reply) →
     BreaksBy (answer_of (moved_of reply.access)) slot
 unfolding took
 told_breaks device reply slot did is =
@@ -177,7 +177,7 @@ own_write_refuses : (state : State) (dev : ℕ) (own : ℕ × Device) (off size 
 unfolding dev_write
 own_write_refuses state dev own off size value is =
     let back = put_back state dev own is in
-    let legal : Bool → Handled = λ b. if b then record { answer = Done; device = written own.1 off value } else record { answer = BadAccess; device = own.1 } in
+    let legal : Bool → Handled = λ b. if b then record { answer = Done; device = with_write own.1 off value } else record { answer = BadAccess; device = own.1 } in
     let given : Bool → Handled = λ b. if b then record { answer = Misuse; device = own.1 } else legal (is_legal off size) in
     elim (is_size size && not (fits value size)) as (λ b. Refuses (given b).answer state (with_device state dev own.0 (given b).device)) [
       | true ↦ back

@@ -22,7 +22,7 @@ use Rattle.iom_queue.specs.Denials.{denial_record, is_reported}
 use Rattle.iom_cache.specs.Keys.{key_of, same_key, same_did}
 use Rattle.iom_cache.specs.Places.{find, filled_by, Look, look}
 use Rattle.iom_cache.specs.declared.key.Key.{Key}
-use Rattle.iom_virtq.specs.Bus.{Ask, Read, Write, Reply, reply_of}
+use Rattle.iom_virtq.specs.Bus.{Ask, Read, Write, BusReply, reply_of}
 use Rattle.iom_virtq.specs.declared.access.Access.TheVariants as access
 use Rattle.iom_core.specs.State.{Machine, context_room, page_room}
 use Rattle.iom_core.specs.declared.access.Denial.{Denial}
@@ -132,13 +132,13 @@ page_told next s request _ fill = s
 abbrev pub under_told : {S : Type 0} → (S → Event → S) → S → Request → Under → S
 under_told next s request under = next (page_told next s request under.way under.page) (event.Way under.way)
 
-abbrev pub told : {S : Type 0} → (S → Event → S) → S → Request → Led → S
-told next s request led =
+abbrev pub witness_after : {S : Type 0} → (S → Event → S) → S → Request → Led → S
+witness_after next s request led =
     next (page_told next (context_told next s request.did led.by led.context) request led.way led.page) (event.Way led.way)
 
 -- what it is told of the access that a request is
 abbrev pub told_of : {S : Type 0} → (S → Event → S) → S → Machine → Request → S
-told_of next s m request = told next s request (led m request)
+told_of next s m request = witness_after next s request (led m request)
 
 -- a machine by its parts
 abbrev pub machine_of : Memory → Registers → List (Option (ℕ × Context)) → List (Option (Key × Hit)) → Machine
@@ -168,7 +168,7 @@ request_of did (Write iova bytes) = access_to did iova kind.Write
 
 -- how the bus answers, and what memory and the registers are then
 pub record Effect : Type 0 where
-  pub reply : Reply
+  pub reply : BusReply
   pub memory : Memory
   pub registers : Registers
 
@@ -220,7 +220,7 @@ effect m did ask =
 
 -- how the bus answers what a device asks, and the machine that it leaves
 pub record Served : Type 0 where
-  pub reply : Reply
+  pub reply : BusReply
   pub machine : Machine
 
 abbrev pub served : Machine → ℕ → Ask → Served

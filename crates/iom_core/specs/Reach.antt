@@ -6,7 +6,7 @@ use Rattle.iom_regs.specs.Table.{Registers}
 use Rattle.iom_queue.specs.Delivery.{KeepsOtherRegisters, record_addr}
 use Rattle.iom_queue.specs.declared.command.Command.{Command}
 use Rattle.iom_queue.specs.declared.command.Command.TheVariants.{Fence}
-use Rattle.iom_virtq.specs.Bus.{Ask, Read, Write, Reply, is_granted}
+use Rattle.iom_virtq.specs.Bus.{Ask, Read, Write, BusReply, is_granted}
 use Rattle.iom_blk.specs.Device.{Device}
 use Rattle.iom_blk.specs.Phases.{is_broken, moved_of, took}
 use Rattle.iom_core.specs.State.{State, Machine}
@@ -85,7 +85,7 @@ KeepsDevices (step.Device dev) old new = ChangesDevice dev old new
 KeepsDevices _ old new = new ≡ old
 
 -- a reply to what is asked: where it grants a read, it has the bytes at the address that the access is led to
-abbrev pub Carries : Memory → Ask → Result ℕ Denial → Reply → Type 0
+abbrev pub Carries : Memory → Ask → Result ℕ Denial → BusReply → Type 0
 Carries memory (Read iova count) (Ok addr) reply = is_granted reply.access ≡ true → bytes_at memory addr count ≡ Some reply.bytes
 Carries memory (Write iova bytes) (Ok addr) reply = Unit {0}
 Carries memory (Read iova count) (Err denial) reply = is_granted reply.access ≡ false
@@ -93,7 +93,7 @@ Carries memory (Write iova bytes) (Err denial) reply = is_granted reply.access �
 
 -- a block device goes on by the reply to what it asks
 pub record GoesOn (memory : Memory) (ask : Ask) (led_to : Result ℕ Denial) (given : Answer) (old new : Device) : Type 0 where
-  pub reply : Reply
+  pub reply : BusReply
   pub carries : Carries memory ask led_to reply
   pub told : given ≡ answer_of (moved_of reply.access)
   pub took : new ≡ took old reply

@@ -8,12 +8,12 @@ use Rattle.iom_bits.specs.declared.causes.Kind.TheVariants as kind
 use Rattle.iom_mem.specs.Memory.{Memory, bytes_at, put}
 use Rattle.iom_regs.specs.Table.{Registers, read, after_write, is_legal}
 use Rattle.iom_queue.specs.declared.command.Command.{Command}
-use Rattle.iom_virtq.specs.Bus.{Ask, Read, Write, Reply}
+use Rattle.iom_virtq.specs.Bus.{Ask, Read, Write, BusReply}
 use Rattle.iom_virtq.specs.declared.access.Access.{Access}
 use Rattle.iom_virtq.specs.declared.access.Access.TheVariants as access
 use Rattle.iom_blk.specs.Device.{Device}
 use Rattle.iom_blk.specs.Phases.{asks, moved_of, took}
-use Rattle.iom_blk.specs.Registers.{is_legal as is_device_register, read as device_read, written as device_written}
+use Rattle.iom_blk.specs.Registers.{is_legal as is_device_register, read as device_read, with_write as device_written}
 use Rattle.iom_blk.specs.declared.want.Moved.{Moved}
 use Rattle.iom_blk.specs.declared.want.Moved.TheVariants as moved
 use Rattle.iom_core.specs.State.{State, Machine, device_id_end, with_device, with_machine}
@@ -157,7 +157,7 @@ answer_to (Write iova given) (access.Denied cause) bytes = answer.Denied (cause_
 answer_to (Read iova count) access.Outside bytes = answer.BusError
 answer_to (Write iova given) access.Outside bytes = answer.BusError
 
-abbrev pub answer_by_reply : Ask → Reply → Answer
+abbrev pub answer_by_reply : Ask → BusReply → Answer
 answer_by_reply ask reply = answer_to ask reply.access reply.bytes
 
 abbrev pub probed : State → Option Asking → Outcome

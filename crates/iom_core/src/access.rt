@@ -9,7 +9,7 @@ ghost use Rattle.iom_ddt.specs.Directory.{levels_of, located};
 ghost use Rattle.iom_cache.specs.Keys.{same_did, same_key};
 ghost use Rattle.iom_cache.specs.Places.{find, look};
 ghost use Rattle.iom_virtq.specs.Bus.{Read, Write, is_granted, reply_of};
-ghost use Rattle.iom_core.specs.Access.{address_on, context_look, filled_where, led, led_by_context, led_under, machine_of, page_told, plain, record_left, request_key, request_of, served, told, told_of, translating, under_told, with_delivery, with_fills};
+ghost use Rattle.iom_core.specs.Access.{address_on, context_look, filled_where, led, led_by_context, led_under, machine_of, page_told, plain, record_left, request_key, request_of, served, witness_after, told_of, translating, under_told, with_delivery, with_fills};
 ghost use Rattle.iom_core.specs.State.{context_room, device_id_end, in_front_of, page_room};
 ghost use Rattle.iom_core.specs.Table.{access_of_none};
 ghost use Rattle.iom_core.specs.declared.way.Way.TheVariants as way;
@@ -77,9 +77,9 @@ impl Denial {
 }
 
 impl Iommu {
-    /// Reads the bytes from IOVA `iova` on, within one page of 4096 bytes, for device `did`, below 2^24, into `out`, which is
-    /// unchanged unless the answer is Ok. `Denied` where the IOMMU denies it, which may leave a fault record; `Outside` where a
-    /// byte of it lies outside memory. A witness is told what leads it.
+    /// Reads the bytes from IOVA `iova` on, within one page of 4096 bytes, for device `did`, below 2^24, into `out`, which is unchanged
+    /// unless the answer is Ok. `Denied` if the IOMMU denies it, which may leave a fault record; `Outside` if a byte of it lies outside
+    /// memory. A witness notices what leads it.
     #[tactic(auto, unfolding(crate::specs::Access::effect))]
     pub fn read<M: WritableRegion, W: Witness>(
         &mut self,
@@ -111,8 +111,8 @@ impl Iommu {
         }
     }
 
-    /// Writes `bytes` from IOVA `iova` on, within one page of 4096 bytes, for device `did`, below 2^24. The answers are those of
-    /// `read`; unless it is Ok none of the bytes is written. A witness is told what leads it.
+    /// Writes `bytes` from IOVA `iova` on, within one page of 4096 bytes, for device `did`, below 2^24. The answers are those of `read`;
+    /// unless it is Ok none of the bytes is written. A witness notices what leads it.
     #[tactic(auto, unfolding(crate::specs::Access::effect))]
     pub fn write<M: WritableRegion, W: Witness>(
         &mut self,
@@ -142,8 +142,8 @@ impl Iommu {
         }
     }
 
-    /// The physical address that a request is led to, also if it lies outside memory; or why it is denied, which may leave a fault
-    /// record. No byte is accessed. A witness is told what leads it.
+    /// The physical address that a request is led to, also if it lies outside memory; or why it is denied, which may leave a fault record.
+    /// No byte is accessed. A witness notices what leads it.
     #[tactic(auto, using(crate::proofs::Translated::served_none))]
     pub fn translate<M: WritableRegion, W: Witness>(
         &mut self,
@@ -200,8 +200,8 @@ impl Iommu {
     }
 }
 
-/// The physical address that a request leads to, in these caches, which are filled with what is read for it. A witness is told what
-/// leads it ("Process to translate an IOVA").
+/// The physical address that a request leads to, in these caches, which are filled with what is read for it. A witness notices what leads
+/// it ("Process to translate an IOVA").
 #[inline(always)]
 #[tactic(auto, unfolding(crate::specs::Access::led))]
 pub(crate) fn lead<M: Region, C: Caches, W: Witness>(
@@ -217,13 +217,13 @@ pub(crate) fn lead<M: Region, C: Caches, W: Witness>(
         (led (machine_of (M.memory ram.now) registers.now (C.contexts caches.old) (C.pages caches.old)) request.now).context (C.contexts caches.old) }
     ensures pages { C.pages caches.new ≡ filled_where C.fills page_room
         (led (machine_of (M.memory ram.now) registers.now (C.contexts caches.old) (C.pages caches.old)) request.now).page (C.pages caches.old) }
-    ensures told { witness.new ≡ told W.next witness.old request.now
+    ensures told { witness.new ≡ witness_after W.next witness.old request.now
         (led (machine_of (M.memory ram.now) registers.now (C.contexts caches.old) (C.pages caches.old)) request.now) }
 {
     match registers.mode() {
         Mode::Off => refuse(Denial::plain(Cause::Off), witness),
         Mode::Bare => {
-            witness.tell(Event::Way(Way::Register));
+            witness.notice(Event::Way(Way::Register));
             Ok(request.iova)
         }
         Mode::Levels(_) => by_directory(ram, registers, caches, request, witness),
@@ -250,7 +250,7 @@ fn by_directory<M: Region, C: Caches, W: Witness>(
         C.pages caches.new ≡ filled_where C.fills page_room (led_by_context m request.now
         (context_look m request.now.did).filled (context_look m request.now.did).used).page (C.pages caches.old) }
     ensures told { let m = machine_of (M.memory ram.now) registers.now (C.contexts caches.old) (C.pages caches.old) in
-        witness.new ≡ told W.next witness.old request.now (led_by_context m request.now
+        witness.new ≡ witness_after W.next witness.old request.now (led_by_context m request.now
         (context_look m request.now.did).filled (context_look m request.now.did).used) }
 {
     if is_too_wide(registers, request.did) {
@@ -258,7 +258,7 @@ fn by_directory<M: Region, C: Caches, W: Witness>(
     }
     match caches.context(request.did) {
         Some(context) => {
-            witness.tell(Event::Context(Source::Found, request.did, context));
+            witness.notice(Event::Context(Source::Found, request.did, context));
             by_context(
                 ram,
                 registers.features(),
@@ -293,14 +293,14 @@ fn by_new_context<M: Region, C: Caches, W: Witness>(
         (machine_of (M.memory ram.now) registers.now (C.contexts caches.old) (C.pages caches.old)) request.now
         (look request.now.did None (located (M.memory ram.now) registers.now request.now.did)).filled
         (located (M.memory ram.now) registers.now request.now.did)).page (C.pages caches.old) }
-    ensures told { witness.new ≡ told W.next witness.old request.now (led_by_context
+    ensures told { witness.new ≡ witness_after W.next witness.old request.now (led_by_context
         (machine_of (M.memory ram.now) registers.now (C.contexts caches.old) (C.pages caches.old)) request.now
         (look request.now.did None (located (M.memory ram.now) registers.now request.now.did)).filled
         (located (M.memory ram.now) registers.now request.now.did)) }
 {
     match locate(ram, registers, request.did) {
         Ok(context) => {
-            witness.tell(Event::Context(Source::Read, request.did, context));
+            witness.notice(Event::Context(Source::Read, request.did, context));
             let reached = by_context(
                 ram,
                 registers.features(),
@@ -334,14 +334,14 @@ pub(crate) fn by_context<M: Region, C: Caches, W: Witness>(
     ensures told { witness.new ≡ under_told W.next witness.old request.now (led_under (M.memory ram.now) features (C.pages caches.old) request.now context.now) }
 {
     if context.is_bare() {
-        witness.tell(Event::Way(Way::Context(*context)));
+        witness.notice(Event::Way(Way::Context(*context)));
         return Ok(request.iova);
     }
     let key = key_of(context, request.did, request.iova, request.kind);
     match caches.page(&key) {
         Some(hit) => {
-            witness.tell(Event::Page(Source::Found, key, hit));
-            witness.tell(Event::Way(Way::Walked(*context, hit)));
+            witness.notice(Event::Page(Source::Found, key, hit));
+            witness.notice(Event::Way(Way::Walked(*context, hit)));
             Ok(in_frame(&hit, request.iova))
         }
         None => by_walk(ram, features, caches, request, context, key, witness),
@@ -372,8 +372,8 @@ fn by_walk<M: Region, C: Caches, W: Witness>(
     match translate(ram, features, context, request.iova, request.kind) {
         Ok(hit) => {
             caches.fill_page(key, hit);
-            witness.tell(Event::Page(Source::Read, key, hit));
-            witness.tell(Event::Way(Way::Walked(*context, hit)));
+            witness.notice(Event::Page(Source::Read, key, hit));
+            witness.notice(Event::Way(Way::Walked(*context, hit)));
             Ok(in_frame(&hit, request.iova))
         }
         Err(fault) => refuse(Denial::translating(context, fault), witness),
@@ -386,7 +386,7 @@ fn refuse<W: Witness>(denial: Denial, witness: &mut W) -> Result<u64, Denial>
     ensures denied { result ≡ Err denial }
     ensures told { witness.new ≡ W.next witness.old (event.Way (way.Denied denial)) }
 {
-    witness.tell(Event::Way(Way::Denied(denial)));
+    witness.notice(Event::Way(Way::Denied(denial)));
     Err(denial)
 }
 

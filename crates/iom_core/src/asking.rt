@@ -24,8 +24,8 @@ impl Platform {
 }
 
 impl Board {
-    /// What a step asks of the IOMMU, if it is the next one in front of this memory, of which nothing is read: a device's access, a
-    /// block device's too. Its device id is below 2^24. None where it makes none.
+    /// What a step asks of the IOMMU, if it is the next one in front of this memory, of which nothing is read: a device's access, a block
+    /// device's too. Its device id is below 2^24. None if it makes none.
     #[tactic(auto, unfolding(crate::specs::Table::asked))]
     pub fn request_of<M: Region>(&self, ram: &M, step: &Step) -> Option<Request>
         ensures request { result ≡ request_of_step (state_on (M.memory ram.now) self.now) step.now }

@@ -9,7 +9,7 @@ ghost use Rattle.iom_core.specs.Table.{is_device_access};
 
 use crate::access::Request;
 use crate::caches::Lines;
-use crate::devices::copied;
+use crate::devices::copy_devices;
 use crate::hart::{load, store};
 use crate::iommu::Iommu;
 use crate::port::Port;
@@ -25,8 +25,8 @@ use iom_virtq::{Access, Bus};
 use std::alloc::{AllocError, Global};
 use std::marker::Model;
 
-/// One IOMMU, and up to eight block devices behind it, with no memory of their own: it is handed to them at each step, and others may
-/// write it between steps.
+/// One IOMMU, and up to eight block devices whose accesses it translates. They have no memory of their own: each step is given one, and
+/// others may write it between steps.
 #[derive(Drop)]
 pub struct Board {
     /// The IOMMU.
@@ -75,7 +75,7 @@ impl Board {
         ensures { IfOk result (λ copy. copy ≡ self.now) }
     {
         let iommu = self.iommu.try_clone(alloc)?;
-        let devices = copied(alloc, &self.devices)?;
+        let devices = copy_devices(alloc, &self.devices)?;
         Ok(Board { iommu, devices })
     }
 
@@ -109,7 +109,7 @@ impl Board {
         &self.iommu.lines.contexts
     }
 
-    /// The bytes of the disk of block device `n`, counted from 0; None where there is no such device.
+    /// The bytes of the disk of block device `n`, counted from 0; None if there is no such device.
     pub fn disk(&self, n: usize) -> Option<&[u8]>
         ensures { option_map (λ disk. disk.now) result ≡ option_map disk_of (slice_get self.now.devices n) }
     {
@@ -117,16 +117,16 @@ impl Board {
         Some(device.disk())
     }
 
-    /// The device id and the block device of number `n`, counted from 0; None where there is no such device.
+    /// The device id and the block device of number `n`, counted from 0; None if there is no such device.
     pub fn block_device(&self, n: usize) -> Option<&(u32, Blk)>
         ensures { option_map (λ own. own.now) result ≡ slice_get self.now.devices n }
     {
         self.devices.get(n)
     }
 
-    /// Carries out one step in front of this memory, and puts its answer, which is what the step table says, in place of what `answer`
-    /// holds. A witness is told of the access that the step makes, if it makes one: by which context and to which page it is led, where
-    /// these come from, and the way. It takes no memory of its own.
+    /// Carries out one step in front of this memory, and writes its answer, which is that of the step table, to `answer`. A witness notices
+    /// the access that the step makes, if it makes one: its context and its page, each with its source, and its way. It takes no memory of
+    /// its own.
     #[inline(always)]
     pub fn step_into<M: WritableRegion, W: Witness>(
         &mut self,
@@ -321,8 +321,8 @@ const DEVICE_ID_END: u64 = 1 << 24;
 // How many bytes a device's access has at most.
 const MOST_BYTES: u64 = 64;
 
-/// The request of device `did` for `len` bytes at IOVA `iova`; None where it may not ask so: its id is below 2^24, and the bytes are
-/// 1 to 64 within one page of 4096 bytes.
+/// The request of device `did` for `len` bytes at IOVA `iova`; None if it may not ask so: its id is below 2^24, and the bytes are 1 to 64
+/// within one page of 4096 bytes.
 pub(crate) fn device_request(did: u64, iova: u64, len: u64, kind: Kind) -> Option<Request>
     ensures some { IfSome result (λ request. (request ≡ access_to did iova kind) × (is_device_access did iova len ≡ true)) }
     ensures none { IfNone result (is_device_access did iova len ≡ false) }

@@ -15,8 +15,8 @@ use iom_mem::WritableRegion;
 use iom_queue::{Command, Fetch, next_command};
 
 impl Iommu {
-    /// Takes one command of the command queue and carries it out whole; false where there is none to take. One that can't be
-    /// fetched or carried out sets cqmf, an illegal one cmd_ill, and stays at the head ("Command-queue CSR (cqcsr)").
+    /// Takes one command of the command queue and carries it out whole; false if there is none to take. One that can't be fetched or
+    /// carried out sets cqmf, an illegal one cmd_ill, and stays at the head ("Command-queue CSR (cqcsr)").
     #[tactic(auto, unfolding(crate::specs::Commands::after_command, crate::specs::Commands::executed_by))]
     pub fn command<M: WritableRegion>(&mut self, ram: &mut M) -> bool
         ensures taken { result ≡ is_taken (fetched (in_front_of (M.memory ram.old) self.old)) }

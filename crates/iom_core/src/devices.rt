@@ -18,8 +18,8 @@ use iom_mem::WritableRegion;
 use std::alloc::{AllocError, Global};
 
 impl Board {
-    /// What the hart's read of `size` bytes of the registers of block device `dev` at offset `off` answers: `Value`, `NoDevice`
-    /// where there is no such device, or `BadAccess` where the registers don't take the access.
+    /// What the hart's read of `size` bytes of the registers of block device `dev` at offset `off` answers: `Value`, `NoDevice` if there is
+    /// no such device, or `BadAccess` if the registers don't take the access.
     pub(crate) fn dev_read(&self, dev: u64, off: u64, size: u64) -> Answer
         ensures { result ≡ dev_read (slice_get self.now.devices dev) off size }
     {
@@ -32,8 +32,8 @@ impl Board {
         }
     }
 
-    /// What the hart's write of `value`, `size` bytes, to the registers of block device `dev` at offset `off` answers: `Done`, or
-    /// without a change `NoDevice`, `Misuse` where the value is too wide for the size, or `BadAccess`.
+    /// What the hart's write of `value`, `size` bytes, to the registers of block device `dev` at offset `off` answers: `Done`, or without a
+    /// change `NoDevice`, `Misuse` if the value is too wide for the size, or `BadAccess`.
     pub(crate) fn dev_write(&mut self, dev: u64, off: u64, size: u64, value: u64) -> Answer
         ensures answer { (memory : Memory) →
             result ≡ (dev_written (state_on memory self.old) dev (slice_get self.old.devices dev) off size value).answer }
@@ -43,14 +43,14 @@ impl Board {
         let n = dev as usize;
         if n < self.devices.len() {
             let (_, device) = &mut self.devices[n];
-            written(device, off, size, value)
+            write_register(device, off, size, value)
         } else {
             Answer::NoDevice
         }
     }
 
-    /// What a step of block device `dev` answers: `Done` for an access that was granted, `Idle` where it had none to make,
-    /// `Denied`, `BusError`, or `NoDevice` where there is no such device. A witness is told of the access.
+    /// What a step of block device `dev` answers: `Done` for an access that was granted, `Idle` if it had none to make, `Denied`,
+    /// `BusError`, or `NoDevice` if there is no such device. A witness notices the access.
     pub(crate) fn device<M: WritableRegion, W: Witness>(
         &mut self,
         ram: &mut M,
@@ -70,13 +70,13 @@ impl Board {
             return Answer::NoDevice;
         }
         let (did, device) = &mut self.devices[n];
-        moved(ram, &mut self.iommu, *did, device, witness)
+        move_once(ram, &mut self.iommu, *did, device, witness)
     }
 }
 
 // A write of one device's register: what it answers, and what it leaves.
 #[tactic(auto, unfolding(crate::specs::Table::dev_write))]
-fn written(device: &mut Blk, off: u64, size: u64, value: u64) -> Answer
+fn write_register(device: &mut Blk, off: u64, size: u64, value: u64) -> Answer
     ensures answer { result ≡ (dev_write device.old off size value).answer }
     ensures left { device.new ≡ (dev_write device.old off size value).device }
 {
@@ -92,7 +92,7 @@ fn written(device: &mut Blk, off: u64, size: u64, value: u64) -> Answer
 
 // Memory and the IOMMU in front of it, lent to one device for its step.
 #[tactic(auto, unfolding(crate::specs::Table::moving))]
-fn moved<M: WritableRegion, W: Witness>(
+fn move_once<M: WritableRegion, W: Witness>(
     ram: &mut M,
     iommu: &mut Iommu,
     did: u32,
@@ -124,7 +124,10 @@ fn moved<M: WritableRegion, W: Witness>(
 }
 
 /// The same devices once more, each with a disk of its own. The fault is a refused allocation, and then these stand unchanged.
-pub(crate) fn copied(alloc: Global, devices: &[(u32, Blk)]) -> Result<Vec<(u32, Blk)>, AllocError>
+pub(crate) fn copy_devices(
+    alloc: Global,
+    devices: &[(u32, Blk)],
+) -> Result<Vec<(u32, Blk)>, AllocError>
     ensures { IfOk result (λ copies. copies.items ≡ devices.now) }
 {
     let mut copies = Vec::new(alloc);

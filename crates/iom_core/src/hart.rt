@@ -8,8 +8,8 @@ use crate::step::Answer;
 use iom_bits::le_u64;
 use iom_mem::{Region, WritableRegion};
 
-/// The number of the `size` bytes of memory from physical address `addr` on, the lowest first, as `Value`. `Misuse` where the size is
-/// none of 1, 2, 4 and 8 or the address no multiple of it; `BusError` where a byte is outside memory.
+/// The number of the `size` bytes of memory from physical address `addr` on, the lowest first, as `Value`. `Misuse` if the size is none of
+/// 1, 2, 4 and 8 or the address no multiple of it; `BusError` if a byte is outside memory.
 #[tactic(auto, unfolding(crate::specs::Table::load))]
 pub fn load<M: Region>(ram: &M, addr: u64, size: u64) -> Answer
     ensures { result ≡ load (M.memory ram.now) addr size }
@@ -25,9 +25,9 @@ pub fn load<M: Region>(ram: &M, addr: u64, size: u64) -> Answer
     }
 }
 
-/// Writes the lowest `size` bytes of `value` to memory from physical address `addr` on, and answers `Done`. `Misuse` where the size is
-/// none of 1, 2, 4 and 8, the address no multiple of it, or the value too wide for it; `BusError` where a byte is outside memory. Then
-/// nothing is changed.
+/// Writes the lowest `size` bytes of `value` to memory from physical address `addr` on, and answers `Done`. `Misuse` if the size is none of
+/// 1, 2, 4 and 8, the address no multiple of it, or the value too wide for it; `BusError` if a byte is outside memory. Then nothing is
+/// changed.
 #[tactic(auto, unfolding(crate::specs::Table::store))]
 pub fn store<M: WritableRegion>(ram: &mut M, addr: u64, size: u64, value: u64) -> Answer
     ensures answer { result ≡ (store (M.memory ram.old) addr size value).answer }
@@ -45,8 +45,8 @@ pub fn store<M: WritableRegion>(ram: &mut M, addr: u64, size: u64, value: u64) -
 }
 
 impl Iommu {
-    /// The number of the `size` bytes of the IOMMU's registers from offset `off` on, as `Value`; `BadAccess` where the access isn't
-    /// legal: `Regs::read` says what is.
+    /// The number of the `size` bytes of the IOMMU's registers from offset `off` on, as `Value`; `BadAccess` if the access isn't legal:
+    /// `Regs::read` says what is.
     #[tactic(auto, unfolding(crate::specs::Table::reg_read))]
     pub fn reg_read(&self, off: u64, size: u64) -> Answer
         ensures { result ≡ reg_read self.now.registers off size }
@@ -57,9 +57,8 @@ impl Iommu {
         }
     }
 
-    /// Writes the `size` bytes of `value` to the IOMMU's registers from offset `off` on, and answers `Done`. `Misuse` where the
-    /// value is too wide for a size of 1, 2, 4 or 8; `BadAccess` where the access isn't legal: `Regs::read` says what is. Then
-    /// nothing is changed.
+    /// Writes the `size` bytes of `value` to the IOMMU's registers from offset `off` on, and answers `Done`. `Misuse` if the value is too
+    /// wide for a size of 1, 2, 4 or 8; `BadAccess` if the access isn't legal: `Regs::read` says what is. Then nothing is changed.
     #[tactic(auto, unfolding(crate::specs::Table::reg_write))]
     pub fn reg_write(&mut self, off: u64, size: u64, value: u64) -> Answer
         ensures answer { result ≡ (reg_write self.old.registers off size value).answer }

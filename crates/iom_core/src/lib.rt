@@ -4,7 +4,7 @@
 pub use access::{Denial, Request};
 pub use board::Board;
 pub use law::freshness;
-pub use looking::Seen;
+pub use looking::Lookup;
 pub use others::others_write;
 pub use platform::Platform;
 pub use port::Port;

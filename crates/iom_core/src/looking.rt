@@ -14,23 +14,23 @@ use crate::witness::{Event, Source, Witness};
 use iom_ddt::Context;
 use iom_mem::Region;
 
-/// What leads an access, as it was told of it.
+/// The things that lead an access: its context and its page, each with its source, and its way.
 #[derive(Clone, Copy)]
-pub struct Seen {
-    /// The context that leads the device, also where the access is denied under it, and where it comes from; None where none does.
+pub struct Lookup {
+    /// The context that leads the device, with its source; it is here also if the access is denied under it. None if none does.
     pub context: Option<(Source, Context)>,
-    /// Where the page's hit comes from; None where the stages of a context lead it to none.
+    /// The source of the page's hit; None if the stages of a context lead it to none.
     pub page: Option<Source>,
     /// The way that it is led.
     pub way: Way,
 }
 
-impl Seen {
+impl Lookup {
     /// Nothing yet.
-    pub fn nothing() -> Seen
+    pub fn nothing() -> Lookup
         ensures { result ≡ nothing_seen }
     {
-        Seen {
+        Lookup {
             context: None,
             page: None,
             way: Way::Register,
@@ -38,10 +38,10 @@ impl Seen {
     }
 }
 
-impl Seen {
+impl Lookup {
     ghost use Rattle.iom_core.specs.Looking.{is_cached, is_context_read, is_page_read};
 
-    /// Whether the caches alone lead the access, so that nothing in memory is read for it.
+    /// Whether the access is led by the caches without a look at memory.
     pub fn is_cached(&self) -> bool
         ensures { result ≡ is_cached self.now }
     {
@@ -67,13 +67,13 @@ impl Seen {
     }
 }
 
-impl Witness for Seen {
+impl Witness for Lookup {
     ghost use Rattle.iom_core.specs.Looking.{noticed};
 
     ghost next = { noticed };
 
     #[inline(always)]
-    fn tell(&mut self, event: Event) {
+    fn notice(&mut self, event: Event) {
         match event {
             Event::Context(from, _, context) => self.context = Some((from, context)),
             Event::Page(from, _, _) => self.page = Some(from),
@@ -85,17 +85,17 @@ impl Witness for Seen {
 impl Platform {
     /// What leads a request now, from the caches first and else from the tables, as a step leads it ("Process to translate an
     /// IOVA"). Nothing is cached, reported or changed. The IOVA may be any.
-    pub fn seen(&self, request: &Request) -> Seen
+    pub fn lookup(&self, request: &Request) -> Lookup
         ensures seen { result ≡ seen_in self.now.machine request.now }
     {
-        self.board.seen(&self.ram, request)
+        self.board.lookup(&self.ram, request)
     }
 
-    /// What leads a request now by the tables alone, where nothing is cached.
-    pub fn seen_uncached(&self, request: &Request) -> Seen
+    /// The things that would lead a request now if nothing were cached.
+    pub fn lookup_uncached(&self, request: &Request) -> Lookup
         ensures seen { result ≡ seen_in (uncached self.now.machine) request.now }
     {
-        self.board.seen_uncached(&self.ram, request)
+        self.board.lookup_uncached(&self.ram, request)
     }
 
     /// The way of a request below this context of its device, as the tables lead it now.
@@ -109,21 +109,21 @@ impl Platform {
 impl Board {
     /// What leads a request in front of this memory now, from the caches first and else from the tables, as a step leads it ("Process
     /// to translate an IOVA"). Nothing is cached, reported or changed. The IOVA may be any.
-    pub fn seen<M: Region>(&self, ram: &M, request: &Request) -> Seen
+    pub fn lookup<M: Region>(&self, ram: &M, request: &Request) -> Lookup
         ensures seen { result ≡ seen_in (in_front_of (M.memory ram.now) self.now.iommu) request.now }
     {
-        let mut seen = Seen::nothing();
+        let mut seen = Lookup::nothing();
         let iommu = &self.iommu;
         let mut looking = Looking(&iommu.lines);
         let _ = lead(ram, &iommu.registers, &mut looking, request, &mut seen);
         seen
     }
 
-    /// What leads a request in front of this memory now by the tables alone, where nothing is cached.
-    pub fn seen_uncached<M: Region>(&self, ram: &M, request: &Request) -> Seen
+    /// The things that would lead a request in front of this memory now if nothing were cached.
+    pub fn lookup_uncached<M: Region>(&self, ram: &M, request: &Request) -> Lookup
         ensures seen { result ≡ seen_in (uncached (in_front_of (M.memory ram.now) self.now.iommu)) request.now }
     {
-        let mut seen = Seen::nothing();
+        let mut seen = Lookup::nothing();
         let _ = lead(ram, &self.iommu.registers, &mut Nothing, request, &mut seen);
         seen
     }
@@ -132,7 +132,7 @@ impl Board {
     pub fn way_under<M: Region>(&self, ram: &M, request: &Request, context: &Context) -> Way
         ensures way { result ≡ (led_under (M.memory ram.now) self.now.iommu.registers.features [] request.now context.now).way }
     {
-        let mut seen = Seen::nothing();
+        let mut seen = Lookup::nothing();
         let features = self.iommu.registers.features();
         let _ = by_context(ram, features, &mut Nothing, request, context, &mut seen);
         seen.way

@@ -12,7 +12,7 @@ use iom_regs::Regs;
 use std::alloc::{AllocError, Global};
 use std::marker::Model;
 
-/// One memory, one IOMMU, and up to eight block devices behind it.
+/// One memory, one IOMMU, and up to eight block devices whose accesses it translates.
 #[derive(Drop)]
 pub struct Platform {
     /// Memory, at physical addresses.
@@ -100,14 +100,14 @@ impl Platform {
         self.board.contexts()
     }
 
-    /// The bytes of the disk of block device `n`, counted from 0; None where there is no such device.
+    /// The bytes of the disk of block device `n`, counted from 0; None if there is no such device.
     pub fn disk(&self, n: usize) -> Option<&[u8]>
         ensures { option_map (λ disk. disk.now) result ≡ option_map disk_of (slice_get self.now.devices n) }
     {
         self.board.disk(n)
     }
 
-    /// The device id and the block device of number `n`, counted from 0; None where there is no such device.
+    /// The device id and the block device of number `n`, counted from 0; None if there is no such device.
     pub fn block_device(&self, n: usize) -> Option<&(u32, Blk)>
         ensures { option_map (λ own. own.now) result ≡ slice_get self.now.devices n }
     {
@@ -128,8 +128,8 @@ impl Platform {
         answer
     }
 
-    /// Carries out one step as `step` does, and puts its answer in place of what `answer` holds. A witness is told of the access that the
-    /// step makes, if it makes one: by which context and to which page it is led, where these come from, and the way.
+    /// Carries out one step as `step` does, and writes its answer to `answer`. A witness notices the access that the step makes, if it
+    /// makes one: its context and its page, each with its source, and its way.
     #[inline(always)]
     pub fn step_into<W: Witness>(&mut self, step: &Step, answer: &mut Answer, witness: &mut W)
         ensures answer { answer.new ≡ (next self.old step.now).answer }

@@ -6,8 +6,8 @@ use crate::witness::Witness;
 use iom_mem::WritableRegion;
 use iom_virtq::{Access, Bus};
 
-/// A device's way to memory: memory and the IOMMU in front of it, lent to one device id, and who is told of its accesses. Only a
-/// platform's steps make one.
+/// A device's way to memory: memory and the IOMMU in front of it, lent to one device id, and the witness of its accesses. Only a platform's
+/// steps make one.
 #[derive(Drop)]
 pub struct Port<'m, 'i, 'w, M: WritableRegion, W: Witness> {
     /// The memory.
@@ -16,7 +16,7 @@ pub struct Port<'m, 'i, 'w, M: WritableRegion, W: Witness> {
     pub(crate) iommu: &'i mut Iommu,
     /// The device's id, 24 bits.
     pub(crate) did: u32,
-    /// Who is told of the accesses.
+    /// The witness of the accesses.
     pub(crate) witness: &'w mut W,
     /// The device's id is below 2^24.
     pub ghost did_fits: { did < device_id_end },

@@ -1,4 +1,4 @@
-/// Where the translation comes from that a device's access used, as numbers of steps: moment k is the state before step k.
+/// The warrant of a device's access, as numbers of steps: moment k is the state before step k.
 #[derive(Clone, Copy, PartialEq)]
 pub enum Warrant {
     /// ddtp's mode was Bare: the physical address was the IOVA.

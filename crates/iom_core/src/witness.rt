@@ -1,4 +1,4 @@
-//! What is told of an access while it is made.
+//! The witness of an access, and the events that it notices.
 
 ghost use Rattle.std.specs.Prelude.{◌≡◌};
 
@@ -7,7 +7,7 @@ use iom_cache::Key;
 use iom_ddt::Context;
 use iom_nested::Hit;
 
-/// Where what leads a request comes from.
+/// The source of a context or a hit that leads a request.
 #[derive(Clone, Copy, PartialEq)]
 pub enum Source {
     /// A live place of its cache.
@@ -16,33 +16,33 @@ pub enum Source {
     Read,
 }
 
-/// What is told of an access, each as it comes to pass ("Process to translate an IOVA").
+/// An event of an access, reported to its witness when it happens ("Process to translate an IOVA").
 #[derive(Clone, Copy)]
 pub enum Event {
     /// This context leads the device with this id.
     Context(Source, u32, Context),
     /// The page with this key leads to this hit.
     Page(Source, Key, Hit),
-    /// The request is led this way. It is the last that is told of an access.
+    /// The request is led this way. This is the last event of an access.
     Way(Way),
 }
 
-/// Who is told what an access does.
+/// A witness, which notices the events of an access.
 pub trait Witness {
     ghost use Rattle.iom_core.specs.declared.witness.Event.{Event};
 
-    /// What it keeps when it is told an event.
+    /// The witness after an event.
     ghost next: { Self → Event → Self };
 
     /// Tells it an event.
-    fn tell(&mut self, event: Event)
+    fn notice(&mut self, event: Event)
         ensures { self.new ≡ next self.old event };
 }
 
-/// Nobody: an access that is told to it takes no more than one that isn't told.
+/// A witness that notices nothing, and costs an access nothing.
 impl Witness for () {
     ghost next = { λ self event. self };
 
     #[inline(always)]
-    fn tell(&mut self, _event: Event) {}
+    fn notice(&mut self, _event: Event) {}
 }

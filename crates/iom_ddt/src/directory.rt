@@ -12,9 +12,9 @@ use iom_regs::{Mode, Regs};
 /// The context of a device id of at most 24 bits, under a mode that has a directory ("Process to locate the
 /// Device-context").
 ///
-/// `TooWide` where the id has bits above those of the directory's levels; this is tested first. Then the entries on the way
-/// and the context are judged in turn, and the first fault is the answer: `DirAccess` outside memory, `DirInvalid` where
-/// V = 0, `DirBad` where it is misconfigured.
+/// `TooWide` if the id has bits above those of the directory's levels; this is tested first. Then the entries on the way and the context
+/// are judged in turn, and the first fault is the answer: `DirAccess` outside memory, `DirInvalid` if V = 0, `DirBad` if it is
+/// misconfigured.
 #[tactic(auto, unfolding(crate::specs::Directory::located))]
 pub fn locate<M: Region>(ram: &M, registers: &Regs, did: u32) -> Result<Context, Cause>
     requires directory { 1 ≤ levels_of (mode_of registers.now) }
@@ -33,7 +33,7 @@ pub fn locate<M: Region>(ram: &M, registers: &Regs, did: u32) -> Result<Context,
     context_at(ram, registers, table * 4096 + ddi(did, 0) * 32)
 }
 
-/// How many levels of tables the directory has, 1 to 3; 0 where there is none.
+/// How many levels of tables the directory has, 1 to 3; 0 if there is none.
 pub(crate) fn levels_of(mode: Mode) -> u8
     ensures { result ≡ levels_of mode }
 {
@@ -66,9 +66,8 @@ pub(crate) fn ddi(did: u64, level: u8) -> u64
     }
 }
 
-/// The PPN, 44 bits, of the table that the entry at physical address `place` points to: that address divided by 4096. `DirAccess`
-/// where a byte of the entry is outside memory, `DirInvalid` where V = 0, `DirBad` where a reserved bit is set ("Process to locate
-/// the Device-context").
+/// The PPN, 44 bits, of the table that the entry at physical address `place` points to: that address divided by 4096. `DirAccess` if a byte
+/// of the entry is outside memory, `DirInvalid` if V = 0, `DirBad` if a reserved bit is set ("Process to locate the Device-context").
 pub(crate) fn pointed_by<M: Region>(ram: &M, place: u64) -> Result<u64, Cause>
     ensures entry { result ≡ pointed_by (word (M.memory ram.now) place) }
     ensures fits { IfOk result (λ table. table < 2 ^ 44) }

@@ -7,9 +7,8 @@ use iom_bits::{Cause, field, flag, has_bit};
 
 /// The context that the four words tc, iohgatp, ta and fsc encode ("Device-context fields").
 ///
-/// `DirInvalid` where V is 0, whatever else the words hold; `DirBad` where V is 1 and they encode no well-formed
-/// context ("Device-context configuration checks"): a reserved bit is set, a mode is none of 0, 8, 9 and 10, or the root of
-/// the second stage isn't aligned.
+/// `DirInvalid` if V is 0, whatever else the words hold; `DirBad` if V is 1 and they encode no well-formed context ("Device-context
+/// configuration checks"): a reserved bit is set, a mode is none of 0, 8, 9 and 10, or the root of the second stage isn't aligned.
 #[tactic(auto, unfolding(crate::specs::Words::context_in, iom_bits::specs::Bits::has_bit))]
 pub fn context_of(words: [u64; 4]) -> Result<Context, Cause>
     ensures value { result ≡ context_in words }

@@ -13,10 +13,9 @@ use iom_regs::Regs;
 /// What is met from ddtp to a device's context. `place` is its physical address.
 #[derive(Clone, Copy, PartialEq)]
 pub enum Met {
-    /// A non-leaf DDT entry, 8 bytes, that points to a further table; None where a byte of it is outside memory.
+    /// A non-leaf DDT entry, 8 bytes, that points to a further table; None if a byte of it is outside memory.
     Entry { place: u64, word: Option<u64> },
-    /// A leaf DDT entry, 32 bytes: the four words tc, iohgatp, ta and fsc of the context; None where a byte of them is outside
-    /// memory.
+    /// A leaf DDT entry, 32 bytes: the four words tc, iohgatp, ta and fsc of the context; None if a byte of them is outside memory.
     Leaf { place: u64, words: Option<[u64; 4]> },
 }
 
@@ -32,8 +31,8 @@ impl Default for Met {
 /// What is met on the way to a context, from the root's entry on: at most one item for each of the 1 to 3 levels.
 pub type DirectoryPath = ArrayVec<Met, 3>;
 
-/// What `locate` meets for a device id below 2^24, up to the context or to the first entry that is a fault; nothing where the id is
-/// too wide ("Process to locate the Device-context").
+/// What `locate` meets for a device id below 2^24, up to the context or to the first entry that is a fault; nothing if the id is too wide
+/// ("Process to locate the Device-context").
 #[tactic(auto, unfolding(crate::specs::Directory::path_of))]
 pub fn path<M: Region>(ram: &M, registers: &Regs, did: u32) -> DirectoryPath
     requires directory { 1 ≤ levels_of (mode_of registers.now) }

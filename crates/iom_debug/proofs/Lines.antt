@@ -3,15 +3,15 @@ use Rattle.std.proofs.Common.{◌≡◌, ◌≢◌, ◌∙◌, ℕ, List, [], ap
 use Rattle.std.specs.Option.{unwrap_or}
 use Rattle.iom_core.specs.State.{State}
 use Rattle.iom_core.specs.Run.{end_of}
-use Rattle.iom_account.specs.Account.{Account}
+use Rattle.iom_account.specs.Account.{AccountView}
 use Rattle.iom_tool.specs.Console.{Console, console, trace_after}
 use Rattle.iom_tool.specs.Script.{Bad, DebugLine, debug_line_of, line_of}
 use Rattle.iom_tool.proofs.Languages.{as_run as same_line}
-use Rattle.iom_tool.specs.declared.trace.Entry.{Entry}
+use Rattle.iom_tool.specs.declared.trace.TracedStep.{TracedStep}
 use Rattle.iom_tool.specs.Output.{steps_of}
 use Rattle.iom_debug.specs.Output.{IsAsRun, debug_reply, debug_steps, debug_steps_of}
 
-pub as_run : (now : Console) (account : Account) (text given : List ℕ) (state : State) (trace : List Entry) → line_of text ≢ Bad →
+pub as_run : (now : Console) (account : AccountView) (text given : List ℕ) (state : State) (trace : List TracedStep) → line_of text ≢ Bad →
     given ≡ unwrap_or (debug_reply now account (debug_line_of text)) [] → state ≡ end_of now.state (debug_steps_of now.state text) →
     trace ≡ trace_after now.trace now.state (debug_steps_of now.state text) → IsAsRun now text given (console state trace)
 as_run now account text given state trace other answered moved kept =

@@ -6,9 +6,9 @@ use Rattle.iom_core.specs.Run.{end_of}
 use Rattle.iom_core.specs.declared.step.Step.{Step}
 use Rattle.iom_core.specs.declared.step.Step.TheVariants as step
 use Rattle.iom_account.proofs.Telling.{along_more, along_none}
-use Rattle.iom_tool.specs.declared.trace.Entry.{Entry}
+use Rattle.iom_tool.specs.declared.trace.TracedStep.{TracedStep}
 use Rattle.iom_tool.specs.Console.{trace_after}
-use Rattle.iom_debug.specs.Reasons.{GoesAlong, Reasons, last_stale}
+use Rattle.iom_debug.specs.Reasons.{GoesAlong, LineAccountView, last_stale}
 use Rattle.iom_tool.specs.Script.{stores_at}
 use Rattle.iom_debug.specs.Taking.{Desk, Took, TookAll, is_done, last_answer, taken}
 
@@ -18,7 +18,7 @@ pub record Left (start : Desk) (number : ℕ) (all : List Step) (here : Desk) (r
   pub trace_is : trace_after start.trace start.state (taken start.state all) ≡ trace_after here.trace here.state (taken here.state rest)
   pub stale_is : last_stale start.reasons.stale start.state (taken start.state all)
       ≡ last_stale here.reasons.stale here.state (taken here.state rest)
-  pub along : (after : Reasons) (left : State) → GoesAlong here.reasons here.state (taken here.state rest) number after left →
+  pub along : (after : LineAccountView) (left : State) → GoesAlong here.reasons here.state (taken here.state rest) number after left →
       GoesAlong start.reasons start.state (taken start.state all) number after left
   pub count_is : length (taken start.state all) ≡ count + length (taken here.state rest)
   pub last_is : last_answer start.state all ≡ last_answer here.state rest
@@ -48,7 +48,7 @@ module _ (start : Desk) (number : ℕ) (all : List Step) (here : Desk) (step : S
       record {
         state_is = left.state_is ∙ ap (end_of here.state) is ∙ ap (λ (s : State). end_of s (taken s rest)) (sym took.state);
         trace_is = left.trace_is ∙ ap (trace_after here.trace here.state) is
-            ∙ ap (λ (t : List Entry). trace_after t there (taken there rest)) (sym took.trace)
+            ∙ ap (λ (t : List TracedStep). trace_after t there (taken there rest)) (sym took.trace)
             ∙ ap (λ (s : State). trace_after after.trace s (taken s rest)) (sym took.state);
         stale_is = left.stale_is ∙ ap (last_stale here.reasons.stale here.state) is
             ∙ ap (λ found. last_stale found there (taken there rest)) (sym took.stale)

@@ -7,20 +7,20 @@ use Rattle.std.proofs.lemmas.List.Elements.{filter-append}
 use Rattle.std.proofs.lemmas.List.Sums.{sum_by_push}
 use Rattle.circular_buffer.specs.Buffer.{last_item}
 use Rattle.iom_debug.specs.Summary.{Counts, and_one, causes, counted, counts_of, denied_with, is_denied_for, is_granted, is_it, stale_lines, up_to_64_bits, with_line, with_outcome, with_own_line}
-use Rattle.iom_debug.specs.declared.summary.Outcome.{Outcome}
+use Rattle.iom_debug.specs.declared.summary.AccessOutcome.{AccessOutcome}
 
 one_more : (b : Bool) (n : ℕ) → up_to_64_bits (n + cond b 1 0) ≡ and_one b (up_to_64_bits n)
 one_more true n = omega arith
 one_more false n = ap up_to_64_bits (omega arith)
 
-counted_more : (is : Outcome → Bool) (told : List Outcome) (o : Outcome) → counted is (told ++ o ∷ []) ≡ and_one (is o) (counted is told)
+counted_more : (is : AccessOutcome → Bool) (told : List AccessOutcome) (o : AccessOutcome) → counted is (told ++ o ∷ []) ≡ and_one (is o) (counted is told)
 counted_more is told o =
     ap up_to_64_bits (sum_by_push (λ x. cond (is x) 1 0) told o) ∙ one_more (is o) (count_by is told)
 
-many_more : (told : List Outcome) (o : Outcome) → up_to_64_bits (length (told ++ o ∷ [])) ≡ and_one true (up_to_64_bits (length told))
+many_more : (told : List AccessOutcome) (o : AccessOutcome) → up_to_64_bits (length (told ++ o ∷ [])) ≡ and_one true (up_to_64_bits (length told))
 many_more told o = ap up_to_64_bits (length-append told (o ∷ [])) ∙ one_more true (length told)
 
-denied_more : (cs : List ℕ) (told : List Outcome) (o : Outcome) →
+denied_more : (cs : List ℕ) (told : List AccessOutcome) (o : AccessOutcome) →
     map (λ cause. (cause, counted (is_denied_for cause) (told ++ o ∷ []))) cs
     ≡ map (denied_with o) (map (λ cause. (cause, counted (is_denied_for cause) told)) cs)
 denied_more [] told o = refl
@@ -28,10 +28,10 @@ denied_more (c ∷ cs) told o =
     rw (counted_more (is_denied_for c) told o, denied_more cs told o) refl
 
 -- an access that was granted leaves what is beside a cause
-kept_entry : (o : Outcome) (entry : ℕ × ℕ) → o.denied ≡ None → denied_with o entry ≡ entry
+kept_entry : (o : AccessOutcome) (entry : ℕ × ℕ) → o.denied ≡ None → denied_with o entry ≡ entry
 kept_entry o entry is = ap (λ denied. (entry.0, and_one (is_it entry.0 denied) entry.1)) is
 
-pub none_denied : (o : Outcome) (counts : List (ℕ × ℕ)) → o.denied ≡ None → counts ≡ map (denied_with o) counts
+pub none_denied : (o : AccessOutcome) (counts : List (ℕ × ℕ)) → o.denied ≡ None → counts ≡ map (denied_with o) counts
 none_denied o [] is = refl
 none_denied o (entry ∷ counts) is =
     ap (λ (l : List (ℕ × ℕ)). entry ∷ l) (none_denied o counts is)
@@ -89,20 +89,20 @@ dedup_more : (n : ℕ) (xs : List ℕ) → dedup same (xs ++ n ∷ []) ≡ with_
 dedup_more n [] = refl
 dedup_more n (x ∷ xs) = dedup_from_more x n xs
 
-line_by : (earlier : List ℕ) (o : Outcome) (b : Bool) → dedup same (earlier ++ map (λ x. x.number) (cond b (o ∷ []) []))
+line_by : (earlier : List ℕ) (o : AccessOutcome) (b : Bool) → dedup same (earlier ++ map (λ x. x.number) (cond b (o ∷ []) []))
     ≡ (if b then with_line (dedup same earlier) o.number else dedup same earlier)
 line_by earlier o true = dedup_more o.number earlier
 line_by earlier o false = ap (dedup same) (append-nil earlier)
 
-lines_more : (told : List Outcome) (o : Outcome) →
+lines_more : (told : List AccessOutcome) (o : AccessOutcome) →
     stale_lines (told ++ o ∷ []) ≡ (if o.is_stale then with_line (stale_lines told) o.number else stale_lines told)
 lines_more told o =
-    ap (λ (l : List Outcome). dedup same (map (λ x. x.number) l)) (filter-append (λ x. x.is_stale) told (o ∷ []))
+    ap (λ (l : List AccessOutcome). dedup same (map (λ x. x.number) l)) (filter-append (λ x. x.is_stale) told (o ∷ []))
     ∙ ap (dedup same) (map-append (λ x. x.number) (filter (λ x. x.is_stale) told) (filter (λ x. x.is_stale) (o ∷ [])))
     ∙ line_by (map (λ x. x.number) (filter (λ x. x.is_stale) told)) o o.is_stale
 
 -- one access more
-summed : (told : List Outcome) (o : Outcome) → with_outcome (counts_of told) o ≡ counts_of (told ++ o ∷ [])
+summed : (told : List AccessOutcome) (o : AccessOutcome) → with_outcome (counts_of told) o ≡ counts_of (told ++ o ∷ [])
 summed told o = rw (
   many_more told o,
   counted_more is_granted told o,
@@ -113,8 +113,8 @@ summed told o = rw (
 ) refl
 
 -- the same in two steps
-pub summed_by : (old mid new : Counts) (o : Outcome) → mid ≡ with_own_line old o → new ≡ record (with_outcome mid o) { lines = mid.lines } →
-    (told : List Outcome) → old ≡ counts_of told → new ≡ counts_of (told ++ o ∷ [])
+pub summed_by : (old mid new : Counts) (o : AccessOutcome) → mid ≡ with_own_line old o → new ≡ record (with_outcome mid o) { lines = mid.lines } →
+    (told : List AccessOutcome) → old ≡ counts_of told → new ≡ counts_of (told ++ o ∷ [])
 summed_by old mid new o mid_is new_is told is =
     new_is ∙ ap (λ (m : Counts). record (with_outcome m o) { lines = m.lines }) mid_is
     ∙ ap (λ (c : Counts). with_outcome c o) is ∙ summed told o

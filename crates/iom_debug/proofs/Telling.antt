@@ -63,14 +63,14 @@ debug_says before after line kept said answer number cut count left is told =
 
 pub check_says : (before : Checked) (after : Desk) (line kept said answer tables : List ℕ) (number passed failed : ℕ) → kept ≡ take 513 line →
     number ≡ up_to_64_bits (before.number + 1) → Leaves before.desk kept number after → answer ≡ answer_at before.desk kept →
-    tables ≡ tables_told before.is_stale_told after.reasons.stale → said ≡ verdict number kept answer tables →
+    tables ≡ tables_told before.fails_if_stale after.reasons.stale → said ≡ verdict number kept answer tables →
     passed ≡ and_one (passes (wanted kept) answer tables) before.passed → failed ≡ and_one (fails (wanted kept) answer tables) before.failed →
     CheckSays before (take 513 line) said
-    (record { desk = after; number = number; is_stale_told = before.is_stale_told; passed = passed; failed = failed })
+    (record { desk = after; number = number; fails_if_stale = before.fails_if_stale; passed = passed; failed = failed })
 check_says before after line kept said answer tables number passed failed cut count left is stale told pass fail =
-    let at : tables ≡ tables_at before.is_stale_told before.desk kept = stale ∙ ap (tables_told before.is_stale_told) left.stale in
+    let at : tables ≡ tables_at before.fails_if_stale before.desk kept = stale ∙ ap (tables_told before.fails_if_stale) left.stale in
     subst (λ l. CheckSays before l said
-    (record { desk = after; number = number; is_stale_told = before.is_stale_told; passed = passed; failed = failed })) cut
+    (record { desk = after; number = number; fails_if_stale = before.fails_if_stale; passed = passed; failed = failed })) cut
     (record {
       number = count;
       left = left;

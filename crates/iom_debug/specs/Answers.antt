@@ -8,14 +8,14 @@ use Rattle.iom_debug.specs.Ways.{stale_address, stale_context_text, stale_page_t
 use Rattle.iom_debug.specs.Texts.{bytes_text, device_text, disk_text, queue_text, vectors_text}
 use Rattle.iom_tool.specs.declared.language.Inquiry.{Inquiry}
 use Rattle.iom_tool.specs.declared.language.Inquiry.TheVariants as inquiry
-use Rattle.iom_account.specs.Account.{Account}
+use Rattle.iom_account.specs.Account.{AccountView}
 
 -- by what is told of the last steps, and of which steps filled the caches
-abbrev pub inquired : Console → Account → Inquiry → List ℕ
+abbrev pub inquired : Console → AccountView → Inquiry → List ℕ
 inquired now account (inquiry.Stale request) = stale_text (stale_address now.state.machine request)
 inquired now account (inquiry.StaleContext i) = stale_context_text now.state.machine i
 inquired now account (inquiry.StalePage i) = stale_page_text now.state.machine i
-inquired now account (inquiry.Why i) = why_text (slice_get account.told i)
+inquired now account (inquiry.Why i) = why_text (slice_get account.reasons i)
 inquired now account (inquiry.ContextOrigin i) = context_origin_text account.history i
 inquired now account (inquiry.PageOrigin i) = page_origin_text account.history i
 inquired now account (inquiry.Walk request i) = walk_text now.state.machine request i

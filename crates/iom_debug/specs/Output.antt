@@ -9,10 +9,10 @@ use Rattle.iom_tool.specs.Script.{Again, DebugLine, Does, Inquires, Named, Plain
 use Rattle.iom_tool.specs.Texts.{text_of}
 use Rattle.iom_debug.specs.Taking.{last_answer, run_text, taken}
 use Rattle.iom_debug.specs.Answers.{inquired}
-use Rattle.iom_account.specs.Account.{Account}
+use Rattle.iom_account.specs.Account.{AccountView}
 
 -- by what is told of the last steps; None: nothing
-abbrev pub debug_reply : Console → Account → DebugLine → Option (List ℕ)
+abbrev pub debug_reply : Console → AccountView → DebugLine → Option (List ℕ)
 debug_reply now account (Plain line) = reply now line
 debug_reply now account (Named step) = reply now (Does step)
 debug_reply now account (Inquires inquiry) = Some (inquired now account inquiry)

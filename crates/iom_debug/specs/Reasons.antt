@@ -10,11 +10,11 @@ use Rattle.iom_core.specs.declared.access.Denial.{Denial}
 use Rattle.iom_core.specs.declared.access.Request.{Request}
 use Rattle.iom_core.specs.declared.step.Step.{Step}
 use Rattle.iom_core.specs.declared.way.Way.{Way}
-use Rattle.iom_account.specs.declared.origin.Origin.{Origin}
-use Rattle.iom_account.specs.declared.origin.Origin.TheVariants as origin
-use Rattle.iom_account.specs.Account.{Account, GoesAlong as AccountGoesAlong}
-use Rattle.iom_account.specs.Following.{Notes, numbers_of}
-use Rattle.iom_account.specs.declared.history.Filled.{Filled}
+use Rattle.iom_account.specs.declared.origin.NumberedWarrant.{NumberedWarrant}
+use Rattle.iom_account.specs.declared.origin.NumberedWarrant.TheVariants as origin
+use Rattle.iom_account.specs.Account.{AccountView, GoesAlong as AccountGoesAlong}
+use Rattle.iom_account.specs.Following.{HistoryView, numbers_of}
+use Rattle.iom_account.specs.declared.history.FilledBy.{FilledBy}
 use Rattle.iom_account.specs.declared.reason.Reason.{Reason}
 use Rattle.iom_debug.specs.Ways.{address_of, address_text, stale_address}
 
@@ -33,19 +33,19 @@ abbrev pub stale_of : Reason → Option (Result ℕ Denial)
 stale_of reason = address_by reason.request reason.stale
 
 -- where the translation came from that the access of the last step used
-abbrev pub origin_of : Reason → Option Origin
+abbrev pub origin_of : Reason → Option NumberedWarrant
 origin_of reason = reason.origin
 
-abbrev pub newest_origin : Account → Option Origin
-newest_origin account = option_and_then origin_of (last_item account.told)
+abbrev pub newest_origin : AccountView → Option NumberedWarrant
+newest_origin account = option_and_then origin_of (last_item account.reasons)
 
 -- what is kept beside a platform: the account of its steps, and where the tables led the last access of a line that was stale
-pub record Reasons : Type 0 where
-  pub account : Account
+pub record LineAccountView : Type 0 where
+  pub account : AccountView
   pub stale : Option (Result ℕ Denial)
 
 -- It went along with these steps of one number.
-abbrev pub GoesAlong : Reasons → State → List Step → ℕ → Reasons → State → Type 0
+abbrev pub GoesAlong : LineAccountView → State → List Step → ℕ → LineAccountView → State → Type 0
 GoesAlong before state more number after left = AccountGoesAlong before.account state more number after.account left
 
 -- where the tables led the last access of some steps that was stale; `found`: that of the steps before them
@@ -59,13 +59,13 @@ last_stale found state (step ∷ steps) =
     last_stale (later found (stale_in state (request_of_step state step))) (next state step).state steps
 
 -- the numbers of the steps that filled what an access used
-abbrev pub origin_text : Origin → List ℕ
+abbrev pub origin_text : NumberedWarrant → List ℕ
 origin_text origin.Register = codes "register"
 origin_text (origin.Context context) = codes "context " ++ numeral 10 context
 origin_text (origin.Walked context walk current) =
     codes "walked context=" ++ numeral 10 context ++ codes " walk=" ++ numeral 10 walk ++ codes " current=" ++ numeral 10 current
 
-abbrev pub used_text : Option Request → Option Origin → List ℕ
+abbrev pub used_text : Option Request → Option NumberedWarrant → List ℕ
 used_text None used = codes "no access"
 used_text (Some request) None = codes "denied"
 used_text (Some request) (Some used) = origin_text used
@@ -91,12 +91,12 @@ abbrev pub context_origin_by : Option ℕ → List ℕ
 context_origin_by None = codes "none"
 context_origin_by (Some number) = codes "context " ++ numeral 10 number
 
-abbrev pub context_origin_text : Notes → ℕ → List ℕ
+abbrev pub context_origin_text : HistoryView → ℕ → List ℕ
 context_origin_text history i = context_origin_by (slice_get history.contexts i)
 
-abbrev pub page_origin_by : Option Filled → List ℕ
+abbrev pub page_origin_by : Option FilledBy → List ℕ
 page_origin_by None = codes "none"
 page_origin_by (Some filled) = codes "walked context=" ++ numeral 10 filled.context ++ codes " walk=" ++ numeral 10 filled.walk
 
-abbrev pub page_origin_text : Notes → ℕ → List ℕ
-page_origin_text history i = page_origin_by (numbers_of (slice_get history.bases i) (slice_get history.walks i))
+abbrev pub page_origin_text : HistoryView → ℕ → List ℕ
+page_origin_text history i = page_origin_by (numbers_of (slice_get history.walk_contexts i) (slice_get history.walks i))

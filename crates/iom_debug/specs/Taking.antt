@@ -1,6 +1,6 @@
 -- Steps that are taken one after the other, while each is done.
 use Rattle.std.specs.Prelude.{ℕ, ◌≡◌, ◌++◌, Bool, true, false, List, [], ◌∷◌, length, codes, if◌then◌else◌}
-use Rattle.iom_text.specs.Texts.{hexed}
+use Rattle.iom_text.specs.Texts.{hexadecimal}
 use Rattle.iom_core.specs.State.{State}
 use Rattle.iom_core.specs.Run.{end_of}
 use Rattle.iom_core.specs.Table.{next, request_of_step}
@@ -9,16 +9,16 @@ use Rattle.iom_core.specs.declared.step.Answer.{Answer}
 use Rattle.iom_core.specs.declared.step.Answer.TheVariants as answer
 use Rattle.iom_tool.specs.Console.{trace_after, traced}
 use Rattle.iom_tool.specs.Texts.{text_of}
-use Rattle.iom_tool.specs.declared.trace.Entry.{Entry}
-use Rattle.iom_debug.specs.Reasons.{GoesAlong, Reasons, last_stale, later, stale_in}
+use Rattle.iom_tool.specs.declared.trace.TracedStep.{TracedStep}
+use Rattle.iom_debug.specs.Reasons.{GoesAlong, LineAccountView, last_stale, later, stale_in}
 
 -- what the lines of `debug` drive: a platform, the trace of its last steps, and what is told beside them
 pub record Desk : Type 0 where
   pub state : State
-  pub trace : List Entry
-  pub reasons : Reasons
+  pub trace : List TracedStep
+  pub reasons : LineAccountView
 
-abbrev pub desk : State → List Entry → Reasons → Desk
+abbrev pub desk : State → List TracedStep → LineAccountView → Desk
 desk state trace reasons = record { state = state; trace = trace; reasons = reasons }
 
 -- what a step of a line of this number leaves
@@ -53,7 +53,7 @@ pub record TookAll (before : Desk) (steps : List Step) (number : ℕ) (after : D
 
 -- how many steps were taken, and the last answer
 unfoldable pub count_text : ℕ → Answer → List ℕ
-count_text count last = hexed count ++ codes " " ++ text_of last
+count_text count last = hexadecimal count ++ codes " " ++ text_of last
 
 abbrev pub run_text : State → List Step → List ℕ
 run_text state steps = count_text (length (taken state steps)) (last_answer state steps)

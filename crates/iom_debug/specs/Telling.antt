@@ -112,7 +112,7 @@ verdict number line answer tables = if fails (wanted line) answer tables then re
 pub record Checked : Type 0 where
   pub desk : Desk
   pub number : ℕ
-  pub is_stale_told : Bool
+  pub fails_if_stale : Bool
   pub passed : ℕ
   pub failed : ℕ
 
@@ -127,12 +127,12 @@ tables_at is_told desk line = tables_told is_told (last_stale None desk.state (d
 pub record CheckSays (before : Checked) (line said : List ℕ) (after : Checked) : Type 0 where
   pub number : after.number ≡ up_to_64_bits (before.number + 1)
   pub left : Leaves before.desk line after.number after.desk
-  pub same : after.is_stale_told ≡ before.is_stale_told
+  pub same : after.fails_if_stale ≡ before.fails_if_stale
   pub passed : after.passed
-      ≡ and_one (passes (wanted line) (answer_at before.desk line) (tables_at before.is_stale_told before.desk line)) before.passed
+      ≡ and_one (passes (wanted line) (answer_at before.desk line) (tables_at before.fails_if_stale before.desk line)) before.passed
   pub failed : after.failed
-      ≡ and_one (fails (wanted line) (answer_at before.desk line) (tables_at before.is_stale_told before.desk line)) before.failed
-  pub text : said ≡ verdict after.number line (answer_at before.desk line) (tables_at before.is_stale_told before.desk line)
+      ≡ and_one (fails (wanted line) (answer_at before.desk line) (tables_at before.fails_if_stale before.desk line)) before.failed
+  pub text : said ≡ verdict after.number line (answer_at before.desk line) (tables_at before.fails_if_stale before.desk line)
 
 -- what it tells at the end
 abbrev pub tally_text : ℕ → ℕ → List ℕ

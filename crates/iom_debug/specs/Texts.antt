@@ -2,7 +2,7 @@
 use Rattle.std.specs.Prelude.{ℕ, ◌+◌, ◌*◌, ◌++◌, ◌==◌, nat_le, List, [], length, take, drop, codes, Option, Some, None, if◌then◌else◌}
 use Rattle.hex.specs.Hex.{encode_lower}
 use Rattle.iom_bits.specs.Bits.{flag}
-use Rattle.iom_text.specs.Texts.{hexed}
+use Rattle.iom_text.specs.Texts.{hexadecimal}
 use Rattle.iom_regs.specs.Table.{Registers}
 use Rattle.iom_regs.specs.Interrupts.{is_high}
 use Rattle.iom_regs.specs.Views.{command_errors_of, fault_errors_of, queue_of}
@@ -33,7 +33,7 @@ stop_text r Faults =
 -- a queue by its registers; its base is a physical address
 unfoldable pub view_text : Queue → List ℕ
 view_text queue =
-    codes "on=" ++ hexed (flag queue.on) ++ operand (codes "base") (4096 * queue.base) ++ operand (codes "entries") queue.entries
+    codes "on=" ++ hexadecimal (flag queue.on) ++ operand (codes "base") (4096 * queue.base) ++ operand (codes "entries") queue.entries
     ++ operand (codes "head") queue.head ++ operand (codes "tail") queue.tail
 
 abbrev pub queue_text : Registers → Which → List ℕ
@@ -44,7 +44,7 @@ abbrev pub with_blank : List ℕ → List ℕ
 with_blank text = if length text == 0 then text else text ++ codes " "
 
 abbrev pub with_line : Registers → ℕ → List ℕ → List ℕ
-with_line r vector text = if is_high r vector then with_blank text ++ hexed vector else text
+with_line r vector text = if is_high r vector then with_blank text ++ hexadecimal vector else text
 
 abbrev pub or_none : List ℕ → List ℕ
 or_none text = if length text == 0 then codes "none" else text
@@ -115,4 +115,4 @@ blk_text device =
 -- a block device, with its id
 abbrev pub device_text : Option (ℕ × Device) → List ℕ
 device_text None = codes "none"
-device_text (Some own) = codes "did=" ++ hexed own.0 ++ blk_text own.1
+device_text (Some own) = codes "did=" ++ hexadecimal own.0 ++ blk_text own.1

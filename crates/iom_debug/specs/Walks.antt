@@ -1,6 +1,6 @@
 -- The texts of the parts of a walk. Their names are those of the standards' terms.
 use Rattle.std.specs.Prelude.{ℕ, ◌+◌, ◌++◌, List, [], ◌∷◌, codes, slice_get, Option, Some, None, Result}
-use Rattle.iom_text.specs.Texts.{hexed}
+use Rattle.iom_text.specs.Texts.{hexadecimal}
 use Rattle.iom_bits.specs.declared.features.Features.{Features}
 use Rattle.iom_mem.specs.Memory.{Memory}
 use Rattle.iom_regs.specs.declared.views.Mode.{Mode}
@@ -89,7 +89,7 @@ wide_text (wide.Second guest) = codes "second" ++ operand (codes "guest") guest 
 unfoldable pub end_text : Way → Result ℕ Denial → List ℕ
 end_text way.Register addr = codes "register " ++ address_text addr
 end_text (way.Context context) addr = codes "context " ++ address_text addr
-end_text (way.Walked context hit) addr = codes "frame=" ++ hexed hit.frame ++ codes " " ++ address_text addr
+end_text (way.Walked context hit) addr = codes "frame=" ++ hexadecimal hit.frame ++ codes " " ++ address_text addr
 end_text (way.Denied denial) addr = address_text addr ++ operand (codes "iotval2") denial.iotval2
 
 abbrev pub part_text : Machine → Request → Part → List ℕ

@@ -3,7 +3,7 @@ use Rattle.std.specs.Prelude.{ℕ, ◌+◌, ◌*◌, ◌%◌, ◌++◌, Bool, Li
 use Rattle.std.specs.Option.{option_map}
 use Rattle.iom_bits.specs.Bits.{flag}
 use Rattle.iom_bits.specs.Causes.{cause_number}
-use Rattle.iom_text.specs.Texts.{numeral, hexed}
+use Rattle.iom_text.specs.Texts.{numeral, hexadecimal}
 use Rattle.iom_nested.specs.declared.translation.Hit.{Hit}
 use Rattle.iom_cache.specs.Keys.{gscid_of, pscid_of}
 use Rattle.iom_cache.specs.Places.{place_in}
@@ -36,7 +36,7 @@ abbrev pub denied_text : Denial → List ℕ
 denied_text denial = codes "denied " ++ numeral 10 (cause_number denial.cause)
 
 abbrev pub address_text : Result ℕ Denial → List ℕ
-address_text (Ok addr) = codes "addr=" ++ hexed addr
+address_text (Ok addr) = codes "addr=" ++ hexadecimal addr
 address_text (Err denial) = denied_text denial
 
 abbrev pub stale_text : Option (Result ℕ Denial) → List ℕ

@@ -13,7 +13,7 @@ ghost use Rattle.iom_debug.specs.Texts.{ask_text, blk_text, broken_text, bytes_t
 use crate::debugger::Debugger;
 use crate::reason::{context_origin_line, page_origin_line, why_line};
 use crate::standings::{context_standing_line, page_standing_line};
-use crate::text::{push_bytes, push_hexed, push_operand, push_text, said};
+use crate::text::{push_bytes, push_hexadecimal, push_operand, push_text, reply_of};
 use crate::walks::walk_line;
 use crate::ways::stale_line;
 use iom_bits::flag;
@@ -66,7 +66,7 @@ fn push_view(out: &mut Reply, queue: &Queue)
     ensures room { length out.new.items ≤ 128 }
 {
     push_text(out, b"on=");
-    push_hexed(out, flag(queue.on));
+    push_hexadecimal(out, flag(queue.on));
     push_operand(out, b"base", 4096 * queue.base);
     push_operand(out, b"entries", queue.entries);
     push_operand(out, b"head", queue.head);
@@ -125,7 +125,7 @@ fn push_line(out: &mut Reply, registers: &Regs, vector: u64)
         if !out.is_empty() {
             push_text(out, b" ");
         }
-        push_hexed(out, vector);
+        push_hexadecimal(out, vector);
     }
 }
 
@@ -138,7 +138,11 @@ fn vectors_line(registers: &Regs) -> Reply
     push_line(&mut out, registers, 1);
     push_line(&mut out, registers, 2);
     push_line(&mut out, registers, 3);
-    if out.is_empty() { said(b"none") } else { out }
+    if out.is_empty() {
+        reply_of(b"none")
+    } else {
+        out
+    }
 }
 
 // Bytes of memory.
@@ -151,7 +155,7 @@ fn memory_line(ram: &Ram, addr: u64, count: u64) -> Reply
     if ram.read(addr, bytes) {
         bytes_line(bytes)
     } else {
-        said(b"outside")
+        reply_of(b"outside")
     }
 }
 
@@ -161,11 +165,11 @@ fn disk_line(platform: &Platform, dev: u64, at: u64, count: u64) -> Reply
     ensures { result.items ≡ disk_text (slice_get platform.now.devices dev) at count }
 {
     let Some(disk) = platform.disk(dev as usize) else {
-        return said(b"none");
+        return reply_of(b"none");
     };
     match part_of(disk, at, count) {
         Some(bytes) => bytes_line(bytes),
-        None => said(b"outside"),
+        None => reply_of(b"outside"),
     }
 }
 
@@ -262,9 +266,9 @@ fn push_blk(out: &mut Reply, device: &Blk)
     push_text(out, phase_text(device.phase()));
     push_want(out, &device.want());
     push_operand(out, b"head", u64::from(device.head()));
-    push_operand(out, b"seen", u64::from(device.seen()));
-    push_operand(out, b"used", u64::from(device.used()));
-    push_broken(out, device.broken());
+    push_operand(out, b"seen", u64::from(device.taken_index()));
+    push_operand(out, b"used", u64::from(device.used_index()));
+    push_broken(out, device.breakage());
 }
 
 // A block device, with its id.
@@ -272,10 +276,10 @@ fn device_line(platform: &Platform, dev: u64) -> Reply
     ensures { result.items ≡ device_text (slice_get platform.now.devices dev) }
 {
     let Some((did, device)) = platform.block_device(dev as usize) else {
-        return said(b"none");
+        return reply_of(b"none");
     };
-    let mut out = said(b"did=");
-    push_hexed(&mut out, u64::from(*did));
+    let mut out = reply_of(b"did=");
+    push_hexadecimal(&mut out, u64::from(*did));
     push_blk(&mut out, device);
     out
 }

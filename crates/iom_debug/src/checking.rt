@@ -7,9 +7,9 @@ ghost use Rattle.iom_debug.specs.Desks.{desk_of};
 ghost use Rattle.iom_debug.specs.Telling.{IsChecked, escaped, fails, misses, passes, report, tables_text, tally_text, verdict, wish_text};
 
 use crate::debugger::Debugger;
-use crate::page::{Page, first_bytes, put, put_escaped, put_number, write_told};
+use crate::page::{OutputPage, first_bytes, put, put_escaped, put_number, write_told};
 use crate::summary::and_one;
-use crate::wanting::{before_comment, wanted};
+use crate::wanting::{before_comment, expected_answer};
 use iom_reader::{Answerer, RunFault, WatchedReader, WatchedWriter, answer_all};
 use iom_tool::Reply;
 use std::io::{Read, Write};
@@ -39,7 +39,7 @@ fn passes(wish: Option<&[u8]>, answer: &[u8], tables: &[u8]) -> bool
 }
 
 // Appends the answer that was wanted in place of another.
-fn put_wish(out: &mut Page, wish: Option<&[u8]>, answer: &[u8])
+fn put_wish(out: &mut OutputPage, wish: Option<&[u8]>, answer: &[u8])
     requires short { IfSome wish (λ wish. length wish.now ≤ 513) }
     requires room { length out.old.items ≤ 4096 }
     ensures text { out.new.items ≡ out.old.items ++ wish_text (option_map (λ wish. wish.now) wish.entry) answer.now }
@@ -54,7 +54,7 @@ fn put_wish(out: &mut Page, wish: Option<&[u8]>, answer: &[u8])
 }
 
 // Appends what the tables said of an access that was stale.
-fn put_tables(out: &mut Page, tables: &[u8])
+fn put_tables(out: &mut OutputPage, tables: &[u8])
     requires short { length tables.now ≤ 320 }
     requires room { length out.old.items ≤ 8192 }
     ensures text { out.new.items ≡ out.old.items ++ tables_text tables.now }
@@ -66,7 +66,7 @@ fn put_tables(out: &mut Page, tables: &[u8])
 }
 
 // Appends what the tables say now.
-fn put_stale(out: &mut Page, tables: &[u8])
+fn put_stale(out: &mut OutputPage, tables: &[u8])
     requires short { length tables.now ≤ 320 }
     requires room { length out.old.items ≤ 8192 }
     ensures text { out.new.items ≡ out.old.items ++ (codes ", stale: the tables now say " ++ escaped tables.now) }
@@ -78,7 +78,7 @@ fn put_stale(out: &mut Page, tables: &[u8])
 
 // Puts what is told of a line of this number that fails.
 #[tactic(auto, unfolding(crate::specs::Telling::report))]
-fn put_report(out: &mut Page, number: u64, line: &[u8], answer: &[u8], tables: &[u8])
+fn put_report(out: &mut OutputPage, number: u64, line: &[u8], answer: &[u8], tables: &[u8])
     requires empty { length out.old.items ≡ 0 }
     requires line { length line.now ≤ 513 }
     requires answer { length answer.now ≤ 320 }
@@ -91,7 +91,7 @@ fn put_report(out: &mut Page, number: u64, line: &[u8], answer: &[u8], tables: &
     put_escaped(out, before_comment(line));
     put(out, b" -> ");
     put_escaped(out, answer);
-    put_wish(out, wanted(line), answer);
+    put_wish(out, expected_answer(line), answer);
     put_tables(out, tables);
     put(out, b"\n");
 }
@@ -104,39 +104,39 @@ pub struct Checking<'a> {
     // how many lines were read
     number: u64,
     // whether a line fails also where its access is stale
-    is_stale_told: bool,
+    fails_if_stale: bool,
     passed: u64,
     failed: u64,
-    page: Page,
+    page: OutputPage,
 }
 
 impl<'a> Checking<'a> {
     ghost use Rattle.std.specs.Prelude.{◌≡◌};
     ghost use Rattle.iom_debug.specs.Telling.{tables_told};
 
-    /// A check of what this debugger drives, of no line yet. If `is_stale_told`, a line fails also if an access of it was stale.
-    pub fn new(debugger: Debugger<'a>, is_stale_told: bool) -> Checking<'a>
+    /// A check of what this debugger drives, of no line yet. If `fails_if_stale`, a line fails also if an access of it was stale.
+    pub fn new(debugger: Debugger<'a>, fails_if_stale: bool) -> Checking<'a>
         ensures debugger { result.debugger ≡ debugger.entry }
         ensures number { result.number ≡ 0 }
-        ensures stale { result.is_stale_told ≡ is_stale_told }
+        ensures stale { result.fails_if_stale ≡ fails_if_stale }
         ensures passed { result.passed ≡ 0 }
         ensures failed { result.failed ≡ 0 }
     {
         Checking {
             debugger,
             number: 0,
-            is_stale_told,
+            fails_if_stale,
             passed: 0,
             failed: 0,
-            page: Page::new(),
+            page: OutputPage::new(),
         }
     }
 
     // What the tables said of the last line's last access that was stale, where that is told.
     fn tables(&self) -> Reply
-        ensures { result.items ≡ tables_told self.now.is_stale_told self.now.debugger.reasons.now.stale }
+        ensures { result.items ≡ tables_told self.now.fails_if_stale self.now.debugger.reasons.now.stale }
     {
-        if self.is_stale_told {
+        if self.fails_if_stale {
             self.debugger.stale_told()
         } else {
             Reply::new()
@@ -153,7 +153,7 @@ impl Answerer for Checking<'_> {
     ghost state = { λ c. record {
       desk = desk_of c.debugger;
       number = c.number;
-      is_stale_told = c.is_stale_told;
+      fails_if_stale = c.fails_if_stale;
       passed = c.passed;
       failed = c.failed;
     } };
@@ -178,11 +178,11 @@ impl Answerer for Checking<'_> {
             tables.as_slice(),
         );
         self.passed = and_one(
-            passes(wanted(line), answer.as_slice(), tables.as_slice()),
+            passes(expected_answer(line), answer.as_slice(), tables.as_slice()),
             self.passed,
         );
         self.failed = and_one(
-            fails(wanted(line), answer.as_slice(), tables.as_slice()),
+            fails(expected_answer(line), answer.as_slice(), tables.as_slice()),
             self.failed,
         );
         write_told(writer, self.page.as_slice())
@@ -190,20 +190,20 @@ impl Answerer for Checking<'_> {
 }
 
 // Puts what is told of a line, if it fails.
-fn put_verdict(out: &mut Page, number: u64, line: &[u8], answer: &[u8], tables: &[u8])
+fn put_verdict(out: &mut OutputPage, number: u64, line: &[u8], answer: &[u8], tables: &[u8])
     requires empty { length out.old.items ≡ 0 }
     requires line { length line.now ≤ 513 }
     requires answer { length answer.now ≤ 320 }
     requires tables { length tables.now ≤ 320 }
     ensures { out.new.items ≡ out.old.items ++ verdict number line.now answer.now tables.now }
 {
-    if fails(wanted(line), answer, tables) {
+    if fails(expected_answer(line), answer, tables) {
         put_report(out, number, line, answer, tables);
     }
 }
 
 // Puts how many lines passed, and how many failed.
-fn put_tally(out: &mut Page, passed: u64, failed: u64)
+fn put_tally(out: &mut OutputPage, passed: u64, failed: u64)
     requires { length out.old.items ≡ 0 }
     ensures { out.new.items ≡ out.old.items ++ tally_text passed failed }
 {
@@ -226,7 +226,7 @@ pub fn check<R: Read, W: Write>(
     ensures checked { IfOk result (λ passed. IsChecked (record {
       desk = desk_of checking.old.debugger;
       number = checking.old.number;
-      is_stale_told = checking.old.is_stale_told;
+      fails_if_stale = checking.old.fails_if_stale;
       passed = checking.old.passed;
       failed = checking.old.failed;
     }) (R.remaining reader.old.inner.now) (R.remaining reader.new.inner.now)

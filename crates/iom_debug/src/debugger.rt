@@ -1,5 +1,5 @@
 use crate::answers::answer_to;
-use crate::reasons::Reasons;
+use crate::reasons::LineAccount;
 use crate::ways::address_line;
 use iom_core::Platform;
 use iom_tool::{Console, Language, Line, Reply, Trace, line_of};
@@ -12,7 +12,7 @@ pub struct Debugger<'a> {
     /// The trace that keeps its steps.
     pub trace: &'a mut Trace,
     /// The account of these steps.
-    pub reasons: &'a mut Reasons,
+    pub reasons: &'a mut LineAccount,
 }
 
 impl<'a> Debugger<'a> {
@@ -30,7 +30,7 @@ impl<'a> Debugger<'a> {
     pub fn new(
         platform: &'a mut Platform,
         trace: &'a mut Trace,
-        reasons: &'a mut Reasons,
+        reasons: &'a mut LineAccount,
     ) -> Debugger<'a>
         ensures same_platform { result.platform.ghost_name ≡ platform.entry.ghost_name }
         ensures same_trace { result.trace.ghost_name ≡ trace.entry.ghost_name }

@@ -8,7 +8,7 @@ ghost use Rattle.iom_debug.specs.Desks.{desk_of};
 ghost use Rattle.iom_debug.specs.Telling.{by_debug, line_told};
 
 use crate::debugger::Debugger;
-use crate::page::{Page, first_bytes, put, write_told};
+use crate::page::{OutputPage, first_bytes, put, write_told};
 use iom_reader::{Answerer, RunFault, WatchedReader, WatchedWriter, answer_all};
 use std::io::{Read, Write};
 
@@ -19,7 +19,7 @@ pub struct Debugging<'a> {
     pub debugger: Debugger<'a>,
     // how many lines were read
     number: u64,
-    page: Page,
+    page: OutputPage,
 }
 
 impl<'a> Debugging<'a> {
@@ -33,7 +33,7 @@ impl<'a> Debugging<'a> {
         Debugging {
             debugger,
             number: 0,
-            page: Page::new(),
+            page: OutputPage::new(),
         }
     }
 }
@@ -65,7 +65,7 @@ impl Answerer for Debugging<'_> {
 }
 
 // Puts an answer with its line end, where there is one.
-fn put_line(out: &mut Page, answer: &[u8])
+fn put_line(out: &mut OutputPage, answer: &[u8])
     requires empty { length out.old.items ≡ 0 }
     requires short { length answer.now ≤ 320 }
     ensures { out.new.items ≡ out.old.items ++ line_told answer.now }

@@ -6,13 +6,13 @@ pub use debugger::Debugger;
 pub use debugging::{Debugging, debug};
 pub use iom_account::Reason;
 pub use iom_tool::{Actor, Reply};
-pub use page::{Page, first_bytes, put, put_escaped, put_number, write_told};
+pub use page::{OutputPage, first_bytes, put, put_escaped, put_number, write_told};
 pub use parts::{is_told_alike, put_cached, put_part};
 pub use reason::origin_line;
-pub use reasons::Reasons;
-pub use summary::{Outcome, Summary};
-pub use taking::{StepAnswer, counted, is_done, step_by};
-pub use wanting::{before_comment, wanted};
+pub use reasons::LineAccount;
+pub use summary::{AccessOutcome, Summary};
+pub use taking::{StepAnswer, is_done, reply_with_count, step_by};
+pub use wanting::{before_comment, expected_answer};
 pub use ways::{address_line, address_of};
 
 mod answers;

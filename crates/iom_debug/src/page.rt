@@ -18,11 +18,11 @@ use std::io::Write;
 const KEPT: usize = 513;
 
 /// Room for it.
-pub type Page = ArrayVec<u8, 16384>;
+pub type OutputPage = ArrayVec<u8, 16384>;
 
 /// Appends bytes, for which there is room.
 #[inline(always)]
-pub fn put(out: &mut Page, text: &[u8])
+pub fn put(out: &mut OutputPage, text: &[u8])
     requires { length out.old.items + length text.now ≤ 16384 }
     ensures text { out.new.items ≡ out.old.items ++ text.now }
     ensures room { length out.new.items ≡ length out.old.items + length text.now }
@@ -31,7 +31,7 @@ pub fn put(out: &mut Page, text: &[u8])
 }
 
 /// Appends a number in decimal, at most 20 bytes.
-pub fn put_number(out: &mut Page, number: u64)
+pub fn put_number(out: &mut OutputPage, number: u64)
     requires { length out.old.items + 20 ≤ 16384 }
     ensures text { out.new.items ≡ out.old.items ++ numeral 10 number }
     ensures room { length out.new.items ≤ length out.old.items + 20 }
@@ -40,7 +40,7 @@ pub fn put_number(out: &mut Page, number: u64)
 }
 
 // Appends a byte in hex.
-fn put_hex(out: &mut Page, byte: u8)
+fn put_hex(out: &mut OutputPage, byte: u8)
     requires { length out.old.items + 4 ≤ 16384 }
     ensures text { out.new.items ≡ out.old.items ++ (codes "\\x" ++ encode_lower (byte ∷ [])) }
     ensures room { length out.new.items ≤ length out.old.items + 4 }
@@ -53,7 +53,7 @@ fn put_hex(out: &mut Page, byte: u8)
 
 // Appends a byte, escaped where it isn't printable.
 #[tactic(auto, unfolding(crate::specs::Telling::shown))]
-fn put_shown(out: &mut Page, byte: u8)
+fn put_shown(out: &mut OutputPage, byte: u8)
     requires { length out.old.items + 4 ≤ 16384 }
     ensures text { out.new.items ≡ out.old.items ++ shown byte }
     ensures room { length out.new.items ≤ length out.old.items + 4 }
@@ -69,7 +69,7 @@ fn put_shown(out: &mut Page, byte: u8)
 }
 
 /// Appends bytes, those that aren't printable escaped: four bytes each at most.
-pub fn put_escaped(out: &mut Page, text: &[u8])
+pub fn put_escaped(out: &mut OutputPage, text: &[u8])
     requires { length out.old.items + 4 * length text.now ≤ 16384 }
     ensures text { out.new.items ≡ out.old.items ++ escaped text.now }
     ensures room { length out.new.items ≤ length out.old.items + 4 * length text.now }

@@ -21,12 +21,12 @@ use iom_items::{Item, context_line, item_line_on};
 use iom_regs::Mode;
 use iom_tables::{Part, Way, Wide};
 use iom_text::decimal;
-use iom_tool::Draft;
+use iom_tool::ReplyDraft;
 use iom_walk::{Got, PathEntry, Ruling};
 
 /// Puts one part of the walk of a request as the tables stand now in place of what a draft holds: at most 320 bytes, without a line
 /// end. Its numbers are such as the tables may say, as those of each part that `put_parts` puts.
-pub fn put_part(out: &mut Draft, platform: &Platform, request: &Request, part: &Part)
+pub fn put_part(out: &mut ReplyDraft, platform: &Platform, request: &Request, part: &Part)
     requires { PartFits part.now }
     ensures text { out.new ≡ part_text platform.now.machine request.now part.now }
     ensures short { length out.new ≤ 320 }
@@ -43,7 +43,7 @@ pub fn put_part(out: &mut Draft, platform: &Platform, request: &Request, part: &
 }
 
 /// Puts a context that a cache has in place of what a draft holds, as the head of the walk below it: `cached`, and the context's line.
-pub fn put_cached(out: &mut Draft, context: &Context)
+pub fn put_cached(out: &mut ReplyDraft, context: &Context)
     ensures text { out.new ≡ codes "cached " ++ context_text context.now }
     ensures short { length out.new ≤ 320 }
 {
@@ -96,7 +96,7 @@ fn is_same(part: &Part, other: &Part) -> bool
 
 // Appends a blank, a key, `=` and a number in hex.
 #[inline(always)]
-fn push_operand(out: &mut Draft, key: &[u8], value: u64)
+fn push_operand(out: &mut ReplyDraft, key: &[u8], value: u64)
     requires { length out.old + length key.now + 20 < 320 }
     ensures text { out.new ≡ out.old ++ operand key.now value }
     ensures room { length out.new ≤ length out.old + length key.now + 20 }
@@ -104,11 +104,11 @@ fn push_operand(out: &mut Draft, key: &[u8], value: u64)
     out.append(b" ");
     out.append(key);
     out.append(b"=");
-    out.append_hexed(value);
+    out.append_hexadecimal(value);
 }
 
 // Appends ddtp: its mode and its PPN.
-fn push_ddtp(out: &mut Draft, mode: Mode, root: u64)
+fn push_ddtp(out: &mut ReplyDraft, mode: Mode, root: u64)
     requires { length out.old ≡ 0 }
     ensures text { out.new ≡ out.old ++ codes "ddtp" ++ operand (codes "mode") (mode_number mode) ++ operand (codes "root") root }
     ensures short { length out.new ≤ 320 }
@@ -124,7 +124,7 @@ fn push_ddtp(out: &mut Draft, mode: Mode, root: u64)
 }
 
 // Appends a blank and the line of an item on this platform, or that a byte of it is outside memory.
-fn push_item(out: &mut Draft, platform: &Platform, kind: Item, addr: u64)
+fn push_item(out: &mut ReplyDraft, platform: &Platform, kind: Item, addr: u64)
     requires { length out.old ≤ 63 }
     ensures text { out.new ≡ out.old ++ codes " " ++ shown_text platform.now.machine.memory platform.now.machine.registers.features kind addr }
     ensures short { length out.new ≤ 320 }
@@ -138,7 +138,7 @@ fn push_item(out: &mut Draft, platform: &Platform, kind: Item, addr: u64)
 
 // Appends an item of the directory.
 #[tactic(auto, unfolding(crate::specs::Walks::met_text))]
-fn push_met(out: &mut Draft, platform: &Platform, met: &Met)
+fn push_met(out: &mut ReplyDraft, platform: &Platform, met: &Met)
     requires { length out.old ≡ 0 }
     ensures text { out.new ≡ out.old ++ met_text platform.now.machine.memory platform.now.machine.registers.features met.now }
     ensures short { length out.new ≤ 320 }
@@ -159,7 +159,7 @@ fn push_met(out: &mut Draft, platform: &Platform, met: &Met)
 
 // Appends what is too wide for the directory or for a stage.
 #[tactic(auto, unfolding(crate::specs::Walks::wide_text))]
-fn push_wide(out: &mut Draft, what: Wide)
+fn push_wide(out: &mut ReplyDraft, what: Wide)
     requires { length out.old ≡ 0 }
     ensures text { out.new ≡ out.old ++ wide_text what }
     ensures short { length out.new ≤ 320 }
@@ -172,7 +172,7 @@ fn push_wide(out: &mut Draft, what: Wide)
 }
 
 // Appends a table, and an id or an address that is too wide for it.
-fn push_too_wide(out: &mut Draft, table: &[u8], name: &[u8], value: u64)
+fn push_too_wide(out: &mut ReplyDraft, table: &[u8], name: &[u8], value: u64)
     requires empty { length out.old ≡ 0 }
     requires table { length table.now ≤ 10 }
     requires name { length name.now ≤ 10 }
@@ -185,7 +185,7 @@ fn push_too_wide(out: &mut Draft, table: &[u8], name: &[u8], value: u64)
 }
 
 // Appends an entry of a page table by its PPN and its flags.
-fn push_entry(out: &mut Draft, ppn: u64, flags: u64)
+fn push_entry(out: &mut ReplyDraft, ppn: u64, flags: u64)
     requires { length out.old ≤ 128 }
     ensures text { out.new ≡ out.old ++ pte_text (record { ppn = ppn; flags = flags }) }
     ensures room { length out.new ≤ length out.old + 60 }
@@ -196,7 +196,7 @@ fn push_entry(out: &mut Draft, ppn: u64, flags: u64)
 }
 
 // Appends the line of an entry of a page table.
-fn push_pte(out: &mut Draft, word: u64)
+fn push_pte(out: &mut ReplyDraft, word: u64)
     requires { length out.old ≤ 128 }
     ensures text { out.new ≡ out.old ++ line_of item.Pte (word ∷ []) }
     ensures room { length out.new ≤ length out.old + 60 }
@@ -205,13 +205,13 @@ fn push_pte(out: &mut Draft, word: u64)
         push_entry(out, field(word, 10, 44), field(word, 0, 10));
     } else {
         out.append(b"u64 ");
-        out.append_hexed(word);
+        out.append_hexadecimal(word);
     }
 }
 
 // Appends what was read of an entry.
 #[tactic(auto, unfolding(crate::specs::Walks::got_text))]
-fn push_got(out: &mut Draft, got: Got)
+fn push_got(out: &mut ReplyDraft, got: Got)
     requires { length out.old ≤ 127 }
     ensures text { out.new ≡ out.old ++ got_text got }
     ensures room { length out.new ≤ length out.old + 61 }
@@ -224,7 +224,7 @@ fn push_got(out: &mut Draft, got: Got)
 
 // Appends the row that decides.
 #[tactic(auto, unfolding(crate::specs::Walks::row_text))]
-fn push_row(out: &mut Draft, ruling: Ruling)
+fn push_row(out: &mut ReplyDraft, ruling: Ruling)
     requires { length out.old ≤ 300 }
     ensures text { out.new ≡ out.old ++ row_text ruling }
     ensures short { length out.new ≤ 320 }
@@ -249,7 +249,7 @@ fn push_row(out: &mut Draft, ruling: Ruling)
 }
 
 // Appends where an entry of the first stage was read.
-fn push_in(out: &mut Draft, addr: Option<u64>)
+fn push_in(out: &mut ReplyDraft, addr: Option<u64>)
     requires { length out.old ≤ 100 }
     ensures text { out.new ≡ out.old ++ in_text addr }
     ensures room { length out.new ≤ length out.old + 22 }
@@ -262,7 +262,7 @@ fn push_in(out: &mut Draft, addr: Option<u64>)
 
 // Appends an entry of the first stage.
 #[tactic(auto, unfolding(crate::specs::Walks::first_text))]
-fn push_first(out: &mut Draft, entry: &PathEntry, addr: Option<u64>)
+fn push_first(out: &mut ReplyDraft, entry: &PathEntry, addr: Option<u64>)
     requires { length out.old ≡ 0 }
     ensures text { out.new ≡ out.old ++ first_text entry.now addr }
     ensures short { length out.new ≤ 320 }
@@ -277,7 +277,7 @@ fn push_first(out: &mut Draft, entry: &PathEntry, addr: Option<u64>)
 
 // Appends an entry of the second stage.
 #[tactic(auto, unfolding(crate::specs::Walks::second_text))]
-fn push_second(out: &mut Draft, guest: u64, entry: &PathEntry)
+fn push_second(out: &mut ReplyDraft, guest: u64, entry: &PathEntry)
     requires { length out.old ≡ 0 }
     ensures text { out.new ≡ out.old ++ second_text guest entry.now }
     ensures short { length out.new ≤ 320 }
@@ -291,7 +291,7 @@ fn push_second(out: &mut Draft, guest: u64, entry: &PathEntry)
 }
 
 // Appends the cause of a denial.
-fn push_denied(out: &mut Draft, cause: Cause)
+fn push_denied(out: &mut ReplyDraft, cause: Cause)
     requires { length out.old ≤ 128 }
     ensures text { out.new ≡ out.old ++ codes "denied " ++ numeral 10 (cause_number cause) }
     ensures room { length out.new ≤ length out.old + 27 }
@@ -301,7 +301,7 @@ fn push_denied(out: &mut Draft, cause: Cause)
 }
 
 // Appends an address, or the cause of a denial.
-fn push_address(out: &mut Draft, address: Result<u64, Denial>)
+fn push_address(out: &mut ReplyDraft, address: Result<u64, Denial>)
     requires { length out.old ≤ 128 }
     ensures text { out.new ≡ out.old ++ address_text address }
     ensures room { length out.new ≤ length out.old + 27 }
@@ -309,7 +309,7 @@ fn push_address(out: &mut Draft, address: Result<u64, Denial>)
     match address {
         Ok(addr) => {
             out.append(b"addr=");
-            out.append_hexed(addr);
+            out.append_hexadecimal(addr);
         }
         Err(denial) => push_denied(out, denial.cause),
     }
@@ -317,7 +317,7 @@ fn push_address(out: &mut Draft, address: Result<u64, Denial>)
 
 // Appends the end of a walk.
 #[tactic(auto, unfolding(crate::specs::Walks::end_text))]
-fn push_end(out: &mut Draft, way: &Way, address: Result<u64, Denial>)
+fn push_end(out: &mut ReplyDraft, way: &Way, address: Result<u64, Denial>)
     requires { length out.old ≡ 0 }
     ensures text { out.new ≡ out.old ++ end_text way.now address }
     ensures short { length out.new ≤ 320 }
@@ -327,7 +327,7 @@ fn push_end(out: &mut Draft, way: &Way, address: Result<u64, Denial>)
         Way::Context(_) => out.append(b"context "),
         Way::Walked(_, hit) => {
             out.append(b"frame=");
-            out.append_hexed(hit.frame);
+            out.append_hexadecimal(hit.frame);
             out.append(b" ");
         }
         Way::Denied(_) => {}

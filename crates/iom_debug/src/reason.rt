@@ -2,9 +2,9 @@ ghost use Rattle.std.specs.Prelude.{◌≡◌, ◌+◌, ◌++◌, ◌≤◌, len
 ghost use Rattle.std.specs.Option.{option_copied};
 ghost use Rattle.iom_debug.specs.Reasons.{context_origin_text, origin_text, page_origin_text, reason_text, stale_of, tables_text, used_text, why_text};
 
-use crate::text::{push_number, push_text, said};
+use crate::text::{push_number, push_text, reply_of};
 use crate::ways::{address_of, push_address};
-use iom_account::{History, Origin, Reason};
+use iom_account::{History, NumberedWarrant, Reason};
 use iom_core::{Denial, Request};
 use iom_tool::Reply;
 
@@ -30,7 +30,7 @@ fn reason_line(reason: &Reason) -> Reply
 }
 
 // Appends what an access used.
-fn push_used(out: &mut Reply, request: Option<Request>, origin: Option<Origin>)
+fn push_used(out: &mut Reply, request: Option<Request>, origin: Option<NumberedWarrant>)
     requires { length out.old.items ≡ 0 }
     ensures text { out.new.items ≡ out.old.items ++ used_text request origin }
     ensures room { length out.new.items ≤ 90 }
@@ -43,15 +43,15 @@ fn push_used(out: &mut Reply, request: Option<Request>, origin: Option<Origin>)
 }
 
 // Appends the numbers of an origin.
-fn push_origin(out: &mut Reply, origin: Origin)
+fn push_origin(out: &mut Reply, origin: NumberedWarrant)
     requires { length out.old.items ≡ 0 }
     ensures text { out.new.items ≡ out.old.items ++ origin_text origin }
     ensures room { length out.new.items ≤ 90 }
 {
     match origin {
-        Origin::Register => push_text(out, b"register"),
-        Origin::Context { context } => push_number(out, b"context ", context),
-        Origin::Walked {
+        NumberedWarrant::Register => push_text(out, b"register"),
+        NumberedWarrant::Context { context } => push_number(out, b"context ", context),
+        NumberedWarrant::Walked {
             context,
             walk,
             current,
@@ -64,7 +64,7 @@ fn push_origin(out: &mut Reply, origin: Origin)
 }
 
 /// The text of an origin, at most 90 bytes: `walked context=12 walk=14 current=15`, `context 12` or `register`.
-pub fn origin_line(origin: Origin) -> Reply
+pub fn origin_line(origin: NumberedWarrant) -> Reply
     ensures { result.items ≡ origin_text origin }
 {
     let mut out = Reply::new();
@@ -89,7 +89,7 @@ pub fn why_line(reason: Option<&Reason>) -> Reply
 {
     match reason {
         Some(reason) => reason_line(reason),
-        None => said(b"none"),
+        None => reply_of(b"none"),
     }
 }
 
@@ -98,7 +98,7 @@ pub fn context_origin_line(history: &History, i: u64) -> Reply
     ensures { result.items ≡ context_origin_text history.now i }
 {
     let Some(number) = history.context(i) else {
-        return said(b"none");
+        return reply_of(b"none");
     };
     let mut out = Reply::new();
     push_number(&mut out, b"context ", number);
@@ -111,7 +111,7 @@ pub fn page_origin_line(history: &History, i: u64) -> Reply
     ensures { result.items ≡ page_origin_text history.now i }
 {
     let Some(filled) = history.page(i) else {
-        return said(b"none");
+        return reply_of(b"none");
     };
     let mut out = Reply::new();
     push_number(&mut out, b"walked context=", filled.context);

@@ -6,7 +6,7 @@ ghost use Rattle.iom_text.specs.Texts.{numeral};
 ghost use Rattle.iom_core.specs.declared.way.Way.TheVariants.{Walked};
 ghost use Rattle.iom_debug.specs.Ways.{found_text, id_operand, page_text, stale_context_text, stale_page_text};
 
-use crate::text::{push_cause, push_operand, push_text, said};
+use crate::text::{push_cause, push_operand, push_text, reply_of};
 use iom_bits::{Cause, Kind, flag};
 use iom_cache::key_of;
 use iom_core::Platform;
@@ -21,9 +21,9 @@ pub fn context_standing_line(platform: &Platform, i: u64) -> Reply
     ensures { result.items ≡ stale_context_text platform.now.machine i }
 {
     match stale_context(platform, i) {
-        Standing::Beyond => said(b"none"),
-        Standing::Empty => said(b"empty"),
-        Standing::Current => said(b"same"),
+        Standing::Beyond => reply_of(b"none"),
+        Standing::Empty => reply_of(b"empty"),
+        Standing::Current => reply_of(b"same"),
         Standing::Stale(found) => found_line(&found),
     }
 }
@@ -33,9 +33,9 @@ pub fn page_standing_line(platform: &Platform, i: u64) -> Reply
     ensures { result.items ≡ stale_page_text platform.now.machine i }
 {
     match stale_page(platform, i) {
-        Standing::Beyond => said(b"none"),
-        Standing::Empty => said(b"empty"),
-        Standing::Current => said(b"same"),
+        Standing::Beyond => reply_of(b"none"),
+        Standing::Empty => reply_of(b"empty"),
+        Standing::Current => reply_of(b"same"),
         Standing::Stale(way) => way_line(&way),
     }
 }
@@ -45,8 +45,8 @@ fn found_line(found: &Located) -> Reply
     ensures { result.items ≡ found_text found.now }
 {
     match found {
-        Located::NoDirectory => said(b"no directory"),
-        Located::Context(context) => said(context_line(context).as_slice()),
+        Located::NoDirectory => reply_of(b"no directory"),
+        Located::Context(context) => reply_of(context_line(context).as_slice()),
         Located::Fault(cause) => denied_line(*cause),
     }
 }
@@ -65,8 +65,8 @@ fn way_line(way: &Way) -> Reply
     ensures { result.items ≡ page_text way.now }
 {
     match way {
-        Way::Register => said(b"register"),
-        Way::Context(_) => said(b"context"),
+        Way::Register => reply_of(b"register"),
+        Way::Context(_) => reply_of(b"context"),
         Way::Walked(context, hit) => walked_line(context, hit),
         Way::Denied(denial) => denied_line(denial.cause),
     }
@@ -78,7 +78,7 @@ fn walked_line(context: &Context, hit: &Hit) -> Reply
     ensures { result.items ≡ page_text (Walked context.now hit.now) }
 {
     let key = key_of(context, 0, 0, Kind::Read);
-    let mut out = said(b"page");
+    let mut out = reply_of(b"page");
     push_id(&mut out, b"pscid", key.pscid);
     push_id(&mut out, b"gscid", key.gscid.map(|id| u32::from(id)));
     push_operand(&mut out, b"frame", hit.frame);

@@ -8,7 +8,7 @@ use std::marker::Model;
 
 /// How an access went.
 #[derive(Clone, Copy)]
-pub struct Outcome {
+pub struct AccessOutcome {
     /// The number of the line that made it.
     pub number: u64,
     /// For which cause it was denied ("Fault/Event-Queue (FQ)"); None if it was granted.
@@ -50,7 +50,7 @@ impl Model for Summary {
 impl Summary {
     ghost use Rattle.std.specs.Prelude.{◌≡◌, ◌++◌, [], ◌∷◌, List, OnOk, OnErr};
     ghost use Rattle.iom_debug.specs.Summary.{counts_of, with_outcome, with_own_line};
-    ghost use Rattle.iom_debug.specs.declared.summary.Outcome.{Outcome};
+    ghost use Rattle.iom_debug.specs.declared.summary.AccessOutcome.{AccessOutcome};
 
     /// Of no access.
     pub fn new(alloc: Global) -> Summary
@@ -79,8 +79,8 @@ impl Summary {
     }
 
     /// Counts one access more. The fault is want of memory for its line, and then nothing is counted.
-    pub fn count(&mut self, outcome: &Outcome) -> Result<(), AllocError>
-        ensures counts { OnOk result ((told : List Outcome) → self.old ≡ counts_of told → self.new ≡ counts_of (told ++ outcome.now ∷ [])) }
+    pub fn count(&mut self, outcome: &AccessOutcome) -> Result<(), AllocError>
+        ensures counts { OnOk result ((told : List AccessOutcome) → self.old ≡ counts_of told → self.new ≡ counts_of (told ++ outcome.now ∷ [])) }
         ensures err { OnErr result (self.new ≡ self.old) }
     {
         self.note_line(outcome)?;
@@ -89,7 +89,7 @@ impl Summary {
     }
 
     // Notes the line of an access that was stale.
-    fn note_line(&mut self, outcome: &Outcome) -> Result<(), AllocError>
+    fn note_line(&mut self, outcome: &AccessOutcome) -> Result<(), AllocError>
         ensures ok { OnOk result (self.new ≡ with_own_line self.old outcome.now) }
         ensures err { OnErr result (self.new ≡ self.old) }
     {
@@ -100,7 +100,7 @@ impl Summary {
     }
 
     // Counts an access, whose line is noted.
-    fn add(&mut self, outcome: &Outcome)
+    fn add(&mut self, outcome: &AccessOutcome)
         ensures { self.new ≡ record (with_outcome self.old outcome.now) { lines = self.old.lines } }
     {
         self.accesses = and_one(true, self.accesses);
@@ -162,7 +162,7 @@ pub fn and_one(is: bool, count: u64) -> u64
 
 // Counts one more beside its cause, where it was denied.
 #[tactic(auto, using(crate::proofs::Summing::none_denied))]
-fn count_denied(counts: &mut [(u16, u64)], outcome: &Outcome)
+fn count_denied(counts: &mut [(u16, u64)], outcome: &AccessOutcome)
     ensures { counts.new ≡ map (denied_with outcome.now) counts.old }
 {
     if outcome.denied.is_none() {
@@ -174,7 +174,7 @@ fn count_denied(counts: &mut [(u16, u64)], outcome: &Outcome)
 }
 
 // A cause and its count, with one more where an access was denied for that cause.
-fn denied_with(outcome: &Outcome, entry: (u16, u64)) -> (u16, u64)
+fn denied_with(outcome: &AccessOutcome, entry: (u16, u64)) -> (u16, u64)
     ensures { result ≡ denied_with outcome.now entry }
 {
     let (cause, count) = entry;

@@ -1,12 +1,12 @@
 //! Steps one after the other, while each is done.
 
 ghost use Rattle.std.specs.Prelude.{◌≡◌, ◌++◌, ◌≤◌, length, codes};
-ghost use Rattle.iom_text.specs.Texts.{hexed};
+ghost use Rattle.iom_text.specs.Texts.{hexadecimal};
 ghost use Rattle.iom_tool.specs.Parsed.{step_of};
 ghost use Rattle.iom_debug.specs.Taking.{is_done};
 
 use crate::debugger::Debugger;
-use crate::text::{push_hexed, push_text};
+use crate::text::{push_hexadecimal, push_text};
 use iom_core::{Answer, Step};
 use iom_tool::{Actor, Reply, answer_text};
 
@@ -28,12 +28,12 @@ pub fn is_done(answer: &Answer) -> bool
 }
 
 /// The answer to a line that repeats a step: how many were taken, in hex, and the text of the last answer, at most 128 bytes.
-pub fn counted(count: u64, last: &[u8]) -> Reply
+pub fn reply_with_count(count: u64, last: &[u8]) -> Reply
     requires { length last.now ≤ 128 }
-    ensures { result.items ≡ hexed count ++ codes " " ++ last.now }
+    ensures { result.items ≡ hexadecimal count ++ codes " " ++ last.now }
 {
     let mut out = Reply::new();
-    push_hexed(&mut out, count);
+    push_hexadecimal(&mut out, count);
     push_text(&mut out, b" ");
     push_text(&mut out, last);
     out
@@ -89,10 +89,10 @@ impl Debugger<'_> {
         for i in 0..most {
             let answered = self.take(number, step_by(actor));
             if !answered.is_done {
-                return counted(i + 1, answered.text.as_slice());
+                return reply_with_count(i + 1, answered.text.as_slice());
             }
         }
-        counted(most, b"done")
+        reply_with_count(most, b"done")
     }
 
     /// Stores words of 8 bytes from physical address `addr` on while each store is done, and answers the text of the last answer.

@@ -3,7 +3,7 @@
 ghost use Rattle.std.specs.Prelude.{◌≡◌, ◌+◌, ◌*◌, ◌++◌, ◌≤◌, length, codes};
 ghost use Rattle.hex.specs.Hex.{encode_lower};
 ghost use Rattle.iom_bits.specs.Causes.{cause_number};
-ghost use Rattle.iom_text.specs.Texts.{numeral, hexed};
+ghost use Rattle.iom_text.specs.Texts.{numeral, hexadecimal};
 ghost use Rattle.iom_items.specs.Lines.{operand};
 
 use hex::encode_to_slice;
@@ -12,7 +12,7 @@ use iom_text::{decimal, put_hex};
 use iom_tool::Reply;
 
 /// A reply that is this text, of at most 320 bytes.
-pub fn said(text: &[u8]) -> Reply
+pub fn reply_of(text: &[u8]) -> Reply
     requires { length text.now ≤ 320 }
     ensures { result.items ≡ text.now }
 {
@@ -32,9 +32,9 @@ pub fn push_text(out: &mut Reply, text: &[u8])
 }
 
 /// Appends a number as `0x` and hex digits in lower case, at most 18 bytes.
-pub fn push_hexed(out: &mut Reply, value: u64)
+pub fn push_hexadecimal(out: &mut Reply, value: u64)
     requires { length out.old.items + 18 ≤ 320 }
-    ensures text { out.new.items ≡ out.old.items ++ hexed value }
+    ensures text { out.new.items ≡ out.old.items ++ hexadecimal value }
     ensures room { length out.new.items ≤ length out.old.items + 18 }
 {
     let mut digits = [0; 16];
@@ -53,7 +53,7 @@ pub fn push_operand(out: &mut Reply, key: &[u8], value: u64)
     push_text(out, b" ");
     push_text(out, key);
     push_text(out, b"=");
-    push_hexed(out, value);
+    push_hexadecimal(out, value);
 }
 
 /// Appends at most 64 bytes as hex digits in lower case, two for each.

@@ -6,10 +6,10 @@ ghost use Rattle.iom_tables.specs.Bounds.{PartFits};
 ghost use Rattle.iom_debug.specs.Walks.{part_text, walk_text};
 
 use crate::parts::put_part;
-use crate::text::said;
+use crate::text::reply_of;
 use iom_core::{Platform, Request};
 use iom_tables::{Part, Parts, put_parts};
-use iom_tool::{Draft, Reply};
+use iom_tool::{Reply, ReplyDraft};
 
 /// Part `i` of the walk of a request as the tables stand now, the first 0; `none` past the last one.
 #[tactic(auto, unfolding(crate::specs::Walks::walk_text))]
@@ -20,7 +20,7 @@ pub fn walk_line(platform: &Platform, request: &Request, i: u64) -> Reply
     put_parts(&mut parts, platform, request);
     match part_at(&parts, i as usize) {
         Some(part) => part_line(platform, request, part),
-        None => said(b"none"),
+        None => reply_of(b"none"),
     }
 }
 
@@ -39,7 +39,7 @@ fn part_line(platform: &Platform, request: &Request, part: &Part) -> Reply
     requires { PartFits part.now }
     ensures { result.items ≡ part_text platform.now.machine request.now part.now }
 {
-    let mut draft = Draft::new();
+    let mut draft = ReplyDraft::new();
     put_part(&mut draft, platform, request, part);
-    said(draft.as_slice())
+    reply_of(draft.as_slice())
 }

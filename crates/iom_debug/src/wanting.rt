@@ -69,7 +69,7 @@ fn answer_in(comment: &[u8]) -> Option<&[u8]>
 /// The answer that a line's comment expects: the ANSWER of a comment `# => ANSWER`, without the blanks (spaces, tabs, CRs) around it. It
 /// may be empty. None if the line has no comment of this form. The comment begins after the first `#`.
 #[tactic(auto, unfolding(crate::specs::Wanted::wanted))]
-pub fn wanted(line: &[u8]) -> Option<&[u8]>
+pub fn expected_answer(line: &[u8]) -> Option<&[u8]>
     ensures answer { option_map (λ answer. answer.now) result ≡ wanted line.now }
     ensures short { IfSome result (λ answer. length answer.now ≤ length line.now) }
 {

@@ -3,7 +3,7 @@
 ghost use Rattle.std.specs.Prelude.{◌≡◌, ◌+◌, ◌≤◌, ◌++◌, length};
 ghost use Rattle.iom_debug.specs.Ways.{address_of, address_text, stale_address, stale_text};
 
-use crate::text::{push_cause, push_hexed, push_text, said};
+use crate::text::{push_cause, push_hexadecimal, push_text, reply_of};
 use iom_core::{Denial, Platform, Request};
 use iom_tables::{Way, stale};
 use iom_tool::Reply;
@@ -36,7 +36,7 @@ pub fn push_address(out: &mut Reply, address: Result<u64, Denial>)
     match address {
         Ok(addr) => {
             push_text(out, b"addr=");
-            push_hexed(out, addr);
+            push_hexadecimal(out, addr);
         }
         Err(denial) => push_cause(out, denial.cause),
     }
@@ -57,6 +57,6 @@ pub fn stale_line(platform: &Platform, request: &Request) -> Reply
 {
     match stale_address(platform, request) {
         Some(address) => address_line(address),
-        None => said(b"same"),
+        None => reply_of(b"same"),
     }
 }

@@ -30,7 +30,7 @@ use Rattle.iom_core.specs.declared.way.Way.{Way as Led}
 use Rattle.iom_core.specs.declared.way.Way.TheVariants.{Context as ByContext}
 use Rattle.iom_core.proofs.Moments.{next-contexts, next-pages}
 use Rattle.iom_choices.specs.Models.{entries_in}
-use Rattle.iom_choices.specs.Systems.{IsAmong, Way, reads_of}
+use Rattle.iom_choices.specs.Systems.{IsAmong, ModelWalk, reads_of}
 use Rattle.iom_choices.proofs.Lists.{among-left, among-right}
 use Rattle.iom_every.specs.Drops.{drops_by, drops_entry}
 use Rattle.iom_every.specs.Entries.{Entry, OfDevice, OfPage}
@@ -101,11 +101,11 @@ page_read m request context filled is =
 
 under_read : (m : Machine) (request : Request) (context : Context) (filled : Key × Hit) → (led_under m.memory m.registers.features m.pages request context).page ≡ Some filled → IsAmong (under m.memory m.registers.features (uses_of m) request context).reads (OfPage filled.0 filled.1)
 under_read m request context filled =
-    let ours : Way Entry Led = record { led = way_to context (page_way m.memory m.registers.features (uses_of m) request context).led; reads = (page_way m.memory m.registers.features (uses_of m) request context).reads } in
+    let ours : ModelWalk Entry Led = record { led = way_to context (page_way m.memory m.registers.features (uses_of m) request context).led; reads = (page_way m.memory m.registers.features (uses_of m) request context).reads } in
     let standing : Under = record { way = way_to context (page_look m.memory m.registers.features m.pages request context).used; page = (page_look m.memory m.registers.features m.pages request context).filled } in
-    let direct : Way Entry Led = record { led = ByContext context; reads = [] } in
+    let direct : ModelWalk Entry Led = record { led = ByContext context; reads = [] } in
     let direct_under : Under = record { way = ByContext context; page = None } in
-    let reads : Way Entry Led → List Entry = λ way. way.reads in
+    let reads : ModelWalk Entry Led → List Entry = λ way. way.reads in
     let page : Under → Option (Key × Hit) = λ under. under.page in
     elim (is_bare context) as (λ b. page (if b then direct_under else standing) ≡ Some filled → IsAmong (reads (if b then direct else ours)) (OfPage filled.0 filled.1)) [
       | true ↦ λ is. absurd (cc)

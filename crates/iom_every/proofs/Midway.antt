@@ -7,7 +7,7 @@ use Rattle.iom_bits.specs.declared.causes.Kind.{Kind}
 use Rattle.iom_bits.specs.declared.features.Features.{Features}
 use Rattle.iom_bits.specs.declared.causes.Kind.TheVariants.{Read}
 use Rattle.iom_walk.specs.Outcome.{conclude, conclude_at, verdict_on_path}
-use Rattle.iom_walk.specs.Path.{Entry, entry_at, next_table, verdict_on}
+use Rattle.iom_walk.specs.Path.{MetEntry, entry_at, next_table, verdict_on}
 use Rattle.iom_walk.specs.Shape.{is_in_width, levels}
 use Rattle.iom_walk.specs.Verdict.{Row, consequence, first_of, is_global, is_pointer, is_readable, is_valid, is_writable, on_word, pointer_rows, ppn, is_reserved, ruling_of, verdict_of, word_of}
 use Rattle.iom_walk.specs.declared.entry.Ruling.TheVariants as ruling
@@ -26,23 +26,23 @@ use Rattle.iom_every.specs.Uses.{is_for}
 use Rattle.iom_every.specs.Walks.{global_by, held_in, kept_of, made_global, met, met_by, outcome_by, path_by, with_used}
 
 -- the end of a path below entries that are global or not
-end_by : Features → Kind → ℕ → Bool → List Entry → Outcome
+end_by : Features → Kind → ℕ → Bool → List MetEntry → Outcome
 end_by features kind address above path =
     conclude_at features kind (above || list_any (λ entry. is_global (word_of entry.got)) path) address
     (find (λ entry. not (is_pointer (verdict_on features kind entry))) path)
 
-made : (kind : Kind) (global : Bool) (address : ℕ) (entry : Entry) (said : Verdict) → made_global (conclude global address entry said) ≡ conclude true address entry said
+made : (kind : Kind) (global : Bool) (address : ℕ) (entry : MetEntry) (said : Verdict) → made_global (conclude global address entry said) ≡ conclude true address entry said
 made kind global address entry verdict.Outside = refl
 made kind global address entry verdict.Guest = refl
 made kind global address entry verdict.Fault = refl
 made kind global address entry (verdict.Pointer word) = refl
 made kind global address entry (verdict.Leaf word) = refl
 
-made_at : (features : Features) (kind : Kind) (global : Bool) (address : ℕ) (first : Option Entry) → made_global (conclude_at features kind global address first) ≡ conclude_at features kind true address first
+made_at : (features : Features) (kind : Kind) (global : Bool) (address : ℕ) (first : Option MetEntry) → made_global (conclude_at features kind global address first) ≡ conclude_at features kind true address first
 made_at features kind global address None = refl
 made_at features kind global address (Some entry) = made kind global address entry (verdict_on features kind entry)
 
-end_is : (features : Features) (kind : Kind) (address : ℕ) (above : Bool) (path : List Entry) → global_by above (verdict_on_path features kind address path) ≡ end_by features kind address above path
+end_is : (features : Features) (kind : Kind) (address : ℕ) (above : Bool) (path : List MetEntry) → global_by above (verdict_on_path features kind address path) ≡ end_by features kind address above path
 unfolding verdict_on_path end_by
 end_is features kind address false path = refl
 end_is features kind address true path = made_at features kind _ address _
@@ -57,7 +57,7 @@ or_inside true own below = refl
 or_inside false own below = refl
 
 -- behind a pointer the path goes on
-end_behind : (features : Features) (kind : Kind) (address : ℕ) (above : Bool) (entry : Entry) (path : List Entry) → is_pointer (verdict_on features kind entry) ≡ true →
+end_behind : (features : Features) (kind : Kind) (address : ℕ) (above : Bool) (entry : MetEntry) (path : List MetEntry) → is_pointer (verdict_on features kind entry) ≡ true →
     end_by features kind address (above || is_global (word_of entry.got)) path ≡ end_by features kind address above (entry ∷ path)
 unfolding end_by
 end_behind features kind address above entry path pointer =
@@ -66,7 +66,7 @@ end_behind features kind address above entry path pointer =
 
 -- what an entry of a word concludes doesn't depend on where the word stands
 module _ (features : Features) (global : Bool) (address level place word : ℕ) where
-  at_place : Entry
+  at_place : MetEntry
   at_place = record { level = level; place = place; got = got.Word word }
 
   abbrev pub IsAlike : Verdict → Type 0
@@ -89,15 +89,15 @@ module _ (features : Features) (global : Bool) (address level place word : ℕ) 
       (refl, (refl, (refl, (refl, (refl, (refl, (refl, (refl, (refl, (refl, (refl, (refl, (refl, tt))))))))))))) kind
 
 -- so a path has one end whether its first entry is told with its address or not
-head_alike : (features : Features) (kind : Kind) (address : ℕ) (above : Bool) (level place word : ℕ) (path : List Entry) →
+head_alike : (features : Features) (kind : Kind) (address : ℕ) (above : Bool) (level place word : ℕ) (path : List MetEntry) →
     end_by features kind address above (record { level = level; place = 0; got = got.Word word } ∷ path) ≡ end_by features kind address above (record { level = level; place = place; got = got.Word word } ∷ path)
 unfolding end_by
 head_alike features kind address above level place word path =
     let global : Bool = above || (is_global word || list_any (λ entry. is_global (word_of entry.got)) path) in
     let said : Verdict = verdict_of features kind level (got.Word word) in
-    let rest : Option Entry = find (λ entry. not (is_pointer (verdict_on features kind entry))) path in
-    let held : Entry = record { level = level; place = 0; got = got.Word word } in
-    let there : Entry = record { level = level; place = place; got = got.Word word } in
+    let rest : Option MetEntry = find (λ entry. not (is_pointer (verdict_on features kind entry))) path in
+    let held : MetEntry = record { level = level; place = 0; got = got.Word word } in
+    let there : MetEntry = record { level = level; place = place; got = got.Word word } in
     elim (is_pointer said) as (λ b. conclude_at features kind global address (if not b then Some held else rest) ≡ conclude_at features kind global address (if not b then Some there else rest)) [
       | true ↦ refl
       | false ↦ word_alike features global address level place word kind
@@ -117,8 +117,8 @@ enters_here : (at : ℕ → ℕ → Got) (format : Format) (address count : ℕ)
     ≡ end_by format.features kind address above (record { level = count; place = place; got = read } ∷ (if is_pointer (verdict_of format.features Read count read) then path_by at format address (ppn (word_of read)) count else []))
 unfolding enters end_by
 enters_here at format address count kind above (got.Word word) valid place =
-    let path : List Entry = if is_pointer (verdict_of format.features Read count (got.Word word)) then path_by at format address (ppn word) count else [] in
-    let held : Entry = record { level = count; place = 0; got = got.Word word } in
+    let path : List MetEntry = if is_pointer (verdict_of format.features Read count (got.Word word)) then path_by at format address (ppn word) count else [] in
+    let held : MetEntry = record { level = count; place = 0; got = got.Word word } in
     let below : Bool = list_any (λ entry. is_global (word_of entry.got)) path in
     ap (λ (global : Bool). conclude_at format.features kind global address (find (λ entry. not (is_pointer (verdict_on format.features kind entry))) (held ∷ path))) (or_again above (is_global word) below)
     ∙ head_alike format.features kind address above count place word path
@@ -130,10 +130,10 @@ enters_path : (at : ℕ → ℕ → Got) (format : Format) (address : ℕ) (kind
 unfolding held_in path_by
 enters_path at format address kind zero table above held among = absurd among
 enters_path at format address kind (suc count) table above held among =
-    let entry : Entry = entry_at (at count) format address table count in
+    let entry : MetEntry = entry_at (at count) format address table count in
     let here : Bool = above || is_global (word_of entry.got) in
-    let more : List Entry = path_by at format address (next_table entry) count in
-    let rest : Bool → List Entry = λ p. if p then more else [] in
+    let more : List MetEntry = path_by at format address (next_table entry) count in
+    let rest : Bool → List MetEntry = λ p. if p then more else [] in
     let kept : Held = kept_of format.features here address entry in
     let whole : Outcome = end_by format.features kind address above (entry ∷ rest (is_pointer (verdict_on format.features Read entry))) in
     let Behind : Bool → Type 0 = λ p. is_pointer (verdict_on format.features Read entry) ≡ p → IsAmong (held_in format.features here address (rest p)) held → enters at format address kind held ≡ end_by format.features kind address above (entry ∷ rest p) in
@@ -165,10 +165,10 @@ of_path : (at : ℕ → ℕ → Got) (format : Format) (address count table : �
 unfolding held_in path_by
 of_path at format address zero table above held among = absurd among
 of_path at format address (suc count) table above held among =
-    let entry : Entry = entry_at (at count) format address table count in
+    let entry : MetEntry = entry_at (at count) format address table count in
     let here : Bool = above || is_global (word_of entry.got) in
-    let more : List Entry = path_by at format address (next_table entry) count in
-    let rest : List Entry = if is_pointer (verdict_on format.features Read entry) then more else [] in
+    let more : List MetEntry = path_by at format address (next_table entry) count in
+    let rest : List MetEntry = if is_pointer (verdict_on format.features Read entry) then more else [] in
     let kept : Held = kept_of format.features here address entry in
     let longer : IsOfPath address count held → IsOfPath address (suc count) held = λ h. record { level = omega arith; part = h.part } in
     let later : IsAmong (held_in format.features here address rest) held → IsOfPath address (suc count) held =
@@ -196,7 +196,7 @@ pub entering : (at : ℕ → ℕ → Got) (format : Format) (root address : ℕ)
     (is_for format.shape address held ≡ true) × (outcome_by at format root address kind (Some held) ≡ outcome_by at format root address kind None)
 unfolding met outcome_by enters held_in
 entering at format root address kind held among =
-    let path : List Entry = path_by at format address root (levels format.shape) in
+    let path : List MetEntry = path_by at format address root (levels format.shape) in
     let used : Outcome = global_by held.global (verdict_on_path format.features kind address (with_used (Some held) (met_by at format root address (Some held)))) in
     let plain : Outcome = verdict_on_path format.features kind address path in
     let Goal : Bool → Type 0 = λ wide. IsAmong (held_in format.features false address (if wide then path else [])) held →

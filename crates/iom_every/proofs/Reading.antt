@@ -16,7 +16,7 @@ use Rattle.iom_ddt.specs.declared.listing.Met.{Met as Listed}
 use Rattle.iom_ddt.specs.declared.listing.Met.TheVariants as listed
 use Rattle.iom_ddt.specs.Directory.{path_of, with_modes}
 use Rattle.iom_ddt.specs.Words.{context_in}
-use Rattle.iom_walk.specs.Path.{Entry as Met}
+use Rattle.iom_walk.specs.Path.{MetEntry as Met}
 use Rattle.iom_walk.specs.Verdict.{is_global, is_valid, word_of}
 use Rattle.iom_walk.specs.declared.shape.Shape.{Shape}
 use Rattle.iom_nested.specs.Faults.{Failure}
@@ -32,7 +32,7 @@ use Rattle.iom_core.specs.declared.step.Step.{Step}
 use Rattle.iom_core.specs.declared.way.Way.{Way as Led}
 use Rattle.iom_core.specs.declared.way.Way.TheVariants.{Context as ByContext}
 use Rattle.iom_choices.specs.Models.{end_of}
-use Rattle.iom_choices.specs.Systems.{IsAmong, Way, aimed, reads_of}
+use Rattle.iom_choices.specs.Systems.{IsAmong, ModelWalk, aimed, reads_of}
 use Rattle.iom_choices.proofs.Lists.{among-left, among-right, each_append}
 use Rattle.iom_every.specs.Entries.{Entry, Held, OfDirectory, OfDevice, OfFirst, OfPage, OfSecond, id_part, width_at}
 use Rattle.iom_every.specs.Every.{May, iommu, platform}
@@ -219,9 +219,9 @@ page_valid memory features source request context None = each_append IsValid _ _
 
 under_valid : (memory : Memory) (features : Features) (source : List (Look × Entry)) (request : Request) (context : Context) → AllByRecursion IsValid (under memory features source request context).reads
 under_valid memory features source request context =
-    let ours : Way Entry Led = record { led = way_to context (page_way memory features source request context).led; reads = (page_way memory features source request context).reads } in
-    let direct : Way Entry Led = record { led = ByContext context; reads = [] } in
-    let reads : Way Entry Led → List Entry = λ way. way.reads in
+    let ours : ModelWalk Entry Led = record { led = way_to context (page_way memory features source request context).led; reads = (page_way memory features source request context).reads } in
+    let direct : ModelWalk Entry Led = record { led = ByContext context; reads = [] } in
+    let reads : ModelWalk Entry Led → List Entry = λ way. way.reads in
     elim (is_bare context) as (λ b. AllByRecursion IsValid (reads (if b then direct else ours))) [
       | true ↦ tt
       | false ↦ page_valid memory features source request context _
@@ -295,9 +295,9 @@ unfolding way_of
 page_reads state source request context levels is located bare_not none e among =
     let m : Machine = state.machine in
     let dir : List Entry = directory_reads m request.did (entered m source request.did) in
-    let ours : Way Entry Led = record { led = way_to context (page_way m.memory m.registers.features source request context).led; reads = (page_way m.memory m.registers.features source request context).reads } in
-    let direct : Way Entry Led = record { led = ByContext context; reads = [] } in
-    let reads : Way Entry Led → List Entry = λ way. way.reads in
+    let ours : ModelWalk Entry Led = record { led = way_to context (page_way m.memory m.registers.features source request context).led; reads = (page_way m.memory m.registers.features source request context).reads } in
+    let direct : ModelWalk Entry Led = record { led = ByContext context; reads = [] } in
+    let reads : ModelWalk Entry Led → List Entry = λ way. way.reads in
     let here : IsAmong (page_way m.memory m.registers.features source request context).reads e =
     subst (λ (found : Option Hit). IsAmong (page_by m.memory m.registers.features source request context found).reads e) (sym none) among in
     let below_it : IsAmong (under m.memory m.registers.features source request context).reads e =

@@ -13,7 +13,7 @@ use Rattle.iom_ddt.specs.Contexts.{is_bare}
 use Rattle.iom_ddt.specs.Directory.{is_too_wide}
 use Rattle.iom_ddt.specs.declared.context.Context.{Context}
 use Rattle.iom_walk.specs.Outcome.{verdict_on_path}
-use Rattle.iom_walk.specs.Path.{Entry as Met, entry_at, next_table, verdict_on}
+use Rattle.iom_walk.specs.Path.{MetEntry as Met, entry_at, next_table, verdict_on}
 use Rattle.iom_walk.specs.Shape.{is_in_width, levels}
 use Rattle.iom_walk.specs.Verdict.{is_pointer}
 use Rattle.iom_walk.specs.declared.outcome.Outcome.TheVariants as outcome
@@ -27,7 +27,7 @@ use Rattle.iom_nested.specs.declared.translation.Hit.{Hit}
 use Rattle.iom_nested.specs.declared.translation.Reached.{Reached}
 use Rattle.iom_cache.specs.Keys.{gscid_of}
 use Rattle.iom_cache.specs.declared.key.Key.{Key}
-use Rattle.iom_choices.specs.Systems.{Way, IsAmong}
+use Rattle.iom_choices.specs.Systems.{ModelWalk, IsAmong}
 use Rattle.iom_choices.specs.Trees.{Ends, IsApart, picked, way_over}
 use Rattle.iom_core.specs.Access.{request_key, way_to}
 use Rattle.iom_core.specs.State.{State, Machine}
@@ -41,7 +41,7 @@ use Rattle.iom_every.specs.Uses.{Entered, ForAccess, ForDevice, ForEntry, ForFir
 use Rattle.iom_every.specs.Walks.{entry_of, global_by, held_in, is_global_use, met, met_by, outcome_by, path_by, with_used}
 use Rattle.iom_every.specs.Ways.{by_context, by_mode, depth_of, directory_reads, located_by, page_by, page_way, way_of}
 
-abbrev under_bare : Context → Way Entry Led
+abbrev under_bare : Context → ModelWalk Entry Led
 under_bare context = record { led = ByContext context; reads = [] }
 
 -- a use of another look-up doesn't fit
@@ -242,7 +242,7 @@ located_is : (m : Machine) (source : List (Look × Entry)) (request : Request) (
     way_over source (located_tree m request located found) ≡ by_context m.memory m.registers.features source request located found
 located_is m source request located (Err why) = refl
 located_is m source request located (Ok context) =
-    let way : Way Entry (Result Hit Fault) = page_way m.memory m.registers.features source request context in
+    let way : ModelWalk Entry (Result Hit Fault) = page_way m.memory m.registers.features source request context in
     elim (is_bare context) as (λ b.
     way_over source (if b then Ends (record { led = ByContext context; reads = located ++ [] })
     else looking ForPage (page_use (request_key request context)) (page_tree m.memory m.registers.features request context located))
@@ -263,7 +263,7 @@ mode_is : (mode : Mode) (m : Machine) (source : List (Look × Entry)) (request :
 mode_is mode.Off m source request = refl
 mode_is mode.Bare m source request = refl
 mode_is (mode.Levels levels) m source request =
-    let began : Option Entered → Way Entry Led = λ at. by_context m.memory m.registers.features source request (directory_reads m request.did at) (located_by m request.did at) in
+    let began : Option Entered → ModelWalk Entry Led = λ at. by_context m.memory m.registers.features source request (directory_reads m request.did at) (located_by m request.did at) in
     elim (is_too_wide (depth_of m) request.did) as (λ b.
     way_over source (if b then entered_tree m request None else looking ForDevice (device_use (depth_of m) request.did) (entered_tree m request))
     ≡ began (if b then None else used_by (device_use (depth_of m) request.did) source)) [

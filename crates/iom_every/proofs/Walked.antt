@@ -6,7 +6,7 @@ use Rattle.iom_bits.specs.declared.features.Features.{Features}
 use Rattle.iom_mem.specs.Memory.{Memory}
 use Rattle.iom_ddt.specs.declared.context.Context.{Context}
 use Rattle.iom_walk.specs.Outcome.{outcome_of}
-use Rattle.iom_walk.specs.Path.{Entry, entry_at, next_table, path_from, verdict_on}
+use Rattle.iom_walk.specs.Path.{MetEntry, entry_at, next_table, path_from, verdict_on}
 use Rattle.iom_walk.specs.Shape.{levels}
 use Rattle.iom_walk.specs.Verdict.{is_pointer}
 use Rattle.iom_walk.specs.declared.shape.Format.{Format}
@@ -31,7 +31,7 @@ path_is at one same format address table zero = refl
 path_is at one same format address table (suc count) =
     let here : entry_at (at count) format address table count ≡ entry_at one format address table count =
     λ n. record { level = count; place = (entry_at one format address table count).place; got = same count (entry_at one format address table count).place n } in
-    let go : Entry → (Entry → List Entry) → List Entry = λ entry more. entry ∷ (if is_pointer (verdict_on format.features Read entry) then more entry else []) in
+    let go : MetEntry → (MetEntry → List MetEntry) → List MetEntry = λ entry more. entry ∷ (if is_pointer (verdict_on format.features Read entry) then more entry else []) in
     λ n. go (here n) (λ entry. path_is at one same format address (next_table entry) count n)
 
 pub outcome_is : (at : ℕ → ℕ → Got) (one : ℕ → Got) → IsOne at one → (format : Format) (root address : ℕ) (kind : Kind) → outcome_by at format root address kind None ≡ outcome_of one format root address kind

@@ -4,7 +4,7 @@ use Rattle.iom_bits.specs.Bits.{has_bit}
 use Rattle.iom_bits.specs.declared.features.Features.{Features}
 use Rattle.iom_ddt.specs.Directory.{with_modes}
 use Rattle.iom_ddt.specs.Words.{context_in}
-use Rattle.iom_walk.specs.Path.{Entry as Met}
+use Rattle.iom_walk.specs.Path.{MetEntry as Met}
 use Rattle.iom_walk.specs.Verdict.{is_global, is_valid, word_of}
 use Rattle.iom_core.specs.State.{Machine}
 use Rattle.iom_choices.specs.Systems.{IsAmong}

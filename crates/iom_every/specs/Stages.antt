@@ -6,7 +6,7 @@ use Rattle.iom_bits.specs.declared.causes.Kind.TheVariants.{Read}
 use Rattle.iom_bits.specs.declared.features.Features.{Features}
 use Rattle.iom_mem.specs.Memory.{Memory}
 use Rattle.iom_ddt.specs.declared.context.Context.{Context}
-use Rattle.iom_walk.specs.Path.{Entry as Met}
+use Rattle.iom_walk.specs.Path.{MetEntry as Met}
 use Rattle.iom_walk.specs.declared.outcome.Outcome.{Outcome}
 use Rattle.iom_walk.specs.declared.shape.Shape.{Shape}
 use Rattle.iom_walk.specs.declared.source.Got.{Got}

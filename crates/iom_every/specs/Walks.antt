@@ -5,7 +5,7 @@ use Rattle.iom_bits.specs.declared.causes.Kind.{Kind}
 use Rattle.iom_bits.specs.declared.causes.Kind.TheVariants.{Read}
 use Rattle.iom_bits.specs.declared.features.Features.{Features}
 use Rattle.iom_walk.specs.Outcome.{verdict_on_path}
-use Rattle.iom_walk.specs.Path.{Entry, entry_at, next_table, verdict_on}
+use Rattle.iom_walk.specs.Path.{MetEntry, entry_at, next_table, verdict_on}
 use Rattle.iom_walk.specs.Shape.{is_in_width, levels}
 use Rattle.iom_walk.specs.Verdict.{is_global, is_pointer, is_valid, word_of}
 use Rattle.iom_walk.specs.declared.outcome.Outcome.{Outcome}
@@ -16,27 +16,27 @@ use Rattle.iom_walk.specs.declared.source.Got.TheVariants as got
 use Rattle.iom_every.specs.Entries.{Held, width_at}
 
 -- the longest path from a table on; `at` gives the word at an address, for each level
-unfoldable pub path_by : (ℕ → ℕ → Got) → Format → ℕ → ℕ → ℕ → List Entry
+unfoldable pub path_by : (ℕ → ℕ → Got) → Format → ℕ → ℕ → ℕ → List MetEntry
 path_by at format address table zero = []
 path_by at format address table (suc count) =
-    let entry : Entry = entry_at (at count) format address table count in
+    let entry : MetEntry = entry_at (at count) format address table count in
     entry ∷ (if is_pointer (verdict_on format.features Read entry) then path_by at format address (next_table entry) count else [])
 
 -- a held entry, as an entry of a path; its address isn't known
-abbrev pub entry_of : Held → Entry
+abbrev pub entry_of : Held → MetEntry
 entry_of held = record { level = held.level; place = 0; got = got.Word held.word }
 
 -- the entries that are met in memory: all from the root on, or those after the entry that is used
-abbrev pub met_by : (ℕ → ℕ → Got) → Format → ℕ → ℕ → Option Held → List Entry
+abbrev pub met_by : (ℕ → ℕ → Got) → Format → ℕ → ℕ → Option Held → List MetEntry
 met_by at format root address None = path_by at format address root (levels format.shape)
 met_by at format root address (Some held) =
     if is_pointer (verdict_on format.features Read (entry_of held)) then path_by at format address (next_table (entry_of held)) held.level else []
 
 -- an address that breaks the width rule meets nothing
-unfoldable pub met : (ℕ → ℕ → Got) → Format → ℕ → ℕ → Option Held → List Entry
+unfoldable pub met : (ℕ → ℕ → Got) → Format → ℕ → ℕ → Option Held → List MetEntry
 met at format root address used = if is_in_width format.shape address then met_by at format root address used else []
 
-abbrev pub with_used : Option Held → List Entry → List Entry
+abbrev pub with_used : Option Held → List MetEntry → List MetEntry
 with_used None path = path
 with_used (Some held) path = entry_of held ∷ path
 
@@ -63,7 +63,7 @@ outcome_by at format root address kind used =
     else outcome.Fault
 
 -- an entry that is met for an address, as it may be kept
-abbrev pub kept_of : Features → Bool → ℕ → Entry → Held
+abbrev pub kept_of : Features → Bool → ℕ → MetEntry → Held
 kept_of features global address entry = record {
   level = entry.level;
   width = width_at features entry.level (word_of entry.got);
@@ -73,7 +73,7 @@ kept_of features global address entry = record {
 }
 
 -- Each valid entry that is met may be kept, even a misconfigured one, with whether it or one above it is global.
-unfoldable pub held_in : Features → Bool → ℕ → List Entry → List Held
+unfoldable pub held_in : Features → Bool → ℕ → List MetEntry → List Held
 held_in features global address [] = []
 held_in features global address (entry ∷ path) =
     let here : Bool = global || is_global (word_of entry.got) in

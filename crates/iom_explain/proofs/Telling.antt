@@ -10,10 +10,10 @@ use Rattle.iom_core.specs.Table.{next, request_of_step}
 use Rattle.iom_core.specs.Looking.{is_cached, seen_in}
 use Rattle.iom_core.specs.declared.access.Denial.{Denial}
 use Rattle.iom_core.specs.declared.access.Request.{Request}
-use Rattle.iom_core.specs.declared.looking.Seen.{Seen}
+use Rattle.iom_core.specs.declared.looking.Lookup.{Lookup}
 use Rattle.iom_core.specs.declared.step.Step.{Step}
 use Rattle.iom_core.specs.declared.step.Answer.{Answer}
-use Rattle.iom_account.specs.declared.origin.Origin.{Origin}
+use Rattle.iom_account.specs.declared.origin.NumberedWarrant.{NumberedWarrant}
 use Rattle.iom_reader.specs.Answering.{Progress, AnswersNext, IsAnswering}
 use Rattle.iom_reader.specs.declared.fault.RunFault.{RunFault}
 use Rattle.iom_reader.specs.Running.{Ends}
@@ -24,16 +24,16 @@ use Rattle.iom_tool.specs.Parsed.{line_as}
 use Rattle.iom_tool.specs.declared.language.Actor.{Actor}
 use Rattle.iom_tool.specs.declared.language.Line.{Line}
 use Rattle.iom_tool.specs.declared.language.Line.TheVariants as own
-use Rattle.iom_tool.specs.declared.trace.Entry.{Entry}
+use Rattle.iom_tool.specs.declared.trace.TracedStep.{TracedStep}
 use Rattle.iom_debug.specs.Telling.{Leaves, answer_at}
 use Rattle.iom_tool.specs.Texts.{entry_text}
-use Rattle.iom_debug.specs.Reasons.{Reasons, newest_origin, stale_in}
+use Rattle.iom_debug.specs.Reasons.{LineAccountView, newest_origin, stale_in}
 use Rattle.iom_debug.specs.Ways.{stale_address}
 use Rattle.iom_explain.specs.Accesses.{asks_text, caches_by, filler, stale_text, warrant_text}
 use Rattle.iom_explain.specs.Walking.{walk_text}
 use Rattle.iom_debug.specs.Summary.{Counts, counts_of, up_to_64_bits}
 use Rattle.iom_debug.specs.Taking.{Desk, Took, run_text, taken}
-use Rattle.iom_debug.specs.declared.summary.Outcome.{Outcome}
+use Rattle.iom_debug.specs.declared.summary.AccessOutcome.{AccessOutcome}
 use Rattle.iom_explain.specs.Explaining.{Explained, ExplainSays, IsExplained, LineTold, OtherTold, Progressed, RunTold, StepTold, StepsTold, access_by, access_text, by_explain, denied_for, explained, explaining, line_told, outcomes_by, summary_text}
 
 pub lawful : IsAnswering by_explain
@@ -62,12 +62,12 @@ whole unread left old new holds h memory wrote = record {
 }
 
 -- a step with its answer, and below it what is told of its access
-pub step_is : (before : Explained) (number : ℕ) (step : Step) (request : Option Request) (answer : Answer) (entry below page : List ℕ) (used : Option Origin)
+pub step_is : (before : Explained) (number : ℕ) (step : Step) (request : Option Request) (answer : Answer) (entry below page : List ℕ) (used : Option NumberedWarrant)
     (after : Desk) (counts : Counts) → Took before.desk step number after → request ≡ request_of_step before.desk.state step →
     answer ≡ (next before.desk.state step).answer → entry ≡ entry_text (Some (record { step = step; answer = answer })) →
     used ≡ newest_origin after.reasons.account → below ≡ access_by before.desk step request used →
     page ≡ (numeral 10 number ++ codes ": " ++ entry ++ 10 ∷ []) ++ below →
-    ((earlier : List Outcome) → before.counts ≡ counts_of earlier → counts ≡ counts_of (earlier ++ outcomes_by before.desk number step request)) →
+    ((earlier : List AccessOutcome) → before.counts ≡ counts_of earlier → counts ≡ counts_of (earlier ++ outcomes_by before.desk number step request)) →
     StepTold before number step page (record { desk = after; counts = counts })
 step_is before number step request answer entry below page used after counts took asked answered entry_is used_is below_is page_is counted = record {
   took = took;
@@ -77,12 +77,12 @@ step_is before number step request answer entry below page used after counts too
       ∙ ap (λ (b : List ℕ). (numeral 10 number ++ codes ": "
       ++ entry_text (Some (record { step = step; answer = (next before.desk.state step).answer })) ++ 10 ∷ []) ++ b)
       (below_is ∙ ap (λ (r : Option Request). access_by before.desk step r used) asked
-      ∙ ap (λ (u : Option Origin). access_by before.desk step (request_of_step before.desk.state step) u) used_is);
+      ∙ ap (λ (u : Option NumberedWarrant). access_by before.desk step (request_of_step before.desk.state step) u) used_is);
   counts = λ earlier is. counted earlier is
       ∙ ap (λ (r : Option Request). counts_of (earlier ++ outcomes_by before.desk number step r)) asked;
 }
 
-access_is : (now : Desk) (step : Step) (request : Request) (seen : Seen) (line : ℕ) (used : Option Origin) (stale : Option (Result ℕ Denial))
+access_is : (now : Desk) (step : Step) (request : Request) (seen : Lookup) (line : ℕ) (used : Option NumberedWarrant) (stale : Option (Result ℕ Denial))
     (asks walk : List ℕ) → asks ≡ asks_text now.state step → seen ≡ seen_in now.state.machine request →
     line ≡ filler now.reasons.account.history now.state.machine request.did → walk ≡ walk_text seen now.state.machine request →
     stale ≡ stale_address now.state.machine request →
@@ -91,7 +91,7 @@ access_is : (now : Desk) (step : Step) (request : Request) (seen : Seen) (line :
 access_is now step request seen line used stale asks walk asks_is seen_is line_is walk_is stale_is =
     rw (asks_is, walk_is, stale_is, line_is, seen_is) refl
 
-outcome_is : (now : Desk) (number : ℕ) (step : Step) (request : Request) (seen : Seen) (denied : Option ℕ) (stale : Option (Result ℕ Denial)) →
+outcome_is : (now : Desk) (number : ℕ) (step : Step) (request : Request) (seen : Lookup) (denied : Option ℕ) (stale : Option (Result ℕ Denial)) →
     denied ≡ denied_for (next now.state step).answer → seen ≡ seen_in now.state.machine request → stale ≡ stale_address now.state.machine request →
     record { number = number; denied = denied; is_cached = is_cached seen; is_stale = is_some stale } ∷ []
     ≡ outcomes_by now number step (Some request)
@@ -102,7 +102,7 @@ on_ok (Ok done) is holds = holds
 on_ok (Err f) is holds = absurd (cc is)
 
 -- a step that made an access, by what is known of that
-pub accessed : (before : Explained) (number : ℕ) (step : Step) (request : Request) (seen : Seen) (line : ℕ) (denied : Option ℕ) (used : Option Origin)
+pub accessed : (before : Explained) (number : ℕ) (step : Step) (request : Request) (seen : Lookup) (line : ℕ) (denied : Option ℕ) (used : Option NumberedWarrant)
     (stale : Option (Result ℕ Denial)) (answer : Answer) (asks walk entry page : List ℕ) (after : Desk) (counts : Counts)
     (result : Result (Unit {0}) AllocError) → Took before.desk step number after → Some request ≡ request_of_step before.desk.state step →
     answer ≡ (next before.desk.state step).answer → entry ≡ entry_text (Some (record { step = step; answer = answer })) →
@@ -110,7 +110,7 @@ pub accessed : (before : Explained) (number : ℕ) (step : Step) (request : Requ
     line ≡ filler before.desk.reasons.account.history before.desk.state.machine request.did →
     walk ≡ walk_text seen before.desk.state.machine request →
     stale ≡ stale_in before.desk.state (request_of_step before.desk.state step) → denied ≡ denied_for answer → is_err result ≡ false →
-    OnOk result ((earlier : List Outcome) → before.counts ≡ counts_of earlier → counts ≡ counts_of (earlier
+    OnOk result ((earlier : List AccessOutcome) → before.counts ≡ counts_of earlier → counts ≡ counts_of (earlier
     ++ record { number = number; denied = denied; is_cached = is_cached seen; is_stale = is_some stale } ∷ [])) →
     page ≡ (numeral 10 number ++ codes ": " ++ entry ++ 10 ∷ [])
     ++ (asks ++ caches_by seen.context seen line request.iova used ++ walk ++ warrant_text used ++ stale_text stale) →
@@ -122,7 +122,7 @@ accessed before number step request seen line denied used stale answer asks walk
     step_is before number step (Some request) answer entry _ page used after counts took asked answered entry_is used_is
     (access_is before.desk step request seen line used stale asks walk asks_is seen_is line_is walk_is told) page_is
     (λ earlier is. on_ok result well counted earlier is
-    ∙ ap (λ (os : List Outcome). counts_of (earlier ++ os))
+    ∙ ap (λ (os : List AccessOutcome). counts_of (earlier ++ os))
     (outcome_is before.desk number step request seen denied stale (denied_is ∙ ap denied_for answered) seen_is told))
 
 -- what was written is told of a line; of a refused memory nothing is known

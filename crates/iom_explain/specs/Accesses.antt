@@ -1,7 +1,7 @@
 -- What `explain` writes below a step that makes an access: what a block device asks, what the caches hold, and why it was let through.
 use Rattle.std.specs.Prelude.{ℕ, ◌++◌, ◌||◌, Bool, true, false, List, [], ◌∷◌, length, codes, slice_get, Option, Some, None, Result, Ok, Err}
 use Rattle.std.specs.Option.{unwrap_or}
-use Rattle.iom_text.specs.Texts.{hexed, numeral}
+use Rattle.iom_text.specs.Texts.{hexadecimal, numeral}
 use Rattle.iom_virtq.specs.Bus.{Ask, Read, Write}
 use Rattle.iom_blk.specs.Device.{Device}
 use Rattle.iom_blk.specs.Phases.{asks}
@@ -13,16 +13,16 @@ use Rattle.iom_cache.specs.Places.{place_of}
 use Rattle.iom_core.specs.State.{Machine, State}
 use Rattle.iom_core.specs.Looking.{is_cached}
 use Rattle.iom_core.specs.declared.access.Denial.{Denial}
-use Rattle.iom_core.specs.declared.looking.Seen.{Seen}
+use Rattle.iom_core.specs.declared.looking.Lookup.{Lookup}
 use Rattle.iom_core.specs.declared.step.Step.{Step}
 use Rattle.iom_core.specs.declared.step.Step.TheVariants as step
 use Rattle.iom_core.specs.declared.way.Way.{Way}
 use Rattle.iom_core.specs.declared.way.Way.TheVariants as way
 use Rattle.iom_core.specs.declared.witness.Source.{Source}
 use Rattle.iom_core.specs.declared.witness.Source.TheVariants as source
-use Rattle.iom_account.specs.Following.{Notes}
-use Rattle.iom_account.specs.declared.origin.Origin.{Origin}
-use Rattle.iom_account.specs.declared.origin.Origin.TheVariants as origin
+use Rattle.iom_account.specs.Following.{HistoryView}
+use Rattle.iom_account.specs.declared.origin.NumberedWarrant.{NumberedWarrant}
+use Rattle.iom_account.specs.declared.origin.NumberedWarrant.TheVariants as origin
 use Rattle.iom_items.specs.Lines.{operand}
 use Rattle.iom_debug.specs.Reasons.{origin_text}
 use Rattle.iom_debug.specs.Ways.{address_of, address_text}
@@ -60,7 +60,7 @@ asks_text state (step.Device dev) = device_asks (slice_get state.devices dev)
 asks_text state _ = []
 
 -- the line that filled the live context of a device id
-abbrev pub filler : Notes → Machine → ℕ → ℕ
+abbrev pub filler : HistoryView → Machine → ℕ → ℕ
 filler history m did = unwrap_or (slice_get history.contexts (place_of (same_did did) m.contexts)) 0
 
 abbrev pub context_text : Source → ℕ → List ℕ
@@ -68,7 +68,7 @@ context_text source.Found line = codes "context of line " ++ numeral 10 line
 context_text source.Read line = codes "no context"
 
 -- the line whose walk found the page that an access used
-abbrev pub walk_of : Option Origin → Option ℕ
+abbrev pub walk_of : Option NumberedWarrant → Option ℕ
 walk_of None = None
 walk_of (Some origin.Register) = None
 walk_of (Some (origin.Context context)) = None
@@ -93,23 +93,23 @@ page_text false walk way = no_page way
 
 -- the physical address that what is cached leads an access to
 abbrev pub addr_text : Bool → Result ℕ Denial → List ℕ
-addr_text true (Ok addr) = codes ", addr=" ++ hexed addr
+addr_text true (Ok addr) = codes ", addr=" ++ hexadecimal addr
 addr_text true (Err denial) = []
 addr_text false address = []
 
 -- what the caches hold for an access to an IOVA that is seen so before its step, if a context leads it. Its live context is that of `line`
-abbrev pub caches_by : Option (Source × Context) → Seen → ℕ → ℕ → Option Origin → List ℕ
+abbrev pub caches_by : Option (Source × Context) → Lookup → ℕ → ℕ → Option NumberedWarrant → List ℕ
 caches_by None seen line iova used = []
 caches_by (Some context) seen line iova used =
     codes "    caches: " ++ context_text context.0 line ++ page_text (is_found seen.page) (walk_of used) seen.way
     ++ addr_text (is_found seen.page || is_cached seen) (address_of seen.way iova) ++ 10 ∷ []
 
 -- where the translation came from that an access used
-abbrev pub used_text : Option Origin → List ℕ
+abbrev pub used_text : Option NumberedWarrant → List ℕ
 used_text None = codes "none, it is denied"
 used_text (Some used) = origin_text used
 
-abbrev pub warrant_text : Option Origin → List ℕ
+abbrev pub warrant_text : Option NumberedWarrant → List ℕ
 warrant_text used = codes "    warrant: " ++ used_text used ++ 10 ∷ []
 
 -- where the tables led an access that was stale, before its step

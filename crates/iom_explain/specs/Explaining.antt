@@ -10,12 +10,12 @@ use Rattle.iom_core.specs.Looking.{is_cached, seen_in}
 use Rattle.iom_core.specs.State.{State}
 use Rattle.iom_core.specs.Table.{next, request_of_step}
 use Rattle.iom_core.specs.declared.access.Request.{Request}
-use Rattle.iom_core.specs.declared.looking.Seen.{Seen}
+use Rattle.iom_core.specs.declared.looking.Lookup.{Lookup}
 use Rattle.iom_core.specs.declared.step.Step.{Step}
 use Rattle.iom_core.specs.declared.step.Answer.{Answer}
 use Rattle.iom_core.specs.declared.step.Answer.TheVariants as answer
-use Rattle.iom_account.specs.Account.{Account}
-use Rattle.iom_account.specs.declared.origin.Origin.{Origin}
+use Rattle.iom_account.specs.Account.{AccountView}
+use Rattle.iom_account.specs.declared.origin.NumberedWarrant.{NumberedWarrant}
 use Rattle.iom_account.specs.declared.reason.Reason.{Reason}
 use Rattle.iom_reader.specs.Answering.{Answering}
 use Rattle.iom_reader.specs.Lines.{lines_of}
@@ -23,29 +23,29 @@ use Rattle.iom_reader.specs.Running.{IsWithinLimits}
 use Rattle.iom_reader.specs.Speaking.{Speaking, Speaks, Spoken}
 use Rattle.iom_tool.specs.Script.{Again, DebugLine, Does, Plain, debug_line_of}
 use Rattle.iom_tool.specs.Texts.{entry_text}
-use Rattle.iom_tool.specs.declared.trace.Entry.{Entry}
-use Rattle.iom_debug.specs.Reasons.{Reasons, newest_origin}
+use Rattle.iom_tool.specs.declared.trace.TracedStep.{TracedStep}
+use Rattle.iom_debug.specs.Reasons.{LineAccountView, newest_origin}
 use Rattle.iom_debug.specs.Summary.{Counts, counts_of, up_to_64_bits}
 use Rattle.iom_debug.specs.Taking.{Desk, Took, desk, run_text, taken}
 use Rattle.iom_debug.specs.Telling.{Leaves, answer_at, before_comment, escaped}
 use Rattle.iom_debug.specs.Ways.{stale_address}
-use Rattle.iom_debug.specs.declared.summary.Outcome.{Outcome}
+use Rattle.iom_debug.specs.declared.summary.AccessOutcome.{AccessOutcome}
 use Rattle.iom_explain.specs.Accesses.{asks_text, caches_by, filler, stale_text, warrant_text}
 use Rattle.iom_explain.specs.Walking.{walk_text}
 
 -- what is told below a step that makes an access, by what stood before it and where the translation came from that it used
-abbrev pub access_text : Desk → Step → Request → Seen → Option Origin → List ℕ
+abbrev pub access_text : Desk → Step → Request → Lookup → Option NumberedWarrant → List ℕ
 access_text now step request seen used =
     asks_text now.state step
     ++ caches_by seen.context seen (filler now.reasons.account.history now.state.machine request.did) request.iova used
     ++ walk_text seen now.state.machine request ++ warrant_text used ++ stale_text (stale_address now.state.machine request)
 
-abbrev pub access_by : Desk → Step → Option Request → Option Origin → List ℕ
+abbrev pub access_by : Desk → Step → Option Request → Option NumberedWarrant → List ℕ
 access_by now step None used = []
 access_by now step (Some request) used = access_text now step request (seen_in now.state.machine request) used
 
 -- a step of the line of this number, with its answer
-abbrev pub step_told : Desk → ℕ → Step → Option Origin → List ℕ
+abbrev pub step_told : Desk → ℕ → Step → Option NumberedWarrant → List ℕ
 step_told now number step used =
     numeral 10 number ++ codes ": " ++ entry_text (Some (record { step = step; answer = (next now.state step).answer })) ++ 10 ∷ []
     ++ access_by now step (request_of_step now.state step) used
@@ -56,7 +56,7 @@ denied_for (answer.Denied cause) = Some cause
 denied_for _ = None
 
 -- how the access went that a step made
-abbrev pub outcomes_by : Desk → ℕ → Step → Option Request → List Outcome
+abbrev pub outcomes_by : Desk → ℕ → Step → Option Request → List AccessOutcome
 outcomes_by now number step None = []
 outcomes_by now number step (Some request) = record {
   number = number;
@@ -70,14 +70,14 @@ pub record Explained : Type 0 where
   pub desk : Desk
   pub counts : Counts
 
-abbrev pub explained : State → List Entry → Reasons → Counts → Explained
+abbrev pub explained : State → List TracedStep → LineAccountView → Counts → Explained
 explained state trace reasons counts = record { desk = desk state trace reasons; counts = counts }
 
 -- a step of the line of this number was taken, told and counted. Where its translation came from is what the account keeps of it
 pub record StepTold (before : Explained) (number : ℕ) (step : Step) (said : List ℕ) (after : Explained) : Type 0 where
   pub took : Took before.desk step number after.desk
   pub text : said ≡ step_told before.desk number step (newest_origin after.desk.reasons.account)
-  pub counts : (earlier : List Outcome) → before.counts ≡ counts_of earlier
+  pub counts : (earlier : List AccessOutcome) → before.counts ≡ counts_of earlier
       → after.counts ≡ counts_of (earlier ++ outcomes_by before.desk number step (request_of_step before.desk.state step))
 
 -- steps one after the other

@@ -7,7 +7,7 @@ use Rattle.iom_ddt.specs.declared.context.Context.{Context}
 use Rattle.iom_core.specs.State.{Machine}
 use Rattle.iom_core.specs.Looking.{is_cached}
 use Rattle.iom_core.specs.declared.access.Request.{Request}
-use Rattle.iom_core.specs.declared.looking.Seen.{Seen}
+use Rattle.iom_core.specs.declared.looking.Lookup.{Lookup}
 use Rattle.iom_core.specs.declared.witness.Source.{Source}
 use Rattle.iom_core.specs.declared.witness.Source.TheVariants as source
 use Rattle.iom_tables.specs.Parts.{parts_of, parts_under}
@@ -40,5 +40,5 @@ walk_by (Some (source.Found, context)) m request =
     if is_still m request context then walk_lines m request (parts_of m request) else walk_under m request context
 
 -- nothing of an access that is seen to be led by the caches alone
-abbrev pub walk_text : Seen → Machine → Request → List ℕ
+abbrev pub walk_text : Lookup → Machine → Request → List ℕ
 walk_text seen m request = if is_cached seen then [] else walk_by seen.context m request

@@ -6,13 +6,13 @@ ghost use Rattle.iom_debug.specs.Ways.{address_of};
 ghost use Rattle.iom_explain.specs.Accesses.{addr_text, caches_by, context_text, is_found, no_page, page_text, stale_text, used_text, walk_of, warrant_text};
 
 use crate::text::put_decimal;
-use iom_account::Origin;
-use iom_core::{Denial, Seen, Source, Way};
-use iom_debug::{Page, address_line, address_of, origin_line, put};
-use iom_text::hexed;
+use iom_account::NumberedWarrant;
+use iom_core::{Denial, Lookup, Source, Way};
+use iom_debug::{OutputPage, address_line, address_of, origin_line, put};
+use iom_text::hexadecimal;
 
 // Appends where a context comes from.
-fn put_context(out: &mut Page, source: Source, line: u64)
+fn put_context(out: &mut OutputPage, source: Source, line: u64)
     requires { length out.old.items ≤ 1000 }
     ensures text { out.new.items ≡ out.old.items ++ context_text source line }
     ensures room { length out.new.items ≤ length out.old.items + 40 }
@@ -24,12 +24,12 @@ fn put_context(out: &mut Page, source: Source, line: u64)
 }
 
 // The line whose walk found the page that an access used.
-fn walk_of(used: Option<Origin>) -> Option<u64>
+fn walk_of(used: Option<NumberedWarrant>) -> Option<u64>
     ensures { result ≡ walk_of used }
 {
     match used {
-        Some(Origin::Walked { walk, .. }) => Some(walk),
-        Some(Origin::Register | Origin::Context { .. }) | None => None,
+        Some(NumberedWarrant::Walked { walk, .. }) => Some(walk),
+        Some(NumberedWarrant::Register | NumberedWarrant::Context { .. }) | None => None,
     }
 }
 
@@ -44,7 +44,7 @@ fn is_found(page: Option<Source>) -> bool
 }
 
 // Appends that no page is cached, but of stages that are Bare.
-fn put_no_page(out: &mut Page, way: &Way)
+fn put_no_page(out: &mut OutputPage, way: &Way)
     requires { length out.old.items ≤ 1000 }
     ensures text { out.new.items ≡ out.old.items ++ no_page way.now }
     ensures room { length out.new.items ≤ length out.old.items + 40 }
@@ -56,7 +56,7 @@ fn put_no_page(out: &mut Page, way: &Way)
 }
 
 // Appends the line whose walk found the page that is cached.
-fn put_page(out: &mut Page, is_found: bool, walk: Option<u64>, way: &Way)
+fn put_page(out: &mut OutputPage, is_found: bool, walk: Option<u64>, way: &Way)
     requires { length out.old.items ≤ 1000 }
     ensures text { out.new.items ≡ out.old.items ++ page_text is_found walk way.now }
     ensures room { length out.new.items ≤ length out.old.items + 40 }
@@ -69,14 +69,14 @@ fn put_page(out: &mut Page, is_found: bool, walk: Option<u64>, way: &Way)
 }
 
 // Whether what is cached leads an access that is seen so.
-fn is_led(seen: &Seen) -> bool
+fn is_led(seen: &Lookup) -> bool
     ensures { result ≡ (is_found seen.now.page || is_cached seen.now) }
 {
     is_found(seen.page) || seen.is_cached()
 }
 
 // Appends the physical address that what is cached leads to.
-fn put_addr(out: &mut Page, is_led: bool, address: Result<u64, Denial>)
+fn put_addr(out: &mut OutputPage, is_led: bool, address: Result<u64, Denial>)
     requires { length out.old.items ≤ 1000 }
     ensures text { out.new.items ≡ out.old.items ++ addr_text is_led address }
     ensures room { length out.new.items ≤ length out.old.items + 40 }
@@ -84,7 +84,7 @@ fn put_addr(out: &mut Page, is_led: bool, address: Result<u64, Denial>)
     match (is_led, address) {
         (true, Ok(addr)) => {
             put(out, b", addr=");
-            put(out, hexed(addr).as_slice());
+            put(out, hexadecimal(addr).as_slice());
         }
         (true, Err(_)) => {}
         (false, _) => {}
@@ -93,7 +93,13 @@ fn put_addr(out: &mut Page, is_led: bool, address: Result<u64, Denial>)
 
 /// Appends what the caches hold for an access to `iova` that is seen so before its step, as a line; nothing if no context leads it. The live
 /// context of its device is that of `line`, and its translation comes from `used`.
-pub fn put_caches(out: &mut Page, seen: &Seen, line: u64, iova: u64, used: Option<Origin>)
+pub fn put_caches(
+    out: &mut OutputPage,
+    seen: &Lookup,
+    line: u64,
+    iova: u64,
+    used: Option<NumberedWarrant>,
+)
     requires { length out.old.items ≤ 700 }
     ensures text { out.new.items ≡ out.old.items ++ caches_by seen.now.context seen.now line iova used }
     ensures room { length out.new.items ≤ length out.old.items + 150 }
@@ -108,7 +114,7 @@ pub fn put_caches(out: &mut Page, seen: &Seen, line: u64, iova: u64, used: Optio
 }
 
 // Appends where a translation came from.
-fn put_used(out: &mut Page, used: Option<Origin>)
+fn put_used(out: &mut OutputPage, used: Option<NumberedWarrant>)
     requires { length out.old.items ≤ 15000 }
     ensures text { out.new.items ≡ out.old.items ++ used_text used }
     ensures room { length out.new.items ≤ length out.old.items + 320 }
@@ -120,7 +126,7 @@ fn put_used(out: &mut Page, used: Option<Origin>)
 }
 
 /// Appends why an access was let through, as a line.
-pub fn put_warrant(out: &mut Page, used: Option<Origin>)
+pub fn put_warrant(out: &mut OutputPage, used: Option<NumberedWarrant>)
     requires { length out.old.items ≤ 14900 }
     ensures text { out.new.items ≡ out.old.items ++ warrant_text used }
     ensures room { length out.new.items ≤ length out.old.items + 340 }
@@ -131,7 +137,7 @@ pub fn put_warrant(out: &mut Page, used: Option<Origin>)
 }
 
 /// Appends the answer of the tables for a stale access, as a line; nothing for any other access.
-pub fn put_stale(out: &mut Page, stale: Option<Result<u64, Denial>>)
+pub fn put_stale(out: &mut OutputPage, stale: Option<Result<u64, Denial>>)
     requires { length out.old.items ≤ 15300 }
     ensures text { out.new.items ≡ out.old.items ++ stale_text stale }
 {

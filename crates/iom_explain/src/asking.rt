@@ -9,11 +9,11 @@ ghost use Rattle.iom_explain.specs.Accesses.{asks_by, asks_text, phase_text};
 use crate::text::{put_decimal, put_operand};
 use iom_blk::{Blk, Phase, Want};
 use iom_core::{Platform, Step};
-use iom_debug::{Page, put};
+use iom_debug::{OutputPage, put};
 
 // Appends what an access of a block device is for.
 #[tactic(auto, unfolding(crate::specs::Accesses::phase_text))]
-fn put_phase(out: &mut Page, phase: Phase)
+fn put_phase(out: &mut OutputPage, phase: Phase)
     requires { length out.old.items ≤ 100 }
     ensures text { out.new.items ≡ out.old.items ++ phase_text phase }
     ensures room { length out.new.items ≤ length out.old.items + 40 }
@@ -32,7 +32,7 @@ fn put_phase(out: &mut Page, phase: Phase)
 }
 
 // Appends an access for a phase as a line: its kind after a comma, its device id, its IOVA and how many bytes it has.
-fn put_ask(out: &mut Page, phase: Phase, kind: &[u8], did: u32, iova: u64, len: u64)
+fn put_ask(out: &mut OutputPage, phase: Phase, kind: &[u8], did: u32, iova: u64, len: u64)
     requires kind { length kind.now ≤ 10 }
     requires room { length out.old.items ≡ 0 }
     ensures text { out.new.items ≡ out.old.items ++ (codes "    asks: " ++ phase_text phase ++ (kind.now ++ operand (codes "did") did
@@ -49,7 +49,7 @@ fn put_ask(out: &mut Page, phase: Phase, kind: &[u8], did: u32, iova: u64, len: 
 }
 
 // Appends what a device asks for in a phase, if it does.
-fn put_want(out: &mut Page, phase: Phase, did: u32, want: &Want)
+fn put_want(out: &mut OutputPage, phase: Phase, did: u32, want: &Want)
     requires { length out.old.items ≡ 0 }
     ensures text { out.new.items ≡ out.old.items ++ asks_by did phase (wanted want.now) }
     ensures room { length out.new.items ≤ 200 }
@@ -64,7 +64,7 @@ fn put_want(out: &mut Page, phase: Phase, did: u32, want: &Want)
 }
 
 // Appends what a device asks for.
-fn put_device(out: &mut Page, did: u32, device: &Blk)
+fn put_device(out: &mut OutputPage, did: u32, device: &Blk)
     requires { length out.old.items ≡ 0 }
     ensures text { out.new.items ≡ out.old.items ++ asks_by did device.now.phase (asks device.now) }
     ensures room { length out.new.items ≤ 200 }
@@ -74,7 +74,7 @@ fn put_device(out: &mut Page, did: u32, device: &Blk)
 
 /// Appends what the block device of a step asks of the IOMMU as a line; nothing of any other step, or if it makes no access.
 #[tactic(auto, unfolding(crate::specs::Accesses::asks_text))]
-pub fn put_asks(out: &mut Page, platform: &Platform, step: &Step)
+pub fn put_asks(out: &mut OutputPage, platform: &Platform, step: &Step)
     requires { length out.old.items ≡ 0 }
     ensures text { out.new.items ≡ out.old.items ++ asks_text platform.now step.now }
     ensures room { length out.new.items ≤ 200 }

@@ -11,11 +11,11 @@ use crate::steps::{Teller, take};
 use crate::summary::write_summary;
 use iom_core::{Answer, Step};
 use iom_debug::{
-    Debugger, Page, StepAnswer, before_comment, counted, first_bytes, is_done, put, put_escaped,
-    put_number, step_by, write_told,
+    Debugger, OutputPage, StepAnswer, before_comment, first_bytes, is_done, put, put_escaped,
+    put_number, reply_with_count, step_by, write_told,
 };
 use iom_reader::{Answerer, RunFault, WatchedReader, WatchedWriter, answer_all};
-use iom_tool::{Actor, Entry, Language, Line, Reply, answer_text, line_of};
+use iom_tool::{Actor, Language, Line, Reply, TracedStep, answer_text, line_of};
 use std::alloc::{AllocError, Global};
 use std::io::{Read, Write};
 
@@ -50,7 +50,7 @@ impl<'a> Explaining<'a> {
 
 // Writes what is told, unless memory was refused.
 fn write<W: Write>(
-    page: &Page,
+    page: &OutputPage,
     is_short: bool,
     writer: &mut WatchedWriter<'_, W>,
 ) -> Result<(), RunFault>
@@ -68,7 +68,7 @@ fn write<W: Write>(
 }
 
 // Puts a line that is no step by itself, and its answer, if it has one.
-fn put_line(out: &mut Page, number: u64, line: &[u8], answer: &[u8])
+fn put_line(out: &mut OutputPage, number: u64, line: &[u8], answer: &[u8])
     requires line { length line.now ≤ 513 }
     requires answer { length answer.now ≤ 320 }
     ensures { out.new.items ≡ line_told number line.now answer.now }
@@ -117,7 +117,7 @@ impl Explaining<'_> {
         ensures same { names_of self.new.debugger ≡ names_of self.old.debugger }
         ensures number { self.new.number ≡ self.old.number }
     {
-        let mut entry = Entry {
+        let mut entry = TracedStep {
             step,
             answer: Answer::Done,
         };
@@ -162,10 +162,10 @@ impl Explaining<'_> {
                 return Ok(Reply::new());
             }
             if !answered.is_done {
-                return Ok(counted(i + 1, answered.text.as_slice()));
+                return Ok(reply_with_count(i + 1, answered.text.as_slice()));
             }
         }
-        Ok(counted(most, b"done"))
+        Ok(reply_with_count(most, b"done"))
     }
 
     // Tells a line that takes the step of one that goes on by itself again and again: each step, and after them the line.

@@ -8,7 +8,7 @@ ghost use Rattle.iom_text.specs.Texts.{numeral};
 ghost use Rattle.iom_tool.specs.Console.{traced};
 ghost use Rattle.iom_debug.specs.Desks.{names_of};
 ghost use Rattle.iom_debug.specs.Summary.{counts_of};
-ghost use Rattle.iom_debug.specs.declared.summary.Outcome.{Outcome};
+ghost use Rattle.iom_debug.specs.declared.summary.AccessOutcome.{AccessOutcome};
 ghost use Rattle.iom_explain.specs.Accesses.{asks_text, caches_by, filler, stale_text, warrant_text};
 ghost use Rattle.iom_explain.specs.Explaining.{StepTold, denied_for, explained};
 ghost use Rattle.iom_explain.specs.Walking.{walk_text};
@@ -17,23 +17,23 @@ use crate::accesses::{put_caches, put_stale, put_warrant};
 use crate::asking::put_asks;
 use crate::text::put_decimal;
 use crate::walk::Walk;
-use iom_account::{History, Origin};
-use iom_core::{Answer, Denial, Platform, Request, Seen, Step};
-use iom_debug::{Debugger, Outcome, Page, Summary, put};
-use iom_tool::{Draft, Entry, put_entry};
+use iom_account::{History, NumberedWarrant};
+use iom_core::{Answer, Denial, Lookup, Platform, Request, Step};
+use iom_debug::{AccessOutcome, Debugger, OutputPage, Summary, put};
+use iom_tool::{ReplyDraft, TracedStep, put_traced_step};
 use std::alloc::{AllocError, Global};
 
 /// The output for a script's accesses.
 #[derive(Drop)]
 pub struct Teller {
     /// The output for a step or a line.
-    pub page: Page,
+    pub page: OutputPage,
     // what a block device asks, and the walk, told before the step
-    asks: Page,
-    walk: Page,
+    asks: OutputPage,
+    walk: OutputPage,
     last_walk: Walk,
     // one text of either
-    draft: Draft,
+    draft: ReplyDraft,
     /// How many accesses went how.
     pub summary: Summary,
     /// Whether memory was refused: then nothing more is written.
@@ -44,7 +44,7 @@ pub struct Teller {
 #[derive(Clone, Copy)]
 struct Known {
     request: Request,
-    seen: Seen,
+    seen: Lookup,
     // the line that filled its live context
     line: u64,
 }
@@ -68,10 +68,10 @@ fn denied_for(answer: &Answer) -> Option<u16>
 
 // What is known of the access that a step is about to make, and puts what is told of that before it is made.
 fn look(
-    asks: &mut Page,
-    walk: &mut Page,
+    asks: &mut OutputPage,
+    walk: &mut OutputPage,
     last_walk: &mut Walk,
-    draft: &mut Draft,
+    draft: &mut ReplyDraft,
     debugger: &Debugger<'_>,
     step: &Step,
 ) -> Option<Known>
@@ -84,7 +84,7 @@ fn look(
 {
     let platform = &*debugger.platform;
     let request = platform.request_of(step)?;
-    let seen = platform.seen(&request);
+    let seen = platform.lookup(&request);
     asks.clear();
     put_asks(asks, platform, step);
     walk.clear();
@@ -97,7 +97,7 @@ fn look(
 }
 
 // Puts a step's line.
-fn put_step(out: &mut Page, number: u64, entry: &[u8])
+fn put_step(out: &mut OutputPage, number: u64, entry: &[u8])
     requires empty { length out.old.items ≡ 0 }
     requires short { length entry.now ≤ 320 }
     ensures text { out.new.items ≡ out.old.items ++ (numeral 10 number ++ codes ": " ++ entry.now ++ 10 ∷ []) }
@@ -111,11 +111,11 @@ fn put_step(out: &mut Page, number: u64, entry: &[u8])
 
 // Appends what is told below a step's line of the access that it made.
 fn put_access(
-    out: &mut Page,
+    out: &mut OutputPage,
     asks: &[u8],
     walk: &[u8],
     known: &Known,
-    used: Option<Origin>,
+    used: Option<NumberedWarrant>,
     stale: Option<Result<u64, Denial>>,
 )
     requires room { length out.old.items ≤ 343 }
@@ -141,11 +141,11 @@ impl Teller {
         ensures short { IfOk result (λ teller. teller.is_short ≡ false) }
     {
         Ok(Teller {
-            page: Page::new(),
-            asks: Page::new(),
-            walk: Page::new(),
+            page: OutputPage::new(),
+            asks: OutputPage::new(),
+            walk: OutputPage::new(),
             last_walk: Walk::new(alloc)?,
-            draft: Draft::new(),
+            draft: ReplyDraft::new(),
             summary: Summary::new(alloc),
             is_short: false,
         })
@@ -158,7 +158,7 @@ fn tell_access(
     number: u64,
     known: &Known,
     denied: Option<u16>,
-    used: Option<Origin>,
+    used: Option<NumberedWarrant>,
     stale: Option<Result<u64, Denial>>,
 ) -> Result<(), AllocError>
     requires room { length teller.old.page.items ≤ 343 }
@@ -167,7 +167,7 @@ fn tell_access(
     ensures text { teller.new.page.items ≡ teller.old.page.items
         ++ (teller.old.asks.items ++ caches_by known.now.seen.context known.now.seen known.now.line known.now.request.iova used
         ++ teller.old.walk.items ++ warrant_text used ++ stale_text stale) }
-    ensures counts { OnOk result ((earlier : List Outcome) → teller.old.summary ≡ counts_of earlier
+    ensures counts { OnOk result ((earlier : List AccessOutcome) → teller.old.summary ≡ counts_of earlier
         → teller.new.summary ≡ counts_of (earlier ++ record {
           number = number;
           denied = denied;
@@ -184,7 +184,7 @@ fn tell_access(
         used,
         stale,
     );
-    teller.summary.count(&Outcome {
+    teller.summary.count(&AccessOutcome {
         number,
         denied,
         is_cached: known.seen.is_cached(),
@@ -194,7 +194,7 @@ fn tell_access(
 
 /// Carries out a step of the line of this number, writes its answer to its entry, and puts the output: the step, and the reasons of its
 /// access if it makes one. The trace doesn't have it yet.
-pub fn take(debugger: &mut Debugger<'_>, teller: &mut Teller, number: u64, entry: &mut Entry)
+pub fn take(debugger: &mut Debugger<'_>, teller: &mut Teller, number: u64, entry: &mut TracedStep)
     ensures step { entry.new.step ≡ entry.old.step }
     ensures answer { entry.new.answer ≡ (next debugger.old.platform.now entry.old.step).answer }
     ensures told { teller.new.is_short ≡ false → StepTold
@@ -218,7 +218,7 @@ pub fn take(debugger: &mut Debugger<'_>, teller: &mut Teller, number: u64, entry
     debugger
         .reasons
         .step(debugger.platform, &entry.step, number, &mut entry.answer);
-    put_entry(&mut teller.draft, entry);
+    put_traced_step(&mut teller.draft, entry);
     teller.page.clear();
     put_step(&mut teller.page, number, teller.draft.as_slice());
     let Some(known) = known else {

@@ -9,12 +9,12 @@ ghost use Rattle.iom_reader.specs.Watching.{write_failed};
 ghost use Rattle.iom_explain.specs.Explaining.{denied_text, lines_text, more_text, summary_text};
 
 use crate::text::put_decimal;
-use iom_debug::{Page, Summary, put, write_told};
+use iom_debug::{OutputPage, Summary, put, write_told};
 use iom_reader::{RunFault, WatchedWriter};
 use std::io::Write;
 
 // Appends how many accesses were denied for a cause, if any was.
-fn put_denied(out: &mut Page, entry: (u16, u64))
+fn put_denied(out: &mut OutputPage, entry: (u16, u64))
     requires { length out.old.items ≤ 15000 }
     ensures text { out.new.items ≡ out.old.items ++ denied_text entry }
     ensures room { length out.new.items ≤ length out.old.items + 60 }
@@ -28,7 +28,7 @@ fn put_denied(out: &mut Page, entry: (u16, u64))
 }
 
 // Puts how many accesses there were, and for which causes how many were denied.
-fn put_counts(out: &mut Page, summary: &Summary)
+fn put_counts(out: &mut OutputPage, summary: &Summary)
     requires { length out.old.items ≡ 0 }
     ensures text { out.new.items ≡ out.old.items ++ (codes "accesses: " ++ numeral 10 summary.now.accesses ++ 10 ∷ []
         ++ (codes "granted: " ++ numeral 10 summary.now.granted ++ 10 ∷ [])) }
@@ -43,7 +43,7 @@ fn put_counts(out: &mut Page, summary: &Summary)
 // Writes for which causes how many accesses were denied, each cause by itself.
 fn write_denied<W: Write>(
     denied: &[(u16, u64)],
-    page: &mut Page,
+    page: &mut OutputPage,
     writer: &mut WatchedWriter<'_, W>,
 ) -> Result<(), RunFault>
     requires { write_failed writer.old ≡ false }
@@ -61,7 +61,7 @@ fn write_denied<W: Write>(
 }
 
 // Puts how many accesses the caches led, and how many were stale.
-fn put_stale(out: &mut Page, summary: &Summary)
+fn put_stale(out: &mut OutputPage, summary: &Summary)
     requires { length out.old.items ≡ 0 }
     ensures text { out.new.items ≡ out.old.items ++ (codes "from the caches: " ++ numeral 10 summary.now.cached ++ 10 ∷ []
         ++ (codes "stale: " ++ numeral 10 summary.now.stale)) }
@@ -73,7 +73,7 @@ fn put_stale(out: &mut Page, summary: &Summary)
 }
 
 // Appends a number after a comma.
-fn put_more(out: &mut Page, number: u64)
+fn put_more(out: &mut OutputPage, number: u64)
     requires { length out.old.items ≤ 15000 }
     ensures text { out.new.items ≡ out.old.items ++ more_text number }
     ensures room { length out.new.items ≤ length out.old.items + 22 }
@@ -84,7 +84,7 @@ fn put_more(out: &mut Page, number: u64)
 // Writes numbers, each after a comma.
 fn write_more<W: Write>(
     numbers: &[u64],
-    page: &mut Page,
+    page: &mut OutputPage,
     writer: &mut WatchedWriter<'_, W>,
 ) -> Result<(), RunFault>
     requires { write_failed writer.old ≡ false }
@@ -103,7 +103,7 @@ fn write_more<W: Write>(
 }
 
 // Puts the first of the numbers of lines, of which there are more or not.
-fn put_first(out: &mut Page, first: u64, is_only: bool)
+fn put_first(out: &mut OutputPage, first: u64, is_only: bool)
     requires { length out.old.items ≡ 0 }
     ensures text { out.new.items ≡ out.old.items ++ ((if is_only then codes " (line " else codes " (lines ") ++ numeral 10 first) }
     ensures room { length out.new.items ≤ 100 }
@@ -118,7 +118,7 @@ fn put_first(out: &mut Page, first: u64, is_only: bool)
 // Writes the numbers of the lines that are stale, and a line end.
 fn write_lines<W: Write>(
     lines: &[u64],
-    page: &mut Page,
+    page: &mut OutputPage,
     writer: &mut WatchedWriter<'_, W>,
 ) -> Result<(), RunFault>
     requires { write_failed writer.old ≡ false }
@@ -140,7 +140,7 @@ fn write_lines<W: Write>(
 /// Writes how the accesses went. The fault is `Write`.
 pub fn write_summary<W: Write>(
     summary: &Summary,
-    page: &mut Page,
+    page: &mut OutputPage,
     writer: &mut WatchedWriter<'_, W>,
 ) -> Result<(), RunFault>
     requires { write_failed writer.old ≡ false }

@@ -9,12 +9,12 @@ ghost use Rattle.iom_explain.specs.Walking.{is_still, walk_by, walk_line, walk_l
 
 use arrayvec::ArrayVec;
 use iom_bits::{Features, Vectors};
-use iom_core::{Platform, Request, Seen, Source};
+use iom_core::{Lookup, Platform, Request, Source};
 use iom_ddt::{Context, locate};
-use iom_debug::{Page, is_told_alike, put, put_cached, put_part};
+use iom_debug::{OutputPage, is_told_alike, put, put_cached, put_part};
 use iom_regs::Mode;
 use iom_tables::{Part, Parts, Way, put_parts, put_parts_under};
-use iom_tool::Draft;
+use iom_tool::ReplyDraft;
 use std::alloc::{AllocError, Global};
 use std::marker::Model;
 
@@ -66,7 +66,7 @@ impl PartLine {
     }
 
     // Makes it the line of a part of the walk of a request as the tables stand now.
-    fn renew(&mut self, draft: &mut Draft, platform: &Platform, request: &Request, part: &Part)
+    fn renew(&mut self, draft: &mut ReplyDraft, platform: &Platform, request: &Request, part: &Part)
         requires fits { PartFits part.now }
         requires read { IsRead platform.now.machine.memory part.now }
         ensures { self.new ≡ walk_line (part_text platform.now.machine request.now part.now) }
@@ -82,7 +82,7 @@ impl PartLine {
     }
 
     // Appends it.
-    fn put(&self, out: &mut Page)
+    fn put(&self, out: &mut OutputPage)
         requires { length out.old.items ≤ 16000 }
         ensures text { out.new.items ≡ out.old.items ++ self.now }
         ensures room { length out.new.items ≤ length out.old.items + 336 }
@@ -94,8 +94,8 @@ impl PartLine {
 // Appends the line of a part of the walk of a request as the tables stand now.
 fn put_part_line(
     line: &mut PartLine,
-    out: &mut Page,
-    draft: &mut Draft,
+    out: &mut OutputPage,
+    draft: &mut ReplyDraft,
     platform: &Platform,
     request: &Request,
     part: &Part,
@@ -143,7 +143,7 @@ fn are_as_many(vectors: Vectors, other: Vectors) -> bool
 }
 
 // The line of a part whose text is this.
-fn line_of(text: &Draft) -> ArrayVec<u8, 336>
+fn line_of(text: &ReplyDraft) -> ArrayVec<u8, 336>
     requires { length text.now ≤ 320 }
     ensures { result.items ≡ walk_line text.now }
 {
@@ -168,8 +168,8 @@ fn no_lines(alloc: Global) -> Result<Vec<PartLine>, AllocError>
 // Appends the lines of the parts of a walk of a request as the tables stand now.
 fn put_lines(
     lines: &mut [PartLine],
-    out: &mut Page,
-    draft: &mut Draft,
+    out: &mut OutputPage,
+    draft: &mut ReplyDraft,
     platform: &Platform,
     request: &Request,
     parts: &[Part],
@@ -213,8 +213,8 @@ impl Walk {
     // Appends the whole walk.
     fn put_whole(
         &mut self,
-        out: &mut Page,
-        draft: &mut Draft,
+        out: &mut OutputPage,
+        draft: &mut ReplyDraft,
         platform: &Platform,
         request: &Request,
     )
@@ -236,8 +236,8 @@ impl Walk {
     // Appends the walk below a cached context.
     fn put_under(
         &mut self,
-        out: &mut Page,
-        draft: &mut Draft,
+        out: &mut OutputPage,
+        draft: &mut ReplyDraft,
         platform: &Platform,
         request: &Request,
         context: &Context,
@@ -262,8 +262,8 @@ impl Walk {
     // Appends the walk of a request that this context leads, if one does.
     fn put_by(
         &mut self,
-        out: &mut Page,
-        draft: &mut Draft,
+        out: &mut OutputPage,
+        draft: &mut ReplyDraft,
         platform: &Platform,
         request: &Request,
         context: &Option<(Source, Context)>,
@@ -289,11 +289,11 @@ impl Walk {
     /// memory.
     pub fn put(
         &mut self,
-        out: &mut Page,
-        draft: &mut Draft,
+        out: &mut OutputPage,
+        draft: &mut ReplyDraft,
         platform: &Platform,
         request: &Request,
-        seen: &Seen,
+        seen: &Lookup,
     )
         requires { length out.old.items ≡ 0 }
         ensures text { out.new.items ≡ out.old.items ++ walk_text seen.now platform.now.machine request.now }

@@ -30,7 +30,7 @@ impl Version {
         }
     }
 
-    /// The lowest version from this one on whose disks have flags, where that is asked.
+    /// This version, or if flags of disks are asked for at least the first that has them.
     pub fn flagged(self, asked: bool) -> Version
         ensures { result ≡ flagged self asked }
     {

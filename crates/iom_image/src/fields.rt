@@ -43,7 +43,7 @@ pub struct DiskPart<'a> {
     pub sectors: u32,
     /// Whether it may only be read.
     pub read_only: bool,
-    /// Its first bytes, as many as there is room for or fewer. The others are 0.
+    /// Its first bytes, at most the disk's size. The others are 0.
     pub bytes: &'a [u8],
 }
 
@@ -149,8 +149,8 @@ fn span<'a>(header: &Header, end: u64, bytes: &'a [u8]) -> Result<((u64, u32), &
     Ok(((addr, len), rest))
 }
 
-/// A chunk of the memory that `header` tells, and the bytes after it. It isn't below physical address `end`. The refusals are
-/// `Truncated` and `BadChunk`.
+/// A chunk of the memory of `header`, and the bytes after it. It isn't below physical address `end`. The refusals are `Truncated` and
+/// `BadChunk`.
 pub fn chunk<'a>(
     header: &Header,
     end: u64,
@@ -176,7 +176,7 @@ pub fn is_new_id(ids: &[u64], id: u64) -> bool
     id < 1 << 24 && !ids.contains(&id)
 }
 
-/// Whether a disk may have so many sectors: 1 to 65,536.
+/// Whether a disk may have this number of sectors: 1 to 65,536.
 pub fn is_disk_size(sectors: u64) -> bool
     ensures { result ≡ is_disk_size sectors }
 {

@@ -53,7 +53,7 @@ pub fn judge(bytes: &[u8]) -> Result<(), LoadFault>
     }
 }
 
-/// A law of `judge` and `load`: bytes are read as an image exactly where they are the bytes of that image.
+/// A law of `judge` and `load`: bytes are read as an image exactly if they are the bytes of that image.
 pub fn images_are_what_is_read()
     ensures { ReadsImages }
 {}

@@ -72,8 +72,8 @@ fn make_device(alloc: Global, part: &DiskPart) -> Result<Blk, AllocError>
     })
 }
 
-/// The block devices that so many disks, at most 8, with flags or without, are read to make, each with its id, below 2^24. The
-/// refusals are those of `disk`, and `OutOfMemory`.
+/// The block devices of this number of disks, at most 8, read with or without flags, each with its id, below 2^24. The refusals are those
+/// of `disk`, and `OutOfMemory`.
 pub fn make_devices(
     alloc: Global,
     has_flags: bool,

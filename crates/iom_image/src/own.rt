@@ -38,8 +38,8 @@ pub struct OwnImage {
 }
 
 impl OwnImage {
-    /// Whether a disk may stand behind the others: there are fewer than eight, its id is below 2^24 and none of theirs, its sectors are
-    /// 1 to 65,536, and its bytes fit in them.
+    /// Whether a disk may follow the others: there are fewer than eight, its id is below 2^24 and none of theirs, its sectors are 1 to
+    /// 65,536, and its bytes fit in them.
     pub fn takes(&self, disk: &OwnDisk) -> bool
         ensures { result ≡ is_next_disk (image_seen self.now).disks (disk_seen disk.now) }
     {

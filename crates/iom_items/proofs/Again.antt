@@ -3,7 +3,7 @@ use Rattle.std.proofs.Common.{◌≡◌, ◌≢◌, ℕ, ◌<◌, ◌^◌, ◌==
 use Rattle.std.specs.List.{list_all, AllByRecursion}
 use Rattle.std.proofs.lemmas.Bool.{and_parts, or_parts, cases_Bool}
 use Rattle.std.proofs.lemmas.Slice.Eq.{bytes_eq-Decides}
-use Rattle.iom_text.specs.Texts.{hexed}
+use Rattle.iom_text.specs.Texts.{hexadecimal}
 use Rattle.iom_text.specs.Words.{words_of}
 use Rattle.iom_items.specs.Operands.{Operand, operand_of, has_key, is_given, is_one_of, are_operands, number_for, value_of}
 use Rattle.iom_items.specs.Given.{IsOperand}
@@ -27,7 +27,7 @@ keys_of pairs = map (λ pair. pair.0) pairs
 abbrev pub is_key : List ℕ → Bool
 is_key key = list_all (λ c. not (c == 61)) key && is_word key
 
-word_parts : (key : List ℕ) (n : ℕ) → word_for (key, n) ≡ key ++ 61 ∷ hexed n
+word_parts : (key : List ℕ) (n : ℕ) → word_for (key, n) ≡ key ++ 61 ∷ hexadecimal n
 word_parts [] n = refl
 word_parts (c ∷ key) n = ap (λ word. c ∷ word) (word_parts key n)
 
@@ -40,24 +40,24 @@ all_other (c ∷ key) is =
     let parts = and_parts (not (c == 61)) (list_all (λ c. not (c == 61)) key) is in
     all_both (λ c. c ≢ 61) c key (other_byte c parts.0) (all_other key parts.1)
 
-pub is_operand : (pair : Pair) → is_key pair.0 ≡ true → IsOperand pair.0 (hexed pair.1) (word_for pair)
+pub is_operand : (pair : Pair) → is_key pair.0 ≡ true → IsOperand pair.0 (hexadecimal pair.1) (word_for pair)
 is_operand pair key =
     let parts = and_parts (list_all (λ c. not (c == 61)) pair.0) (is_word pair.0) key in
     record { parts = word_parts pair.0 pair.1; first = all_other pair.0 parts.0 }
 
 abbrev cut : Pair → Operand
-cut pair = record { key = pair.0; value = hexed pair.1 }
+cut pair = record { key = pair.0; value = hexadecimal pair.1 }
 
 cut_is : (pair : Pair) → is_key pair.0 ≡ true → operand_of (word_for pair) ≡ Some (cut pair)
-cut_is pair key = operand_found pair.0 (hexed pair.1) (word_for pair) (is_operand pair key)
+cut_is pair key = operand_found pair.0 (hexadecimal pair.1) (word_for pair) (is_operand pair key)
 
 word_inside : (pair : Pair) → is_key pair.0 ≡ true → is_word (word_for pair) ≡ true
 word_inside pair key =
     let parts = and_parts (list_all (λ c. not (c == 61)) pair.0) (is_word pair.0) key in
-    ap is_word (word_parts pair.0 pair.1) ∙ inside_joined pair.0 (61 ∷ hexed pair.1) parts.1 (hexed_inside pair.1)
+    ap is_word (word_parts pair.0 pair.1) ∙ inside_joined pair.0 (61 ∷ hexadecimal pair.1) parts.1 (hexed_inside pair.1)
 
 word_some : (pair : Pair) → 0 < length (word_for pair)
-word_some pair = omega (arith, ap length (word_parts pair.0 pair.1), length-append pair.0 (61 ∷ hexed pair.1))
+word_some pair = omega (arith, ap length (word_parts pair.0 pair.1), length-append pair.0 (61 ∷ hexadecimal pair.1))
 
 -- a text with operands has its own words, then theirs
 abbrev pub are_keys : List Pair → Bool
@@ -109,7 +109,7 @@ fine_same known [] keys = refl
 fine_same known (pair ∷ pairs) keys =
     let parts = and_parts (is_key pair.0) (are_keys pairs) keys in
     ap (λ operand. is_one_of known operand (words_for_all pairs) && are_operands known (words_for_all pairs)) (cut_is pair parts.0)
-    ∙ ap (λ b. b && are_operands known (words_for_all pairs)) (once_same known pair.0 (hexed pair.1) pairs parts.1)
+    ∙ ap (λ b. b && are_operands known (words_for_all pairs)) (once_same known pair.0 (hexadecimal pair.1) pairs parts.1)
     ∙ ap (λ b. once_of known pair.0 (keys_of pairs) && b) (fine_same known pairs parts.1)
 
 -- numbers that a text is read as

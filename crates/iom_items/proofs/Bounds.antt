@@ -17,7 +17,7 @@ use Rattle.iom_queue.specs.Records.{record_words}
 use Rattle.iom_mem.specs.Words.{bytes_of_words}
 use Rattle.iom_items.specs.declared.item.Item.{Item}
 use Rattle.iom_items.specs.declared.item.Item.TheVariants as item
-use Rattle.iom_items.specs.Items.{name_of, Entry, dir_word, pte_word}
+use Rattle.iom_items.specs.Items.{name_of, PageTableEntry, dir_word, pte_word}
 use Rattle.iom_items.specs.Operands.{◌>>=◌, limited, flag_for, value_of, below}
 use Rattle.iom_items.specs.Forms.{where_so, vma, gvma, fence, iodir, command, fault, context, dir, pte, each_number, numbers, words_for}
 
@@ -157,9 +157,9 @@ words_fine item.Dir operands =
     mapped (λ ppn. dir_word ppn ∷ []) (dir operands) (where_ (λ ppn. AreWords (dir_word ppn ∷ [])) _ _ (limited_dir operands))
 words_fine item.Pte operands =
     mapped (λ entry. pte_word entry.ppn entry.flags ∷ []) (pte operands)
-    (where_ (λ (entry : Entry). AreWords (pte_word entry.ppn entry.flags ∷ [])) _ _
-    (op (λ (entry : Entry). AreWords (pte_word entry.ppn entry.flags ∷ [])) (codes "ppn") (2 ^ 44) operands _ (λ ppn a.
-    op (λ (entry : Entry). AreWords (pte_word entry.ppn entry.flags ∷ [])) (codes "flags") (2 ^ 10) operands _ (λ flags b. (omega (arith, a, b), tt)))))
+    (where_ (λ (entry : PageTableEntry). AreWords (pte_word entry.ppn entry.flags ∷ [])) _ _
+    (op (λ (entry : PageTableEntry). AreWords (pte_word entry.ppn entry.flags ∷ [])) (codes "ppn") (2 ^ 44) operands _ (λ ppn a.
+    op (λ (entry : PageTableEntry). AreWords (pte_word entry.ppn entry.flags ∷ [])) (codes "flags") (2 ^ 10) operands _ (λ flags b. (omega (arith, a, b), tt)))))
 words_fine item.Word operands = where_ AreWords _ (each_number operands) (each_fine operands)
 
 pub length_of_words : (words : List ℕ) → length (bytes_of_words words) ≡ 8 * length words

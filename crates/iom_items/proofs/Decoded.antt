@@ -16,7 +16,7 @@ use Rattle.iom_queue.specs.declared.record.Record.{Record}
 use Rattle.iom_queue.specs.Records.{RecordFits, summary_word, record_words, record_in, record_of}
 use Rattle.iom_items.specs.declared.item.Item.{Item}
 use Rattle.iom_items.specs.declared.item.Item.TheVariants as item
-use Rattle.iom_items.specs.Items.{name_of, words_in, Entry, dir_of, pte_of, dir_word, pte_word, IsDirEncoding, IsPteEncoding}
+use Rattle.iom_items.specs.Items.{name_of, words_in, PageTableEntry, dir_of, pte_of, dir_word, pte_word, IsDirEncoding, IsPteEncoding}
 use Rattle.iom_items.specs.Lines.{words_text, line_on}
 use Rattle.iom_items.specs.Telling.{IsStatement, HasStatement}
 use Rattle.iom_items.proofs.Bounds.{AreWords}
@@ -174,7 +174,7 @@ dir_states_words features word small = by (dir_of word) refl
 pte_states_words : (features : Features) (word : ℕ) → AreWords (word ∷ []) → HasStatement features item.Pte (word ∷ [])
 pte_states_words features word small = by (pte_of word) refl
   where
-    by : (found : Option Entry) → pte_of word ≡ found → HasStatement features item.Pte (word ∷ [])
+    by : (found : Option PageTableEntry) → pte_of word ≡ found → HasStatement features item.Pte (word ∷ [])
     by None none = as_numbers features item.Pte (word ∷ []) small (omega arith) (omega arith) (rw none refl)
     by (Some entry) there =
         let is : IsPteEncoding entry word = (reads_ptes entry word small.0).1 there in

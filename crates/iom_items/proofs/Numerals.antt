@@ -9,7 +9,7 @@ use Rattle.std.proofs.lemmas.Bool.{and_from, cond_both, lt-ltb, ltb-true, ltb-fa
 use Rattle.std.proofs.lemmas.List.{length-map}
 use Rattle.std.proofs.lemmas.Int.Digits.{all_below_base_digits_of, digits_value_is, number_digits_of, length-digits_of_step}
 use Rattle.std.proofs.lemmas.Grind.{common_steps}
-use Rattle.iom_text.specs.Texts.{hexed, numeral, digits_in}
+use Rattle.iom_text.specs.Texts.{hexadecimal, numeral, digits_in}
 use Rattle.iom_text.specs.Words.{is_end, number_in, number}
 
 low_digit : (d : ℕ) → d < 10 → digit_value (48 + d) ≡ d
@@ -50,7 +50,7 @@ glyphs_inside [] = refl
 glyphs_inside (d ∷ digits) =
     and_from (not (is_end (digit_glyph false d))) (is_word (map (digit_glyph false) digits)) (glyph_inside d) (glyphs_inside digits)
 
-pub hexed_inside : (n : ℕ) → is_word (hexed n) ≡ true
+pub hexed_inside : (n : ℕ) → is_word (hexadecimal n) ≡ true
 hexed_inside n =
     cond_both (n == 0) (codes "0") (digits_in 16 n) (λ text. is_word text ≡ true) (λ _. refl) (λ _. glyphs_inside (digits_of 16 n))
 
@@ -78,6 +78,6 @@ numeral_read n fits =
     (λ other. writes (digits_in 16 n) n (digits_some n (grind (arith, other)))
     (are_digits (digits_of 16 n) (all_below_base_digits_of 16 n (omega arith))) (digits_write n) fits)
 
-pub hexed_read : (n : ℕ) → n < 2 ^ 64 → number (hexed n) ≡ Some n
+pub hexed_read : (n : ℕ) → n < 2 ^ 64 → number (hexadecimal n) ≡ Some n
 unfolding number
 hexed_read n fits = numeral_read n fits

@@ -10,7 +10,7 @@ use Rattle.std.specs.Str.{IsAscii}
 use Rattle.std.proofs.lemmas.Bool.{and_parts, and_from, cond_both, lt-ltb, ltb-true}
 use Rattle.std.proofs.lemmas.Int.Digits.{all_below_base_digits_of}
 use Rattle.std.proofs.lemmas.Str.Ascii.{IsAscii-nil, IsAscii-cons}
-use Rattle.iom_text.specs.Texts.{hexed, numeral, digits_in}
+use Rattle.iom_text.specs.Texts.{hexadecimal, numeral, digits_in}
 use Rattle.iom_bits.specs.declared.features.Features.{Features}
 use Rattle.iom_mem.specs.Memory.{Memory, words_at}
 use Rattle.iom_ddt.specs.declared.context.Context.{Context}
@@ -22,7 +22,7 @@ use Rattle.iom_queue.specs.Commands.{command_of}
 use Rattle.iom_queue.specs.Records.{record_of}
 use Rattle.iom_items.specs.declared.item.Item.{Item}
 use Rattle.iom_items.specs.declared.item.Item.TheVariants as item
-use Rattle.iom_items.specs.Items.{words_in, dir_of, pte_of, Entry}
+use Rattle.iom_items.specs.Items.{words_in, dir_of, pte_of, PageTableEntry}
 use Rattle.iom_items.specs.Lines.{Pair, operand, with_operands, command_form, command_pairs, further_pairs, not_zero, command_text, record_pairs, record_text, context_pairs, context_text, dir_pairs, dir_text, pte_pairs, pte_text, numbers_text, words_text, or_words, line_of, line_on, is_taken, item_line_on}
 
 abbrev is_plain : List ℕ → Bool
@@ -44,7 +44,7 @@ glyphs : (digits : List ℕ) → AllByRecursion (λ d. d < 16) digits → Plain 
 glyphs [] small = refl
 glyphs (d ∷ digits) small = and_from (nat_lt (digit_glyph false d) 128) (is_plain (map (digit_glyph false) digits)) (glyph d small.0) (glyphs digits small.1)
 
-number_plain : (n : ℕ) → Plain (hexed n)
+number_plain : (n : ℕ) → Plain (hexadecimal n)
 number_plain n =
     join (codes "0x") (numeral 16 n) refl
     (cond_both (n == 0) (codes "0") (digits_in 16 n) Plain (λ _. refl) (λ _. glyphs (digits_of 16 n) (all_below_base_digits_of 16 n (omega arith))))
@@ -101,13 +101,13 @@ dir_plain : (ppn : ℕ) → Plain (dir_text ppn)
 unfolding keys_plain
 dir_plain ppn = with_plain (codes "dir") (dir_pairs ppn) refl refl
 
-pte_plain : (entry : Entry) → Plain (pte_text entry)
+pte_plain : (entry : PageTableEntry) → Plain (pte_text entry)
 unfolding keys_plain
 pte_plain entry = with_plain (codes "pte") (pte_pairs entry) refl refl
 
 numbers_plain : (words : List ℕ) → Plain (numbers_text words)
 numbers_plain [] = refl
-numbers_plain (word ∷ words) = join (codes " " ++ hexed word) (numbers_text words) (join (codes " ") (hexed word) refl (number_plain word)) (numbers_plain words)
+numbers_plain (word ∷ words) = join (codes " " ++ hexadecimal word) (numbers_text words) (join (codes " ") (hexadecimal word) refl (number_plain word)) (numbers_plain words)
 
 words_plain : (words : List ℕ) → Plain (words_text words)
 words_plain words = join (codes "u64") (numbers_text words) refl (numbers_plain words)

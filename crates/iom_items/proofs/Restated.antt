@@ -6,7 +6,7 @@ use Rattle.std.specs.Str.Parse.{digits_value}
 use Rattle.std.proofs.lemmas.Bool.{and_parts, and_from, cases_Bool, ltb-true}
 use Rattle.std.proofs.lemmas.List.{length-map}
 use Rattle.std.proofs.lemmas.Slice.Eq.{bytes_eq-Decides}
-use Rattle.iom_text.specs.Texts.{hexed}
+use Rattle.iom_text.specs.Texts.{hexadecimal}
 use Rattle.std.specs.Option.{option_map}
 use Rattle.std.specs.List.{list_all}
 use Rattle.iom_bits.specs.Bits.{flag}
@@ -23,12 +23,12 @@ use Rattle.iom_queue.specs.Records.{RecordFits, record_words}
 use Rattle.iom_queue.proofs.Encodings.{command_of_words}
 use Rattle.iom_items.specs.declared.item.Item.{Item}
 use Rattle.iom_items.specs.declared.item.Item.TheVariants as item
-use Rattle.iom_items.specs.Items.{name_of, Entry, dir_word, pte_word}
+use Rattle.iom_items.specs.Items.{name_of, PageTableEntry, dir_word, pte_word}
 use Rattle.iom_items.specs.Operands.{◌>>=◌, operand_of, has_key, is_given, number_for, value_of}
 use Rattle.iom_items.specs.Forms.{command, fault, context, dir, pte, each_number, numbers, words_for, is_ten, are_offered, words_on}
 use Rattle.iom_items.specs.Lines.{Pair, with_operands, command_form, command_pairs, further_pairs, not_zero, command_text, record_pairs, record_text, context_pairs, context_text, dir_pairs, dir_text, pte_pairs, pte_text, numbers_text, words_text, line_of, line_on, is_taken}
 use Rattle.iom_items.specs.Telling.{IsStatement, IsToldAgain}
-use Rattle.iom_items.specs.Telling.{told}
+use Rattle.iom_items.specs.Telling.{line_of_operands}
 use Rattle.iom_items.proofs.Stating.{command_fits, fault_fits, context_fits, dir_fits, pte_fits, EntryFits, record_of_words, context_of_words, dir_read, pte_read, mode_fits, small, given, is_so, some_is, statement_told}
 use Rattle.iom_items.proofs.Bounds.{AreWords, words_fine}
 use Rattle.iom_items.proofs.Operating.{cut_later, longer}
@@ -127,7 +127,7 @@ context_told c fits = record {
 dir_told : (ppn : ℕ) → ppn < 2 ^ 44 → AreTold (dir_pairs ppn)
 dir_told ppn fits = record { keys = refl; fine = refl; own = (refl, tt); small = (omega (arith, fits), tt) }
 
-pte_told : (entry : Entry) → EntryFits entry → AreTold (pte_pairs entry)
+pte_told : (entry : PageTableEntry) → EntryFits entry → AreTold (pte_pairs entry)
 pte_told entry fits = record {
   keys = refl;
   fine = refl;
@@ -273,10 +273,10 @@ dir_states features ppn fits =
           (ap (option_map (λ ppn. dir_word ppn ∷ [])) (dir_said (words_for_all (dir_pairs ppn)) ppn fits (words_say (dir_pairs ppn) told)));
     }
 
-abbrev entry_words : Entry → List ℕ
+abbrev entry_words : PageTableEntry → List ℕ
 entry_words entry = pte_word entry.ppn entry.flags ∷ []
 
-pub pte_states : (features : Features) (entry : Entry) → EntryFits entry →
+pub pte_states : (features : Features) (entry : PageTableEntry) → EntryFits entry →
     IsStatement features (line_on features item.Pte (entry_words entry)) (entry_words entry) (codes "pte") (words_for_all (pte_pairs entry))
 unfolding words_on words_for
 pte_states features entry fits =
@@ -290,17 +290,17 @@ pte_states features entry fits =
 
 -- numbers on a line
 abbrev pub numbers_of : List ℕ → List (List ℕ)
-numbers_of words = map hexed words
+numbers_of words = map hexadecimal words
 
 numbers_parts : (text words : List ℕ) → is_bare text ≡ true → words_of (text ++ numbers_text words) ≡ words_of text ++ numbers_of words
 numbers_parts text [] bare = ap words_of (append-nil text) ∙ sym (append-nil (words_of text))
 numbers_parts text (word ∷ words) bare =
-    let inside : is_word (hexed word) ≡ true = hexed_inside word in
-    ap words_of (sym (append_assoc text (32 ∷ hexed word) (numbers_text words)))
-    ∙ numbers_parts (text ++ 32 ∷ hexed word) words (bare_joined text (32 ∷ hexed word) bare (word_bare (hexed word) inside))
+    let inside : is_word (hexadecimal word) ≡ true = hexed_inside word in
+    ap words_of (sym (append_assoc text (32 ∷ hexadecimal word) (numbers_text words)))
+    ∙ numbers_parts (text ++ 32 ∷ hexadecimal word) words (bare_joined text (32 ∷ hexadecimal word) bare (word_bare (hexadecimal word) inside))
     ∙ ap (λ front. front ++ numbers_of words)
-    (words_joined text (hexed word) bare ∙ ap (λ last. words_of text ++ last) (one_word (hexed word) inside (omega arith)))
-    ∙ append_assoc (words_of text) (hexed word ∷ []) (numbers_of words)
+    (words_joined text (hexadecimal word) bare ∙ ap (λ last. words_of text ++ last) (one_word (hexadecimal word) inside (omega arith)))
+    ∙ append_assoc (words_of text) (hexadecimal word ∷ []) (numbers_of words)
 
 each_read : (words : List ℕ) → AreWords words → each_number (numbers_of words) ≡ Some words
 unfolding each_number
@@ -310,7 +310,7 @@ each_read (word ∷ words) fits = rw (hexed_read word fits.0, each_read words fi
 numbers_read : (words : List ℕ) → AreWords words → 1 ≤ length words → length words ≤ 8 → numbers (numbers_of words) ≡ Some words
 unfolding numbers
 numbers_read words fits least most =
-    rw (length-map words hexed, le-leb 1 (length words) least, le-leb (length words) 8 most, each_read words fits) refl
+    rw (length-map words hexadecimal, le-leb 1 (length words) least, le-leb (length words) 8 most, each_read words fits) refl
 
 -- a number has no key
 digit_other : (radix c : ℕ) → radix ≤ 16 → is_digit c radix ≡ true → (c == 61) ≡ false
@@ -369,7 +369,7 @@ no_value key (word ∷ words) = by (number word) refl (each_number words) (no_va
 no_given : (key : List ℕ) (words : List ℕ) → AreWords words → is_given key (numbers_of words) ≡ false
 no_given key [] fits = refl
 no_given key (word ∷ words) fits =
-    ap (λ operand. has_key key operand || is_given key (numbers_of words)) (no_operand (hexed word) (number_other (hexed word) word (hexed_read word fits.0)))
+    ap (λ operand. has_key key operand || is_given key (numbers_of words)) (no_operand (hexadecimal word) (number_other (hexadecimal word) word (hexed_read word fits.0)))
     ∙ no_given key words fits.1
 
 numbers_value : (key : List ℕ) (words : List ℕ) → AreWords words → value_of key (numbers_of words) ≡ Some 0
@@ -513,7 +513,7 @@ pub line_taken : (features : Features) (kind : Item) (words : List ℕ) → is_t
 line_taken features kind words is = rw is refl
 
 pub tells_operands : (features : Features) (kind : Item) (operands : List (List ℕ)) (words : List ℕ) →
-    words_on features (name_of kind) operands ≡ Some words → told kind operands ≡ Some (line_on features kind words)
+    words_on features (name_of kind) operands ≡ Some words → line_of_operands kind operands ≡ Some (line_on features kind words)
 unfolding words_on
 tells_operands features kind operands words is =
     let test = under_test (are_offered features operands) (words_for (name_of kind) operands) words is in

@@ -12,7 +12,7 @@ use Rattle.iom_queue.specs.declared.command.Command.TheVariants.{Vma, Gvma, Fenc
 use Rattle.iom_queue.specs.declared.record.Record.{Record}
 use Rattle.iom_queue.specs.Commands.{CommandFits}
 use Rattle.iom_queue.specs.Records.{RecordFits}
-use Rattle.iom_items.specs.Items.{Entry}
+use Rattle.iom_items.specs.Items.{PageTableEntry}
 use Rattle.iom_items.specs.Operands.{◌>>=◌, are_operands, value_of, limited, flag_for}
 use Rattle.iom_items.specs.Given.{AreOperands, IsValue}
 use Rattle.iom_items.proofs.Operating.{reads_values}
@@ -305,11 +305,11 @@ dir_said words ppn fits says =
 pub pte_says : (words : List (List ℕ)) → IfSome (pte words) (λ x. Says (pte_pairs x) words)
 unfolding pte
 pte_says words =
-    let Q : Entry → Type 0 = λ x. Has (codes "ppn" ∷ codes "flags" ∷ []) words (pte_pairs x) in
+    let Q : PageTableEntry → Type 0 = λ x. Has (codes "ppn" ∷ codes "flags" ∷ []) words (pte_pairs x) in
     under pte_pairs (codes "ppn" ∷ codes "flags" ∷ []) words _ (where_ Q _ _ (op Q (codes "ppn") (2 ^ 44) words _ (λ ppn a. op Q (codes "flags") (2 ^ 10) words _ (λ flags b.
     ((a, (b, tt)), refl)))))
 
-pub pte_said : (words : List (List ℕ)) (entry : Entry) → (entry.ppn < 2 ^ 44) × (entry.flags < 2 ^ 10) → Says (pte_pairs entry) words →
+pub pte_said : (words : List (List ℕ)) (entry : PageTableEntry) → (entry.ppn < 2 ^ 44) × (entry.flags < 2 ^ 10) → Says (pte_pairs entry) words →
     pte words ≡ Some entry
 unfolding pte
 pte_said words entry fits says =

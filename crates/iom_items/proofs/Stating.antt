@@ -16,10 +16,10 @@ use Rattle.iom_queue.specs.Records.{RecordFits, summary_word, record_words, reco
 use Rattle.iom_queue.proofs.Encodings.{command_of_words}
 use Rattle.iom_items.specs.declared.item.Item.{Item}
 use Rattle.iom_items.specs.declared.item.Item.TheVariants as item
-use Rattle.iom_items.specs.Items.{name_of, Entry, dir_word, dir_of, pte_word, pte_of, IsDirEncoding, IsPteEncoding}
+use Rattle.iom_items.specs.Items.{name_of, PageTableEntry, dir_word, dir_of, pte_word, pte_of, IsDirEncoding, IsPteEncoding}
 use Rattle.iom_items.specs.Forms.{vma, gvma, fence, iodir, command, fault, context, dir, pte, numbers, words_for}
 use Rattle.iom_items.specs.Lines.{command_text, record_text, context_text, dir_text, pte_text, words_text, line_of}
-use Rattle.iom_items.specs.Telling.{told}
+use Rattle.iom_items.specs.Telling.{line_of_operands}
 use Rattle.iom_items.proofs.Bounds.{where_, op, fl, limited_below}
 
 -- operands fit their fields
@@ -174,7 +174,7 @@ dir_told ppn word lt is =
     let high = is_so (field_of word 54 10) 0 parts.1 in
     record { fits = omega (arith, kept.1); word_is = omega (arith, lt, low, high, kept.1) }
 
-pub pte_read : (entry : Entry) → entry.ppn < 2 ^ 44 → entry.flags < 2 ^ 10 → pte_of (pte_word entry.ppn entry.flags) ≡ Some entry
+pub pte_read : (entry : PageTableEntry) → entry.ppn < 2 ^ 44 → entry.flags < 2 ^ 10 → pte_of (pte_word entry.ppn entry.flags) ≡ Some entry
 pte_read entry ppn flags =
     let word : ℕ = pte_word entry.ppn entry.flags in
     let high : field_of word 54 10 ≡ 0 = omega (arith, ppn, flags) in
@@ -182,7 +182,7 @@ pte_read entry ppn flags =
     let flags_there : field_of word 0 10 ≡ entry.flags = omega (arith, ppn, flags) in
     rw (high, ppn_there, flags_there) refl
 
-pte_told : (entry : Entry) (word : ℕ) → word < 2 ^ 64 → pte_of word ≡ Some entry → IsPteEncoding entry word
+pte_told : (entry : PageTableEntry) (word : ℕ) → word < 2 ^ 64 → pte_of word ≡ Some entry → IsPteEncoding entry word
 pte_told entry word lt is =
     let kept = given (field_of word 54 10 == 0) (record { ppn = field_of word 10 44; flags = field_of word 0 10 }) entry is in
     let high = is_so (field_of word 54 10) 0 kept.0 in
@@ -193,7 +193,7 @@ pte_told entry word lt is =
 pub reads_dirs : (ppn word : ℕ) → word < 2 ^ 64 → (IsDirEncoding ppn word → dir_of word ≡ Some ppn) × (dir_of word ≡ Some ppn → IsDirEncoding ppn word)
 reads_dirs ppn word lt = (λ it. ap dir_of it.word_is ∙ dir_read ppn it.fits, dir_told ppn word lt)
 
-pub reads_ptes : (entry : Entry) (word : ℕ) → word < 2 ^ 64 →
+pub reads_ptes : (entry : PageTableEntry) (word : ℕ) → word < 2 ^ 64 →
     (IsPteEncoding entry word → pte_of word ≡ Some entry) × (pte_of word ≡ Some entry → IsPteEncoding entry word)
 reads_ptes entry word lt = (λ it. ap pte_of it.word_is ∙ pte_read entry it.ppn_fits it.flags_fit, pte_told entry word lt)
 
@@ -201,7 +201,7 @@ pub dir_fits : (words : List (List ℕ)) → IfSome (dir words) (λ ppn. ppn < 2
 unfolding dir
 dir_fits words = where_ (λ ppn. ppn < 2 ^ 44) _ _ (limited_below (codes "ppn") (2 ^ 44) words)
 
-abbrev pub EntryFits : Entry → Type 0
+abbrev pub EntryFits : PageTableEntry → Type 0
 EntryFits entry = (entry.ppn < 2 ^ 44) × (entry.flags < 2 ^ 10)
 
 pub pte_fits : (words : List (List ℕ)) → IfSome (pte words) EntryFits
@@ -223,8 +223,8 @@ numbers_told : (found : Option (List ℕ)) (words : List ℕ) → found ≡ Some
 numbers_told found words is = ap (option_map words_text) is
 
 pub statement_told : (kind : Item) (operands : List (List ℕ)) (words : List ℕ) → words_for (name_of kind) operands ≡ Some words →
-    told kind operands ≡ Some (line_of kind words)
-unfolding words_for told
+    line_of_operands kind operands ≡ Some (line_of kind words)
+unfolding words_for line_of_operands
 statement_told item.Cmd operands words is =
     tells CommandFits command_words command_text (line_of item.Cmd) (command operands) words (command_fits operands)
     (λ c fits. rw (command_of_words c fits) refl) is

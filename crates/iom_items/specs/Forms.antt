@@ -11,7 +11,7 @@ use Rattle.iom_queue.specs.declared.command.Command.TheVariants.{Vma, Gvma, Fenc
 use Rattle.iom_queue.specs.declared.record.Record.{Record}
 use Rattle.iom_queue.specs.Commands.{command_words}
 use Rattle.iom_queue.specs.Records.{record_words}
-use Rattle.iom_items.specs.Items.{Entry, dir_word, pte_word}
+use Rattle.iom_items.specs.Items.{PageTableEntry, dir_word, pte_word}
 use Rattle.iom_items.specs.Operands.{◌>>=◌, is_given, are_operands, value_of, limited, flag_for}
 
 -- what follows a test
@@ -138,7 +138,7 @@ context words = where_so (are_operands context_keys words) (do
 unfoldable pub dir : List (List ℕ) → Option ℕ
 dir words = where_so (are_operands (codes "ppn" ∷ []) words) (limited (codes "ppn") (2 ^ 44) words)
 
-unfoldable pub pte : List (List ℕ) → Option Entry
+unfoldable pub pte : List (List ℕ) → Option PageTableEntry
 pte words = where_so (are_operands (codes "ppn" ∷ codes "flags" ∷ []) words) (do
   ppn ← limited (codes "ppn") (2 ^ 44) words
   flags ← limited (codes "flags") (2 ^ 10) words

@@ -50,16 +50,16 @@ pub record IsDirEncoding (ppn word : ℕ) : Type 0 where
 abbrev pub pte_word : ℕ → ℕ → ℕ
 pte_word ppn flags = flags + 2 ^ 10 * ppn
 
-pub record Entry : Type 0 where
+pub record PageTableEntry : Type 0 where
   pub ppn : ℕ
   pub flags : ℕ
 
-abbrev pub pte_of : ℕ → Option Entry
+abbrev pub pte_of : ℕ → Option PageTableEntry
 pte_of word =
     if field_of word 54 10 == 0 then Some (record { ppn = field_of word 10 44; flags = field_of word 0 10 }) else None
 
 -- the word stands for the entry
-pub record IsPteEncoding (entry : Entry) (word : ℕ) : Type 0 where
+pub record IsPteEncoding (entry : PageTableEntry) (word : ℕ) : Type 0 where
   pub ppn_fits : entry.ppn < 2 ^ 44
   pub flags_fit : entry.flags < 2 ^ 10
   pub word_is : word ≡ pte_word entry.ppn entry.flags

@@ -5,7 +5,7 @@ use Rattle.std.specs.Option.{option_map}
 use Rattle.std.specs.Result.{result_ok}
 use Rattle.iom_bits.specs.Bits.{flag}
 use Rattle.iom_bits.specs.declared.features.Features.{Features}
-use Rattle.iom_text.specs.Texts.{hexed}
+use Rattle.iom_text.specs.Texts.{hexadecimal}
 use Rattle.iom_mem.specs.Memory.{Memory, words_at}
 use Rattle.iom_ddt.specs.declared.context.Context.{Context}
 use Rattle.iom_ddt.specs.Contexts.{has_modes}
@@ -17,10 +17,10 @@ use Rattle.iom_queue.specs.Commands.{command_of, is_offered}
 use Rattle.iom_queue.specs.Records.{record_of}
 use Rattle.iom_items.specs.declared.item.Item.{Item}
 use Rattle.iom_items.specs.declared.item.Item.TheVariants as item
-use Rattle.iom_items.specs.Items.{words_in, dir_of, pte_of, Entry}
+use Rattle.iom_items.specs.Items.{words_in, dir_of, pte_of, PageTableEntry}
 
 abbrev pub operand : List ℕ → ℕ → List ℕ
-operand key value = codes " " ++ key ++ codes "=" ++ hexed value
+operand key value = codes " " ++ key ++ codes "=" ++ hexadecimal value
 
 -- an operand's key and its number
 abbrev pub Pair : Type 0
@@ -86,16 +86,16 @@ dir_pairs ppn = (codes "ppn", ppn) ∷ []
 abbrev pub dir_text : ℕ → List ℕ
 dir_text ppn = with_operands (codes "dir") (dir_pairs ppn)
 
-abbrev pub pte_pairs : Entry → List Pair
+abbrev pub pte_pairs : PageTableEntry → List Pair
 pte_pairs entry = (codes "ppn", entry.ppn) ∷ (codes "flags", entry.flags) ∷ []
 
-abbrev pub pte_text : Entry → List ℕ
+abbrev pub pte_text : PageTableEntry → List ℕ
 pte_text entry = with_operands (codes "pte") (pte_pairs entry)
 
 -- words as numbers, a space before each
 abbrev pub numbers_text : List ℕ → List ℕ
 numbers_text [] = []
-numbers_text (word ∷ words) = codes " " ++ hexed word ++ numbers_text words
+numbers_text (word ∷ words) = codes " " ++ hexadecimal word ++ numbers_text words
 
 abbrev pub words_text : List ℕ → List ℕ
 words_text words = codes "u64" ++ numbers_text words

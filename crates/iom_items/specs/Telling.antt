@@ -5,25 +5,25 @@ use Rattle.iom_text.specs.Words.{words_of}
 use Rattle.iom_bits.specs.declared.features.Features.{Features}
 use Rattle.iom_items.specs.declared.item.Item.{Item}
 use Rattle.iom_items.specs.declared.item.Item.TheVariants as item
-use Rattle.iom_items.specs.Items.{name_of, words_in, dir_of, Entry, pte_of, IsDirEncoding, IsPteEncoding}
+use Rattle.iom_items.specs.Items.{name_of, words_in, dir_of, PageTableEntry, pte_of, IsDirEncoding, IsPteEncoding}
 use Rattle.iom_items.specs.Operands.{value_of}
 use Rattle.iom_items.specs.Forms.{command, fault, context, dir, pte, numbers, words_on}
 use Rattle.iom_items.specs.Lines.{command_text, record_text, context_text, dir_text, pte_text, words_text, line_on}
 
 -- the line with what a statement's operands say, all of them in order; None: there is no such statement
-unfoldable pub told : Item → List (List ℕ) → Option (List ℕ)
-told item.Cmd operands = option_map command_text (command operands)
-told item.Fault operands = option_map record_text (fault operands)
-told item.Context operands = option_map context_text (context operands)
-told item.Dir operands = option_map dir_text (dir operands)
-told item.Pte operands = option_map pte_text (pte operands)
-told item.Word operands = option_map words_text (numbers operands)
+unfoldable pub line_of_operands : Item → List (List ℕ) → Option (List ℕ)
+line_of_operands item.Cmd operands = option_map command_text (command operands)
+line_of_operands item.Fault operands = option_map record_text (fault operands)
+line_of_operands item.Context operands = option_map context_text (context operands)
+line_of_operands item.Dir operands = option_map dir_text (dir operands)
+line_of_operands item.Pte operands = option_map pte_text (pte operands)
+line_of_operands item.Word operands = option_map words_text (numbers operands)
 
 -- The line of the words that a statement stands for has the statement's own operands.
 abbrev pub TellsOperands : Type 0
 TellsOperands =
     (features : Features) (kind : Item) (operands : List (List ℕ)) (words : List ℕ) → words_on features (name_of kind) operands ≡ Some words →
-    told kind operands ≡ Some (line_on features kind words)
+    line_of_operands kind operands ≡ Some (line_on features kind words)
 
 -- A line is a statement of words: it has this name and these operands, and they stand for those words.
 pub record IsStatement (features : Features) (line words name : List ℕ) (operands : List (List ℕ)) : Type 0 where
@@ -63,5 +63,5 @@ ReadsDirs =
 -- An entry of a page table and its word stand for each other.
 abbrev pub ReadsPtes : Type 0
 ReadsPtes =
-    (entry : Entry) (word : ℕ) → word < 2 ^ 64 →
+    (entry : PageTableEntry) (word : ℕ) → word < 2 ^ 64 →
     (IsPteEncoding entry word → pte_of word ≡ Some entry) × (pte_of word ≡ Some entry → IsPteEncoding entry word)

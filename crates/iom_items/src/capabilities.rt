@@ -29,8 +29,8 @@ fn vectors_for(words: &[&[u8]]) -> Option<Vectors>
     vectors_of(any_number(b"vectors", words)?)
 }
 
-/// What a machine offers whose capabilities have these operands: Svnapot, and beside it what they say; an operand that isn't given
-/// is 0, and there is one vector. None where they are no such operands.
+/// What a machine offers whose capabilities have these operands: Svnapot, and beside it what they say; an operand that isn't given is 0,
+/// and there is one vector. None if they are no such operands.
 #[tactic(auto, unfolding(crate::specs::Capabilities::features_for))]
 pub fn features_for(words: &[&[u8]]) -> Option<Features>
     ensures { result ≡ features_for (map (λ word. word.now) words.now) }

@@ -14,7 +14,7 @@ use iom_queue::{Command, Record, encode_command, encode_record};
 use iom_text::number;
 
 /// The words that a statement stands for: one to eight, of 8 bytes each.
-pub type Words = ArrayVec<u64, 8>;
+pub type ItemWords = ArrayVec<u64, 8>;
 
 // The IOTINVAL.VMA of these operands; an operand that isn't given is 0.
 #[tactic(auto, unfolding(crate::specs::Forms::vma))]
@@ -209,7 +209,7 @@ fn pte(words: &[&[u8]]) -> Option<(u64, u64)>
 
 // Appends the numbers of these words; None where one of them is no number.
 #[tactic(auto, unfolding(crate::specs::Forms::each_number))]
-fn push_numbers(out: &mut Words, words: &[&[u8]]) -> Option<()>
+fn push_numbers(out: &mut ItemWords, words: &[&[u8]]) -> Option<()>
     requires { length out.old.items + length words.now ≤ 8 }
     ensures { option_map (λ done. out.new.items) result
         ≡ option_map (λ numbers. out.old.items ++ numbers) (each_number (map (λ word. word.now) words.now)) }
@@ -225,30 +225,30 @@ fn push_numbers(out: &mut Words, words: &[&[u8]]) -> Option<()>
 
 // The numbers of one to eight words.
 #[tactic(auto, unfolding(crate::specs::Forms::numbers))]
-fn numbers(words: &[&[u8]]) -> Option<Words>
+fn numbers(words: &[&[u8]]) -> Option<ItemWords>
     ensures { option_map (λ numbers. numbers.items) result ≡ numbers (map (λ word. word.now) words.now) }
 {
     if words.is_empty() || words.len() > 8 {
         return None;
     }
-    let mut out = Words::new();
+    let mut out = ItemWords::new();
     push_numbers(&mut out, words)?;
     Some(out)
 }
 
 // At most eight words as they are.
-fn all(words: &[u64]) -> Words
+fn all(words: &[u64]) -> ItemWords
     requires { length words.now ≤ 8 }
     ensures { result.items ≡ words.now }
 {
-    let mut out = Words::new();
+    let mut out = ItemWords::new();
     let _fits = out.try_extend_from_slice(words);
     out
 }
 
-/// The words, one to eight, that the statement of this name and these operands stands for; None where there is no such statement.
+/// The words, one to eight, that the statement of this name and these operands stands for; None if there is no such statement.
 #[tactic(auto, unfolding(crate::specs::Forms::words_for))]
-pub fn words_for(name: &[u8], operands: &[&[u8]]) -> Option<Words>
+pub fn words_for(name: &[u8], operands: &[&[u8]]) -> Option<ItemWords>
     ensures { option_map (λ words. words.items) result
         ≡ words_for name.now (map (λ word. word.now) operands.now) }
 {
@@ -293,7 +293,7 @@ fn are_offered(features: Features, operands: &[&[u8]]) -> bool
 /// As `words_for`, on an IOMMU with these features: None also of a command with an operand `nl` or `s` whose capability it lacks, and of
 /// a context with a mode that it lacks.
 #[tactic(auto, unfolding(crate::specs::Forms::words_on))]
-pub fn words_on(features: Features, name: &[u8], operands: &[&[u8]]) -> Option<Words>
+pub fn words_on(features: Features, name: &[u8], operands: &[&[u8]]) -> Option<ItemWords>
     ensures { option_map (λ words. words.items) result
         ≡ words_on features name.now (map (λ word. word.now) operands.now) }
 {

@@ -1,7 +1,7 @@
 ghost use Rattle.std.specs.Prelude.{◌≡◌, ◌*◌};
 ghost use Rattle.iom_items.specs.Items.{item_named, words_in};
 
-/// What some words of memory are read as.
+/// The kinds of items that words of memory are read as.
 #[derive(Clone, Copy, PartialEq)]
 pub enum Item {
     /// A command of the command queue, 16 bytes.

@@ -3,7 +3,7 @@
 #![tactic(auto)]
 
 pub use capabilities::features_for;
-pub use forms::{Words, words_for, words_on};
+pub use forms::{ItemWords, words_for, words_on};
 pub use given::operands_are_what_is_given;
 pub use item::Item;
 pub use lines::{Line, context_line, item_line, item_line_on};

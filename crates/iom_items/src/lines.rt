@@ -1,7 +1,7 @@
 ghost use Rattle.std.specs.Prelude.{◌≡◌, ◌+◌, ◌*◌, ◌++◌, ◌<◌, ◌≤◌, [], ◌∷◌, length};
 ghost use Rattle.std.specs.Option.{option_map};
 ghost use Rattle.iom_bits.specs.Bits.{flag};
-ghost use Rattle.iom_text.specs.Texts.{hexed};
+ghost use Rattle.iom_text.specs.Texts.{hexadecimal};
 ghost use Rattle.iom_mem.specs.Memory.{words_at};
 ghost use Rattle.iom_ddt.specs.Words.{words_of};
 ghost use Rattle.iom_items.specs.declared.item.Item.TheVariants as item;
@@ -13,7 +13,7 @@ use iom_bits::{Features, field, flag};
 use iom_ddt::{Context, context_of};
 use iom_mem::Ram;
 use iom_queue::{Command, Record, decode_command, decode_record, is_offered};
-use iom_text::hexed;
+use iom_text::hexadecimal;
 
 /// The line of an item, at most 256 bytes, without a line end.
 pub type Line = ArrayVec<u8, 256>;
@@ -36,7 +36,7 @@ fn push_operand(out: &mut Line, key: &[u8], value: u64)
     push_text(out, b" ");
     push_text(out, key);
     push_text(out, b"=");
-    push_text(out, hexed(value).as_slice());
+    push_text(out, hexadecimal(value).as_slice());
 }
 
 // Appends an operand of one bit, where it is set.
@@ -51,7 +51,7 @@ fn push_set(out: &mut Line, key: &[u8], set: bool)
 }
 
 // A line that begins with a text.
-fn begun(text: &[u8]) -> Line
+fn line_from(text: &[u8]) -> Line
     requires { length text.now ≤ 256 }
     ensures { result.items ≡ text.now }
 {
@@ -76,7 +76,7 @@ fn command_line(command: &Command) -> Line
             nl,
             s,
         } => {
-            let mut line = begun(b"cmd vma");
+            let mut line = line_from(b"cmd vma");
             push_operand(&mut line, b"av", flag(av));
             push_operand(&mut line, b"page", page);
             push_operand(&mut line, b"pscv", flag(pscv));
@@ -96,7 +96,7 @@ fn command_line(command: &Command) -> Line
             nl,
             s,
         } => {
-            let mut line = begun(b"cmd gvma");
+            let mut line = line_from(b"cmd gvma");
             push_operand(&mut line, b"av", flag(av));
             push_operand(&mut line, b"page", page);
             push_operand(&mut line, b"pscid", pscid as u64);
@@ -114,7 +114,7 @@ fn command_line(command: &Command) -> Line
             value,
             addr,
         } => {
-            let mut line = begun(b"cmd fence");
+            let mut line = line_from(b"cmd fence");
             push_operand(&mut line, b"av", flag(av));
             push_operand(&mut line, b"wsi", flag(wsi));
             push_operand(&mut line, b"pr", flag(pr));
@@ -124,7 +124,7 @@ fn command_line(command: &Command) -> Line
             line
         }
         Command::Iodir { dv, did } => {
-            let mut line = begun(b"cmd iodir");
+            let mut line = line_from(b"cmd iodir");
             push_operand(&mut line, b"dv", flag(dv));
             push_operand(&mut line, b"did", did as u64);
             line
@@ -136,7 +136,7 @@ fn command_line(command: &Command) -> Line
 fn record_line(fault: &Record) -> Line
     ensures { result.items ≡ record_text fault.now }
 {
-    let mut line = begun(b"fault");
+    let mut line = line_from(b"fault");
     push_operand(&mut line, b"cause", fault.cause as u64);
     push_operand(&mut line, b"pid", fault.pid as u64);
     push_operand(&mut line, b"pv", flag(fault.pv));
@@ -154,7 +154,7 @@ pub fn context_line(context: &Context) -> Line
     ensures words { result.items ≡ line_of item.Context (words_of context.now) }
 {
     let fields = &context.fields;
-    let mut line = begun(b"context");
+    let mut line = line_from(b"context");
     push_operand(&mut line, b"dtf", flag(fields.dtf));
     push_operand(&mut line, b"custom", fields.custom as u64);
     push_operand(&mut line, b"gmode", fields.gmode as u64);
@@ -176,7 +176,7 @@ fn push_numbers(out: &mut Line, words: &[u64])
         [] => {}
         [first, rest @ ..] => {
             push_text(out, b" ");
-            push_text(out, hexed(*first).as_slice());
+            push_text(out, hexadecimal(*first).as_slice());
             push_numbers(out, rest);
         }
     }
@@ -187,7 +187,7 @@ fn words_line(words: &[u64]) -> Line
     requires { length words.now ≤ 8 }
     ensures { result.items ≡ words_text words.now }
 {
-    let mut line = begun(b"u64");
+    let mut line = line_from(b"u64");
     push_numbers(&mut line, words);
     line
 }
@@ -199,7 +199,7 @@ fn dir_line(word: u64) -> Line
     if field(word, 0, 10) != 1 || field(word, 54, 10) != 0 {
         return words_line(&[word]);
     }
-    let mut line = begun(b"dir");
+    let mut line = line_from(b"dir");
     push_operand(&mut line, b"ppn", field(word, 10, 44));
     line
 }
@@ -211,7 +211,7 @@ fn pte_line(word: u64) -> Line
     if field(word, 54, 10) != 0 {
         return words_line(&[word]);
     }
-    let mut line = begun(b"pte");
+    let mut line = line_from(b"pte");
     push_operand(&mut line, b"ppn", field(word, 10, 44));
     push_operand(&mut line, b"flags", field(word, 0, 10));
     line
@@ -255,8 +255,8 @@ fn word_at(ram: &Ram, addr: u64) -> Option<u64>
     ram.word(addr)
 }
 
-/// The line of the item at physical address `addr`, of any alignment: its statement with all operands in order, or
-/// `u64` and its words where they are no such item; None where a byte of it is outside.
+/// The line of the item at physical address `addr`, of any alignment: its statement with all operands in order, or `u64` and its words if
+/// they are no such item; None if a byte of it is outside.
 #[tactic(auto, unfolding(crate::specs::Lines::item_line))]
 pub fn item_line(ram: &Ram, item: Item, addr: u64) -> Option<Line>
     ensures { option_map (λ line. line.items) result ≡ item_line ram.now item addr }
@@ -291,8 +291,8 @@ fn context_line_on(features: Features, words: [u64; 4]) -> Line
     }
 }
 
-/// As `item_line`, on an IOMMU with these features: the words of a context with a mode that it lacks, and of a command with a bit
-/// whose capability it lacks, are told as words.
+/// As `item_line`, on an IOMMU with these features: the line of a context with a mode that it lacks, or of a command with a bit whose
+/// capability it lacks, is that of its words.
 #[tactic(auto, unfolding(crate::specs::Lines::item_line_on, crate::specs::Lines::item_line))]
 pub fn item_line_on(ram: &Ram, features: Features, item: Item, addr: u64) -> Option<Line>
     ensures { option_map (λ line. line.items) result ≡ item_line_on ram.now features item addr }

@@ -88,8 +88,7 @@ fn value_of(key: &[u8], words: &[&[u8]]) -> Option<u64>
     }
 }
 
-/// The number that is given for a key, where it is below a limit; 0 where the key is absent, and None where what is given is no
-/// such number.
+/// The number that is given for a key, if it is below a limit; 0 if the key is absent, and None if what is given is no such number.
 #[tactic(auto, unfolding(crate::specs::Operands::limited))]
 pub fn limited(key: &[u8], limit: u64, words: &[&[u8]]) -> Option<u64>
     ensures value { result ≡ limited key.now limit (map (λ word. word.now) words.now) }
@@ -99,7 +98,7 @@ pub fn limited(key: &[u8], limit: u64, words: &[&[u8]]) -> Option<u64>
     if number < limit { Some(number) } else { None }
 }
 
-/// The number below 2^64 that is given for a key; 0 where the key is absent, and None where what is given is no number.
+/// The number below 2^64 that is given for a key; 0 if the key is absent, and None if what is given is no number.
 #[tactic(auto, unfolding(crate::specs::Operands::limited))]
 pub fn any_number(key: &[u8], words: &[&[u8]]) -> Option<u64>
     ensures below { result ≡ limited key.now (2 ^ 64) (map (λ word. word.now) words.now) }
@@ -108,7 +107,7 @@ pub fn any_number(key: &[u8], words: &[&[u8]]) -> Option<u64>
     value_of(key, words)
 }
 
-/// The flag that is given for a key as 0 or 1; false where the key is absent, and None where what is given is neither.
+/// The flag that is given for a key as 0 or 1; false if the key is absent, and None if what is given is neither.
 #[tactic(auto, unfolding(crate::specs::Operands::flag_for))]
 pub fn flag_for(key: &[u8], words: &[&[u8]]) -> Option<bool>
     ensures { result ≡ flag_for key.now (map (λ word. word.now) words.now) }

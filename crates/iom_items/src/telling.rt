@@ -1,11 +1,11 @@
-//! What a statement says is told again.
+//! Laws of statements and lines.
 
 ghost use Rattle.iom_items.specs.Telling.{ReadsDirs, ReadsPtes, StatesWords, TellsOperands, TellsStatements};
 
 /// A law of `words_for`, `item_line` and `context_line`, which cite the same definitions. The line of a statement's words has the
-/// statement's own operands. It is itself a statement of the same words, with the same number for each key. The line of any
-/// words, as many as the item has, is a statement of them, by the item's name or by `u64`. An entry of a device directory
-/// ("Non-leaf DDT entry") or of a page table ("Sv39") and its word stand for each other.
+/// statement's own operands. It is itself a statement of the same words, with the same number for each key. The line of any words of an
+/// item's number is a statement of them, by the item's name or by `u64`. An entry of a device directory ("Non-leaf DDT entry") or of a page
+/// table ("Sv39") and its word stand for each other.
 pub fn items_are_told_again()
     ensures operands { TellsOperands }
     ensures statements { TellsStatements }

@@ -144,9 +144,8 @@ impl Ram {
         placed::size(&self.words)
     }
 
-    /// Reads the bytes from physical address `addr` on into `out`, and answers true; false where
-    /// one of them is outside, and then `out` is unchanged. An empty `out` is read anywhere, outside
-    /// memory too.
+    /// Reads the bytes from physical address `addr` on into `out`, and answers true; false if one of them is outside, and then `out` is
+    /// unchanged. An empty `out` is read anywhere, outside memory too.
     pub fn read(&self, addr: u64, out: &mut [u8]) -> bool
         ensures read { OnTrue result (bytes_at self.now addr (length out.old) ≡ Some out.new) }
         ensures outside { OnFalse result (bytes_at self.now addr (length out.old) ≡ None) }
@@ -155,9 +154,8 @@ impl Ram {
         placed::read(self.base, &self.words, addr, out)
     }
 
-    /// Writes `bytes` from physical address `addr` on, and answers true; false where one of the
-    /// places is outside, and then nothing is changed. Empty `bytes` are written anywhere, outside
-    /// memory too.
+    /// Writes `bytes` from physical address `addr` on, and answers true; false if one of the places is outside, and then nothing is
+    /// changed. Empty `bytes` are written anywhere, outside memory too.
     #[tactic(auto, using(crate::proofs::WordBytes::words_hold))]
     pub fn write(&mut self, addr: u64, bytes: &[u8]) -> bool
         ensures inside { result ≡ is_some (bytes_at self.old addr (length bytes.now)) }
@@ -168,17 +166,16 @@ impl Ram {
         placed::write(self.base, &mut self.words, addr, bytes)
     }
 
-    /// The number of the eight bytes from physical address `addr` on, the lowest byte first; None
-    /// where one of them is outside. `addr` may be any address.
+    /// The number of the eight bytes from physical address `addr` on, the lowest byte first; None if one of them is outside. `addr` may be
+    /// any address.
     pub fn word(&self, addr: u64) -> Option<u64>
         ensures { result ≡ word self.now addr }
     {
         placed::word(self.base, &self.words, addr)
     }
 
-    /// Reads the words from physical address `addr` on into `out`, word i from `addr + 8 * i`, and
-    /// answers true; false where a byte of one is outside, and then `out` is unchanged. `addr` may be
-    /// any address, and an empty `out` is read anywhere, outside memory too.
+    /// Reads the words from physical address `addr` on into `out`, word i from `addr + 8 * i`, and answers true; false if a byte of one is
+    /// outside, and then `out` is unchanged. `addr` may be any address, and an empty `out` is read anywhere, outside memory too.
     pub fn words(&self, addr: u64, out: &mut [u64]) -> bool
         ensures read { OnTrue result (words_at self.now addr (length out.old) ≡ Some out.new) }
         ensures outside { OnFalse result (words_at self.now addr (length out.old) ≡ None) }
@@ -187,8 +184,7 @@ impl Ram {
         placed::words(self.base, &self.words, addr, out)
     }
 
-    /// The `N` words from physical address `addr` on, of any alignment, word i from `addr + 8 * i`; None where a byte of one is
-    /// outside.
+    /// The `N` words from physical address `addr` on, of any alignment, word i from `addr + 8 * i`; None if a byte of one is outside.
     pub fn words_at<const N: usize>(&self, addr: u64) -> Option<[u64; N]>
         ensures { result ≡ words_at self.now addr N }
     {

@@ -18,7 +18,7 @@ pub fn size(words: &[u64]) -> u64
     8 * words.len() as u64
 }
 
-/// Reads the bytes from `addr` on into `out`, and answers true; false where one of them is outside, and then `out` is unchanged.
+/// Reads the bytes from `addr` on into `out`, and answers true; false if one of them is outside, and then `out` is unchanged.
 #[tactic(auto, using(crate::proofs::Bytes::empty_read, crate::proofs::WordBytes::words_hold))]
 pub fn read(base: u64, words: &[u64], addr: u64, out: &mut [u8]) -> bool
     ensures read { OnTrue result (bytes_at (memory_of base words.now) addr (length out.old) ≡ Some out.new) }
@@ -34,7 +34,7 @@ pub fn read(base: u64, words: &[u64], addr: u64, out: &mut [u8]) -> bool
     }
 }
 
-/// Writes `bytes` from `addr` on, and answers true; false where one of the places is outside, and then nothing is changed.
+/// Writes `bytes` from `addr` on, and answers true; false if one of the places is outside, and then nothing is changed.
 #[tactic(auto, using(crate::proofs::Bytes::empty_write, crate::proofs::WordBytes::words_hold))]
 pub fn write(base: u64, words: &mut [u64], addr: u64, bytes: &[u8]) -> bool
     ensures inside { result ≡ is_some (bytes_at (memory_of base words.old) addr (length bytes.now)) }
@@ -52,7 +52,7 @@ pub fn write(base: u64, words: &mut [u64], addr: u64, bytes: &[u8]) -> bool
     }
 }
 
-/// The number of the eight bytes from `addr` on, the lowest byte first; None where one of them is outside.
+/// The number of the eight bytes from `addr` on, the lowest byte first; None if one of them is outside.
 #[tactic(auto, using(crate::proofs::WordBytes::words_hold))]
 pub fn word(base: u64, words: &[u64], addr: u64) -> Option<u64>
     requires { base % 8 ≡ 0 }
@@ -63,8 +63,8 @@ pub fn word(base: u64, words: &[u64], addr: u64) -> Option<u64>
     Some(word_from(words, at / 8, addr as usize % 8))
 }
 
-/// Reads the words from `addr` on, of any alignment, into `out`, and answers true; false where a byte of one is outside, and then
-/// `out` is unchanged.
+/// Reads the words from `addr` on, of any alignment, into `out`, and answers true; false if a byte of one is outside, and then `out` is
+/// unchanged.
 #[tactic(auto, using(crate::proofs::WordBytes::words_hold))]
 pub fn words(base: u64, words: &[u64], addr: u64, out: &mut [u64]) -> bool
     ensures read { OnTrue result (words_at (memory_of base words.now) addr (length out.old) ≡ Some out.new) }

@@ -19,20 +19,20 @@ pub trait Region {
     fn size(&self) -> u64
         ensures { result ≡ size_of (memory self.now) };
 
-    /// Reads the bytes from physical address `addr` on into `out`, and answers true; false where one of them is outside, and then
-    /// `out` is unchanged. An empty `out` is read anywhere.
+    /// Reads the bytes from physical address `addr` on into `out`, and answers true; false if one of them is outside, and then `out` is
+    /// unchanged. An empty `out` is read anywhere.
     fn read(&self, addr: u64, out: &mut [u8]) -> bool
         ensures read { OnTrue result (bytes_at (memory self.now) addr (length out.old) ≡ Some out.new) }
         ensures outside { OnFalse result (bytes_at (memory self.now) addr (length out.old) ≡ None) }
         ensures unchanged { OnFalse result (out.new ≡ out.old) };
 
-    /// The number of the eight bytes from physical address `addr` on, of any alignment, the lowest byte first; None where one of
-    /// them is outside.
+    /// The number of the eight bytes from physical address `addr` on, of any alignment, the lowest byte first; None if one of them is
+    /// outside.
     fn word(&self, addr: u64) -> Option<u64>
         ensures { result ≡ word (memory self.now) addr };
 
-    /// Reads the words from physical address `addr` on, of any alignment, into `out`, word i from `addr + 8 * i`, and answers true;
-    /// false where a byte of one is outside, and then `out` is unchanged. An empty `out` is read anywhere.
+    /// Reads the words from physical address `addr` on, of any alignment, into `out`, word i from `addr + 8 * i`, and answers true; false
+    /// if a byte of one is outside, and then `out` is unchanged. An empty `out` is read anywhere.
     fn words(&self, addr: u64, out: &mut [u64]) -> bool
         ensures read { OnTrue result (words_at (memory self.now) addr (length out.old) ≡ Some out.new) }
         ensures outside { OnFalse result (words_at (memory self.now) addr (length out.old) ≡ None) }
@@ -44,8 +44,8 @@ pub trait WritableRegion: Region {
     /// The borrow that it writes through, if it is lent.
     ghost name: { Self → ℕ };
 
-    /// Writes `bytes` from physical address `addr` on, and answers true; false where one of the places is outside, and then nothing
-    /// is changed. Empty `bytes` are written anywhere.
+    /// Writes `bytes` from physical address `addr` on, and answers true; false if one of the places is outside, and then nothing is
+    /// changed. Empty `bytes` are written anywhere.
     fn write(&mut self, addr: u64, bytes: &[u8]) -> bool
         ensures inside { result ≡ is_some (bytes_at (Self.memory self.old) addr (length bytes.now)) }
         ensures written { OnTrue result (Self.memory self.new ≡ put (Self.memory self.old) addr bytes.now) }
@@ -54,7 +54,7 @@ pub trait WritableRegion: Region {
         ensures borrow { name self.new ≡ name self.old };
 }
 
-/// The `N` words of a memory from physical address `addr` on, of any alignment, word i from `addr + 8 * i`; None where a byte of one is
+/// The `N` words of a memory from physical address `addr` on, of any alignment, word i from `addr + 8 * i`; None if a byte of one is
 /// outside.
 pub fn words_at<M: Region, const N: usize>(memory: &M, addr: u64) -> Option<[u64; N]>
     ensures { result ≡ words_at (M.memory memory.now) addr N }

@@ -3,7 +3,7 @@ ghost use Rattle.iom_nested.specs.Stages.{ram_got};
 use iom_mem::Region;
 use iom_walk::{Got, Words};
 
-/// Memory as a source of words, at physical addresses: where entries of tables are fetched that no stage translates.
+/// Memory as a source of words, at physical addresses, for entries of tables that no stage translates.
 #[derive(Drop)]
 pub struct Physical<'a, M: Region> {
     /// The memory.

@@ -7,8 +7,8 @@ use iom_ddt::Context;
 use iom_mem::Region;
 use iom_walk::{Format, Got, Outcome, Shape, Words, walk};
 
-/// A guest's memory as a source of words: memory behind the second stage. Addresses are guest-physical, each translated for an
-/// implicit read, as of a first-stage table's entry ("Process to translate an IOVA").
+/// A guest's memory as a source of words, through the second stage. Addresses are guest-physical, each translated for an implicit read, as
+/// of a first-stage table's entry ("Process to translate an IOVA").
 #[derive(Drop)]
 pub struct Second<'a, M: Region> {
     ram: &'a M,
@@ -52,7 +52,7 @@ impl<M: Region> Words for Second<'_, M> {
     }
 }
 
-/// The shape of the second stage's tables, by iohgatp.MODE: 8 is Sv39x4, 9 is Sv48x4, 10 is Sv57x4; None where it is Bare, 0.
+/// The shape of the second stage's tables, by iohgatp.MODE: 8 is Sv39x4, 9 is Sv48x4, 10 is Sv57x4; None if it is Bare, 0.
 pub fn second_shape(context: &Context) -> Option<Shape>
     ensures { result ≡ second_shape_of context.now }
 {

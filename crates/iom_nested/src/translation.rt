@@ -19,11 +19,11 @@ use std::marker::Model;
 pub struct Hit {
     /// The PPN of the page's frame, 44 bits: its physical address divided by 4096.
     pub frame: u64,
-    /// The level of the first stage's leaf, 0 to 4; 0 where that stage is Bare.
+    /// The level of the first stage's leaf, 0 to 4; 0 if that stage is Bare.
     pub level: u8,
-    /// Whether the first stage's mapping is global; false where that stage is Bare.
+    /// Whether the first stage's mapping is global; false if that stage is Bare.
     pub global: bool,
-    /// Whether the first stage's leaf has N set, and so maps 64 KiB ("Svnapot"); false where that stage is Bare.
+    /// Whether the first stage's leaf has N set, and so maps 64 KiB ("Svnapot"); false if that stage is Bare.
     pub napot: bool,
 }
 
@@ -45,30 +45,28 @@ impl Model for Hit {
 pub struct Fault {
     /// The cause for the fault record: 5, 7, 13, 15, 21 or 23 as a number.
     pub cause: Cause,
-    /// For a guest page fault the guest-physical address with bits 1:0 cleared, and bit 0 set where it is that of an entry
-    /// of the first stage; else 0.
+    /// For a guest page fault the guest-physical address with bits 1:0 cleared, and bit 0 set if it is that of an entry of the first stage;
+    /// else 0.
     pub iotval2: u64,
 }
 
 /// Where the first stage leads an IOVA.
 #[derive(Clone, Copy)]
 pub struct Reached {
-    /// The guest-physical address under a second stage, else the physical one; the IOVA itself where the first stage is
-    /// Bare.
+    /// The guest-physical address under a second stage, else the physical one; the IOVA itself if the first stage is Bare.
     pub addr: u64,
-    /// The level of the first stage's leaf, 0 to 4; 0 where that stage is Bare.
+    /// The level of the first stage's leaf, 0 to 4; 0 if that stage is Bare.
     pub level: u8,
-    /// Whether the first stage's mapping is global; false where that stage is Bare.
+    /// Whether the first stage's mapping is global; false if that stage is Bare.
     pub global: bool,
-    /// Whether the first stage's leaf has N set, and so maps 64 KiB ("Svnapot"); false where that stage is Bare.
+    /// Whether the first stage's leaf has N set, and so maps 64 KiB ("Svnapot"); false if that stage is Bare.
     pub napot: bool,
 }
 
 /// Translates an IOVA by the stages of a context, of which at least one isn't Bare ("Process to translate an IOVA").
 ///
-/// First-stage tables stand in the guest's memory where there is a second stage, and are read through it. The fault is an
-/// `Access` where an entry of either stage is outside memory, a `Page` fault of the first stage, or a `Guest` fault of the
-/// second, each for the access's own kind.
+/// First-stage tables stand in the guest's memory if there is a second stage, and are read through it. The fault is an `Access` if an entry
+/// of either stage is outside memory, a `Page` fault of the first stage, or a `Guest` fault of the second, each for the access's own kind.
 #[inline(always)]
 #[tactic(auto, unfolding(crate::specs::Nested::translation))]
 pub fn translate<M: Region>(
@@ -125,7 +123,7 @@ pub fn first_stage<M: Region>(
 }
 
 /// Leads an IOVA by the first stage as `first_stage` does, and puts the entries that it meets into `met`, an empty list, each with the row
-/// that decides of it. There is none where that stage is Bare, nor of an IOVA that is too wide for it.
+/// that decides of it. There is none if that stage is Bare, nor of an IOVA that is too wide for it.
 pub fn first_stage_listed<M: Region>(
     met: &mut PathEntries,
     ram: &M,
@@ -251,7 +249,7 @@ fn entry_outside(kind: Kind) -> Fault
     }
 }
 
-/// The shape of the first stage's tables, by fsc.MODE: 8 is Sv39, 9 is Sv48, 10 is Sv57; None where it is Bare, 0.
+/// The shape of the first stage's tables, by fsc.MODE: 8 is Sv39, 9 is Sv48, 10 is Sv57; None if it is Bare, 0.
 pub fn first_shape(context: &Context) -> Option<Shape>
     ensures { result ≡ first_shape_of context.now }
 {

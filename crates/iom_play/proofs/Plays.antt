@@ -10,7 +10,7 @@ use Rattle.iom_image.specs.Reading.{image_of, mapped}
 use Rattle.iom_image.proofs.Found.{read_as}
 use Rattle.iom_reader.specs.declared.fault.RunFault.{RunFault}
 use Rattle.iom_reader.specs.declared.fault.RunFault.TheVariants as fault
-use Rattle.iom_tool.specs.declared.trace.Entry.{Entry}
+use Rattle.iom_tool.specs.declared.trace.TracedStep.{TracedStep}
 use Rattle.iom_tool.specs.Console.{Console, console}
 use Rattle.iom_tool.specs.Output.{after}
 use Rattle.iom_play.specs.Playing.{Plays, steps_done}
@@ -42,7 +42,7 @@ plays_from start unread left written holds end ended run none = record {
   warrants = λ n. warranted start (take n (steps_done unread left (progress written (console start [])) (progress holds end) ended run)) none;
 }
 
-pub plays : (bytes : List ℕ) (platform : State) (trace : List Entry) (unread left written holds : Option (List ℕ)) (end : Console)
+pub plays : (bytes : List ℕ) (platform : State) (trace : List TracedStep) (unread left written holds : Option (List ℕ)) (end : Console)
     (ended : Result (Unit {0}) RunFault) → mapped state_from (image_of bytes) ≡ Ok platform → trace ≡ [] →
     Ends by_steps unread left (progress written (console platform trace)) (progress holds end) ended →
     (found : Image) × (image_of bytes ≡ Ok found) × Plays (state_from found) unread left written holds end ended

@@ -12,11 +12,11 @@ use std::io::{BufWriter, Read, Write};
 use std::process::ExitCode;
 use std::rt::Env;
 
-/// The status to end with where the program was started with words.
+/// The status to end with if the program was started with words.
 const BAD_WORDS: u8 = 2;
 
 // Plays the script of an input, and says how it ended. Its answers are written by blocks, but before it waits for input.
-fn played(
+fn play_script(
     alloc: Global,
     mut input: impl Read + Drop,
     output: impl Write + Drop,
@@ -53,7 +53,7 @@ fn main(rt: HostRuntime) -> ExitCode {
         tell(&rt, "no word is taken; rviommu takes words");
         return ExitCode::from(BAD_WORDS);
     }
-    match played(rt.alloc(), rt.stdin(), rt.stdout()) {
+    match play_script(rt.alloc(), rt.stdin(), rt.stdout()) {
         Ok(Ok(())) => return ExitCode::SUCCESS,
         Ok(Err(fault)) => tell(&rt, fault),
         Err(fault) => tell(&rt, fault),

@@ -25,7 +25,7 @@ pub enum Command {
         gscid: u16,
         /// NL: entries that aren't leaves are dropped too. Reserved without the capability NL.
         nl: bool,
-        /// S: where its lowest 0 is bit X, `page` stands for the 2^(X+1) pages, aligned, around it. Reserved without the capability S.
+        /// S: `page` stands for the aligned 2^(X+1) pages around it, where bit X is its lowest 0. Reserved without the capability S.
         s: bool,
     },
     /// IOTINVAL.GVMA ("IOTINVAL"): drops second-stage translations.
@@ -42,7 +42,7 @@ pub enum Command {
         gscid: u16,
         /// NL: entries that aren't leaves are dropped too. Reserved without the capability NL.
         nl: bool,
-        /// S: where its lowest 0 is bit X, `page` stands for the 2^(X+1) pages, aligned, around it. Reserved without the capability S.
+        /// S: `page` stands for the aligned 2^(X+1) pages around it, where bit X is its lowest 0. Reserved without the capability S.
         s: bool,
     },
     /// IOFENCE.C ("IOFENCE.C"): all commands before it are done.
@@ -162,8 +162,8 @@ fn second_word(command: &Command) -> u64
     }
 }
 
-/// The command that two words of 8 bytes stand for, whatever an IOMMU offers of it; None where they stand for no command: the
-/// opcode or func3 is none of this model, or a bit is set that is reserved with all capabilities.
+/// The command that two words of 8 bytes stand for, whatever an IOMMU offers of it; None if they stand for no command: the opcode or func3
+/// is none of this model, or a bit is set that is reserved with all capabilities.
 #[tactic(auto, unfolding(crate::specs::Commands::command_of))]
 pub fn decode_command(words: [u64; 2]) -> Option<Command>
     ensures value { result ≡ command_of words }
@@ -181,7 +181,7 @@ pub fn decode_command(words: [u64; 2]) -> Option<Command>
     }
 }
 
-/// Whether an IOMMU with these features offers a command: NL and S only where it has the capability ("IOMMU capabilities").
+/// Whether an IOMMU with these features offers a command: NL and S only if it has the capability ("IOMMU capabilities").
 pub fn is_offered(features: Features, command: &Command) -> bool
     ensures { result ≡ is_offered features command.now }
 {

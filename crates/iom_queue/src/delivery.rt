@@ -13,9 +13,9 @@ use iom_regs::{Regs, Which};
 // How many bytes a record has.
 const RECORD_SIZE: u64 = 32;
 
-/// Puts a record at the tail of the fault queue (RISC-V IOMMU Architecture 1.0, "Fault/Event-Queue (FQ)"): 32 bytes at physical
-/// address fqb.PPN * 4096 + fqt * 32. It is lost where the queue is off or stopped by fqmf or fqof, where the queue is full, which
-/// sets fqof, and where its place isn't in memory, which sets fqmf.
+/// Puts a record at the tail of the fault queue (RISC-V IOMMU Architecture 1.0, "Fault/Event-Queue (FQ)"): 32 bytes at physical address
+/// fqb.PPN * 4096 + fqt * 32. It is lost if the queue is off or stopped by fqmf or fqof, if it is full, which sets fqof, and if the
+/// record's place isn't in memory, which sets fqmf.
 #[tactic(auto, unfolding(crate::specs::Delivery::delivered, crate::specs::Delivery::is_stored))]
 pub fn deliver<M: WritableRegion>(registers: &mut Regs, ram: &mut M, fault: &Record)
     requires { RecordFits fault.now }

@@ -22,8 +22,8 @@ pub struct Record {
     pub did: u32,
     /// The IOVA of the access.
     pub iotval: u64,
-    /// Of a guest page fault: bits 63:2 of the guest-physical address, and bit 0 set where an entry of
-    /// a first-stage table was to be read there. Of every other fault: 0.
+    /// Of a guest page fault: bits 63:2 of the guest-physical address, and bit 0 set if an entry of a first-stage table was to be read
+    /// there. Of every other fault: 0.
     pub iotval2: u64,
 }
 
@@ -56,8 +56,8 @@ impl Record {
     }
 }
 
-/// Whether an access that is denied for this cause makes a record, where DTF of the device context is `dtf` ("Device-context
-/// fields"). DTF = 1 silences faults of the two stages; the causes that come before a device context is found are always recorded.
+/// Whether an access that is denied for this cause makes a record, if DTF of the device context is `dtf` ("Device-context fields"). DTF = 1
+/// silences faults of the two stages; the causes that come before a device context is found are always recorded.
 #[tactic(auto, unfolding(crate::specs::Denials::is_reported))]
 pub fn is_reported(cause: Cause, dtf: bool) -> bool
     ensures { result ≡ is_reported cause dtf }
@@ -81,7 +81,7 @@ pub fn encode_record(fault: &Record) -> [u64; 4]
     [first, 0, fault.iotval, fault.iotval2]
 }
 
-/// The record that four words of 8 bytes stand for; None where the second, which is reserved, is not 0.
+/// The record that four words of 8 bytes stand for; None if the second, which is reserved, is not 0.
 #[tactic(auto, unfolding(crate::specs::Records::record_of, iom_bits::specs::Bits::has_bit))]
 pub fn decode_record(words: [u64; 4]) -> Option<Record>
     ensures value { result ≡ record_of words }

@@ -1,14 +1,14 @@
 -- No write changes what an IOMMU offers.
 use Rattle.std.proofs.Common.{◌≡◌, ◌==◌, ℕ, Bool, true, false, nat_le, if◌then◌else◌, refl}
 use Rattle.iom_bits.specs.Bits.{field_of}
-use Rattle.iom_regs.specs.Table.{Registers, Name, Slot, Capabilities, Fctl, Ddtp, Cqb, Cqh, Cqt, Fqb, Fqh, Fqt, Cqcsr, Fqcsr, Ipsr, Icvec, Whole, Low, High, Free, is_on, slot_at, written, written_at, written_wide, after_write}
+use Rattle.iom_regs.specs.Table.{Registers, Name, Slot, Capabilities, Fctl, Ddtp, Cqb, Cqh, Cqt, Fqb, Fqh, Fqt, Cqcsr, Fqcsr, Ipsr, Icvec, Whole, Low, High, Free, is_on, slot_at, with_write, written_at, written_wide, after_write}
 
 either : (b : Bool) (r new old : Registers) → new.features ≡ r.features → old.features ≡ r.features →
     (if b then new else old).features ≡ r.features
 either true r new old first second = first
 either false r new old first second = second
 
-kept_by : (name : Name) (value : ℕ) (r : Registers) → (written name value r).features ≡ r.features
+kept_by : (name : Name) (value : ℕ) (r : Registers) → (with_write name value r).features ≡ r.features
 kept_by Capabilities value r = refl
 kept_by Fctl value r = refl
 kept_by Ddtp value r = either (nat_le (field_of value 0 4) 4) r _ r refl refl

@@ -66,20 +66,20 @@ slot_at off =
     else Free
 
 -- the value of a register as a read gives it. "Features-control register": WSI
-abbrev pub shown : Registers → Name → ℕ
-shown r Capabilities = capabilities_of r.features
-shown r Fctl = 2
-shown r Ddtp = r.ddtp
-shown r Cqb = r.cqb
-shown r Cqh = r.cqh
-shown r Cqt = r.cqt
-shown r Fqb = r.fqb
-shown r Fqh = r.fqh
-shown r Fqt = r.fqt
-shown r Cqcsr = r.cqcsr
-shown r Fqcsr = r.fqcsr
-shown r Ipsr = r.ipsr
-shown r Icvec = r.icvec
+abbrev pub read_value : Registers → Name → ℕ
+read_value r Capabilities = capabilities_of r.features
+read_value r Fctl = 2
+read_value r Ddtp = r.ddtp
+read_value r Cqb = r.cqb
+read_value r Cqh = r.cqh
+read_value r Cqt = r.cqt
+read_value r Fqb = r.fqb
+read_value r Fqh = r.fqh
+read_value r Fqt = r.fqt
+read_value r Cqcsr = r.cqcsr
+read_value r Fqcsr = r.fqcsr
+read_value r Ipsr = r.ipsr
+read_value r Icvec = r.icvec
 
 -- "Device-directory-table pointer": the mode, bits 3:0 (0 Off, 1 Bare, 2 to 4 for one to three levels), and the PPN, bits 53:10
 abbrev pub ddtp_of : ℕ → ℕ
@@ -125,24 +125,24 @@ fqcsr_of old value =
 -- "Device-directory-table pointer", "Command-queue base", "Command-queue head", "Command-queue tail", "Fault-queue base",
 -- "Fault-queue head", "Fault-queue tail", "Command-queue control and status", "Fault-queue control and status",
 -- "Interrupt pending status" and "Interrupt-cause-to-vector register", in this order
-abbrev pub written : Name → ℕ → Registers → Registers
-written Capabilities value r = r
-written Fctl value r = r
-written Ddtp value r = if nat_le (field_of value 0 4) 4 then record r { ddtp = ddtp_of value } else r
-written Cqb value r =
+abbrev pub with_write : Name → ℕ → Registers → Registers
+with_write Capabilities value r = r
+with_write Fctl value r = r
+with_write Ddtp value r = if nat_le (field_of value 0 4) 4 then record r { ddtp = ddtp_of value } else r
+with_write Cqb value r =
     if is_on r.cqcsr then r
     else record r { cqb = queue_base_of value; cqh = r.cqh % entries_of value; cqt = r.cqt % entries_of value }
-written Cqh value r = r
-written Cqt value r = record r { cqt = value % entries_of r.cqb }
-written Fqb value r =
+with_write Cqh value r = r
+with_write Cqt value r = record r { cqt = value % entries_of r.cqb }
+with_write Fqb value r =
     if is_on r.fqcsr then r
     else record r { fqb = queue_base_of value; fqh = r.fqh % entries_of value; fqt = r.fqt % entries_of value }
-written Fqh value r = record r { fqh = value % entries_of r.fqb }
-written Fqt value r = r
-written Cqcsr value r = record r { cqcsr = cqcsr_of r.cqcsr value; cqh = if turns_on r.cqcsr value then 0 else r.cqh }
-written Fqcsr value r = record r { fqcsr = fqcsr_of r.fqcsr value; fqt = if turns_on r.fqcsr value then 0 else r.fqt }
-written Ipsr value r = record r { ipsr = flag_after r.ipsr value 0 + flag_after r.ipsr value 1 }
-written Icvec value r = record r { icvec = icvec_of r.features.vectors value }
+with_write Fqh value r = record r { fqh = value % entries_of r.fqb }
+with_write Fqt value r = r
+with_write Cqcsr value r = record r { cqcsr = cqcsr_of r.cqcsr value; cqh = if turns_on r.cqcsr value then 0 else r.cqh }
+with_write Fqcsr value r = record r { fqcsr = fqcsr_of r.fqcsr value; fqt = if turns_on r.fqcsr value then 0 else r.fqt }
+with_write Ipsr value r = record r { ipsr = flag_after r.ipsr value 0 + flag_after r.ipsr value 1 }
+with_write Icvec value r = record r { icvec = icvec_of r.features.vectors value }
 
 -- "Interrupt pending status": cip, bit 0, is set if cie is and one of cqmf, cmd_to, cmd_ill and fence_w_ip is; fip, bit 1, if
 -- fie is and fqmf or fqof is. Only a write clears them
@@ -175,9 +175,9 @@ IsOneRegister Free Free = Unit
 IsOneRegister first second = ⊥
 
 abbrev pub shown_at : Registers → Slot → ℕ
-shown_at r (Whole name) = shown r name
-shown_at r (Low name) = shown r name % 2 ^ 32
-shown_at r (High name) = shown r name / 2 ^ 32
+shown_at r (Whole name) = read_value r name
+shown_at r (Low name) = read_value r name % 2 ^ 32
+shown_at r (High name) = read_value r name / 2 ^ 32
 shown_at r Free = 0
 
 abbrev pub shown_wide : Registers → ℕ → ℕ
@@ -190,15 +190,15 @@ read r off size =
 
 -- a write of four bytes: half of a register is written as the whole, with the other half as it reads
 abbrev pub written_at : Slot → ℕ → Registers → Registers
-written_at (Whole name) value r = written name value r
-written_at (Low name) value r = written name (value + 2 ^ 32 * (shown r name / 2 ^ 32)) r
-written_at (High name) value r = written name (shown r name % 2 ^ 32 + 2 ^ 32 * value) r
+written_at (Whole name) value r = with_write name value r
+written_at (Low name) value r = with_write name (value + 2 ^ 32 * (read_value r name / 2 ^ 32)) r
+written_at (High name) value r = with_write name (read_value r name % 2 ^ 32 + 2 ^ 32 * value) r
 written_at Free value r = r
 
 -- a write of eight bytes
 abbrev pub written_wide : Slot → ℕ → Registers → Registers
 written_wide (Whole name) value r = r
-written_wide (Low name) value r = written name value r
+written_wide (Low name) value r = with_write name value r
 written_wide (High name) value r = r
 written_wide Free value r = r
 

@@ -80,7 +80,7 @@ impl Model for MappedRegisters {
 }
 
 impl MappedRegisters {
-    ghost use Rattle.iom_regs.specs.Table.{Ddtp, Cqcsr, Fqcsr, Icvec, reset, shown_at, slot_at, written, written_at, written_wide, with_pending};
+    ghost use Rattle.iom_regs.specs.Table.{Ddtp, Cqcsr, Fqcsr, Icvec, reset, shown_at, slot_at, with_write, written_at, written_wide, with_pending};
     ghost use Rattle.iom_regs.specs.Sound.{IsSound};
     ghost use Rattle.iom_regs.specs.Queues.{tail_passed};
     ghost use Rattle.iom_regs.specs.Interrupts.{is_high, vector_count};
@@ -198,7 +198,7 @@ impl MappedRegisters {
 
     // Writes ddtp. A mode above 4 changes nothing; reserved bits stay 0.
     fn set_ddtp(&mut self, value: u64)
-        ensures { self.new ≡ written Ddtp value self.old }
+        ensures { self.new ≡ with_write Ddtp value self.old }
     {
         if field(value, 0, 4) <= HIGHEST_MODE {
             self.ddtp = field(value, 0, 4) + (field(value, 10, 44) << 10);
@@ -207,7 +207,7 @@ impl MappedRegisters {
 
     // Writes icvec.
     fn set_icvec(&mut self, value: u64)
-        ensures { self.new ≡ written Icvec value self.old }
+        ensures { self.new ≡ with_write Icvec value self.old }
     {
         self.icvec = icvec_after_write(self.features.vectors, value);
     }
@@ -253,7 +253,7 @@ impl MappedRegisters {
 
     // Writes cqcsr. Turning the queue on sets cqh to 0.
     fn control_commands(&mut self, value: u64)
-        ensures { self.new ≡ written Cqcsr value self.old }
+        ensures { self.new ≡ with_write Cqcsr value self.old }
     {
         if turns_on(self.commands.control, value) {
             self.commands.head = 0;
@@ -263,7 +263,7 @@ impl MappedRegisters {
 
     // Writes fqcsr. Turning the queue on sets fqt to 0.
     fn control_faults(&mut self, value: u64)
-        ensures { self.new ≡ written Fqcsr value self.old }
+        ensures { self.new ≡ with_write Fqcsr value self.old }
     {
         if turns_on(self.faults.control, value) {
             self.faults.tail = 0;

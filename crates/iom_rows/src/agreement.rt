@@ -3,7 +3,7 @@
 ghost use Rattle.std.specs.Prelude.{◌<◌, IfOk, length};
 ghost use Rattle.iom_core.specs.Warrants.{IsUncached};
 
-use iom_account::{History, Origin, explain};
+use iom_account::{History, NumberedWarrant, explain};
 use iom_asm::LoadFault;
 use iom_core::{Answer, Platform, Step};
 use std::alloc::{AllocError, Global};
@@ -14,9 +14,9 @@ pub struct Difference {
     /// The number of the step, from 0.
     pub step: usize,
     /// Its warrant by `explain`.
-    pub by_explain: Option<Origin>,
+    pub by_explain: Option<NumberedWarrant>,
     /// Its warrant by the history.
-    pub by_history: Option<Origin>,
+    pub by_history: Option<NumberedWarrant>,
 }
 
 /// How many granted accesses had each kind of warrant.
@@ -47,17 +47,17 @@ impl Met {
     }
 
     // Counts an access with this warrant, made by step `number`.
-    fn count(&mut self, warrant: Origin, number: u64) {
+    fn count(&mut self, warrant: NumberedWarrant, number: u64) {
         let met = match warrant {
-            Origin::Register => &mut self.register,
-            Origin::Context { .. } => &mut self.context,
-            Origin::Walked { walk, .. } if walk == number => &mut self.walked,
-            Origin::Walked {
+            NumberedWarrant::Register => &mut self.register,
+            NumberedWarrant::Context { .. } => &mut self.context,
+            NumberedWarrant::Walked { walk, .. } if walk == number => &mut self.walked,
+            NumberedWarrant::Walked {
                 context,
                 current,
                 ..
             } if context == current => &mut self.cached,
-            Origin::Walked { .. } => &mut self.older,
+            NumberedWarrant::Walked { .. } => &mut self.older,
         };
         *met = met.saturating_add(1);
     }
@@ -96,12 +96,12 @@ fn warrant_by_explain(
     steps: &[Step],
     numbers: &[u64],
     n: usize,
-) -> Result<Option<Origin>, AllocError>
+) -> Result<Option<NumberedWarrant>, AllocError>
     requires below { n < length steps.now }
     requires uncached { IsUncached start.now }
 {
     match explain(alloc, start, steps, n)? {
-        Some(warrant) => Ok(Some(Origin::told(warrant, numbers))),
+        Some(warrant) => Ok(Some(NumberedWarrant::of_warrant(warrant, numbers))),
         None => Ok(None),
     }
 }

@@ -24,9 +24,9 @@ use Rattle.iom_ddt.specs.declared.context.Context.{Context}
 use Rattle.iom_ddt.specs.declared.listing.Met.{Met}
 use Rattle.iom_ddt.specs.declared.listing.Met.TheVariants as met
 use Rattle.iom_walk.specs.Outcome.{conclude, conclude_at, outcome_of, verdict_on_path}
-use Rattle.iom_walk.specs.Path.{Entry, entry_at, next_table, path_from, path_of as walk_path_of, verdict_on}
+use Rattle.iom_walk.specs.Path.{MetEntry, entry_at, next_table, path_from, path_of as walk_path_of, verdict_on}
 use Rattle.iom_walk.specs.Shape.{are_all, index_of, index_width, is_in_width, levels, page_width, widening}
-use Rattle.iom_walk.specs.Told.{path_told, told}
+use Rattle.iom_walk.specs.Told.{path_told, path_entry}
 use Rattle.iom_walk.specs.Verdict.{is_pointer, word_of}
 use Rattle.iom_walk.specs.declared.entry.Verdict.{Verdict}
 use Rattle.iom_walk.specs.declared.entry.Verdict.TheVariants as verdict
@@ -114,10 +114,10 @@ index_below shape address level low =
     let below : (level + 1 == levels shape) ≡ false = false_from_ne_true _ (λ is. let same : level + 1 ≡ levels shape = eqb-true _ _ is in omega arith) in
     rw below (field_below address (12 + 9 * level) 9)
 
-abbrev Within : Entry → Type 0
+abbrev Within : MetEntry → Type 0
 Within entry = (entry.place < 2 ^ 56) × (entry.level < 5)
 
-behind_pointer : (pointer : Bool) (rest : List Entry) → All Within rest → All Within (if pointer then rest else [])
+behind_pointer : (pointer : Bool) (rest : List MetEntry) → All Within rest → All Within (if pointer then rest else [])
 behind_pointer true rest each = each
 behind_pointer false rest each = All-nil Within
 
@@ -143,9 +143,9 @@ entry_within : (at : ℕ → Got) (format : Format) (address table count : ℕ) 
     All Within (path_from at format address table (suc count))
 unfolding path_from
 entry_within at format address table count some place more =
-    let entry : Entry = entry_at at format address table count in
+    let entry : MetEntry = entry_at at format address table count in
     let pointer : Bool = is_pointer (verdict_on format.features Read entry) in
-    let rest : List Entry = path_from at format address (next_table entry) count in
+    let rest : List MetEntry = path_from at format address (next_table entry) count in
     let level : count < 5 = omega (arith, (each_shape format.shape).few) in
     All-cons Within entry (if pointer then rest else []) (place, level) (behind_pointer pointer rest more)
 
@@ -154,7 +154,7 @@ below_within : (at : ℕ → Got) (format : Format) (address table count : ℕ) 
 unfolding path_from
 below_within at format address table zero low some = All-nil Within
 below_within at format address table (suc count) low some =
-    let entry : Entry = entry_at at format address table count in
+    let entry : MetEntry = entry_at at format address table count in
     let index : index_of format.shape address count < 512 = index_below format.shape address count some in
     let place : table * 4096 + index_of format.shape address count * 8 < 2 ^ 56 = omega arith in
     let within : suc count ≤ levels format.shape = omega arith in
@@ -166,7 +166,7 @@ root_within : (at : ℕ → Got) (format : Format) (address root count : ℕ) �
 unfolding path_from
 root_within at format address root zero some place = All-nil Within
 root_within at format address root (suc count) some place =
-    let entry : Entry = entry_at at format address root count in
+    let entry : MetEntry = entry_at at format address root count in
     let less : suc count - 1 ≡ count = omega arith in
     let stands : root * 4096 + index_of format.shape address count * 8 < 2 ^ 56 =
     subst (λ n. root * 4096 + index_of format.shape address n * 8 < 2 ^ 56) less place in
@@ -184,11 +184,11 @@ walk_fits : (at : ℕ → Got) (format : Format) (root address : ℕ) (kind : Ki
     All (IsTold format.shape address) (path_told at format root address kind)
 unfolding path_told
 walk_fits at format root address kind rooted =
-    let path : List Entry = walk_path_of at format root address in
-    let Goal : Bool → Type 0 = λ wide. is_in_width format.shape address ≡ wide → All (IsTold format.shape address) (if wide then map (told format.features kind) path else []) in
+    let path : List MetEntry = walk_path_of at format root address in
+    let Goal : Bool → Type 0 = λ wide. is_in_width format.shape address ≡ wide → All (IsTold format.shape address) (if wide then map (path_entry format.features kind) path else []) in
     let by_width : (wide : Bool) → Goal wide = λ wide. elim wide as Goal [
-      | true ↦ λ is. All-map (IsTold format.shape address) (told format.features kind) path
-          (All-weaker Within (λ entry. IsTold format.shape address (told format.features kind entry)) (λ entry within. (is, within)) path
+      | true ↦ λ is. All-map (IsTold format.shape address) (path_entry format.features kind) path
+          (All-weaker Within (λ entry. IsTold format.shape address (path_entry format.features kind entry)) (λ entry within. (is, within)) path
           (walk_within at format root address rooted))
       | false ↦ λ is. All-nil (IsTold format.shape address)
     ] in by_width (is_in_width format.shape address) refl
@@ -200,7 +200,7 @@ FrameFits outcome.Outside = Unit {0}
 FrameFits (outcome.Guest place) = Unit {0}
 FrameFits outcome.Fault = Unit {0}
 
-verdict_fits : (global : Bool) (address : ℕ) (entry : Entry) (says : Verdict) → entry.level < 5 → FrameFits (conclude global address entry says)
+verdict_fits : (global : Bool) (address : ℕ) (entry : MetEntry) (says : Verdict) → entry.level < 5 → FrameFits (conclude global address entry says)
 verdict_fits global address entry verdict.Outside level = tt
 verdict_fits global address entry verdict.Guest level = tt
 verdict_fits global address entry verdict.Fault level = tt
@@ -208,11 +208,11 @@ verdict_fits global address entry (verdict.Pointer word) level = tt
 verdict_fits global address entry (verdict.Leaf word) level =
     frame_fits word address entry.level level
 
-end_fits : (features : Features) (kind : Kind) (global : Bool) (address : ℕ) (path : List Entry) → All Within path →
+end_fits : (features : Features) (kind : Kind) (global : Bool) (address : ℕ) (path : List MetEntry) → All Within path →
     FrameFits (conclude_at features kind global address (find (λ entry. not (is_pointer (verdict_on features kind entry))) path))
 end_fits features kind global address [] each = tt
 end_fits features kind global address (entry ∷ more) each =
-    let test : Entry → Bool = λ entry. not (is_pointer (verdict_on features kind entry)) in
+    let test : MetEntry → Bool = λ entry. not (is_pointer (verdict_on features kind entry)) in
     elim (test entry) as (λ ends. FrameFits (conclude_at features kind global address (if ends then Some entry else find test more))) [
       | true ↦ verdict_fits global address entry (verdict_on features kind entry) (All-head Within entry more each).1
       | false ↦ end_fits features kind global address more (All-tail Within entry more each)
@@ -222,7 +222,7 @@ outcome_fits : (at : ℕ → Got) (format : Format) (root address : ℕ) (kind :
     FrameFits (outcome_of at format root address kind)
 unfolding outcome_of verdict_on_path
 outcome_fits at format root address kind rooted =
-    let path : List Entry = walk_path_of at format root address in
+    let path : List MetEntry = walk_path_of at format root address in
     elim (is_in_width format.shape address) as (λ wide. FrameFits (if wide then verdict_on_path format.features kind address path else outcome.Fault)) [
       | true ↦ end_fits format.features kind _ address path (walk_within at format root address rooted)
       | false ↦ tt

@@ -17,9 +17,9 @@ use Rattle.iom_ddt.specs.declared.context.Context.{Context}
 use Rattle.iom_ddt.specs.declared.listing.Met.{Met}
 use Rattle.iom_ddt.specs.declared.listing.Met.TheVariants as met
 use Rattle.iom_walk.specs.Outcome.{outcome_of}
-use Rattle.iom_walk.specs.Path.{Entry, entry_at, next_table, path_from, path_of as walk_path_of, verdict_on}
+use Rattle.iom_walk.specs.Path.{MetEntry, entry_at, next_table, path_from, path_of as walk_path_of, verdict_on}
 use Rattle.iom_walk.specs.Shape.{is_in_width, levels}
-use Rattle.iom_walk.specs.Told.{path_told, told}
+use Rattle.iom_walk.specs.Told.{path_told, path_entry}
 use Rattle.iom_walk.specs.Verdict.{is_pointer}
 use Rattle.iom_walk.specs.declared.listing.PathEntry.{PathEntry}
 use Rattle.iom_walk.specs.declared.outcome.Outcome.{Outcome}
@@ -72,23 +72,23 @@ behind_pointer P true rest each = each
 behind_pointer P false rest each = All-nil P
 
 walk_from_met : (at : ℕ → Got) (format : Format) (address : ℕ) (kind : Kind) (table count : ℕ) →
-    All (λ entry. IsMet at (told format.features kind entry)) (path_from at format address table count)
+    All (λ entry. IsMet at (path_entry format.features kind entry)) (path_from at format address table count)
 unfolding path_from
-walk_from_met at format address kind table zero = All-nil (λ entry. IsMet at (told format.features kind entry))
+walk_from_met at format address kind table zero = All-nil (λ entry. IsMet at (path_entry format.features kind entry))
 walk_from_met at format address kind table (suc count) =
-    let P : Entry → Type 0 = λ entry. IsMet at (told format.features kind entry) in
-    let entry : Entry = entry_at at format address table count in
+    let P : MetEntry → Type 0 = λ entry. IsMet at (path_entry format.features kind entry) in
+    let entry : MetEntry = entry_at at format address table count in
     let pointer : Bool = is_pointer (verdict_on format.features Read entry) in
-    let rest : List Entry = path_from at format address (next_table entry) count in
+    let rest : List MetEntry = path_from at format address (next_table entry) count in
     All-cons P entry (if pointer then rest else []) refl
     (behind_pointer P pointer rest (walk_from_met at format address kind (next_table entry) count))
 
 walk_met : (at : ℕ → Got) (format : Format) (root address : ℕ) (kind : Kind) → All (IsMet at) (path_told at format root address kind)
 unfolding path_told
 walk_met at format root address kind =
-    let path : List Entry = walk_path_of at format root address in
-    elim (is_in_width format.shape address) as (λ wide. All (IsMet at) (if wide then map (told format.features kind) path else [])) [
-      | true ↦ All-map (IsMet at) (told format.features kind) path (walk_from_met at format address kind root (levels format.shape))
+    let path : List MetEntry = walk_path_of at format root address in
+    elim (is_in_width format.shape address) as (λ wide. All (IsMet at) (if wide then map (path_entry format.features kind) path else [])) [
+      | true ↦ All-map (IsMet at) (path_entry format.features kind) path (walk_from_met at format address kind root (levels format.shape))
       | false ↦ All-nil (IsMet at)
     ]
 

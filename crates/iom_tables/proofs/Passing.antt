@@ -19,9 +19,9 @@ use Rattle.iom_ddt.specs.declared.context.Context.{Context}
 use Rattle.iom_ddt.specs.declared.listing.Met.{Met}
 use Rattle.iom_ddt.specs.declared.listing.Met.TheVariants as met
 use Rattle.iom_walk.specs.Outcome.{conclude, conclude_at, outcome_of, verdict_on_path}
-use Rattle.iom_walk.specs.Path.{Entry, entry_at, next_table, path_from, path_of as walk_path_of, verdict_on}
+use Rattle.iom_walk.specs.Path.{MetEntry, entry_at, next_table, path_from, path_of as walk_path_of, verdict_on}
 use Rattle.iom_walk.specs.Shape.{is_in_width, levels}
-use Rattle.iom_walk.specs.Told.{path_told, told}
+use Rattle.iom_walk.specs.Told.{path_told, path_entry}
 use Rattle.iom_walk.specs.Verdict.{consequence, is_pointer, ruling_of, verdict_of, word_of}
 use Rattle.iom_walk.specs.declared.entry.Ruling.{Ruling}
 use Rattle.iom_walk.specs.declared.entry.Ruling.TheVariants as ruling
@@ -71,7 +71,7 @@ let_pointer ruling.NotWritable word is = cc
 let_pointer ruling.NotAccessed word is = cc
 let_pointer ruling.NotDirty word is = cc
 
-let_leaf : (global : Bool) (address : ℕ) (entry : Entry) (row : Ruling) (word : ℕ) (leaf : Leaf) →
+let_leaf : (global : Bool) (address : ℕ) (entry : MetEntry) (row : Ruling) (word : ℕ) (leaf : Leaf) →
     conclude global address entry (consequence row word) ≡ outcome.Leaf leaf → Lets row
 let_leaf global address entry ruling.Pointer word leaf is = inl refl
 let_leaf global address entry ruling.Leaf word leaf is = inr refl
@@ -95,32 +95,32 @@ record IsLet (at : ℕ → Got) (features : Features) (kind : Kind) (entry : Pat
   judged : entry.ruling ≡ ruling_of features kind entry.level entry.got
   lets : Lets entry.ruling
 
-abbrev end_on : Features → Kind → Bool → ℕ → List Entry → Outcome
+abbrev end_on : Features → Kind → Bool → ℕ → List MetEntry → Outcome
 end_on features kind global address path = conclude_at features kind global address (find (λ entry. not (is_pointer (verdict_on features kind entry))) path)
 
-one_more : (at : ℕ → Got) (features : Features) (kind : Kind) (global : Bool) (address : ℕ) (entry : Entry) (rest : List Entry) (leaf : Leaf) (pointer : Bool) →
+one_more : (at : ℕ → Got) (features : Features) (kind : Kind) (global : Bool) (address : ℕ) (entry : MetEntry) (rest : List MetEntry) (leaf : Leaf) (pointer : Bool) →
     entry.got ≡ at entry.place → is_pointer (verdict_on features kind entry) ≡ pointer →
-    (end_on features kind global address rest ≡ outcome.Leaf leaf → All (λ e. IsLet at features kind (told features kind e)) rest) →
+    (end_on features kind global address rest ≡ outcome.Leaf leaf → All (λ e. IsLet at features kind (path_entry features kind e)) rest) →
     end_on features kind global address (entry ∷ (if pointer then rest else [])) ≡ outcome.Leaf leaf →
-    All (λ e. IsLet at features kind (told features kind e)) (entry ∷ (if pointer then rest else []))
+    All (λ e. IsLet at features kind (path_entry features kind e)) (entry ∷ (if pointer then rest else []))
 unfolding verdict_of
 one_more at features kind global address entry rest leaf true met is more ends =
     let left : end_on features kind global address rest ≡ outcome.Leaf leaf = rw is at ends in
-    All-cons (λ e. IsLet at features kind (told features kind e)) entry rest
+    All-cons (λ e. IsLet at features kind (path_entry features kind e)) entry rest
     (record { met = met; judged = refl; lets = let_pointer (ruling_of features kind entry.level entry.got) (word_of entry.got) is }) (more left)
 one_more at features kind global address entry rest leaf false met is more ends =
     let last : conclude global address entry (verdict_on features kind entry) ≡ outcome.Leaf leaf = rw is at ends in
-    All-cons (λ e. IsLet at features kind (told features kind e)) entry []
+    All-cons (λ e. IsLet at features kind (path_entry features kind e)) entry []
     (record { met = met; judged = refl; lets = let_leaf global address entry (ruling_of features kind entry.level entry.got) (word_of entry.got) leaf last })
-    (All-nil (λ e. IsLet at features kind (told features kind e)))
+    (All-nil (λ e. IsLet at features kind (path_entry features kind e)))
 
 walk_from_lets : (at : ℕ → Got) (format : Format) (kind : Kind) (global : Bool) (address table count : ℕ) (leaf : Leaf) →
     end_on format.features kind global address (path_from at format address table count) ≡ outcome.Leaf leaf →
-    All (λ e. IsLet at format.features kind (told format.features kind e)) (path_from at format address table count)
+    All (λ e. IsLet at format.features kind (path_entry format.features kind e)) (path_from at format address table count)
 unfolding path_from
-walk_from_lets at format kind global address table zero leaf ends = All-nil (λ e. IsLet at format.features kind (told format.features kind e))
+walk_from_lets at format kind global address table zero leaf ends = All-nil (λ e. IsLet at format.features kind (path_entry format.features kind e))
 walk_from_lets at format kind global address table (suc count) leaf ends =
-    let entry : Entry = entry_at at format address table count in
+    let entry : MetEntry = entry_at at format address table count in
     one_more at format.features kind global address entry (path_from at format address (next_table entry) count) leaf (is_pointer (verdict_on format.features Read entry))
     refl (sym (pointer_for_each format.features kind count entry.got)) (walk_from_lets at format kind global address (next_table entry) count leaf) ends
 
@@ -128,11 +128,11 @@ walk_lets : (at : ℕ → Got) (format : Format) (root address : ℕ) (kind : Ki
     outcome_of at format root address kind ≡ outcome.Leaf leaf → All (IsLet at format.features kind) (path_told at format root address kind)
 unfolding outcome_of verdict_on_path path_told
 walk_lets at format root address kind leaf =
-    let path : List Entry = walk_path_of at format root address in
-    let told_path : List PathEntry = map (told format.features kind) path in
+    let path : List MetEntry = walk_path_of at format root address in
+    let told_path : List PathEntry = map (path_entry format.features kind) path in
     elim (is_in_width format.shape address) as (λ wide. (if wide then verdict_on_path format.features kind address path else outcome.Fault) ≡ outcome.Leaf leaf →
     All (IsLet at format.features kind) (if wide then told_path else [])) [
-      | true ↦ λ ends. All-map (IsLet at format.features kind) (told format.features kind) path (walk_from_lets at format kind _ address root (levels format.shape) leaf ends)
+      | true ↦ λ ends. All-map (IsLet at format.features kind) (path_entry format.features kind) path (walk_from_lets at format kind _ address root (levels format.shape) leaf ends)
       | false ↦ λ ends. All-nil (IsLet at format.features kind)
     ]
 

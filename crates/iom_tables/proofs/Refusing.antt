@@ -20,9 +20,9 @@ use Rattle.iom_ddt.specs.declared.context.Context.{Context}
 use Rattle.iom_ddt.specs.declared.listing.Met.{Met}
 use Rattle.iom_ddt.specs.declared.listing.Met.TheVariants as met
 use Rattle.iom_walk.specs.Outcome.{conclude, conclude_at, leaf_of, outcome_of, verdict_on_path}
-use Rattle.iom_walk.specs.Path.{Entry, entry_at, next_table, path_from, path_of as walk_path_of, verdict_on}
+use Rattle.iom_walk.specs.Path.{MetEntry, entry_at, next_table, path_from, path_of as walk_path_of, verdict_on}
 use Rattle.iom_walk.specs.Shape.{is_in_width, levels}
-use Rattle.iom_walk.specs.Told.{path_told, told}
+use Rattle.iom_walk.specs.Told.{path_told, path_entry}
 use Rattle.iom_walk.specs.Verdict.{consequence, is_pointer, ruling_of, verdict_of, word_of}
 use Rattle.iom_walk.specs.declared.entry.Ruling.{Ruling}
 use Rattle.iom_walk.specs.declared.listing.PathEntry.{PathEntry}
@@ -153,14 +153,14 @@ directory_refuses m did cause is =
 abbrev NoLeaf : Outcome → Type 0
 NoLeaf end = (leaf : Leaf) → end ≢ outcome.Leaf leaf
 
-abbrev end_on : Features → Kind → Bool → ℕ → List Entry → Outcome
+abbrev end_on : Features → Kind → Bool → ℕ → List MetEntry → Outcome
 end_on features kind global address path = conclude_at features kind global address (find (λ entry. not (is_pointer (verdict_on features kind entry))) path)
 
 -- a row that neither points on nor maps
-abbrev Stops : Features → Kind → Entry → Type 0
+abbrev Stops : Features → Kind → MetEntry → Type 0
 Stops features kind entry = ¬ Lets (ruling_of features kind entry.level entry.got)
 
-row_stops : (global : Bool) (address : ℕ) (entry : Entry) (row : Ruling) (word : ℕ) → is_pointer (consequence row word) ≡ false →
+row_stops : (global : Bool) (address : ℕ) (entry : MetEntry) (row : Ruling) (word : ℕ) → is_pointer (consequence row word) ≡ false →
     NoLeaf (conclude global address entry (consequence row word)) → ¬ Lets row
 row_stops global address entry row word points maps = λ lets. elim lets [
   | inl is ↦ let other : is_pointer (consequence row word) ≡ true = rw is refl in absurd (cc)
@@ -172,14 +172,14 @@ no_last_pointer : (features : Features) (kind : Kind) (got : Got) → is_pointer
 unfolding verdict_of ruling_of
 no_last_pointer features kind got = grind (arith, common_steps)
 
-end_stops : (features : Features) (kind : Kind) (global : Bool) (address : ℕ) (entry : Entry) (rest : List Entry) → is_pointer (verdict_on features kind entry) ≡ false →
+end_stops : (features : Features) (kind : Kind) (global : Bool) (address : ℕ) (entry : MetEntry) (rest : List MetEntry) → is_pointer (verdict_on features kind entry) ≡ false →
     NoLeaf (end_on features kind global address (entry ∷ rest)) → Stops features kind entry
 unfolding verdict_of
 end_stops features kind global address entry rest points no_leaf =
     let last : NoLeaf (conclude global address entry (verdict_on features kind entry)) = rw points at no_leaf in
     row_stops global address entry (ruling_of features kind entry.level entry.got) (word_of entry.got) points last
 
-goes_on : (features : Features) (kind : Kind) (global : Bool) (address : ℕ) (entry : Entry) (rest : List Entry) (pointer : Bool) → is_pointer (verdict_on features kind entry) ≡ pointer →
+goes_on : (features : Features) (kind : Kind) (global : Bool) (address : ℕ) (entry : MetEntry) (rest : List MetEntry) (pointer : Bool) → is_pointer (verdict_on features kind entry) ≡ pointer →
     (NoLeaf (end_on features kind global address rest) → Occurs (Stops features kind) rest) →
     NoLeaf (end_on features kind global address (entry ∷ (if pointer then rest else []))) → Occurs (Stops features kind) (entry ∷ (if pointer then rest else []))
 goes_on features kind global address entry rest true is more no_leaf =
@@ -191,11 +191,11 @@ walk_stops : (at : ℕ → Got) (format : Format) (kind : Kind) (global : Bool) 
     Occurs (Stops format.features kind) (path_from at format address table (suc count))
 unfolding path_from
 walk_stops at format kind global address table zero no_leaf =
-    let entry : Entry = entry_at at format address table zero in
+    let entry : MetEntry = entry_at at format address table zero in
     inl (end_stops format.features kind global address entry (if is_pointer (verdict_on format.features Read entry) then path_from at format address (next_table entry) zero else [])
     (no_last_pointer format.features kind entry.got) no_leaf)
 walk_stops at format kind global address table (suc count) no_leaf =
-    let entry : Entry = entry_at at format address table (suc count) in
+    let entry : MetEntry = entry_at at format address table (suc count) in
     goes_on format.features kind global address entry (path_from at format address (next_table entry) (suc count)) (is_pointer (verdict_on format.features Read entry))
     (sym (pointer_for_each format.features kind (suc count) entry.got)) (walk_stops at format kind global address (next_table entry) count) no_leaf
 
@@ -211,11 +211,11 @@ outcome_stops : (at : ℕ → Got) (format : Format) (root address : ℕ) (kind 
     (is_in_width format.shape address ≡ false) ⊎ Occurs IsStop (path_told at format root address kind)
 unfolding outcome_of verdict_on_path path_told
 outcome_stops at format root address kind =
-    let path : List Entry = walk_path_of at format root address in
+    let path : List MetEntry = walk_path_of at format root address in
     let Goal : Bool → Type 0 = λ wide. is_in_width format.shape address ≡ wide → NoLeaf (if wide then verdict_on_path format.features kind address path else outcome.Fault) →
-    (is_in_width format.shape address ≡ false) ⊎ Occurs IsStop (if wide then map (told format.features kind) path else []) in
+    (is_in_width format.shape address ≡ false) ⊎ Occurs IsStop (if wide then map (path_entry format.features kind) path else []) in
     let by_cases : (wide : Bool) → Goal wide = λ wide. elim wide as Goal [
-      | true ↦ λ is no_leaf. inr (in_mapped (Stops format.features kind) IsStop (told format.features kind) (λ entry is. is) path
+      | true ↦ λ is no_leaf. inr (in_mapped (Stops format.features kind) IsStop (path_entry format.features kind) (λ entry is. is) path
           (root_stops at format kind _ address root (levels format.shape) (each_shape format.shape).least no_leaf))
       | false ↦ λ is no_leaf. inl is
     ] in by_cases (is_in_width format.shape address) refl

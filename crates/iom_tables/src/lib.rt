@@ -1,5 +1,5 @@
-//! What the tables in memory say: the entries by which a request is led where nothing is cached, and below a cached context; whether it is led so; and
-//! whether the tables still say what a cache holds (RISC-V IOMMU Architecture 1.0, "Caching in-memory data structures").
+//! What the tables in memory say: the entries by which a request is led if nothing is cached, and below a cached context; whether it is led
+//! so; and whether the tables still say what a cache holds (RISC-V IOMMU Architecture 1.0, "Caching in-memory data structures").
 #![tactic(auto)]
 
 pub use iom_core::Way;

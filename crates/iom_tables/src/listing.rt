@@ -34,11 +34,11 @@ pub type Parts = ArrayVec<Part, 40>;
 
 /// Replaces the contents of a list by the parts of a request's walk if nothing is cached, in order ("Process to translate an IOVA").
 ///
-/// ddtp comes first, then the directory down to the device's context, then the first stage: before each of its entries those of the
-/// second stage that translate the entry's place, for a read. The second stage for the access itself is next, for the access's kind,
-/// and the end is the way that the request is led. A device id that is too wide stands in place of the directory, and an address that
-/// breaks the width rule of a stage in place of its entries. If the request is granted no part refuses it; if it is denied one does.
-/// Each PPN told is below 2^44, each address of an entry below 2^56, and each device id below 2^24. Any request has parts. No memory is taken.
+/// ddtp comes first, then the directory down to the device's context, then the first stage: before each of its entries those of the second
+/// stage that translate the entry's place, for a read. The second stage for the access itself is next, for the access's kind, and the end
+/// is the way that the request is led. A device id that is too wide stands in place of the directory, and an address that breaks the width
+/// rule of a stage in place of its entries. If the request is granted no part refuses it; if it is denied one does. Each PPN in a part is
+/// below 2^44, each address of an entry below 2^56, and each device id below 2^24. Any request has parts. No memory is taken.
 #[tactic(auto, unfolding(crate::specs::Parts::parts_of))]
 pub fn put_parts(out: &mut Parts, platform: &Platform, request: &Request)
     ensures parts { out.new.items ≡ parts_of platform.now.machine request.now }
@@ -57,7 +57,7 @@ pub fn put_parts(out: &mut Parts, platform: &Platform, request: &Request)
     out.clear();
     out.push(Part::Ddtp { mode, root });
     push_walk(out, platform, request);
-    out.push(Part::End(platform.seen_uncached(request).way));
+    out.push(Part::End(platform.lookup_uncached(request).way));
 }
 
 /// Replaces the contents of a list by the parts of a request's walk under this context of its device, which a cache has, if no page is

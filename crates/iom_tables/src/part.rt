@@ -9,14 +9,14 @@ pub(crate) const DEVICE_ID_END: u32 = 1 << 24;
 /// One thing that is looked at to lead a request.
 #[derive(Clone, Copy)]
 pub enum Part {
-    /// ddtp: its mode, and its PPN, 44 bits, which is that of the directory's root where the mode has a directory.
+    /// ddtp: its mode, and its PPN, 44 bits, which is that of the directory's root if the mode has a directory.
     Ddtp { mode: Mode, root: u64 },
     /// An item of the device directory, at its physical address.
     Directory(Met),
     /// What breaks the width rule of a table, in place of the entries that it has there.
     Wide(Wide),
-    /// An entry of the first stage, whose place is guest-physical under a second stage, else physical; `addr` is the physical
-    /// address that it was read at, None where the second stage leads its place nowhere.
+    /// An entry of the first stage, whose place is guest-physical under a second stage, else physical; `addr` is the physical address that
+    /// it was read at, None if the second stage leads its place nowhere.
     First { entry: PathEntry, addr: Option<u64> },
     /// An entry of the second stage, at its physical place, on the way from the guest-physical address `guest`, at most 59 bits.
     Second { guest: u64, entry: PathEntry },

@@ -91,7 +91,7 @@ fn page_standing(platform: &Platform, key: &Key, hit: &Hit) -> Standing<Way>
         (Live key.now hit.now) result }
 {
     let request = request_of(key);
-    let way = platform.seen_uncached(&request).way;
+    let way = platform.lookup_uncached(&request).way;
     match &way {
         Way::Walked(context, now) if now == hit && has_key(&request, context, key) =>
             Standing::Current,

@@ -13,8 +13,8 @@ pub fn stale(platform: &Platform, request: &Request) -> Option<Way>
     ensures tables { IfSome result (λ way. way ≡ by_tables platform.now.machine request.now) }
     ensures told { result ≡ stale_way platform.now.machine request.now }
 {
-    let tables = platform.seen_uncached(request).way;
-    differing(&platform.seen(request).way, tables)
+    let tables = platform.lookup_uncached(request).way;
+    differing(&platform.lookup(request).way, tables)
 }
 
 /// The way by the tables, if it differs from `now`; else None.

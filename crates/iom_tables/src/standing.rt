@@ -1,7 +1,7 @@
 use iom_bits::Cause;
 use iom_ddt::Context;
 
-/// What a place of a cache is, beside the tables in memory.
+/// A place of a cache, compared with the tables in memory.
 #[derive(Clone, Copy)]
 pub enum Standing<T> {
     /// It is beyond the last place.

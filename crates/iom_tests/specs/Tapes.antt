@@ -1,7 +1,7 @@
 -- A bus of bytes that takes a number of accesses, and refuses all later ones.
 use Rattle.std.specs.Prelude.{ℕ, zero, suc, List, [], length, Option, Some, None}
 use Rattle.iom_mem.specs.Memory.{Memory, bytes_at, put}
-use Rattle.iom_virtq.specs.Bus.{Ask, Read, Write, Reply}
+use Rattle.iom_virtq.specs.Bus.{Ask, Read, Write, BusReply}
 use Rattle.iom_virtq.specs.declared.access.Access.TheVariants.{Ok, Outside}
 
 pub record Tape : Type 0 where
@@ -9,7 +9,7 @@ pub record Tape : Type 0 where
   pub left : ℕ
 
 pub record Taped : Type 0 where
-  pub reply : Reply
+  pub reply : BusReply
   pub tape : Tape
 
 abbrev pub tape : Memory → ℕ → Tape

@@ -1,7 +1,7 @@
 //! The warrants of reads.
 
 use crate::devices::devices;
-use iom_account::{History, Origin, explain};
+use iom_account::{History, NumberedWarrant, explain};
 use iom_bits::Kind;
 use iom_cache::Key;
 use iom_core::{Answer, Platform, Step, Warrant};
@@ -76,7 +76,7 @@ fn numbered(k: usize) -> u64 {
 }
 
 // The warrant of the translation that step n used, by a history that followed the steps up to it.
-fn origin(mut platform: Platform, steps: &[Step], n: usize) -> Option<Origin> {
+fn origin(mut platform: Platform, steps: &[Step], n: usize) -> Option<NumberedWarrant> {
     let mut history = History::new(&platform);
     let mut answer = Answer::Done;
     let mut last = None;
@@ -109,7 +109,7 @@ pub fn is_warranted(
         numbers.push(numbered(k))?;
     }
     let told = match want {
-        Some(warrant) => Some(Origin::told(warrant, &numbers)),
+        Some(warrant) => Some(NumberedWarrant::of_warrant(warrant, &numbers)),
         None => None,
     };
     Ok(origin(start, steps, n) == told)

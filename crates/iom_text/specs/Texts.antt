@@ -10,5 +10,5 @@ digits_in radix number = map (digit_glyph false) (digits_of radix number)
 abbrev pub numeral : ℕ → ℕ → List ℕ
 numeral radix number = if number == 0 then codes "0" else digits_in radix number
 
-abbrev pub hexed : ℕ → List ℕ
-hexed number = codes "0x" ++ numeral 16 number
+abbrev pub hexadecimal : ℕ → List ℕ
+hexadecimal number = codes "0x" ++ numeral 16 number

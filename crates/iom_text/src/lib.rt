@@ -2,9 +2,11 @@
 #![tactic(auto)]
 
 pub use lines::line_end;
-pub use reading::{MOST_WORDS, Words, is_over, number, past_blanks, take_number, take_word, words};
+pub use reading::{
+    LineWords, MOST_WORDS, is_over, number, past_blanks, take_number, take_word, words,
+};
 pub use values::digit_value;
-pub use writing::{Numeral, decimal, hexed, put_decimal, put_hex};
+pub use writing::{Numeral, decimal, hexadecimal, put_decimal, put_hex};
 
 mod lines;
 mod reading;

@@ -11,7 +11,7 @@ use arrayvec::ArrayVec;
 pub const MOST_WORDS: usize = 11;
 
 /// The first words of a line, at most eleven: a line with more is refused.
-pub type Words<'a> = ArrayVec<&'a [u8], 11>;
+pub type LineWords<'a> = ArrayVec<&'a [u8], 11>;
 
 // Whether a byte separates words: a space, a tab or a CR.
 #[inline(always)]
@@ -100,10 +100,10 @@ pub fn is_over(text: &[u8]) -> bool
 }
 
 /// The first words of a line, at most eleven.
-pub fn words(text: &[u8]) -> Words<'_>
+pub fn words(text: &[u8]) -> LineWords<'_>
     ensures { map (λ word. word.now) result.items ≡ take 11 (words_of text.now) }
 {
-    let mut words = Words::new();
+    let mut words = LineWords::new();
     let mut rest = text;
     for _ in 0..MOST_WORDS {
         let (word, more) = first_word(rest);

@@ -1,7 +1,7 @@
 ghost use Rattle.std.specs.Prelude.{◌≡◌, ◌+◌, ◌*◌, ◌/◌, ◌%◌, ◌^◌, ◌++◌, ◌<◌, ◌≤◌, codes, length, take, false};
 ghost use Rattle.std.specs.Fmt.{digit_glyph};
 ghost use Rattle.std.specs.Int.Digits.{digits_of};
-ghost use Rattle.iom_text.specs.Texts.{digits_in, numeral, hexed};
+ghost use Rattle.iom_text.specs.Texts.{digits_in, numeral, hexadecimal};
 
 use crate::values::digit_pair;
 use arrayvec::ArrayVec;
@@ -138,8 +138,8 @@ pub fn put_hex(places: &mut [u8], number: u64) -> usize
 }
 
 /// A number below 2^64 as `0x` and hex digits in lower case, at most 18 bytes.
-pub fn hexed(number: u64) -> Numeral
-    ensures text { result.items ≡ hexed number }
+pub fn hexadecimal(number: u64) -> Numeral
+    ensures text { result.items ≡ hexadecimal number }
     ensures short { length result.items ≤ 18 }
 {
     let mut digits = [0; 16];

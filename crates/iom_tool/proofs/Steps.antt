@@ -6,7 +6,7 @@ use Rattle.std.proofs.KnownBytes.{Appends-nil, Appends-trans, Appends-kept}
 use Rattle.iom_core.specs.State.{State}
 use Rattle.iom_core.specs.Run.{end_of}
 use Rattle.iom_core.specs.declared.step.Step.{Step}
-use Rattle.iom_tool.specs.declared.trace.Entry.{Entry}
+use Rattle.iom_tool.specs.declared.trace.TracedStep.{TracedStep}
 use Rattle.iom_tool.specs.Script.{line_of}
 use Rattle.iom_tool.specs.Console.{Console, console, console_after, trace_after}
 use Rattle.iom_tool.specs.Output.{reply, steps_in, steps_of, printed, after, output_to, output_of}
@@ -52,7 +52,7 @@ next line old new (Ok done) moved wrote front = λ start lines h. answered_more 
 next line old new (Err f) moved wrote front = λ start lines h. answered_half start old new lines line h moved front
 
 -- platform and trace together
-pub moved : (state later : State) (trace more : List Entry) (steps : List Step) → later ≡ end_of state steps → more ≡ trace_after trace state steps →
+pub moved : (state later : State) (trace more : List TracedStep) (steps : List Step) → later ≡ end_of state steps → more ≡ trace_after trace state steps →
     console later more ≡ console_after (console state trace) steps
 moved state later trace more steps is kept = rw (is, kept) refl
 

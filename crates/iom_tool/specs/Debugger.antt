@@ -15,7 +15,7 @@ use Rattle.iom_cache.specs.declared.place.Place.TheVariants.{Beyond, Empty, Live
 use Rattle.iom_items.specs.declared.item.Item.{Item}
 use Rattle.iom_items.specs.Lines.{context_text, item_line_on}
 use Rattle.iom_tool.specs.Console.{Console}
-use Rattle.iom_text.specs.Texts.{hexed}
+use Rattle.iom_text.specs.Texts.{hexadecimal}
 use Rattle.iom_tool.specs.Texts.{entry_text}
 use Rattle.iom_tool.specs.declared.language.Question.{Question}
 use Rattle.iom_tool.specs.declared.language.Question.TheVariants as question
@@ -26,7 +26,7 @@ named name value = codes " " ++ name ++ codes "=" ++ value
 
 abbrev pub id_text : Option ℕ → List ℕ
 id_text None = codes "-"
-id_text (Some id) = hexed id
+id_text (Some id) = hexadecimal id
 
 abbrev pub kind_text : Kind → List ℕ
 kind_text Read = codes "read"
@@ -34,14 +34,14 @@ kind_text Write = codes "write"
 
 -- told of a leaf of 64 KiB alone
 abbrev pub napot_text : Bool → List ℕ
-napot_text napot = if napot then named (codes "napot") (hexed 1) else []
+napot_text napot = if napot then named (codes "napot") (hexadecimal 1) else []
 
 abbrev pub page_text : Key → Hit → List ℕ
 page_text key hit =
-    codes "page" ++ named (codes "did") (hexed key.did) ++ named (codes "pscid") (id_text key.pscid)
-    ++ named (codes "gscid") (id_text key.gscid) ++ named (codes "page") (hexed key.page)
-    ++ named (codes "kind") (kind_text key.kind) ++ named (codes "frame") (hexed hit.frame)
-    ++ named (codes "level") (hexed hit.level) ++ named (codes "global") (hexed (flag hit.global))
+    codes "page" ++ named (codes "did") (hexadecimal key.did) ++ named (codes "pscid") (id_text key.pscid)
+    ++ named (codes "gscid") (id_text key.gscid) ++ named (codes "page") (hexadecimal key.page)
+    ++ named (codes "kind") (kind_text key.kind) ++ named (codes "frame") (hexadecimal hit.frame)
+    ++ named (codes "level") (hexadecimal hit.level) ++ named (codes "global") (hexadecimal (flag hit.global))
     ++ napot_text hit.napot
 
 -- a place beyond the last one, an empty one, or what a live one holds
@@ -54,7 +54,7 @@ place_text (Live key hit) = page_text key hit
 unfoldable pub context_place_text : Place ℕ Context → List ℕ
 context_place_text Beyond = codes "none"
 context_place_text Empty = codes "empty"
-context_place_text (Live did context) = codes "did=" ++ hexed did ++ codes " " ++ context_text context
+context_place_text (Live did context) = codes "did=" ++ hexadecimal did ++ codes " " ++ context_text context
 
 -- the line of an item in memory, on an IOMMU with these features
 abbrev pub shown_text : Memory → Features → Item → ℕ → List ℕ

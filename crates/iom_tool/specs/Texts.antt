@@ -2,16 +2,16 @@
 use Rattle.std.specs.Prelude.{ℕ, ◌++◌, List, [], ◌∷◌, codes, Option, Some, None}
 use Rattle.std.specs.List.{flat_map}
 use Rattle.hex.specs.Hex.{encode_lower}
-use Rattle.iom_text.specs.Texts.{numeral, hexed}
+use Rattle.iom_text.specs.Texts.{numeral, hexadecimal}
 use Rattle.iom_bits.specs.declared.causes.Kind.TheVariants as kind
 use Rattle.iom_core.specs.declared.step.Step.{Step}
 use Rattle.iom_core.specs.declared.step.Step.TheVariants as step
 use Rattle.iom_core.specs.declared.step.Answer.{Answer}
 use Rattle.iom_core.specs.declared.step.Answer.TheVariants as answer
-use Rattle.iom_tool.specs.declared.trace.Entry.{Entry}
+use Rattle.iom_tool.specs.declared.trace.TracedStep.{TracedStep}
 
 unfoldable pub text_of : Answer → List ℕ
-text_of (answer.Value value) = hexed value
+text_of (answer.Value value) = hexadecimal value
 text_of answer.Done = codes "done"
 text_of (answer.Bytes bytes) = encode_lower bytes.items
 text_of answer.Idle = codes "idle"
@@ -23,7 +23,7 @@ text_of answer.Misuse = codes "misuse"
 
 -- numbers, each after a blank
 abbrev pub operands : List ℕ → List ℕ
-operands numbers = flat_map (λ number. codes " " ++ hexed number) numbers
+operands numbers = flat_map (λ number. codes " " ++ hexadecimal number) numbers
 
 -- a step as a line of a script
 unfoldable pub step_text : Step → List ℕ
@@ -41,6 +41,6 @@ step_text (step.DevWrite dev off size value) = codes "dev write" ++ operands (de
 step_text (step.Device dev) = codes "dev step" ++ operands (dev ∷ [])
 
 -- a step of a trace with its answer
-unfoldable pub entry_text : Option Entry → List ℕ
+unfoldable pub entry_text : Option TracedStep → List ℕ
 entry_text None = codes "none"
 entry_text (Some entry) = step_text entry.step ++ codes " -> " ++ text_of entry.answer

@@ -6,7 +6,7 @@ ghost use Rattle.iom_reader.specs.Running.{WritesFront};
 ghost use Rattle.iom_reader.specs.Watching.{write_failed};
 
 use crate::debugger::push_answer_in;
-use crate::draft::Draft;
+use crate::draft::ReplyDraft;
 use crate::language::{Language, Line};
 use crate::matching::{MOST_BYTES_OF_A_LINE, line_of};
 use crate::text::{push_answer, push_text};
@@ -28,7 +28,7 @@ pub struct Console<'a> {
     /// The trace that keeps its steps.
     pub trace: &'a mut Trace,
     // where an answer is put together
-    draft: Draft,
+    draft: ReplyDraft,
 }
 
 impl<'a> Console<'a> {
@@ -55,7 +55,7 @@ impl<'a> Console<'a> {
         Console {
             platform,
             trace,
-            draft: Draft::new(),
+            draft: ReplyDraft::new(),
         }
     }
 
@@ -194,7 +194,7 @@ impl Answerer for Console<'_> {
 
 // Writes an answer with its line end, by one call where the writer takes it whole.
 fn write_answer<W: Write>(
-    out: &mut Draft,
+    out: &mut ReplyDraft,
     writer: &mut WatchedWriter<'_, W>,
 ) -> Result<(), RunFault>
     requires can { write_failed writer.old ≡ false }

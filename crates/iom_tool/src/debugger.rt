@@ -1,11 +1,11 @@
 ghost use Rattle.std.specs.Prelude.{◌≡◌, ◌+◌, ◌++◌, ◌<◌, ◌≤◌, length, codes};
-ghost use Rattle.iom_text.specs.Texts.{hexed};
+ghost use Rattle.iom_text.specs.Texts.{hexadecimal};
 ghost use Rattle.iom_tool.specs.Console.{console};
 ghost use Rattle.iom_tool.specs.Debugger.{answer_in, context_place_text, id_text, kind_text, named, page_text, place_text, shown_text};
 
-use crate::draft::Draft;
+use crate::draft::ReplyDraft;
 use crate::language::Question;
-use crate::text::{push_entry, push_hexed, push_text};
+use crate::text::{push_hexadecimal, push_text, push_traced_step};
 use crate::trace::Trace;
 use iom_bits::{Features, Kind};
 use iom_cache::{Key, Place};
@@ -17,7 +17,7 @@ use iom_nested::Hit;
 
 /// Puts the text of the answer to a question, below 320 bytes and without a line end. Nothing is changed but `out`.
 #[inline(never)]
-pub fn push_answer_in(out: &mut Draft, platform: &Platform, trace: &Trace, question: Question)
+pub fn push_answer_in(out: &mut ReplyDraft, platform: &Platform, trace: &Trace, question: Question)
     requires { length out.old ≡ 0 }
     ensures text { out.new ≡ out.old ++ answer_in (console platform.now trace.now) question }
     ensures room { length out.new < 320 }
@@ -34,13 +34,13 @@ pub fn push_answer_in(out: &mut Draft, platform: &Platform, trace: &Trace, quest
                 addr,
             )
         }
-        Question::Trace(i) => push_entry(out, trace.entry(i)),
+        Question::Trace(i) => push_traced_step(out, trace.entry(i)),
     }
 }
 
 // Puts what stands at a place of the translation cache.
 #[tactic(auto, unfolding(crate::specs::Debugger::place_text))]
-fn push_place(out: &mut Draft, place: Place<Key, Hit>)
+fn push_place(out: &mut ReplyDraft, place: Place<Key, Hit>)
     requires { length out.old ≡ 0 }
     ensures text { out.new ≡ out.old ++ place_text place }
     ensures room { length out.new < 320 }
@@ -54,7 +54,7 @@ fn push_place(out: &mut Draft, place: Place<Key, Hit>)
 
 // Puts what stands at a place of the context cache.
 #[tactic(auto, unfolding(crate::specs::Debugger::context_place_text))]
-fn push_context_place(out: &mut Draft, place: Place<u32, Context>)
+fn push_context_place(out: &mut ReplyDraft, place: Place<u32, Context>)
     requires { length out.old ≡ 0 }
     ensures text { out.new ≡ out.old ++ context_place_text place }
     ensures room { length out.new < 320 }
@@ -65,13 +65,13 @@ fn push_context_place(out: &mut Draft, place: Place<u32, Context>)
         Place::Live(did, context) => (did, context),
     };
     push_text(out, b"did=");
-    push_hexed(out, u64::from(did));
+    push_hexadecimal(out, u64::from(did));
     push_text(out, b" ");
     push_text(out, context_line(&context).as_slice());
 }
 
 // Puts the line of an item on an IOMMU with these features, or that a byte of it is outside memory.
-fn push_item(out: &mut Draft, ram: &Ram, features: Features, kind: Item, addr: u64)
+fn push_item(out: &mut ReplyDraft, ram: &Ram, features: Features, kind: Item, addr: u64)
     requires { length out.old ≡ 0 }
     ensures text { out.new ≡ out.old ++ shown_text ram.now features kind addr }
     ensures room { length out.new < 320 }
@@ -83,7 +83,7 @@ fn push_item(out: &mut Draft, ram: &Ram, features: Features, kind: Item, addr: u
 }
 
 // Puts an entry of the translation cache: its key and where it leads.
-fn push_page(out: &mut Draft, key: Key, hit: Hit)
+fn push_page(out: &mut ReplyDraft, key: Key, hit: Hit)
     requires { length out.old ≡ 0 }
     ensures text { out.new ≡ out.old ++ page_text key hit }
     ensures room { length out.new < 320 }
@@ -103,19 +103,19 @@ fn push_page(out: &mut Draft, key: Key, hit: Hit)
 }
 
 // Appends a blank, a name, `=` and a number in hex.
-fn push_named(out: &mut Draft, name: &[u8], number: u64)
+fn push_named(out: &mut ReplyDraft, name: &[u8], number: u64)
     requires { length out.old + length name.now + 20 < 320 }
-    ensures text { out.new ≡ out.old ++ named name.now (hexed number) }
+    ensures text { out.new ≡ out.old ++ named name.now (hexadecimal number) }
     ensures room { length out.new ≤ length out.old + length name.now + 20 }
 {
     push_text(out, b" ");
     push_text(out, name);
     push_text(out, b"=");
-    push_hexed(out, number);
+    push_hexadecimal(out, number);
 }
 
 // The same for an id; `-` where the entry has none.
-fn push_id(out: &mut Draft, name: &[u8], id: Option<u32>)
+fn push_id(out: &mut ReplyDraft, name: &[u8], id: Option<u32>)
     requires { length out.old + length name.now + 20 < 320 }
     ensures text { out.new ≡ out.old ++ named name.now (id_text id) }
     ensures room { length out.new ≤ length out.old + length name.now + 20 }
@@ -131,7 +131,7 @@ fn push_id(out: &mut Draft, name: &[u8], id: Option<u32>)
 }
 
 // Appends what an entry's access does.
-fn push_kind(out: &mut Draft, kind: Kind)
+fn push_kind(out: &mut ReplyDraft, kind: Kind)
     requires { length out.old + 11 < 320 }
     ensures text { out.new ≡ out.old ++ named (codes "kind") (kind_text kind) }
     ensures room { length out.new ≤ length out.old + 11 }

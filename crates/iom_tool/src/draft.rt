@@ -2,19 +2,19 @@
 
 ghost use Rattle.std.specs.Prelude.{◌≡◌, ◌+◌, ◌*◌, slice_index, ◌++◌, ◌<◌, ◌≤◌, length, take, [], ◌∷◌};
 ghost use Rattle.hex.specs.Hex.{encode_lower, lower_digits};
-ghost use Rattle.iom_text.specs.Texts.{hexed, numeral};
+ghost use Rattle.iom_text.specs.Texts.{hexadecimal, numeral};
 
 use iom_text::{put_decimal, put_hex};
 use std::marker::Model;
 
 /// Room for any answer, 320 bytes. To empty it writes nothing but its length.
 #[derive(Drop)]
-pub struct Draft {
+pub struct ReplyDraft {
     bytes: [u8; 320],
     len: usize,
 }
 
-impl Model for Draft {
+impl Model for ReplyDraft {
     ghost use Rattle.std.specs.Prelude.{ℕ, ◌≤◌, List, take};
 
     ghost Value = { List ℕ };
@@ -24,12 +24,12 @@ impl Model for Draft {
     ghost invariant = { λ draft. draft.len ≤ 320 };
 }
 
-impl Draft {
+impl ReplyDraft {
     /// An empty text.
-    pub fn new() -> Draft
+    pub fn new() -> ReplyDraft
         ensures { result ≡ [] }
     {
-        Draft {
+        ReplyDraft {
             bytes: [0; 320],
             len: 0,
         }
@@ -73,9 +73,9 @@ impl Draft {
 
     /// Appends a number as `0x` and hex digits in lower case, at most 18 bytes.
     #[inline(always)]
-    pub fn append_hexed(&mut self, number: u64)
+    pub fn append_hexadecimal(&mut self, number: u64)
         requires { length self.old + 18 < 320 }
-        ensures text { self.new ≡ self.old ++ hexed number }
+        ensures text { self.new ≡ self.old ++ hexadecimal number }
         ensures room { length self.new ≤ length self.old + 18 }
     {
         self.push(b'0');

@@ -2,14 +2,14 @@
 #![tactic(auto)]
 
 pub use console::{Console, Reply};
-pub use draft::Draft;
+pub use draft::ReplyDraft;
 pub use feeder::Feeder;
 pub use iom_reader::{RunFault, WatchedReader, WatchedWriter};
 pub use language::{Actor, Inquiry, Language, Line, Question};
 pub use matching::{line_of, step_of};
 pub use running::{run, run_watched};
-pub use told::{answer_text, put_entry};
-pub use trace::{Entry, Trace};
+pub use told::{answer_text, put_traced_step};
+pub use trace::{Trace, TracedStep};
 
 mod console;
 mod data;

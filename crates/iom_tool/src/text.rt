@@ -1,16 +1,16 @@
 ghost use Rattle.std.specs.Prelude.{◌≡◌, ◌+◌, ◌*◌, ◌++◌, ◌<◌, ◌≤◌, length, [], ◌∷◌, codes};
 ghost use Rattle.std.specs.Option.{option_copied};
 ghost use Rattle.hex.specs.Hex.{encode_lower};
-ghost use Rattle.iom_text.specs.Texts.{numeral, hexed};
+ghost use Rattle.iom_text.specs.Texts.{numeral, hexadecimal};
 ghost use Rattle.iom_tool.specs.Texts.{text_of, operands, step_text, entry_text};
 
-use crate::draft::Draft;
-use crate::trace::Entry;
+use crate::draft::ReplyDraft;
+use crate::trace::TracedStep;
 use iom_bits::Kind;
 use iom_core::{Answer, Step};
 
 /// Appends bytes, for which there is room.
-pub fn push_text(out: &mut Draft, text: &[u8])
+pub fn push_text(out: &mut ReplyDraft, text: &[u8])
     requires { length out.old + length text.now ≤ 320 }
     ensures text { out.new ≡ out.old ++ text.now }
     ensures room { length out.new ≡ length out.old + length text.now }
@@ -19,7 +19,7 @@ pub fn push_text(out: &mut Draft, text: &[u8])
 }
 
 // Appends bytes as hex digits in lower case.
-fn push_bytes(out: &mut Draft, bytes: &[u8])
+fn push_bytes(out: &mut ReplyDraft, bytes: &[u8])
     requires few { length bytes.now ≤ 64 }
     requires room { length out.old + 128 < 320 }
     ensures text { out.new ≡ out.old ++ encode_lower bytes.now }
@@ -29,16 +29,16 @@ fn push_bytes(out: &mut Draft, bytes: &[u8])
 }
 
 /// Appends a number as `0x` and hex digits in lower case, at most 18 bytes.
-pub fn push_hexed(out: &mut Draft, number: u64)
+pub fn push_hexadecimal(out: &mut ReplyDraft, number: u64)
     requires { length out.old + 18 < 320 }
-    ensures text { out.new ≡ out.old ++ hexed number }
+    ensures text { out.new ≡ out.old ++ hexadecimal number }
     ensures room { length out.new ≤ length out.old + 18 }
 {
-    out.append_hexed(number);
+    out.append_hexadecimal(number);
 }
 
 // Appends the text of a denial: its cause in decimal.
-fn push_denied(out: &mut Draft, cause: u16)
+fn push_denied(out: &mut ReplyDraft, cause: u16)
     requires { length out.old + 27 < 320 }
     ensures text { out.new ≡ out.old ++ codes "denied " ++ numeral 10 cause }
     ensures room { length out.new ≤ length out.old + 27 }
@@ -49,13 +49,13 @@ fn push_denied(out: &mut Draft, cause: u16)
 
 /// Appends the text of an answer, at most 128 bytes.
 #[tactic(auto, unfolding(crate::specs::Texts::text_of))]
-pub fn push_answer(out: &mut Draft, answer: &Answer)
+pub fn push_answer(out: &mut ReplyDraft, answer: &Answer)
     requires { length out.old + 128 < 320 }
     ensures text { out.new ≡ out.old ++ text_of answer.now }
     ensures room { length out.new ≤ length out.old + 128 }
 {
     match answer {
-        Answer::Value(value) => push_hexed(out, *value),
+        Answer::Value(value) => push_hexadecimal(out, *value),
         Answer::Done => push_text(out, b"done"),
         Answer::Bytes(bytes) => push_bytes(out, bytes.as_slice()),
         Answer::Idle => push_text(out, b"idle"),
@@ -68,7 +68,7 @@ pub fn push_answer(out: &mut Draft, answer: &Answer)
 }
 
 // Appends the first words of a step's line, and its numbers after them.
-fn push_form(out: &mut Draft, words: &[u8], numbers: &[u64])
+fn push_form(out: &mut ReplyDraft, words: &[u8], numbers: &[u64])
     requires room { length out.old + length words.now + 19 * length numbers.now < 320 }
     ensures text { out.new ≡ out.old ++ words.now ++ operands numbers.now }
     ensures room { length out.new ≤ length out.old + length words.now + 19 * length numbers.now }
@@ -76,12 +76,12 @@ fn push_form(out: &mut Draft, words: &[u8], numbers: &[u64])
     push_text(out, words);
     for number in numbers {
         push_text(out, b" ");
-        push_hexed(out, *number);
+        push_hexadecimal(out, *number);
     }
 }
 
 // Puts a device's write as its line of a script.
-fn push_device_write(out: &mut Draft, did: u64, iova: u64, bytes: &[u8])
+fn push_device_write(out: &mut ReplyDraft, did: u64, iova: u64, bytes: &[u8])
     requires few { length bytes.now ≤ 64 }
     requires room { length out.old ≡ 0 }
     ensures text { out.new ≡ out.old ++ codes "dma write" ++ operands (did ∷ iova ∷ []) ++ codes " " ++ encode_lower bytes.now }
@@ -94,7 +94,7 @@ fn push_device_write(out: &mut Draft, did: u64, iova: u64, bytes: &[u8])
 
 // Puts a step as its line of a script.
 #[tactic(auto, unfolding(crate::specs::Texts::step_text))]
-fn push_step(out: &mut Draft, step: &Step)
+fn push_step(out: &mut ReplyDraft, step: &Step)
     requires { length out.old ≡ 0 }
     ensures text { out.new ≡ out.old ++ step_text step.now }
     ensures room { length out.new ≤ 176 }
@@ -132,7 +132,7 @@ fn push_step(out: &mut Draft, step: &Step)
 
 /// Puts the text of a step of a trace, and its answer; `none` if there is no such step.
 #[tactic(auto, unfolding(crate::specs::Texts::entry_text))]
-pub fn push_entry(out: &mut Draft, entry: Option<&Entry>)
+pub fn push_traced_step(out: &mut ReplyDraft, entry: Option<&TracedStep>)
     requires { length out.old ≡ 0 }
     ensures text { out.new ≡ out.old ++ entry_text (option_copied entry.entry) }
     ensures room { length out.new < 320 }

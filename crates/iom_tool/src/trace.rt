@@ -4,7 +4,7 @@ ghost use Rattle.iom_text.specs.Words.{words_of};
 ghost use Rattle.iom_tool.specs.Parsed.{IsStep};
 ghost use Rattle.iom_tool.specs.Texts.{text_of};
 
-use crate::draft::Draft;
+use crate::draft::ReplyDraft;
 use crate::script::put_step_of;
 use crate::text::push_answer;
 use iom_core::{Answer, Platform, Step};
@@ -19,7 +19,7 @@ const PLACES: usize = 33;
 
 /// A step that was carried out, and its answer.
 #[derive(Drop)]
-pub struct Entry {
+pub struct TracedStep {
     /// The step.
     pub step: Step,
     /// What it answered.
@@ -30,7 +30,7 @@ pub struct Entry {
 #[derive(Drop)]
 pub struct Trace {
     // A ring. The place at `spare` holds no step of the trace: there the next one is put, and answered from there.
-    places: Vec<Entry>,
+    places: Vec<TracedStep>,
     spare: usize,
     // Whether the steps go on behind the spare place, the oldest first.
     is_full: bool,
@@ -38,10 +38,10 @@ pub struct Trace {
 
 impl Model for Trace {
     ghost use Rattle.std.specs.Prelude.{◌≡◌, ◌<◌, List, length};
-    ghost use Rattle.iom_tool.specs.declared.trace.Entry.{Entry};
+    ghost use Rattle.iom_tool.specs.declared.trace.TracedStep.{TracedStep};
     ghost use Rattle.iom_tool.specs.Ring.{kept_around};
 
-    ghost Value = { List Entry };
+    ghost Value = { List TracedStep };
 
     ghost view = { λ trace. kept_around trace.is_full trace.spare trace.places.items };
 
@@ -73,7 +73,7 @@ impl Trace {
     pub fn keep(&mut self, step: Step, answer: Answer)
         ensures { self.new ≡ traced self.old step answer }
     {
-        self.places[self.spare] = Entry { step, answer };
+        self.places[self.spare] = TracedStep { step, answer };
         advance(&mut self.spare, &mut self.is_full);
     }
 
@@ -85,7 +85,7 @@ impl Trace {
         platform: &mut Platform,
         verb: &[u8],
         text: &[u8],
-        out: &mut Draft,
+        out: &mut ReplyDraft,
     ) -> bool
         requires { length out.old ≡ 0 }
         ensures step { result ≡ true → (step : Step) × IsStep (verb.now ∷ words_of text.now) step
@@ -104,7 +104,7 @@ impl Trace {
     }
 
     /// The step at place `i`, any number; the oldest is at place 0. None if the trace has `i` steps or fewer.
-    pub fn entry(&self, i: u64) -> Option<&Entry>
+    pub fn entry(&self, i: u64) -> Option<&TracedStep>
         ensures { option_copied result ≡ slice_get self.now i }
     {
         if self.is_full {
@@ -121,12 +121,12 @@ impl Trace {
 }
 
 // All places, each with a step that stands for none.
-fn blank_places(alloc: Global) -> Result<Vec<Entry>, AllocError>
+fn blank_places(alloc: Global) -> Result<Vec<TracedStep>, AllocError>
     ensures { IfOk result (λ places. length places.items ≡ 33) }
 {
     let mut places = Vec::with_capacity(alloc, PLACES)?;
     for _place in 0..PLACES {
-        places.push(Entry {
+        places.push(TracedStep {
             step: Step::Command,
             answer: Answer::Idle,
         })?;
@@ -159,11 +159,11 @@ fn advance(spare: &mut usize, is_full: &mut bool)
 // The step that a line is, put and answered in place. Where it is none, its place may hold anything.
 #[inline(always)]
 fn carried_out(
-    entry: &mut Entry,
+    entry: &mut TracedStep,
     platform: &mut Platform,
     verb: &[u8],
     text: &[u8],
-    out: &mut Draft,
+    out: &mut ReplyDraft,
 ) -> bool
     requires { length out.old ≡ 0 }
     ensures step { result ≡ true → IsStep (verb.now ∷ words_of text.now) entry.new.step }

@@ -2,7 +2,7 @@
 use Rattle.std.proofs.Common.{◌≡◌, ◌+◌, ◌-◌, ◌<◌, ◌≤◌, ℕ, zero, suc, List, [], ◌++◌, length, drop, get_or, refl, sym, ◌∙◌, ap, arith}
 use Rattle.std.proofs.lemmas.List.{drop_more, drop_all, drop_at, drop-drop, length-append}
 use Rattle.iom_virtq.specs.declared.parts.Side.{Side}
-use Rattle.iom_virtq.specs.declared.parts.Part.{Part}
+use Rattle.iom_virtq.specs.declared.parts.ChainPart.{ChainPart}
 use Rattle.iom_virtq.specs.Chains.{Item, bytes_of, items_from, len_on}
 
 pub length-bytes_of : (part address count : ℕ) → length (bytes_of part address count) ≡ count
@@ -25,18 +25,18 @@ drop-bytes_of part address (suc count) (suc rest) left more is =
     drop-bytes_of part (address + 1) count rest left more less ∙ rw there refl
 
 -- one part more
-pub items_here : (side : Side) (parts : List Part) (i : ℕ) (d : Part) → i < length parts →
+pub items_here : (side : Side) (parts : List ChainPart) (i : ℕ) (d : ChainPart) → i < length parts →
     items_from side i (drop i parts)
     ≡ bytes_of i (get_or parts i d).addr (len_on (get_or parts i d) side) ++ items_from side (i + 1) (drop (i + 1) parts)
 unfolding items_from
 items_here side parts i d within = rw (drop_more parts i d within) refl
 
-pub items_past : (side : Side) (parts : List Part) (i : ℕ) → length parts ≤ i → items_from side i (drop i parts) ≡ []
+pub items_past : (side : Side) (parts : List ChainPart) (i : ℕ) → length parts ≤ i → items_from side i (drop i parts) ≡ []
 unfolding items_from
 items_past side parts i past = rw (drop_all i parts past) refl
 
 -- a turn that adds up
-pub total_step : (side : Side) (parts : List Part) (i total len whole : ℕ) (d : Part) → i < length parts →
+pub total_step : (side : Side) (parts : List ChainPart) (i total len whole : ℕ) (d : ChainPart) → i < length parts →
     len ≡ len_on (get_or parts i d) side → total + length (items_from side i (drop i parts)) ≡ whole →
     total + len + length (items_from side (i + 1) (drop (i + 1) parts)) ≡ whole
 total_step side parts i total len whole d within is so_far =
@@ -46,14 +46,14 @@ total_step side parts i total len whole d within is so_far =
     ∙ rw (length-bytes_of, is) refl in
     omega (arith, here, so_far)
 
-pub total_end : (side : Side) (parts : List Part) (i total whole : ℕ) → length parts ≤ i →
+pub total_end : (side : Side) (parts : List ChainPart) (i total whole : ℕ) → length parts ≤ i →
     total + length (items_from side i (drop i parts)) ≡ whole → total ≡ whole
 total_end side parts i total whole past so_far =
     let none : length (items_from side i (drop i parts)) ≡ 0 = ap length (items_past side parts i past) in
     omega (arith, none, so_far)
 
 -- a turn that passes a part
-pub rest_step : (side : Side) (parts : List Part) (i rest len : ℕ) (whole : List Item) (d : Part) → i < length parts →
+pub rest_step : (side : Side) (parts : List ChainPart) (i rest len : ℕ) (whole : List Item) (d : ChainPart) → i < length parts →
     len ≡ len_on (get_or parts i d) side → len ≤ rest → drop rest (items_from side i (drop i parts)) ≡ whole →
     drop (rest - len) (items_from side (i + 1) (drop (i + 1) parts)) ≡ whole
 rest_step side parts i rest len whole d within is past so_far =
@@ -65,7 +65,7 @@ rest_step side parts i rest len whole d within is past so_far =
     sym (ap (drop (rest - len)) passed) ∙ drop-drop (rest - len) len (here ++ more) ∙ ap (λ n. drop n (here ++ more)) split
     ∙ ap (drop rest) (sym (items_here side parts i d within)) ∙ so_far
 
-pub within_step : (side : Side) (parts : List Part) (i rest len : ℕ) (d : Part) → i < length parts →
+pub within_step : (side : Side) (parts : List ChainPart) (i rest len : ℕ) (d : ChainPart) → i < length parts →
     len ≡ len_on (get_or parts i d) side → len ≤ rest → rest < length (items_from side i (drop i parts)) →
     rest - len < length (items_from side (i + 1) (drop (i + 1) parts))
 within_step side parts i rest len d within is past so_far =
@@ -73,14 +73,14 @@ within_step side parts i rest len d within is past so_far =
     total_step side parts i 0 len (length (items_from side i (drop i parts))) d within is (omega arith) in
     omega (arith, all, past, so_far)
 
-pub never_past : (side : Side) (parts : List Part) (i rest : ℕ) → length parts ≤ i →
+pub never_past : (side : Side) (parts : List ChainPart) (i rest : ℕ) → length parts ≤ i →
     rest < length (items_from side i (drop i parts)) → ⊥
 never_past side parts i rest past within =
     let none : length (items_from side i (drop i parts)) ≡ 0 = ap length (items_past side parts i past) in
     omega (arith, none, within)
 
 -- a turn that ends in a part
-pub rest_here : (side : Side) (parts : List Part) (i rest len : ℕ) (whole : List Item) (d : Part) → i < length parts →
+pub rest_here : (side : Side) (parts : List ChainPart) (i rest len : ℕ) (whole : List Item) (d : ChainPart) → i < length parts →
     len ≡ len_on (get_or parts i d) side → rest < len → drop rest (items_from side i (drop i parts)) ≡ whole →
     bytes_of i ((get_or parts i d).addr + rest) (suc (len - rest - 1)) ++ items_from side (i + 1) (drop (i + 1) parts) ≡ whole
 rest_here side parts i rest len whole d within is here so_far =

@@ -2,7 +2,7 @@
 use Rattle.std.proofs.Common.{◌≡◌, ◌+◌, ◌-◌, ◌*◌, ◌/◌, ◌%◌, ◌<◌, ◌≤◌, ℕ, zero, suc, true, false, min, List, [], ◌∷◌, ◌++◌, length, take, drop, get_or, refl, sym, ◌∙◌, ap, arith}
 use Rattle.std.specs.List.{prefix_len}
 use Rattle.iom_virtq.specs.declared.parts.Side.{Side}
-use Rattle.iom_virtq.specs.declared.parts.Part.{Part}
+use Rattle.iom_virtq.specs.declared.parts.ChainPart.{ChainPart}
 use Rattle.iom_virtq.proofs.Rest.{rest_here}
 use Rattle.iom_virtq.specs.Chains.{Item, bytes_of, items_from, len_on, is_together, run_length, address_of}
 
@@ -26,7 +26,7 @@ later first part address zero (suc room) more behind none = none
 later first part address (suc count) (suc room) more behind none =
     rw (apart first (record { part = part; address = address }) behind) refl
 
-pub later_parts : (first : Item) (side : Side) (number : ℕ) (parts : List Part) → first.part < number → (room : ℕ) →
+pub later_parts : (first : Item) (side : Side) (number : ℕ) (parts : List ChainPart) → first.part < number → (room : ℕ) →
     prefix_len (is_together first) (take room (items_from side number parts)) ≡ 0
 unfolding items_from
 later_parts first side number [] behind zero = refl
@@ -55,7 +55,7 @@ run_of first address (suc count) (suc ahead) (suc room) more end few apart_from 
     omega (arith, rest))
 
 -- the longest run from a byte of a part on
-pub run_here : (side : Side) (number address left : ℕ) (parts : List Part) →
+pub run_here : (side : Side) (number address left : ℕ) (parts : List ChainPart) →
     run_length (bytes_of number address (suc left) ++ items_from side (number + 1) parts)
     ≡ min (min (suc left) (4096 - address % 4096)) 64
 unfolding bytes_of
@@ -65,14 +65,14 @@ run_here side number address left parts =
     (later_parts first side (number + 1) parts (omega arith))
 
 -- what a turn that ends in a part returns
-pub address_here : (side : Side) (parts : List Part) (i rest len : ℕ) (whole : List Item) (d : Part) → i < length parts →
+pub address_here : (side : Side) (parts : List ChainPart) (i rest len : ℕ) (whole : List Item) (d : ChainPart) → i < length parts →
     len ≡ len_on (get_or parts i d) side → rest < len → drop rest (items_from side i (drop i parts)) ≡ whole →
     (get_or parts i d).addr + rest ≡ address_of whole
 unfolding bytes_of
 address_here side parts i rest len whole d within is here so_far =
     ap address_of (rest_here side parts i rest len whole d within is here so_far)
 
-pub count_here : (side : Side) (parts : List Part) (i rest len count : ℕ) (whole : List Item) (d : Part) → i < length parts →
+pub count_here : (side : Side) (parts : List ChainPart) (i rest len count : ℕ) (whole : List Item) (d : ChainPart) → i < length parts →
     len ≡ len_on (get_or parts i d) side → rest < len → drop rest (items_from side i (drop i parts)) ≡ whole →
     count ≡ min (min (len - rest) (4096 - ((get_or parts i d).addr + rest) % 4096)) 64 → count ≡ run_length whole
 count_here side parts i rest len count whole d within is here so_far told =

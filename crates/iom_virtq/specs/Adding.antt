@@ -5,7 +5,7 @@ use Rattle.std.specs.List.{list_any}
 use Rattle.iom_bits.specs.Bits.{has_bit}
 use Rattle.iom_virtq.specs.declared.parts.Side.{Side}
 use Rattle.iom_virtq.specs.declared.parts.Side.TheVariants.{Readable, Writable}
-use Rattle.iom_virtq.specs.declared.parts.Part.{Part}
+use Rattle.iom_virtq.specs.declared.parts.ChainPart.{ChainPart}
 use Rattle.iom_virtq.specs.declared.parts.More.{More}
 use Rattle.iom_virtq.specs.declared.parts.More.TheVariants.{Next, Complete}
 use Rattle.iom_virtq.specs.declared.parts.ChainFault.{ChainFault}
@@ -22,11 +22,11 @@ is_written flags = has_bit flags 1
 abbrev pub is_indirect : ℕ → Bool
 is_indirect flags = has_bit flags 2
 
-abbrev pub is_on : Side → Part → Bool
+abbrev pub is_on : Side → ChainPart → Bool
 is_on side part = same_side part.side side
 
 -- whether a part is device-writable
-abbrev pub has_written : List Part → Bool
+abbrev pub has_written : List ChainPart → Bool
 has_written parts = list_any (is_on Writable) parts
 
 -- the first refusal that applies
@@ -40,7 +40,7 @@ refusal_of chain addr len flags next =
     else None
 
 -- the chain with the descriptor as its last part
-abbrev pub part_of : ℕ → ℕ → ℕ → Part
+abbrev pub part_of : ℕ → ℕ → ℕ → ChainPart
 part_of addr len flags = record { side = if is_written flags then Writable else Readable; addr = addr; len = len }
 
 abbrev pub with_part : DescriptorChain → ℕ → ℕ → ℕ → DescriptorChain

@@ -10,7 +10,7 @@ pub data Ask : Type 0 where
   Write : ℕ → List ℕ → Ask
 
 -- the answer, and the bytes of a granted read
-pub record Reply : Type 0 where
+pub record BusReply : Type 0 where
   pub access : Access
   pub bytes : List ℕ
 
@@ -19,7 +19,7 @@ is_granted access.Ok = true
 is_granted (access.Denied cause) = false
 is_granted access.Outside = false
 
-abbrev pub reply_of : Access → List ℕ → Reply
+abbrev pub reply_of : Access → List ℕ → BusReply
 reply_of access.Ok bytes = record { access = access.Ok; bytes = bytes }
 reply_of (access.Denied cause) bytes = record { access = access.Denied cause; bytes = [] }
 reply_of access.Outside bytes = record { access = access.Outside; bytes = [] }

@@ -4,12 +4,12 @@ use Rattle.std.specs.Prelude.{ℕ, zero, suc, ◌≡◌, ◌+◌, ◌/◌, ◌^�
 use Rattle.std.specs.List.{prefix_len}
 use Rattle.iom_virtq.specs.declared.parts.Side.{Side}
 use Rattle.iom_virtq.specs.declared.parts.Side.TheVariants.{Readable, Writable}
-use Rattle.iom_virtq.specs.declared.parts.Part.{Part}
+use Rattle.iom_virtq.specs.declared.parts.ChainPart.{ChainPart}
 
 -- a chain: how many descriptors its queue has, and its parts in their order
 pub record DescriptorChain : Type 0 where
   pub limit : ℕ
-  pub parts : List Part
+  pub parts : List ChainPart
 
 -- one byte: the number of its part, and its address
 pub record Item : Type 0 where
@@ -23,7 +23,7 @@ same_side Writable Readable = false
 same_side Writable Writable = true
 
 -- how many bytes a part has on a side
-abbrev pub len_on : Part → Side → ℕ
+abbrev pub len_on : ChainPart → Side → ℕ
 len_on part side = if same_side part.side side then part.len else 0
 
 -- `count` bytes of a part from an address on
@@ -32,7 +32,7 @@ bytes_of part address zero = []
 bytes_of part address (suc count) = record { part = part; address = address } ∷ bytes_of part (address + 1) count
 
 -- the bytes that parts have on a side, one after the other; the first part has this number
-unfoldable pub items_from : Side → ℕ → List Part → List Item
+unfoldable pub items_from : Side → ℕ → List ChainPart → List Item
 items_from side number [] = []
 items_from side number (part ∷ parts) = bytes_of number part.addr (len_on part side) ++ items_from side (number + 1) parts
 
@@ -69,5 +69,5 @@ pub record IsPiece (items : List Item) (address count : ℕ) : Type 0 where
   pub longest : (n : ℕ) → n ≤ 64 → n ≤ length items → IsRun (take n items) → n ≤ count
 
 -- the last byte of a part is below 2^64
-abbrev pub fits : Part → Bool
+abbrev pub fits : ChainPart → Bool
 fits part = nat_le (part.addr + part.len) (2 ^ 64)

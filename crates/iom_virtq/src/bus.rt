@@ -2,14 +2,14 @@
 
 ghost use Rattle.std.specs.Prelude.{◌≡◌, [], length};
 ghost use Rattle.std.specs.Bool.{OnFalse};
-ghost use Rattle.iom_virtq.specs.Bus.{Ask, Reply, Read, Write, IsShort, is_granted, reply_of};
+ghost use Rattle.iom_virtq.specs.Bus.{Ask, BusReply, Read, Write, IsShort, is_granted, reply_of};
 
 use crate::access::Access;
 
 /// A device's way to memory. Its addresses are IOVAs, in bytes. An access has 1 to 64 bytes within one page of 4096 bytes.
 pub trait Bus {
     /// The relation of a bus, an access that it is asked for, its reply, and the bus afterwards.
-    ghost answers: { Self → Ask → Reply → Self → Type 0 };
+    ghost answers: { Self → Ask → BusReply → Self → Type 0 };
 
     /// Reads the bytes from IOVA `iova` on into `out`, which is unchanged unless the answer is Ok.
     fn read(&mut self, iova: u64, out: &mut [u8]) -> Access

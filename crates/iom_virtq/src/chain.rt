@@ -4,7 +4,7 @@ ghost use Rattle.std.specs.Prelude.{◌≡◌, ◌+◌, ◌^◌, ◌<◌, ◌≤
 ghost use Rattle.iom_bits.specs.Bits.{has_bit};
 ghost use Rattle.iom_virtq.specs.Adding.{part_of, more_of};
 
-use crate::parts::{ChainFault, More, Part, Side};
+use crate::parts::{ChainFault, ChainPart, More, Side};
 use crate::pieces::{piece_of, total_of};
 use iom_bits::has_bit;
 use std::marker::Model;
@@ -20,7 +20,7 @@ const INDIRECT: u32 = 2;
 const MOST_PARTS: usize = 64;
 
 /// Fills the places that hold no part.
-const NO_PART: Part = Part {
+const NO_PART: ChainPart = ChainPart {
     side: Side::Readable,
     addr: 0,
     len: 0,
@@ -30,7 +30,7 @@ const NO_PART: Part = Part {
 #[derive(Drop)]
 pub struct Chain {
     limit: u16,
-    parts: [Part; MOST_PARTS],
+    parts: [ChainPart; MOST_PARTS],
     count: usize,
 }
 
@@ -154,7 +154,7 @@ impl Chain {
 
     // Adds a part after the others; there is room for it.
     #[tactic(auto, using(std::proofs::lemmas::List::take_more_set))]
-    fn push(&mut self, part: Part)
+    fn push(&mut self, part: ChainPart)
         requires room { length self.old.parts < self.old.limit }
         requires fits { fits part ≡ true }
         ensures { self.new ≡ record self.old { parts = self.old.parts ++ part ∷ [] } }
@@ -173,7 +173,7 @@ fn has(flags: u16, flag: u32) -> bool
 }
 
 // The part that a descriptor describes.
-fn part_of(addr: u64, len: u32, flags: u16) -> Part
+fn part_of(addr: u64, len: u32, flags: u16) -> ChainPart
     ensures { result ≡ part_of addr len flags }
 {
     let side = if has(flags, WRITE) {
@@ -181,7 +181,7 @@ fn part_of(addr: u64, len: u32, flags: u16) -> Part
     } else {
         Side::Readable
     };
-    Part { side, addr, len }
+    ChainPart { side, addr, len }
 }
 
 // The continuation of a chain after a descriptor.

@@ -5,7 +5,7 @@
 pub use access::Access;
 pub use bus::Bus;
 pub use chain::Chain;
-pub use parts::{ChainFault, More, Part, Side};
+pub use parts::{ChainFault, ChainPart, More, Side};
 
 mod access;
 mod bus;

@@ -38,7 +38,7 @@ pub enum ChainFault {
 
 /// One buffer of a chain: a range of bytes, and whether the device reads or writes them.
 #[derive(Clone, Copy)]
-pub struct Part {
+pub struct ChainPart {
     /// Whether the device reads it or writes it.
     pub side: Side,
     /// The IOVA of the first byte.
@@ -47,7 +47,7 @@ pub struct Part {
     pub len: u32,
 }
 
-impl Part {
+impl ChainPart {
     /// Its length in bytes, below 2^32, if it is on this side, else 0.
     pub fn len_on(&self, side: Side) -> u64
         ensures len { result ≡ len_on self.now side }

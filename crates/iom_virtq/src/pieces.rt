@@ -5,7 +5,7 @@ ghost use Rattle.std.specs.List.{list_all};
 ghost use Rattle.iom_virtq.specs.Bus.{IsShort};
 ghost use Rattle.iom_virtq.specs.Chains.{items_from, address_of, run_length, IsPiece, fits};
 
-use crate::parts::{Part, Side};
+use crate::parts::{ChainPart, Side};
 
 /// The longest access, in bytes.
 const LONGEST_PIECE: u64 = 64;
@@ -14,7 +14,7 @@ const LONGEST_PIECE: u64 = 64;
 const PAGE: u64 = 4096;
 
 /// How many bytes these parts, at most 64 of them, have on a side: at most 64 * (2^32 - 1).
-pub fn total_of(parts: &[Part], side: Side) -> u64
+pub fn total_of(parts: &[ChainPart], side: Side) -> u64
     requires { length parts.now ≤ 64 }
     ensures total { result ≡ length (items_from side 0 parts.now) }
     ensures few { result ≤ 64 * 4294967295 }
@@ -28,7 +28,7 @@ pub fn total_of(parts: &[Part], side: Side) -> u64
 
 /// The IOVA of the byte at `position` of a side, counted from 0, and the length of the piece that begins there: 1 to 64 bytes of
 /// one part and one page of 4096 bytes.
-pub fn piece_of(parts: &[Part], side: Side, position: u64) -> (u64, u64)
+pub fn piece_of(parts: &[ChainPart], side: Side, position: u64) -> (u64, u64)
     requires within { position < length (items_from side 0 parts.now) }
     requires fit { list_all fits parts.now ≡ true }
     ensures address { result.0 ≡ address_of (drop position (items_from side 0 parts.now)) }

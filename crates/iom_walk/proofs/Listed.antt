@@ -11,23 +11,23 @@ use Rattle.iom_walk.specs.declared.entry.Verdict.TheVariants as verdict
 use Rattle.iom_walk.specs.declared.listing.PathEntry.{PathEntry}
 use Rattle.iom_walk.specs.declared.shape.Format.{Format}
 use Rattle.iom_walk.specs.declared.source.Got.{Got}
-use Rattle.iom_walk.specs.Path.{Entry, entry_at, next_table, path_from, path_of, verdict_on}
+use Rattle.iom_walk.specs.Path.{MetEntry, entry_at, next_table, path_from, path_of, verdict_on}
 use Rattle.iom_walk.specs.Shape.{index_of, levels}
-use Rattle.iom_walk.specs.Told.{told}
+use Rattle.iom_walk.specs.Told.{path_entry}
 use Rattle.iom_walk.specs.Verdict.{consequence, is_pointer, ppn, ruling_of, verdict_of, word_of}
 use Rattle.iom_walk.proofs.Entries.{pointer_for_each, pointer_word}
 
 -- what is told of what is left
 abbrev pub rest : (ℕ → Got) → Format → ℕ → Kind → ℕ → ℕ → List PathEntry
-rest at format address kind table level = map (told format.features kind) (path_from at format address table level)
+rest at format address kind table level = map (path_entry format.features kind) (path_from at format address table level)
 
 -- an entry that is no pointer is the last
 ends : (at : ℕ → Got) (format : Format) (address : ℕ) (kind : Kind) (table level : ℕ) →
     is_pointer (verdict_on format.features kind (entry_at at format address table level)) ≡ false →
-    rest at format address kind table (suc level) ≡ told format.features kind (entry_at at format address table level) ∷ []
+    rest at format address kind table (suc level) ≡ path_entry format.features kind (entry_at at format address table level) ∷ []
 unfolding path_from
 ends at format address kind table level last =
-    let entry : Entry = entry_at at format address table level in
+    let entry : MetEntry = entry_at at format address table level in
     let read : is_pointer (verdict_on format.features Read entry) ≡ false = pointer_for_each format.features kind level entry.got ∙ last in
     rw read refl
 
@@ -35,11 +35,11 @@ ends at format address kind table level last =
 goes_on : (at : ℕ → Got) (format : Format) (address : ℕ) (kind : Kind) (table level : ℕ) →
     is_pointer (verdict_on format.features kind (entry_at at format address table level)) ≡ true →
     rest at format address kind table (suc level)
-    ≡ told format.features kind (entry_at at format address table level)
+    ≡ path_entry format.features kind (entry_at at format address table level)
     ∷ rest at format address kind (next_table (entry_at at format address table level)) level
 unfolding path_from
 goes_on at format address kind table level more =
-    let entry : Entry = entry_at at format address table level in
+    let entry : MetEntry = entry_at at format address table level in
     let read : is_pointer (verdict_on format.features Read entry) ≡ true = pointer_for_each format.features kind level entry.got ∙ more in
     rw read refl
 
@@ -49,7 +49,7 @@ met place level got ruling = record { place = place; level = level; got = got; r
 
 met_is : (at : ℕ → Got) (format : Format) (address : ℕ) (kind : Kind) (table level index : ℕ) (got : Got) (ruling : Ruling) →
     index ≡ index_of format.shape address level → got ≡ at (table * 4096 + index * 8) → ruling ≡ ruling_of format.features kind level got →
-    met (table * 4096 + index * 8) level got ruling ≡ told format.features kind (entry_at at format address table level)
+    met (table * 4096 + index * 8) level got ruling ≡ path_entry format.features kind (entry_at at format address table level)
 met_is at format address kind table level index got ruling place read judged = rw (judged, read, place) refl
 
 no_pointer : (told : Verdict) → ((word : ℕ) → told ≢ verdict.Pointer word) → is_pointer told ≡ false
@@ -61,7 +61,7 @@ no_pointer (verdict.Leaf word) other = refl
 
 -- at the root all is left
 pub begins : (at : ℕ → Got) (format : Format) (address : ℕ) (kind : Kind) (root level : ℕ) (items : List PathEntry) → items ≡ [] →
-    level ≡ levels format.shape → items ++ rest at format address kind root level ≡ map (told format.features kind) (path_of at format root address)
+    level ≡ levels format.shape → items ++ rest at format address kind root level ≡ map (path_entry format.features kind) (path_of at format root address)
 begins at format address kind root level items none all = rw (none, all) refl
 
 -- after the last level nothing is
@@ -79,7 +79,7 @@ pub stops : (at : ℕ → Got) (format : Format) (address : ℕ) (kind : Kind) (
     ((word : ℕ) → judged ≢ verdict.Pointer word) →
     items ≡ front ++ met (table * 4096 + index * 8) (level - 1) got ruling ∷ [] → items ≡ whole
 stops at format address kind table level index got ruling judged front items whole left some place read ruled says other pushed =
-    let entry : Entry = entry_at at format address table (level - 1) in
+    let entry : MetEntry = entry_at at format address table (level - 1) in
     let here : got ≡ entry.got = read ∙ ap (λ n. at (table * 4096 + n * 8)) place in
     let same : judged ≡ verdict_on format.features kind entry = says ∙ ap (verdict_of format.features kind (level - 1)) here in
     let last : is_pointer (verdict_on format.features kind entry) ≡ false = ap is_pointer (sym same) ∙ no_pointer judged other in
@@ -97,7 +97,7 @@ pub turns : (at : ℕ → Got) (format : Format) (address : ℕ) (kind : Kind) (
     items ≡ front ++ met (table * 4096 + index * 8) (level - 1) got ruling ∷ [] →
     items ++ rest at format address kind next (level - 1) ≡ whole
 turns at format address kind table level index got ruling word next front items whole left some place read ruled says pointed pushed =
-    let entry : Entry = entry_at at format address table (level - 1) in
+    let entry : MetEntry = entry_at at format address table (level - 1) in
     let here : got ≡ entry.got = read ∙ ap (λ n. at (table * 4096 + n * 8)) place in
     let same : verdict.Pointer word ≡ verdict_on format.features kind entry = says ∙ ap (verdict_of format.features kind (level - 1)) here in
     let pointer : is_pointer (verdict_on format.features kind entry) ≡ true = ap is_pointer (sym same) in
@@ -106,7 +106,7 @@ turns at format address kind table level index got ruling word next front items 
     let behind : List PathEntry = rest at format address kind next (level - 1) in
     ap (λ xs. xs ++ behind) pushed ∙ append_assoc front (met (table * 4096 + index * 8) (level - 1) got ruling ∷ []) behind
     ∙ ap (λ e. front ++ e ∷ behind) (met_is at format address kind table (level - 1) index got ruling place read ruled)
-    ∙ ap (λ n. front ++ told format.features kind entry ∷ rest at format address kind n (level - 1)) table_is
+    ∙ ap (λ n. front ++ path_entry format.features kind entry ∷ rest at format address kind n (level - 1)) table_is
     ∙ ap (λ more. front ++ more) (sym (goes_on at format address kind table (level - 1) pointer))
     ∙ ap (λ n. front ++ rest at format address kind table n) (sym more) ∙ left
 

@@ -12,7 +12,7 @@ use Rattle.iom_walk.specs.declared.outcome.Outcome.TheVariants as outcome
 use Rattle.iom_walk.specs.Shape.{index_of, index_width, is_in_width, levels, page_width}
 use Rattle.iom_walk.specs.declared.entry.Verdict.{Verdict}
 use Rattle.iom_walk.specs.declared.entry.Verdict.TheVariants as verdict
-use Rattle.iom_walk.specs.Path.{Entry, entry_at, next_table, path_from, verdict_on}
+use Rattle.iom_walk.specs.Path.{MetEntry, entry_at, next_table, path_from, verdict_on}
 use Rattle.iom_walk.specs.Outcome.{conclude, conclude_at, outcome_of, verdict_on_path}
 use Rattle.iom_walk.specs.Pages.{OneEndAPage}
 
@@ -38,7 +38,7 @@ same_path at format a b table zero same = refl
 same_path at format a b table (suc count) same =
     rw (same_index format.shape a b count same, same_path at format a b (next_table (entry_at at format b table count)) count same) refl
 
-same_leaf : (global : Bool) (a b : ℕ) (entry : Entry) (told : Verdict) → a / 4096 ≡ b / 4096 →
+same_leaf : (global : Bool) (a b : ℕ) (entry : MetEntry) (told : Verdict) → a / 4096 ≡ b / 4096 →
     conclude global a entry told ≡ conclude global b entry told
 same_leaf global a b entry verdict.Outside same = refl
 same_leaf global a b entry verdict.Guest same = refl
@@ -46,7 +46,7 @@ same_leaf global a b entry verdict.Fault same = refl
 same_leaf global a b entry (verdict.Pointer word) same = refl
 same_leaf global a b entry (verdict.Leaf word) same = rw same refl
 
-same_conclusion : (features : Features) (kind : Kind) (global : Bool) (a b : ℕ) (entry : Option Entry) → a / 4096 ≡ b / 4096 →
+same_conclusion : (features : Features) (kind : Kind) (global : Bool) (a b : ℕ) (entry : Option MetEntry) → a / 4096 ≡ b / 4096 →
     conclude_at features kind global a entry ≡ conclude_at features kind global b entry
 same_conclusion features kind global a b None same = refl
 same_conclusion features kind global a b (Some entry) same = same_leaf global a b entry (verdict_on features kind entry) same

@@ -12,12 +12,12 @@ use Rattle.iom_walk.specs.declared.outcome.Outcome.TheVariants as outcome
 use Rattle.iom_walk.specs.Shape.{levels, index_of}
 use Rattle.iom_walk.specs.declared.entry.Verdict.{Verdict}
 use Rattle.iom_walk.specs.Verdict.{verdict_of, is_pointer, is_global, ppn, word_of}
-use Rattle.iom_walk.specs.Path.{Entry, entry_at, verdict_on, next_table, path_from, path_of}
+use Rattle.iom_walk.specs.Path.{MetEntry, entry_at, verdict_on, next_table, path_from, path_of}
 use Rattle.iom_walk.specs.Outcome.{conclude, conclude_at, verdict_on_path}
 use Rattle.iom_walk.proofs.Entries.{pointer_for_each, pointer_word}
 
 -- the verdict on what is left of a path; `global` says whether an entry before it was global
-unfoldable pub verdict_below : Features → Kind → Bool → ℕ → List Entry → Outcome
+unfoldable pub verdict_below : Features → Kind → Bool → ℕ → List MetEntry → Outcome
 verdict_below features kind global address path =
     conclude_at features kind (global || list_any (λ entry. is_global (word_of entry.got)) path) address
     (find (λ entry. not (is_pointer (verdict_on features kind entry))) path)
@@ -43,7 +43,7 @@ ends : (at : ℕ → Got) (format : Format) (address : ℕ) (kind : Kind) (table
     (verdict_on format.features kind (entry_at at format address table level))
 unfolding verdict_below path_from
 ends at format address kind table level global last =
-    let entry : Entry = entry_at at format address table level in
+    let entry : MetEntry = entry_at at format address table level in
     let read : is_pointer (verdict_on format.features Read entry) ≡ false = pointer_for_each format.features kind level entry.got ∙ last in
     rw (read, last) (grind arith)
 
@@ -55,7 +55,7 @@ goes_on : (at : ℕ → Got) (format : Format) (address : ℕ) (kind : Kind) (ta
     (path_from at format address (next_table (entry_at at format address table level)) level)
 unfolding verdict_below path_from
 goes_on at format address kind table level global more =
-    let entry : Entry = entry_at at format address table level in
+    let entry : MetEntry = entry_at at format address table level in
     let read : is_pointer (verdict_on format.features Read entry) ≡ true = pointer_for_each format.features kind level entry.got ∙ more in
     rw (read, more) (grind arith)
 
@@ -70,7 +70,7 @@ pub stops : (at : ℕ → Got) (format : Format) (address : ℕ) (kind : Kind) (
 stops at format address kind table level index global got told whole left some place read judged last =
     let Below : ℕ → Outcome = λ n. verdict_below format.features kind global address (path_from at format address table n) in
     let more : level ≡ suc (level - 1) = omega arith in
-    let entry : Entry = entry_at at format address table (level - 1) in
+    let entry : MetEntry = entry_at at format address table (level - 1) in
     let here : got ≡ entry.got = read ∙ ap (λ n. at (table * 4096 + n * 8)) place in
     let same : told ≡ verdict_on format.features kind entry = judged ∙ ap (verdict_of format.features kind (level - 1)) here in
     let end : is_pointer (verdict_on format.features kind entry) ≡ false = ap is_pointer (sym same) ∙ last in
@@ -86,7 +86,7 @@ pub turns : (at : ℕ → Got) (format : Format) (address : ℕ) (kind : Kind) (
 turns at format address kind table level index global got word next flag whole left some place read judged flagged pointed =
     let Below : ℕ → Outcome = λ n. verdict_below format.features kind global address (path_from at format address table n) in
     let more : level ≡ suc (level - 1) = omega arith in
-    let entry : Entry = entry_at at format address table (level - 1) in
+    let entry : MetEntry = entry_at at format address table (level - 1) in
     let here : got ≡ entry.got = read ∙ ap (λ n. at (table * 4096 + n * 8)) place in
     let same : verdict.Pointer word ≡ verdict_on format.features kind entry = judged ∙ ap (verdict_of format.features kind (level - 1)) here in
     let pointer : is_pointer (verdict_on format.features kind entry) ≡ true = ap is_pointer (sym same) in

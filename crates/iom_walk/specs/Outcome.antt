@@ -15,7 +15,7 @@ use Rattle.iom_walk.specs.declared.outcome.Outcome.TheVariants as outcome
 use Rattle.iom_walk.specs.Shape.{levels, is_in_width}
 use Rattle.iom_walk.specs.declared.entry.Verdict.{Verdict}
 use Rattle.iom_walk.specs.Verdict.{is_pointer, is_global, is_napot, ppn, word_of}
-use Rattle.iom_walk.specs.Path.{Entry, verdict_on, path_of, IsLongestPath}
+use Rattle.iom_walk.specs.Path.{MetEntry, verdict_on, path_of, IsLongestPath}
 
 -- how many pages a leaf maps: sixteen where N is set
 abbrev pub pages_of : ℕ → ℕ → ℕ
@@ -34,20 +34,20 @@ leaf_of global address level word =
     record { frame = frame_of address level word; level = level; global = global; napot = is_napot word }
 
 -- what the entry that isn't a pointer gives
-abbrev pub conclude : Bool → ℕ → Entry → Verdict → Outcome
+abbrev pub conclude : Bool → ℕ → MetEntry → Verdict → Outcome
 conclude global address entry verdict.Outside = outcome.Outside
 conclude global address entry verdict.Guest = outcome.Guest entry.place
 conclude global address entry verdict.Fault = outcome.Fault
 conclude global address entry (verdict.Pointer word) = outcome.Fault
 conclude global address entry (verdict.Leaf word) = outcome.Leaf (leaf_of global address entry.level word)
 
-abbrev pub conclude_at : Features → Kind → Bool → ℕ → Option Entry → Outcome
+abbrev pub conclude_at : Features → Kind → Bool → ℕ → Option MetEntry → Outcome
 conclude_at features kind global address None = outcome.Fault
 conclude_at features kind global address (Some entry) = conclude global address entry (verdict_on features kind entry)
 
 -- what the first entry of a path that isn't a pointer gives; the mapping is global where an entry of the path is, the last
 -- of which is the leaf
-unfoldable pub verdict_on_path : Features → Kind → ℕ → List Entry → Outcome
+unfoldable pub verdict_on_path : Features → Kind → ℕ → List MetEntry → Outcome
 verdict_on_path features kind address path =
     conclude_at features kind (list_any (λ entry. is_global (word_of entry.got)) path) address
     (find (λ entry. not (is_pointer (verdict_on features kind entry))) path)
@@ -60,8 +60,8 @@ outcome_of at format root address kind =
 -- the same in the words of paths: there is a longest one, and every longest one gives this end; or the address breaks the
 -- width rule
 pub record IsOutcome (at : ℕ → Got) (format : Format) (root address : ℕ) (kind : Kind) (end : Outcome) : Type 0 where
-  pub some_path : is_in_width format.shape address ≡ true → (path : List Entry) × IsLongestPath at format root address path
-  pub of_path : (path : List Entry) → is_in_width format.shape address ≡ true → IsLongestPath at format root address path →
+  pub some_path : is_in_width format.shape address ≡ true → (path : List MetEntry) × IsLongestPath at format root address path
+  pub of_path : (path : List MetEntry) → is_in_width format.shape address ≡ true → IsLongestPath at format root address path →
       end ≡ verdict_on_path format.features kind address path
   pub of_none : is_in_width format.shape address ≡ false → end ≡ outcome.Fault
 

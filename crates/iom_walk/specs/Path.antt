@@ -11,50 +11,50 @@ use Rattle.iom_walk.specs.declared.entry.Verdict.{Verdict}
 use Rattle.iom_walk.specs.Verdict.{verdict_of, is_pointer, ppn, word_of}
 
 -- an entry that is met: its level, its address and what was read there
-pub record Entry : Type 0 where
+pub record MetEntry : Type 0 where
   pub level : ℕ
   pub place : ℕ
   pub got : Got
 
 -- the entry that an address is met at in a table of some level: the table's first byte stands at its PPN times 4096, and each
 -- entry has eight bytes (PTESIZE)
-abbrev pub entry_at : (ℕ → Got) → Format → ℕ → ℕ → ℕ → Entry
+abbrev pub entry_at : (ℕ → Got) → Format → ℕ → ℕ → ℕ → MetEntry
 entry_at at format address table level =
     let place : ℕ = table * 4096 + index_of format.shape address level * 8 in
     record { level = level; place = place; got = at place }
 
-abbrev pub verdict_on : Features → Kind → Entry → Verdict
+abbrev pub verdict_on : Features → Kind → MetEntry → Verdict
 verdict_on features kind entry = verdict_of features kind entry.level entry.got
 
 -- an entry is a pointer, whatever the access is; and the table that it points to
-abbrev pub IsPointer : Features → Entry → Type 0
+abbrev pub IsPointer : Features → MetEntry → Type 0
 IsPointer features entry = (kind : Kind) → is_pointer (verdict_on features kind entry) ≡ true
 
-abbrev pub next_table : Entry → ℕ
+abbrev pub next_table : MetEntry → ℕ
 next_table entry = ppn (word_of entry.got)
 
 -- a list of at most `count` entries, in which each is met at its index, the first in `table`, and each but the first is
 -- pointed to by the one before
-pub record IsPathFrom (at : ℕ → Got) (format : Format) (address table count : ℕ) (path : List Entry) : Type 0 where
+pub record IsPathFrom (at : ℕ → Got) (format : Format) (address table count : ℕ) (path : List MetEntry) : Type 0 where
   pub within : length path ≤ count
-  pub first : (entry : Entry) → slice_get path 0 ≡ Some entry → entry ≡ entry_at at format address table (count - 1)
-  pub linked : (k : ℕ) (entry next : Entry) → slice_get path k ≡ Some entry → slice_get path (suc k) ≡ Some next →
+  pub first : (entry : MetEntry) → slice_get path 0 ≡ Some entry → entry ≡ entry_at at format address table (count - 1)
+  pub linked : (k : ℕ) (entry next : MetEntry) → slice_get path k ≡ Some entry → slice_get path (suc k) ≡ Some next →
       IsPointer format.features entry × (next ≡ entry_at at format address (next_table entry) (entry.level - 1))
 
 -- such a list from the root on, of at most as many entries as there are levels
-abbrev pub IsPath : (ℕ → Got) → Format → ℕ → ℕ → List Entry → Type 0
+abbrev pub IsPath : (ℕ → Got) → Format → ℕ → ℕ → List MetEntry → Type 0
 IsPath at format root address path = IsPathFrom at format address root (levels format.shape) path
 
-pub record IsLongestPath (at : ℕ → Got) (format : Format) (root address : ℕ) (path : List Entry) : Type 0 where
+pub record IsLongestPath (at : ℕ → Got) (format : Format) (root address : ℕ) (path : List MetEntry) : Type 0 where
   pub is_path : IsPath at format root address path
-  pub longest : (other : List Entry) → IsPath at format root address other → length other ≤ length path
+  pub longest : (other : List MetEntry) → IsPath at format root address other → length other ≤ length path
 
 -- the longest path as a function: behind an entry that is a pointer comes the one that it points to
-unfoldable pub path_from : (ℕ → Got) → Format → ℕ → ℕ → ℕ → List Entry
+unfoldable pub path_from : (ℕ → Got) → Format → ℕ → ℕ → ℕ → List MetEntry
 path_from at format address table zero = []
 path_from at format address table (suc count) =
-    let entry : Entry = entry_at at format address table count in
+    let entry : MetEntry = entry_at at format address table count in
     entry ∷ (if is_pointer (verdict_on format.features Read entry) then path_from at format address (next_table entry) count else [])
 
-abbrev pub path_of : (ℕ → Got) → Format → ℕ → ℕ → List Entry
+abbrev pub path_of : (ℕ → Got) → Format → ℕ → ℕ → List MetEntry
 path_of at format root address = path_from at format address root (levels format.shape)

@@ -6,12 +6,12 @@ use Rattle.iom_bits.specs.declared.features.Features.{Features}
 use Rattle.iom_walk.specs.declared.listing.PathEntry.{PathEntry}
 use Rattle.iom_walk.specs.declared.shape.Format.{Format}
 use Rattle.iom_walk.specs.declared.source.Got.{Got}
-use Rattle.iom_walk.specs.Path.{Entry, path_of}
+use Rattle.iom_walk.specs.Path.{MetEntry, path_of}
 use Rattle.iom_walk.specs.Shape.{is_in_width}
 use Rattle.iom_walk.specs.Verdict.{ruling_of}
 
-abbrev pub told : Features → Kind → Entry → PathEntry
-told features kind entry = record {
+abbrev pub path_entry : Features → Kind → MetEntry → PathEntry
+path_entry features kind entry = record {
   place = entry.place;
   level = entry.level;
   got = entry.got;
@@ -21,4 +21,4 @@ told features kind entry = record {
 -- an address that breaks the width rule has no path
 unfoldable pub path_told : (ℕ → Got) → Format → ℕ → ℕ → Kind → List PathEntry
 path_told at format root address kind =
-    if is_in_width format.shape address then map (told format.features kind) (path_of at format root address) else []
+    if is_in_width format.shape address then map (path_entry format.features kind) (path_of at format root address) else []

@@ -56,7 +56,7 @@ pub enum Ruling {
     /// R is 0 and W is 1.
     WriteOnly,
     /// One of bits 63:54 is set that is reserved: N, bit 63, without Svnapot, in a pointer, and in a leaf that isn't at level 0 or whose
-    /// PPN[3:0] isn't 8; PBMT, bits 62:61, without Svpbmt, in a pointer, and where it is 3; the others always.
+    /// PPN[3:0] isn't 8; PBMT, bits 62:61, without Svpbmt, in a pointer, and if it is 3; the others always.
     Reserved,
     /// R, W and X are 0, and A, D or U is set, which are reserved in a pointer.
     ReservedInPointer,
@@ -89,7 +89,7 @@ pub fn ppn_of(word: u64) -> u64
     field(word, 10, 44)
 }
 
-/// How many pages of 4096 bytes a leaf of this level, 0 to 4, maps where N is 0: 1, 2^9, 2^18, 2^27 or 2^36.
+/// How many pages of 4096 bytes a leaf of this level, 0 to 4, maps if N is 0: 1, 2^9, 2^18, 2^27 or 2^36.
 pub fn pages_at(level: u8) -> u64
     requires { level < 5 }
     ensures { result ≡ 2 ^ (9 * level) }
@@ -97,8 +97,8 @@ pub fn pages_at(level: u8) -> u64
     1 << (9 * level as u32)
 }
 
-/// The row of the table of entries that decides of an entry of this level, 0 to 4, where `got` was read at its address and `kind`
-/// is the access ("Virtual Address Translation Process").
+/// The row of the table of entries that decides of an entry of this level, 0 to 4, if `got` was read at its address and `kind` is the
+/// access ("Virtual Address Translation Process").
 #[tactic(auto, unfolding(crate::specs::Verdict::ruling_of))]
 pub fn judged_by(features: Features, got: Got, level: u8, kind: Kind) -> Ruling
     requires { level < 5 }
@@ -196,8 +196,8 @@ fn has_no_access(word: u64) -> bool
     !has_bit(word, READABLE) && !has_bit(word, WRITABLE) && !has_bit(word, EXECUTABLE)
 }
 
-/// What an entry of this level, 0 to 4, says to a walk, where `got` was read at its address and `kind` is the access ("Virtual
-/// Address Translation Process").
+/// The verdict on an entry of this level, 0 to 4, if `got` was read at its address and `kind` is the access ("Virtual Address Translation
+/// Process").
 #[tactic(auto, unfolding(crate::specs::Verdict::verdict_of))]
 pub fn judge(features: Features, got: Got, level: u8, kind: Kind) -> Verdict
     requires { level < 5 }

@@ -5,7 +5,7 @@ ghost use Rattle.arrayvec.specs.ArrayVec.{array_vec_len};
 ghost use Rattle.iom_walk.specs.Outcome.{LeafFits, outcome_of, verdict_on_path};
 ghost use Rattle.iom_walk.specs.Path.{path_of};
 ghost use Rattle.iom_walk.specs.Shape.{levels};
-ghost use Rattle.iom_walk.specs.Told.{path_told, told};
+ghost use Rattle.iom_walk.specs.Told.{path_told, path_entry};
 
 use crate::entry::{GLOBAL, Ruling, Verdict, judged_by, ppn_of, verdict_by};
 use crate::outcome::{Outcome, leaf_of};
@@ -17,7 +17,7 @@ use iom_bits::{Kind, has_bit};
 /// A page-table entry (PTE) that a walk meets.
 #[derive(Clone, Copy, PartialEq)]
 pub struct PathEntry {
-    /// Its address in the walk's source of words: physical, or guest-physical where the source is a guest's memory.
+    /// Its address in the walk's source of words: physical, or guest-physical if the source is a guest's memory.
     pub place: u64,
     /// What was read there.
     pub got: Got,
@@ -41,7 +41,7 @@ impl Default for PathEntry {
 /// The entries that a walk meets, from that of the root on. The last is the first that isn't a pointer, or one of level 0.
 pub type PathEntries = ArrayVec<PathEntry, 5>;
 
-/// The entries that `walk` meets, each with the row that decides of it; none where `addr` is wider than the format's shape allows. The
+/// The entries that `walk` meets, each with the row that decides of it; none if `addr` is wider than the format's shape allows. The
 /// arguments are those of `walk`: `addr` is an IOVA or a guest-physical address, and `root` a PPN below 2^44.
 pub fn path<W: Words>(words: &W, format: Format, root: u64, addr: u64, kind: Kind) -> PathEntries
     requires { root < 2 ^ 44 }
@@ -72,14 +72,14 @@ pub fn walk_listed<W: Words>(
     ensures leaf { LeafFits format.shape result }
 {
     if format.shape.covers(addr) {
-        listed(met, words, format, root, addr, kind)
+        list_entries(met, words, format, root, addr, kind)
     } else {
         Outcome::Fault
     }
 }
 
 // The walk of an address that is no wider than its shape allows.
-fn listed<W: Words>(
+fn list_entries<W: Words>(
     met: &mut PathEntries,
     words: &W,
     format: Format,
@@ -89,7 +89,7 @@ fn listed<W: Words>(
 ) -> Outcome
     requires root { root < 2 ^ 44 }
     requires empty { met.old.items ≡ [] }
-    ensures path { met.new.items ≡ map (told format.features kind) (path_of (W.at words.now) format root addr) }
+    ensures path { met.new.items ≡ map (path_entry format.features kind) (path_of (W.at words.now) format root addr) }
     ensures levels { array_vec_len met.new ≤ levels format.shape }
     ensures outcome { result ≡ verdict_on_path format.features kind addr (path_of (W.at words.now) format root addr) }
     ensures leaf { LeafFits format.shape result }

@@ -10,11 +10,11 @@ use iom_bits::has_bit;
 /// A mapping that a walk found.
 #[derive(Clone, Copy, PartialEq)]
 pub struct Leaf {
-    /// The address that the walk's address stands for, divided by 4096; below 2^44. It is a physical address,
-    /// or a guest-physical one where another stage follows.
+    /// The address that the walk's address stands for, divided by 4096; below 2^44. It is a physical address, or a guest-physical one if
+    /// another stage follows.
     pub frame: u64,
-    /// The level that the leaf was met at, below the number of levels. It maps 2^(9 * level) pages of 4096
-    /// bytes, or sixteen where `napot` is set.
+    /// The level that the leaf was met at, below the number of levels. It maps 2^(9 * level) pages of 4096 bytes, or sixteen if `napot` is
+    /// set.
     pub level: u8,
     /// Whether the leaf or an entry before it has G set: the mapping belongs to every address space.
     pub global: bool,

@@ -3,7 +3,7 @@
 ghost use Rattle.std.specs.Prelude.{◌≡◌, ℕ};
 ghost use Rattle.iom_walk.specs.declared.source.Got.{Got};
 
-/// What a source of words has at an address: what a fetch of a page-table entry comes back with.
+/// The result of a fetch of a page-table entry: the word of a source at an address.
 #[derive(Clone, Copy, PartialEq)]
 pub enum Got {
     /// The eight bytes there as a number, the lowest byte first.

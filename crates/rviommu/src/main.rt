@@ -4,7 +4,7 @@
 use fault::Fault;
 use iom_asm::Item;
 use iom_cli::{How, Task, WordsFault, task_of};
-use iom_debug::{Checking, Debugger, Debugging, Reasons, check, debug};
+use iom_debug::{Checking, Debugger, Debugging, LineAccount, check, debug};
 use iom_explain::{Explaining, explain};
 use iom_play::WRITE_BLOCK;
 use iom_reader::{RunFault, WatchedReader, WatchedWriter};
@@ -46,11 +46,11 @@ fn play<'a, R: Read, W: Write>(
     }
     let mut platform = iom_asm::load(alloc, image)?;
     let mut trace = Trace::new(alloc)?;
-    let mut reasons = Reasons::new(&platform);
+    let mut reasons = LineAccount::new(&platform);
     let debugger = Debugger::new(&mut platform, &mut trace, &mut reasons);
     match how {
-        How::Check { is_stale_told } => {
-            let mut checking = Checking::new(debugger, is_stale_told);
+        How::Check { fails_if_stale } => {
+            let mut checking = Checking::new(debugger, fails_if_stale);
             if !check(&mut checking, &mut reader, &mut writer)? {
                 return Err(Fault::Failed);
             }
@@ -68,7 +68,7 @@ fn play<'a, R: Read, W: Write>(
 }
 
 // Plays a script on an image. Its answers are written by blocks, but before it waits for input.
-fn played<'a>(
+fn play_image<'a>(
     rt: &(impl Clock + Eprint + Files),
     alloc: Global,
     image: &[u8],
@@ -131,20 +131,22 @@ fn list<'a>(
 }
 
 // Does what the words of the command line ask for.
-fn done<'a>(
+fn carry_out<'a>(
     rt: &(impl Clock + Eprint + Files),
     alloc: Global,
     task: Task<'a>,
     streams: Streams<impl Read + Drop, impl Write + Drop>,
 ) -> Result<(), Fault<'a>> {
     match task {
-        Task::Play { how, image: None } => { played(rt, alloc, &iom_asm::built_in(), how, streams) }
+        Task::Play { how, image: None } => {
+            play_image(rt, alloc, &iom_asm::built_in(), how, streams)
+        }
         Task::Play {
             how,
             image: Some(image),
         } => {
             let image = files::read(rt, alloc, image)?;
-            played(rt, alloc, image.as_slice(), how, streams)
+            play_image(rt, alloc, image.as_slice(), how, streams)
         }
         Task::Assemble { source, image } => assemble(rt, alloc, source, image),
         Task::Upgrade { image, new } => upgrade(rt, alloc, image, new),
@@ -162,7 +164,7 @@ fn done<'a>(
 }
 
 // The words that the program was started with.
-fn given(
+fn arguments(
     rt: &(impl Env + Alloc<A = Global>),
     alloc: Global,
 ) -> Result<Vec<String>, Fault<'static>> {
@@ -174,16 +176,16 @@ fn given(
 }
 
 // Help that can't be written is a failed write.
-fn shown(rt: &(impl Print + Eprint), fault: &WordsFault<'_>) -> u8 {
+fn show_words_fault(rt: &(impl Print + Eprint), fault: &WordsFault<'_>) -> u8 {
     if fault.show(rt) {
         fault.status()
     } else {
-        told(rt, &Fault::Run(RunFault::Write))
+        print_fault(rt, &Fault::Run(RunFault::Write))
     }
 }
 
 // Writes a fault to standard error, and answers the status to end with.
-fn told(rt: &impl Eprint, fault: &Fault<'_>) -> u8 {
+fn print_fault(rt: &impl Eprint, fault: &Fault<'_>) -> u8 {
     let _ = rt.eprintln(format_args!("rviommu: {fault}"));
     fault.status()
 }
@@ -192,9 +194,9 @@ fn told(rt: &impl Eprint, fault: &Fault<'_>) -> u8 {
 fn status_of(rt: &(impl Print + Eprint), ended: Result<(), Fault<'_>>) -> ExitCode {
     match ended {
         Ok(()) => ExitCode::SUCCESS,
-        Err(Fault::Words(fault)) => ExitCode::from(shown(rt, &fault)),
+        Err(Fault::Words(fault)) => ExitCode::from(show_words_fault(rt, &fault)),
         Err(Fault::Failed) => ExitCode::FAILURE,
-        Err(fault) => ExitCode::from(told(rt, &fault)),
+        Err(fault) => ExitCode::from(print_fault(rt, &fault)),
     }
 }
 
@@ -204,12 +206,12 @@ fn program(
     alloc: Global,
     streams: Streams<impl Read + Drop, impl Write + Drop>,
 ) -> ExitCode {
-    let words = match given(rt, alloc) {
+    let words = match arguments(rt, alloc) {
         Ok(words) => words,
         Err(fault) => return status_of(rt, Err(fault)),
     };
     let ended = match task_of(alloc, words.as_slice()) {
-        Ok(task) => done(rt, alloc, task, streams),
+        Ok(task) => carry_out(rt, alloc, task, streams),
         Err(fault) => Err(Fault::Words(fault)),
     };
     status_of(rt, ended)

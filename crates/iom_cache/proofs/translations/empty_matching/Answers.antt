@@ -9,5 +9,5 @@ pub loop-place-preserved : goal.loop-place-preserved
 loop-place-preserved c =
     let l = c.loop-place in
     let place = get_or l.places l.place-index c.place-item.result in
-    rw c.kept.ensures (map_over_more (dropped_by (drops_page c.args.command.now)) c.args.places.now l.places l.place-index place
+    rw c.place_after.ensures (map_over_more (dropped_by (drops_page c.args.command.now)) c.args.places.now l.places l.place-index place
     c.loop-place-test.true l.invariant (get_or_default l.places l.place-index c.place-item.result place (omega arith)))

@@ -8,5 +8,5 @@ use Rattle.iom_account.proofs.account.Account.new_on.Goals as goal
 pub returns-clause-begins : goal.returns-clause-begins
 returns-clause-begins c = λ memory.
     let platform = state_on memory c.args.board.now in
-    subst (λ (told : List Reason). Accounts (record { history = c.new_on.result; told = told }) platform platform [] []) (sym c.new.ensures)
+    subst (λ (told : List Reason). Accounts (record { history = c.new_on.result; reasons = told }) platform platform [] []) (sym c.new.ensures)
     (nothing_told c.new_on.result platform (c.new_on.ensures memory))

@@ -14,7 +14,7 @@ invariant_of-self c =
     let own = c.index_mut.result.now in
     let inside : c.args.dev < length devices = grind (arith, common_steps) in
     let there : slice_get devices c.args.dev ≡ Some own = slice_get-get_or devices c.args.dev own inside ∙ ap (λ (o : ℕ × Device). Some o) (sym c.index_mut.ensures.value) in
-    fits_set devices c.args.dev (own.0, c.written.new.device) c.self.invariant (fits_at devices c.args.dev own c.self.invariant there)
+    fits_set devices c.args.dev (own.0, c.write_register.new.device) c.self.invariant (fits_at devices c.args.dev own c.self.invariant there)
 
 pub returns-then-n-len-clause-answer : goal.returns-then-n-len-clause-answer
 returns-then-n-len-clause-answer c =
@@ -22,8 +22,8 @@ returns-then-n-len-clause-answer c =
     let own = c.index_mut.result.now in
     let inside : c.args.dev < length devices = grind (arith, common_steps) in
     let there : slice_get devices c.args.dev ≡ Some own = slice_get-get_or devices c.args.dev own inside ∙ ap (λ (o : ℕ × Device). Some o) (sym c.index_mut.ensures.value) in
-    λ memory. subst (λ (b : Board). c.written.result ≡ (dev_written (state_on memory b) c.args.dev (slice_get b.devices c.args.dev) c.args.off c.args.size c.args.value).answer)
-    c.self.view_is (rw there c.written.ensures.answer)
+    λ memory. subst (λ (b : Board). c.write_register.result ≡ (dev_written (state_on memory b) c.args.dev (slice_get b.devices c.args.dev) c.args.off c.args.size c.args.value).answer)
+    c.self.view_is (rw there c.write_register.ensures.answer)
 
 pub returns-then-n-len-clause-state : goal.returns-then-n-len-clause-state
 returns-then-n-len-clause-state c =
@@ -31,7 +31,7 @@ returns-then-n-len-clause-state c =
     let own = c.index_mut.result.now in
     let inside : c.args.dev < length devices = grind (arith, common_steps) in
     let there : slice_get devices c.args.dev ≡ Some own = slice_get-get_or devices c.args.dev own inside ∙ ap (λ (o : ℕ × Device). Some o) (sym c.index_mut.ensures.value) in
-    λ memory. rw (sym c.self.view_is, there, c.written.ensures.left) refl
+    λ memory. rw (sym c.self.view_is, there, c.write_register.ensures.left) refl
 
 pub returns-else-n-len-clause-answer : goal.returns-else-n-len-clause-answer
 returns-else-n-len-clause-answer c =

@@ -8,8 +8,8 @@ use Rattle.iom_core.specs.Table.{asked_by, device_step, told_by_step}
 use Rattle.iom_core.proofs.Slots.{fits_at, fits_set}
 use Rattle.iom_core.proofs.board.Board.device.Goals as goal
 
-pub moved-requires : goal.moved-requires
-moved-requires g c =
+pub move_once-requires : goal.move_once-requires
+move_once-requires g c =
     let devices = c.self.inside.devices.items in
     let own = c.index_mut.result.now in
     let inside : c.args.dev < length devices = grind (arith, common_steps) in
@@ -22,7 +22,7 @@ invariant_of-self g c =
     let own = c.index_mut.result.now in
     let inside : c.args.dev < length devices = grind (arith, common_steps) in
     let there : slice_get devices c.args.dev ≡ Some own = slice_get-get_or devices c.args.dev own inside ∙ ap (λ (o : ℕ × Device). Some o) (sym c.index_mut.ensures.value) in
-    fits_set devices c.args.dev (own.0, c.moved.new.device) c.self.invariant (fits_at devices c.args.dev own c.self.invariant there)
+    fits_set devices c.args.dev (own.0, c.move_once.new.device) c.self.invariant (fits_at devices c.args.dev own c.self.invariant there)
 
 pub returns-clause-answer : goal.returns-clause-answer
 returns-clause-answer g c =
@@ -30,8 +30,8 @@ returns-clause-answer g c =
     let own = c.index_mut.result.now in
     let inside : c.args.dev < length devices = grind (arith, common_steps) in
     let there : slice_get devices c.args.dev ≡ Some own = slice_get-get_or devices c.args.dev own inside ∙ ap (λ (o : ℕ × Device). Some o) (sym c.index_mut.ensures.value) in
-    subst (λ (b : Board). c.moved.result ≡ (device_step (state_on (g.M.Region.memory c.args.ram.now) b) c.args.dev (slice_get b.devices c.args.dev)).answer)
-    c.self.view_is (rw there c.moved.ensures.answer)
+    subst (λ (b : Board). c.move_once.result ≡ (device_step (state_on (g.M.Region.memory c.args.ram.now) b) c.args.dev (slice_get b.devices c.args.dev)).answer)
+    c.self.view_is (rw there c.move_once.ensures.answer)
 
 pub returns-clause-state : goal.returns-clause-state
 returns-clause-state g c =
@@ -39,7 +39,7 @@ returns-clause-state g c =
     let own = c.index_mut.result.now in
     let inside : c.args.dev < length devices = grind (arith, common_steps) in
     let there : slice_get devices c.args.dev ≡ Some own = slice_get-get_or devices c.args.dev own inside ∙ ap (λ (o : ℕ × Device). Some o) (sym c.index_mut.ensures.value) in
-    rw (sym c.self.view_is, there, c.moved.ensures.machine, c.moved.ensures.device) refl
+    rw (sym c.self.view_is, there, c.move_once.ensures.machine, c.move_once.ensures.device) refl
 
 pub returns-clause-told : goal.returns-clause-told
 returns-clause-told g c =
@@ -47,5 +47,5 @@ returns-clause-told g c =
     let own = c.index_mut.result.now in
     let inside : c.args.dev < length devices = grind (arith, common_steps) in
     let there : slice_get devices c.args.dev ≡ Some own = slice_get-get_or devices c.args.dev own inside ∙ ap (λ (o : ℕ × Device). Some o) (sym c.index_mut.ensures.value) in
-    subst (λ (b : Board). c.moved.new.witness ≡ told_by_step g.W.Witness.next c.args.witness.now (in_front_of (g.M.Region.memory c.args.ram.now) b.iommu) (asked_by (slice_get b.devices c.args.dev)))
-    c.self.view_is (rw there c.moved.ensures.told)
+    subst (λ (b : Board). c.move_once.new.witness ≡ told_by_step g.W.Witness.next c.args.witness.now (in_front_of (g.M.Region.memory c.args.ram.now) b.iommu) (asked_by (slice_get b.devices c.args.dev)))
+    c.self.view_is (rw there c.move_once.ensures.told)

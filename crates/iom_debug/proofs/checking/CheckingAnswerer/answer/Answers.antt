@@ -14,7 +14,7 @@ returns-clause-next g c =
     c.line-answer.ensures.reply c.tables-tables.ensures
     (c.as_slice-7.ensures.value ∙ rw (c.as_slice.ensures.value, c.as_slice-2.ensures.value, c.clear.ensures) at c.put_verdict.ensures)
     (c.and_one-self.ensures ∙ ap (λ b. and_one b c.args.self.now.passed)
-    (rw (c.wanted.ensures.answer, c.as_slice-3.ensures.value, c.as_slice-4.ensures.value) at c.passes.ensures))
+    (rw (c.expected_answer.ensures.answer, c.as_slice-3.ensures.value, c.as_slice-4.ensures.value) at c.passes.ensures))
     (c.and_one-self-2.ensures ∙ ap (λ b. and_one b c.args.self.now.failed)
-    (rw (c.wanted-2.ensures.answer, c.as_slice-5.ensures.value, c.as_slice-6.ensures.value) at c.fails.ensures)))
+    (rw (c.expected_answer-2.ensures.answer, c.as_slice-5.ensures.value, c.as_slice-6.ensures.value) at c.fails.ensures)))
     c.write_told.ensures.ok c.write_told.ensures.front

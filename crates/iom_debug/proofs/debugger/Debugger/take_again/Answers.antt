@@ -1,5 +1,5 @@
 use Rattle.std.proofs.Common.{◌≡◌, ◌∙◌, ◌+◌, ◌-◌, ◌++◌, codes, length, replicate, ap, refl, true, false, arith, rules}
-use Rattle.iom_text.specs.Texts.{hexed}
+use Rattle.iom_text.specs.Texts.{hexadecimal}
 use Rattle.iom_tool.specs.Parsed.{step_of}
 use Rattle.iom_tool.specs.Texts.{text_of}
 use Rattle.iom_core.specs.Table.{next}
@@ -29,7 +29,7 @@ returns-then-not-answered-clause-reply c =
     let other : is_done (next c.loop-i.self.platform.now (step_of c.args.actor)).answer ≡ false = cc in
     let stopped = stops _ _ _ _ _ _ _ _ (rw same at c.loop-i.invariant.left) (rw c.step_by.ensures at c.take-answered.ensures.took) other in
     rw (stopped.count_is, stopped.last_is)
-    (c.counted.ensures ∙ ap (λ t. hexed (c.loop-i.i + 1) ++ codes " " ++ t) (c.as_slice.ensures.value ∙ c.take-answered.ensures.text
+    (c.reply_with_count.ensures ∙ ap (λ t. hexadecimal (c.loop-i.i + 1) ++ codes " " ++ t) (c.as_slice.ensures.value ∙ c.take-answered.ensures.text
     ∙ ap (λ s. text_of (next c.loop-i.self.platform.now s).answer) c.step_by.ensures))
 
 pub returns-then-not-answered-clause-took : goal.returns-then-not-answered-clause-took
@@ -46,7 +46,7 @@ returns-clause-reply c =
     let left = rw none at c.loop-i.invariant.left in
     let counted = left.count_is in
     let count : length (taken c.args.self.now.platform.now (replicate c.args.most (step_of c.args.actor))) ≡ c.args.most = omega (arith, counted) in
-    rw (count, left.last_is) c.counted-2.ensures
+    rw (count, left.last_is) c.reply_with_count-2.ensures
 
 pub returns-clause-took : goal.returns-clause-took
 returns-clause-took c =

@@ -1,7 +1,7 @@
 use Rattle.std.proofs.Common.{◌≡◌, ◌∙◌, ◌+◌, ◌-◌, ◌++◌, codes, length, replicate, ap, sym, true, false, arith, rules, refl}
 use Rattle.std.proofs.KnownBytes.{Appends-trans}
 use Rattle.std.proofs.lemmas.Bool.{false≢true}
-use Rattle.iom_text.specs.Texts.{hexed}
+use Rattle.iom_text.specs.Texts.{hexadecimal}
 use Rattle.iom_tool.specs.Texts.{text_of}
 use Rattle.iom_core.specs.Table.{next}
 use Rattle.iom_tool.specs.Parsed.{step_of}
@@ -43,7 +43,7 @@ returns-then-not-answered-clause-ok g c =
       λ m. (
         stopped.told,
         rw (stopped.stopped.count_is, stopped.stopped.last_is)
-            (c.counted.ensures ∙ ap (λ t. hexed (c.loop-i.i + 1) ++ codes " " ++ t) (c.as_slice.ensures.value ∙ c.in_ok-answered.ensures.text
+            (c.reply_with_count.ensures ∙ ap (λ t. hexadecimal (c.loop-i.i + 1) ++ codes " " ++ t) (c.as_slice.ensures.value ∙ c.in_ok-answered.ensures.text
             ∙ ap (λ s. text_of (next c.loop-i.self.debugger.platform.now s).answer) c.step_by.ensures)),
       ),
     )
@@ -72,4 +72,4 @@ returns-clause-ok g c =
     let so_far = rw none at c.loop-i.invariant.along in
     let counted = so_far.left.count_is in
     let count : length (taken c.args.self.now.debugger.platform.now (replicate c.args.most (step_of c.args.actor))) ≡ c.args.most = omega (arith, counted) in
-    (so_far.said, so_far.wrote, λ m. (ends _ _ _ _ _ _ _ so_far, rw (count, so_far.left.last_is) c.counted-2.ensures))
+    (so_far.said, so_far.wrote, λ m. (ends _ _ _ _ _ _ _ so_far, rw (count, so_far.left.last_is) c.reply_with_count-2.ensures))
