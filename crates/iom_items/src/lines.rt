@@ -4,8 +4,10 @@ ghost use Rattle.iom_bits.specs.Bits.{flag};
 ghost use Rattle.iom_text.specs.Texts.{hexadecimal};
 ghost use Rattle.iom_mem.specs.Memory.{words_at};
 ghost use Rattle.iom_ddt.specs.Words.{words_of};
+ghost use Rattle.iom_queue.specs.declared.command.Command.TheVariants.{Fence, Gvma, Vma};
 ghost use Rattle.iom_items.specs.declared.item.Item.TheVariants as item;
 ghost use Rattle.iom_items.specs.Lines.{operand, with_operands, not_zero, command_text, record_text, context_text, numbers_text, words_text, line_of, line_on, item_line, item_line_on};
+ghost use Rattle.iom_queue.specs.declared.command.Command.TheVariants.{Fence, Gvma, Vma};
 
 use crate::item::Item;
 use arrayvec::ArrayVec;
@@ -75,18 +77,7 @@ fn command_line(command: &Command) -> Line
             gscid,
             nl,
             s,
-        } => {
-            let mut line = line_from(b"cmd vma");
-            push_operand(&mut line, b"av", flag(av));
-            push_operand(&mut line, b"page", page);
-            push_operand(&mut line, b"pscv", flag(pscv));
-            push_operand(&mut line, b"pscid", pscid as u64);
-            push_operand(&mut line, b"gv", flag(gv));
-            push_operand(&mut line, b"gscid", gscid as u64);
-            push_set(&mut line, b"nl", nl);
-            push_set(&mut line, b"s", s);
-            line
-        }
+        } => vma_line(av, page, pscv, pscid, gv, gscid, nl, s),
         Command::Gvma {
             av,
             page,
@@ -95,17 +86,7 @@ fn command_line(command: &Command) -> Line
             gscid,
             nl,
             s,
-        } => {
-            let mut line = line_from(b"cmd gvma");
-            push_operand(&mut line, b"av", flag(av));
-            push_operand(&mut line, b"page", page);
-            push_operand(&mut line, b"pscid", pscid as u64);
-            push_operand(&mut line, b"gv", flag(gv));
-            push_operand(&mut line, b"gscid", gscid as u64);
-            push_set(&mut line, b"nl", nl);
-            push_set(&mut line, b"s", s);
-            line
-        }
+        } => gvma_line(av, page, pscid, gv, gscid, nl, s),
         Command::Fence {
             av,
             wsi,
@@ -113,16 +94,7 @@ fn command_line(command: &Command) -> Line
             pw,
             value,
             addr,
-        } => {
-            let mut line = line_from(b"cmd fence");
-            push_operand(&mut line, b"av", flag(av));
-            push_operand(&mut line, b"wsi", flag(wsi));
-            push_operand(&mut line, b"pr", flag(pr));
-            push_operand(&mut line, b"pw", flag(pw));
-            push_operand(&mut line, b"data", value as u64);
-            push_operand(&mut line, b"addr", addr);
-            line
-        }
+        } => fence_line(av, wsi, pr, pw, value, addr),
         Command::Iodir { dv, did } => {
             let mut line = line_from(b"cmd iodir");
             push_operand(&mut line, b"dv", flag(dv));
@@ -130,6 +102,60 @@ fn command_line(command: &Command) -> Line
             line
         }
     }
+}
+
+// The line of IOTINVAL.VMA.
+fn vma_line(
+    av: bool,
+    page: u64,
+    pscv: bool,
+    pscid: u32,
+    gv: bool,
+    gscid: u16,
+    nl: bool,
+    s: bool,
+) -> Line
+    ensures { result.items ≡ command_text (Vma av page pscv pscid gv gscid nl s) }
+{
+    let mut line = line_from(b"cmd vma");
+    push_operand(&mut line, b"av", flag(av));
+    push_operand(&mut line, b"page", page);
+    push_operand(&mut line, b"pscv", flag(pscv));
+    push_operand(&mut line, b"pscid", pscid as u64);
+    push_operand(&mut line, b"gv", flag(gv));
+    push_operand(&mut line, b"gscid", gscid as u64);
+    push_set(&mut line, b"nl", nl);
+    push_set(&mut line, b"s", s);
+    line
+}
+
+// The line of IOTINVAL.GVMA.
+fn gvma_line(av: bool, page: u64, pscid: u32, gv: bool, gscid: u16, nl: bool, s: bool) -> Line
+    ensures { result.items ≡ command_text (Gvma av page pscid gv gscid nl s) }
+{
+    let mut line = line_from(b"cmd gvma");
+    push_operand(&mut line, b"av", flag(av));
+    push_operand(&mut line, b"page", page);
+    push_operand(&mut line, b"pscid", pscid as u64);
+    push_operand(&mut line, b"gv", flag(gv));
+    push_operand(&mut line, b"gscid", gscid as u64);
+    push_set(&mut line, b"nl", nl);
+    push_set(&mut line, b"s", s);
+    line
+}
+
+// The line of IOFENCE.C.
+fn fence_line(av: bool, wsi: bool, pr: bool, pw: bool, value: u32, addr: u64) -> Line
+    ensures { result.items ≡ command_text (Fence av wsi pr pw value addr) }
+{
+    let mut line = line_from(b"cmd fence");
+    push_operand(&mut line, b"av", flag(av));
+    push_operand(&mut line, b"wsi", flag(wsi));
+    push_operand(&mut line, b"pr", flag(pr));
+    push_operand(&mut line, b"pw", flag(pw));
+    push_operand(&mut line, b"data", value as u64);
+    push_operand(&mut line, b"addr", addr);
+    line
 }
 
 // The line of a fault record: `fault` and its operands.

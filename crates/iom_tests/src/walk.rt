@@ -307,7 +307,7 @@ fn walks_four_levels(rt: HostRuntime) {
     assert_eq!(rt; otherwise(&cases), None);
 }
 
-// Addresses of five levels, narrow, wide and too wide.
+// Addresses of five levels, narrow and wide.
 #[test]
 fn walks_five_levels(rt: HostRuntime) {
     let none = holding(NONE, NONE, NONE);
@@ -347,6 +347,15 @@ fn walks_five_levels(rt: HostRuntime) {
             Outcome::Fault,
         ),
         read_at(Shape::Sv57, 0, circle, Outcome::Fault),
+    ];
+    assert_eq!(rt; otherwise(&cases), None);
+}
+
+// Addresses at the ends of five levels, over empty tables.
+#[test]
+fn ends_of_five_levels(rt: HostRuntime) {
+    let none = holding(NONE, NONE, NONE);
+    let cases = [
         read_at(Shape::Sv57, 0xff_ffff_ffff_ffff, none, Outcome::Outside),
         read_at(Shape::Sv57, 0x100_0000_0000_0000, none, Outcome::Fault),
         read_at(Shape::Sv57, 0xff00_0000_0000_0000, none, Outcome::Outside),
