@@ -111,6 +111,8 @@ def check_guest(checks, boot, name):
     """The guest's own checks, and what it wrote, seen from outside."""
     for what, verdict in boot.found(r"^check: (\S+) (ok|failed)"):
         checks.check(f"{name}: {what}", verdict == "ok")
+    for line in boot.found(r"^ping, turn .*"):
+        print(f"       {line}")
     told = dict(boot.found(r"^written: (\S+) (\S+)"))
     checks.check(f"{name}: both disks have what the guest wrote", list(told.values()) == boot.sums)
     checks.check(f"{name}: no warning of the kernel", not boot.found(r"dmesg: .*(?:BUG|WARNING|Oops)"))
