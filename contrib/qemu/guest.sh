@@ -18,7 +18,7 @@ check() {
     if [ "$2" = 0 ]; then echo "check: $1 ok"; else echo "check: $1 failed"; fi
 }
 
-# Writes random bytes to a disk, drops what the kernel has cached, and compares.
+# Writes random bytes to a disk, drops the kernel's caches, and compares.
 disk() {
     dd if=/tmp/bytes of="$2" bs=64k 2>/dev/null && sync && echo 3 > /proc/sys/vm/drop_caches
     dd if="$2" bs=64k count=32 2>/dev/null | cmp -s - /tmp/bytes
