@@ -1,5 +1,5 @@
 #!/usr/bin/env python3
-"""boot.py [FOLDER [RVIOMMU]]    Boots Debian's riscv64 kernel on rviommu-sys, and checks what it did.
+"""boot.py [FOLDER [RVIOMMU]]    Boots Debian's riscv64 kernel on rviommu-sys, and checks the boots.
 
 FOLDER (contrib/qemu/out) has the program that build.py made, and keeps Debian's packages. RVIOMMU is the program that
 plays the record (crates/rviommu/out/rviommu). Prints a line for each check, the counts, and the times beside those of
@@ -26,7 +26,7 @@ DISK = 32 << 20
 WRITTEN = 2 << 20
 MOST_SECONDS = int(os.environ.get("MOST_SECONDS", "900"))
 MOST_TIMES = 1.5
-# The memory of a recorded boot: what the kernel uses for tables and queues then lies in 64 MiB.
+# With the memory of a recorded boot the kernel's tables and queues lie in 64 MiB.
 MEMORY, RECORDED_MEMORY = "256M", "112M"
 TESTS = ("map", "unmap", "read-only", "remap", "superpage", "gigapage", "64-KiB", "rounds", "no-flush", "second-domain",
          "identity-again")
@@ -46,7 +46,7 @@ class Checks:
 
 
 class Boot:
-    """One boot: what the guest and QEMU printed, and how long it took."""
+    """One boot: the lines of the guest and of QEMU, and the time that it took."""
 
     def __init__(self, program, kernel, archive, device="", memory=MEMORY, words="", kill_after=None):
         with tempfile.TemporaryDirectory(prefix="rviommu-boot-") as folder:
@@ -100,7 +100,7 @@ class Boot:
         return [it for line in self.lines for it in re.findall(pattern, line)]
 
     def counts(self):
-        """What the device counted at the end, as text."""
+        """The counts that the device printed at the end."""
         return next((it.partition(": ")[2] for it in self.faults if " accesses, " in it), "")
 
     def stale(self):
@@ -108,11 +108,13 @@ class Boot:
 
 
 def check_guest(checks, boot, name):
-    """The guest's own checks, and what it wrote, seen from outside."""
-    for what, verdict in boot.found(r"^check: (\S+) (ok|failed)"):
-        checks.check(f"{name}: {what}", verdict == "ok")
-    told = dict(boot.found(r"^written: (\S+) (\S+)"))
-    checks.check(f"{name}: both disks have what the guest wrote", list(told.values()) == boot.sums)
+    """The guest's own checks, and its disks, seen from outside."""
+    for check, verdict in boot.found(r"^check: (\S+) (ok|failed)"):
+        checks.check(f"{name}: {check}", verdict == "ok")
+    for line in boot.found(r"^ping, turn .*"):
+        print(f"       {line}")
+    written = dict(boot.found(r"^written: (\S+) (\S+)"))
+    checks.check(f"{name}: both disks have the guest's bytes", list(written.values()) == boot.sums)
     checks.check(f"{name}: no warning of the kernel", not boot.found(r"dmesg: .*(?:BUG|WARNING|Oops)"))
 
 
@@ -138,7 +140,7 @@ def check_stale(checks, boot, name):
 
 
 def check_record(checks, record, counts, rviommu):
-    """The record plays with the same answers, and `explain` counts what the device counted."""
+    """The record plays with the same answers, and `explain` has the device's counts."""
     image = f"{record}.image"
     with open(record, "rb") as script:
         checked = subprocess.run([rviommu, "check", image], stdin=script, capture_output=True, text=True, check=False)
@@ -147,8 +149,8 @@ def check_record(checks, record, counts, rviommu):
     with open(record, "rb") as script:
         explained = subprocess.run([rviommu, "explain", image], stdin=script, capture_output=True, text=True, check=False)
     summary = dict(re.findall(r"(?m)^(accesses|granted|denied \d+|stale): (\d+)", explained.stdout))
-    told = dict(re.findall(r"(?:\(|, )(\d+): (\d+)", counts))
-    wanted = {f"denied {cause}": number for cause, number in told.items()}
+    denied = dict(re.findall(r"(?:\(|, )(\d+): (\d+)", counts))
+    wanted = {f"denied {cause}": number for cause, number in denied.items()}
     wanted["accesses"] = counts.partition(" ")[0]
     found = {key: value for key, value in summary.items() if key == "accesses" or key.startswith("denied")}
     checks.check(f"record: explain counts {', '.join(f'{key} {value}' for key, value in wanted.items())}", found == wanted, f"{found}")

@@ -2,7 +2,7 @@
 """build.py [FOLDER [VERSION]]    Builds qemu-system-riscv64 with the device rviommu-sys.
 
 Takes the source of Debian's package qemu by apt-get (VERSION is 10.0 or the start of another version), adds the files
-of this folder and the one patch, and builds qemu-system-riscv64 alone, in FOLDER (contrib/qemu/out). Needs the C library
+of this folder and the one patch, and builds only qemu-system-riscv64, in FOLDER (contrib/qemu/out). Needs the C library
 (make library). Prints the program's path.
 """
 import os
@@ -13,12 +13,12 @@ import sys
 import time
 from pathlib import Path
 
-from debian import Missing, Packages, said
+from debian import Missing, Packages, output
 
 HERE = Path(__file__).resolve().parent
 TOP = HERE.parents[1]
 SUITES = ("bookworm-backports", "trixie", "sid")
-# What a build needs, and how it is seen to be there.
+# The programs and libraries that a build needs, each with its package.
 NEEDED = {
     "gcc": "gcc", "make": "make", "ninja": "ninja-build", "pkg-config": "pkg-config", "flex": "flex", "bison": "bison",
     "patch": "patch", "dpkg-source": "dpkg-dev",
@@ -39,7 +39,7 @@ def has_library(name):
 
 
 def look():
-    """Says in one line what is missing."""
+    """Names in one line the packages that are missing."""
     missing = [package for program, package in NEEDED.items() if shutil.which(program) is None]
     if "pkg-config" not in missing:
         missing += [package for name, package in LIBRARIES.items() if not has_library(name)]
@@ -50,8 +50,8 @@ def look():
 
 
 def python_path(packages):
-    """Where meson 1.5 or later is, for PYTHONPATH: nothing if the system's is new enough, else that of a package."""
-    have = re.match(r"(\d+)\.(\d+)", said(["meson", "--version"])) if shutil.which("meson") else None
+    """The folder of meson 1.5 or later, for PYTHONPATH; nothing if the system's is new enough."""
+    have = re.match(r"(\d+)\.(\d+)", output(["meson", "--version"])) if shutil.which("meson") else None
     if have and tuple(map(int, have.groups())) >= MESON:
         return ""
     folder = packages.unpacked(["meson"], packages.folder / "meson")
@@ -63,7 +63,7 @@ def prepared(source):
     for name in FILES:
         shutil.copy2(HERE / name, source / "hw/riscv" / name)
     if "rviommu" not in (source / "hw/riscv/meson.build").read_text():
-        said(["patch", "-p1", "--no-backup-if-mismatch", "-i", str(HERE / "qemu.patch")], cwd=source)
+        output(["patch", "-p1", "--no-backup-if-mismatch", "-i", str(HERE / "qemu.patch")], cwd=source)
 
 
 def configured(source, folder, environment):
@@ -75,7 +75,7 @@ def configured(source, folder, environment):
     shutil.rmtree(folder, ignore_errors=True)
     folder.mkdir(parents=True)
     environment["PKG_CONFIG_PATH"] = f"{library}/pkgconfig"
-    said([str(source / "configure"), "--python=/usr/bin/python3", *OPTIONS], cwd=folder, env=environment)
+    output([str(source / "configure"), "--python=/usr/bin/python3", *OPTIONS], cwd=folder, env=environment)
     mark.write_text(library)
 
 
@@ -85,7 +85,7 @@ def main():
     begin = time.monotonic()
     look()
     lines = [("deb", "", "bookworm-backports"), *(("deb-src", "", suite) for suite in SUITES)]
-    packages = Packages(folder / "source", said(["dpkg", "--print-architecture"]).strip(), lines)
+    packages = Packages(folder / "source", output(["dpkg", "--print-architecture"]).strip(), lines)
     source, version = packages.source("qemu", wanted)
     print(f"QEMU {version}: about 1,500 steps, 8 processor minutes and 1.5 GB in {folder}", file=sys.stderr)
     environment = dict(os.environ)
@@ -95,7 +95,7 @@ def main():
     prepared(source)
     build = folder / f"build-{wanted}"
     configured(source, build, environment)
-    said(["ninja", "-j", os.environ.get("JOBS", str(os.cpu_count())), "qemu-system-riscv64"], cwd=build, env=environment)
+    output(["ninja", "-j", os.environ.get("JOBS", str(os.cpu_count())), "qemu-system-riscv64"], cwd=build, env=environment)
     print(f"built in {time.monotonic() - begin:.0f} s", file=sys.stderr)
     program = folder / "qemu-system-riscv64"
     program.unlink(missing_ok=True)

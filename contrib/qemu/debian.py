@@ -14,8 +14,8 @@ class Missing(Exception):
     """Something that is needed and isn't there, in one line."""
 
 
-def said(command, **options):
-    """What a command prints. If it fails, its last line says why."""
+def output(command, **options):
+    """The standard output of a command. If it fails, the fault has its last line."""
     try:
         run = subprocess.run(command, capture_output=True, text=True, check=False, **options)
     except FileNotFoundError as fault:
@@ -27,7 +27,7 @@ def said(command, **options):
 
 
 class Packages:
-    """The packages of some suites for one architecture; `folder` keeps apt's lists and what was fetched."""
+    """The packages of some suites for one architecture; `folder` keeps apt's lists and the packages."""
 
     def __init__(self, folder, architecture, lines):
         self.folder = Path(folder).resolve()
@@ -48,11 +48,11 @@ class Packages:
         (self.folder / "apt.conf").write_text(text + f'APT::Architectures {{ "{architecture}"; }};\n')
         self.options = ["-c", str(self.folder / "apt.conf"), "-q"]
         self.records = {}
-        said(["apt-get", *self.options, "update"])
+        output(["apt-get", *self.options, "update"])
 
     def look_up(self, names):
         """Keeps the fields of these packages."""
-        text = said(["apt-cache", *self.options, "show", "--no-all-versions", *names])
+        text = output(["apt-cache", *self.options, "show", "--no-all-versions", *names])
         for part in text.split("\n\n"):
             fields = dict(re.findall(r"(?m)^([A-Z][\w-]*): (.*)$", part))
             self.records.setdefault(fields.get("Package"), fields)
@@ -67,7 +67,7 @@ class Packages:
         version = self.records[name]["Version"].replace(":", "%3a")
         there = list((self.folder / "fetched").glob(f"{name}_{version}_*.deb"))
         if not there:
-            said(["apt-get", *self.options, "download", name], cwd=self.folder / "fetched")
+            output(["apt-get", *self.options, "download", name], cwd=self.folder / "fetched")
             there = list((self.folder / "fetched").glob(f"{name}_{version}_*.deb"))
         return there[0]
 
@@ -79,13 +79,13 @@ class Packages:
             package = self.fetched(name)
             mark = target / f".{package.name}"
             if not mark.exists():
-                said(["dpkg", "-x", str(package), str(target)])
+                output(["dpkg", "-x", str(package), str(target)])
                 mark.touch()
         return target
 
     def source(self, name, version):
         """The unpacked source of a package whose version starts with this, and its whole version."""
-        text = said(["apt-cache", *self.options, "showsrc", name])
+        text = output(["apt-cache", *self.options, "showsrc", name])
         versions = [it for it in re.findall(r"(?m)^Version: (.*)$", text) if it.partition(":")[2].startswith(version)]
         if not versions:
             raise Missing(f"no source of {name} {version} at {ARCHIVE}")
@@ -95,11 +95,11 @@ class Packages:
             if target.exists():
                 return target, it
             try:
-                said(["apt-get", *self.options, "source", "--download-only", f"{name}={it}"], cwd=self.folder / "fetched")
+                output(["apt-get", *self.options, "source", "--download-only", f"{name}={it}"], cwd=self.folder / "fetched")
             except Missing as fault:
                 faults.append(fault)
                 continue
             description = self.folder / "fetched" / f"{name}_{it.partition(':')[2]}.dsc"
-            said(["dpkg-source", "--no-check", "-x", str(description), str(target)])
+            output(["dpkg-source", "--no-check", "-x", str(description), str(target)])
             return target, it
         raise faults[0]

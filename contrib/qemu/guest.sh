@@ -18,7 +18,7 @@ check() {
     if [ "$2" = 0 ]; then echo "check: $1 ok"; else echo "check: $1 failed"; fi
 }
 
-# Writes random bytes to a disk, drops what the kernel has cached, and compares.
+# Writes random bytes to a disk, drops the kernel's caches, and compares.
 disk() {
     dd if=/tmp/bytes of="$2" bs=64k 2>/dev/null && sync && echo 3 > /proc/sys/vm/drop_caches
     dd if="$2" bs=64k count=32 2>/dev/null | cmp -s - /tmp/bytes
@@ -51,7 +51,12 @@ disk nvme /dev/nvme0n1
 
 ip link set eth0 up
 ip address add 10.0.2.15/24 dev eth0
-ping -c 5 -i 0.2 -W 10 10.0.2.2 > /tmp/ping
+# On a busy machine the guest may sleep for longer than ping waits.
+for turn in 1 2 3; do
+    ping -c 5 -i 0.2 -W 10 10.0.2.2 > /tmp/ping
+    if grep -q '5 packets received' /tmp/ping; then break; fi
+    sed "s/^/ping, turn $turn: /" /tmp/ping
+done
 grep -q '5 packets received' /tmp/ping
 check ping $?
 

@@ -4,7 +4,7 @@ import re
 import shutil
 from pathlib import Path
 
-from debian import Missing, Packages, said
+from debian import Missing, Packages, output
 
 HERE = Path(__file__).resolve().parent
 SUITE = "sid"
@@ -14,7 +14,7 @@ WANTED = ("virtio_blk", "nvme", "virtio_net")
 FLAGS = """-D__KERNEL__ -DMODULE -nostdinc -std=gnu11 -fms-extensions -fshort-wchar -fno-common -fno-strict-aliasing -fno-PIE
 -ffreestanding -mabi=lp64 -march=rv64imac_zicsr_zifencei -mcmodel=medany -mno-relax -msmall-data-limit=0
 -fno-asynchronous-unwind-tables -fno-omit-frame-pointer -fno-stack-protector -O2 -w""".split()
-# What kbuild adds to a module, to go with the kernel that has these headers.
+# kbuild adds this to a module, so that it goes with the kernel of these headers.
 ADDED = """#define INCLUDE_VERMAGIC
 #include <linux/module.h>
 #include <linux/vermagic.h>
@@ -36,7 +36,7 @@ def entry(name, mode, data=b"", device=(0, 0), number=0):
 
 
 class Kernel:
-    """What is booted. `folder` keeps the packages, and what is made of them."""
+    """The kernel that is booted. `folder` keeps its packages, and the files made of them."""
 
     def __init__(self, folder):
         self.folder = Path(folder)
@@ -94,8 +94,8 @@ class Kernel:
             name = source.name.removesuffix(".c")
             names = [f'-DKBUILD_{it}="{value}"' for it, value in (("BASENAME", name), ("MODNAME", "paging"), ("MODFILE", "paging"))]
             objects.append(str(target / f"{name}.o"))
-            said([COMPILER, *places, *FLAGS, *names, "-D__KBUILD_MODNAME=paging", "-c", str(source), "-o", objects[-1]])
-        said([COMPILER.replace("gcc", "ld"), "-r", "-o", str(target / "paging.ko"), *objects])
+            output([COMPILER, *places, *FLAGS, *names, "-D__KBUILD_MODNAME=paging", "-c", str(source), "-o", objects[-1]])
+        output([COMPILER.replace("gcc", "ld"), "-r", "-o", str(target / "paging.ko"), *objects])
         return (target / "paging.ko").read_bytes()
 
     def archive(self, name, has_paging):

@@ -98,8 +98,8 @@ static bool write_is_refused(u64 iova, struct page *page, unsigned long offset)
 }
 
 /*
- * Whether the device's read at an IOVA doesn't bring a word of memory. What its buffer then has, it writes at the IOVA `good`, which leads
- * to `good_page`.
+ * Whether the device's read at an IOVA doesn't bring a word of memory. The device then writes its buffer at the IOVA `good`, which leads to
+ * `good_page`.
  */
 static bool read_is_refused(u64 iova, struct page *page, unsigned long offset, u64 good, struct page *good_page)
 {
@@ -134,7 +134,7 @@ static void judge(const char *name, const char *why)
 	}
 }
 
-/* Each test returns what was wrong, or NULL. It begins with nothing mapped, and ends so. */
+/* Each test returns the name of a fault, or NULL. It begins and ends with nothing mapped. */
 
 static const char *test_map(void)
 {

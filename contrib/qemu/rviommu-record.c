@@ -1,4 +1,4 @@
-/* The record of what the model is given, and a stale access in words. rviommu-record.h says what it is. */
+/* The record of the model's steps, and a stale access in words: rviommu-record.h. */
 #include "qemu/osdep.h"
 #include "qapi/error.h"
 #include "qemu/atomic.h"
@@ -34,7 +34,7 @@
 
 struct rviommu_recorder {
     struct rviommu_memory memory;
-    uint64_t *said;       /* each word as the script has it so far */
+    uint64_t *known;      /* each word as the script has it so far */
     uint64_t first, end;  /* the pages that the script's memory needs, as physical addresses */
     uint64_t lines, bytes;
     FILE *script;         /* NULL after the record's end */
@@ -93,7 +93,7 @@ static void stop_at_fault(struct rviommu_recorder *recorder, const char *file)
 }
 
 /* Writes one line. */
-static void G_GNUC_PRINTF(2, 3) say(struct rviommu_recorder *recorder, const char *format, ...)
+static void G_GNUC_PRINTF(2, 3) put_line(struct rviommu_recorder *recorder, const char *format, ...)
 {
     va_list arguments;
     int length;
@@ -170,9 +170,9 @@ static uint64_t reads(struct rviommu_recorder *recorder, uint64_t address)
     }
     need(recorder, address);
     word = qatomic_read(&recorder->memory.words[index]);
-    if (word != recorder->said[index]) {
-        say(recorder, "store 0x%" PRIx64 " 8 0x%" PRIx64 "\n", address & ~(uint64_t)7, word);
-        recorder->said[index] = word;
+    if (word != recorder->known[index]) {
+        put_line(recorder, "store 0x%" PRIx64 " 8 0x%" PRIx64 "\n", address & ~(uint64_t)7, word);
+        recorder->known[index] = word;
     }
     return word;
 }
@@ -184,7 +184,7 @@ static void wrote(struct rviommu_recorder *recorder, uint64_t address, uint64_t 
 
     if (word_at(recorder, address, &index)) {
         need(recorder, address);
-        recorder->said[index] = (recorder->said[index] & ~bits) | (recorder->memory.words[index] & bits);
+        recorder->known[index] = (recorder->known[index] & ~bits) | (recorder->memory.words[index] & bits);
     }
 }
 
@@ -202,7 +202,7 @@ static uint64_t page_in(uint64_t word)
     return (word >> 10 & ((UINT64_C(1) << 44) - 1)) << 12;
 }
 
-/* Where an entry of a queue is. */
+/* The address of an entry of a queue. */
 static uint64_t entry_of_queue(uint64_t base, uint64_t index, uint64_t size)
 {
     return page_in(base) + (index & ((UINT64_C(2) << (base & 31)) - 1)) * size;
@@ -229,7 +229,7 @@ void rviommu_record_command(struct rviommu_recorder *recorder, const rviommu_t *
         return;
     }
     step_has_line(recorder, model);
-    say(recorder, "cmd # => done\n");
+    put_line(recorder, "cmd # => done\n");
     if (seen.is_there && (seen.words[0] & 0x7f) == OPCODE_OF_FENCE && (seen.words[0] & FENCE_STORES)) {
         uint64_t address = seen.words[1] << 2;
 
@@ -243,7 +243,7 @@ static bool is_end(uint64_t entry)
     return !(entry & VALID) || (entry & LEAF_BITS);
 }
 
-/* What a leaf, or an entry that is none, makes of an address, at a level of 9 bits each. */
+/* The address that an entry, taken as a leaf of this level, gives for `address`. */
 static uint64_t led_by(uint64_t entry, uint64_t address, int level)
 {
     uint64_t size = UINT64_C(1) << (12 + 9 * level);
@@ -378,10 +378,10 @@ void rviommu_record_access(struct rviommu_recorder *recorder, const rviommu_t *m
     }
     step_has_line(recorder, model);
     if (answer == RVIOMMU_VALUE) {
-        say(recorder, "translate %s 0x%" PRIx64 " 0x%" PRIx64 " # => 0x%" PRIx64 "\n", kind, did, iova, number);
+        put_line(recorder, "translate %s 0x%" PRIx64 " 0x%" PRIx64 " # => 0x%" PRIx64 "\n", kind, did, iova, number);
         return;
     }
-    say(recorder, "translate %s 0x%" PRIx64 " 0x%" PRIx64 " # => denied %" PRIu64 "\n", kind, did, iova, number);
+    put_line(recorder, "translate %s 0x%" PRIx64 " 0x%" PRIx64 " # => denied %" PRIu64 "\n", kind, did, iova, number);
     if (look(model, FQT, 4) == recorder->tail) {
         return;
     }
@@ -395,7 +395,7 @@ void rviommu_record_register_read(struct rviommu_recorder *recorder, const rviom
 {
     if (recorder && recorder->script) {
         step_has_line(recorder, model);
-        say(recorder, "reg read 0x%" PRIx64 " %u # => 0x%" PRIx64 "\n", offset, size, value);
+        put_line(recorder, "reg read 0x%" PRIx64 " %u # => 0x%" PRIx64 "\n", offset, size, value);
     }
 }
 
@@ -403,7 +403,7 @@ void rviommu_record_register_write(struct rviommu_recorder *recorder, const rvio
 {
     if (recorder && recorder->script) {
         step_has_line(recorder, model);
-        say(recorder, "reg write 0x%" PRIx64 " %u 0x%" PRIx64 " # => done\n", offset, size, value);
+        put_line(recorder, "reg write 0x%" PRIx64 " %u 0x%" PRIx64 " # => done\n", offset, size, value);
     }
 }
 
@@ -422,7 +422,7 @@ struct rviommu_recorder *rviommu_record_begin(const char *file, const char *capa
     }
     /* A line at a time, so that the record of a QEMU that is killed ends with a whole line. */
     setvbuf(recorder->script, NULL, _IOLBF, 1 << 16);
-    recorder->said = g_new0(uint64_t, memory->count);
+    recorder->known = g_new0(uint64_t, memory->count);
     recorder->line_of_step = g_array_new(false, true, sizeof(uint64_t));
     return recorder;
 }
@@ -440,7 +440,7 @@ void rviommu_record_end(struct rviommu_recorder *recorder)
         recorder->script = NULL;
     }
     g_array_free(recorder->line_of_step, true);
-    g_free(recorder->said);
+    g_free(recorder->known);
     g_free(recorder->capabilities);
     g_free(recorder->image_file);
     g_free(recorder->file);
@@ -460,8 +460,8 @@ static char *named_step(const struct rviommu_recorder *recorder, uint64_t step)
     return g_strdup_printf("step %" PRIu64, step);
 }
 
-/* What the tables say, as the last words of a line. */
-static char *said_by_tables(const struct rviommu_way *way, uint64_t iova)
+/* The way that the tables give, as the last words of a line. */
+static char *way_by_tables(const struct rviommu_way *way, uint64_t iova)
 {
     if (way->kind == RVIOMMU_TO_NOWHERE) {
         return g_strdup_printf("denied %" PRIu32, way->cause);
@@ -475,7 +475,7 @@ static char *said_by_tables(const struct rviommu_way *way, uint64_t iova)
 char *rviommu_stale_line(const struct rviommu_recorder *recorder, const struct rviommu_why *why)
 {
     g_autofree char *context = named_step(recorder, why->context), *walk = named_step(recorder, why->walk);
-    g_autofree char *tables = said_by_tables(&why->way, why->iova), *served = NULL, *led = NULL;
+    g_autofree char *tables = way_by_tables(&why->way, why->iova), *served = NULL, *led = NULL;
 
     switch (why->kind) {
     case RVIOMMU_WHY_WALK:

@@ -3,7 +3,7 @@
  * FILE.image. So `rviommu explain FILE.image < FILE` plays it again.
  *
  * The guest writes memory without the device. Before each step that reads memory, each word that the step may read and that differs
- * from what the script has there is stored by a line of its own. Each function does nothing if `recorder` is NULL or has ended.
+ * from the script's word there is stored by a line of its own. Each function does nothing if `recorder` is NULL or has ended.
  */
 #ifndef RVIOMMU_RECORD_H_OF_QEMU
 #define RVIOMMU_RECORD_H_OF_QEMU

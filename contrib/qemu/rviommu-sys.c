@@ -24,7 +24,7 @@ OBJECT_DECLARE_SIMPLE_TYPE(RviommuSys, RVIOMMU_SYS)
 /* Causes of a denial are below this number ("Fault/Event-Queue (FQ)", CAUSE). */
 #define CAUSES 512
 
-/* What a PCI function sees as memory. */
+/* The memory that a PCI function accesses. */
 typedef struct Space {
     IOMMUMemoryRegion region;
     AddressSpace space;
@@ -269,14 +269,14 @@ static char *get_counts(Object *object, Error **errp)
     return counts(s);
 }
 
-static void tell_at_exit(Notifier *notifier, void *data)
+static void print_counts_at_exit(Notifier *notifier, void *data)
 {
     RviommuSys *s = container_of(notifier, RviommuSys, at_exit);
-    g_autofree char *told = NULL;
+    g_autofree char *text = NULL;
 
     QEMU_LOCK_GUARD(&s->lock);
-    told = counts(s);
-    error_printf("rviommu-sys: %s\n", told);
+    text = counts(s);
+    error_printf("rviommu-sys: %s\n", text);
     rviommu_record_end(s->recorder);
     s->recorder = NULL;
 }
@@ -371,7 +371,7 @@ static void realize(DeviceState *device, Error **errp)
         return;
     }
     s->lines_later = qemu_bh_new(set_lines_later, s);
-    s->at_exit.notify = tell_at_exit;
+    s->at_exit.notify = print_counts_at_exit;
     qemu_add_exit_notifier(&s->at_exit);
     qemu_register_reset(reset, s);
 }
