@@ -35,7 +35,7 @@
 struct rviommu_recorder {
     struct rviommu_memory memory;
     uint64_t *known;      /* each word as the script has it so far */
-    uint64_t first, end;  /* the pages that the script's memory needs, as physical addresses */
+    uint64_t first, end;  /* the pages that the script's memory needs, as physical addresses; equal if it needs none yet */
     uint64_t lines, bytes;
     FILE *script;         /* NULL after the record's end */
     char *file, *image_file, *capabilities;
@@ -420,6 +420,14 @@ struct rviommu_recorder *rviommu_record_begin(const char *file, const char *capa
         error_setg(errp, "cannot write %s: %s", file, strerror(errno));
         return NULL;
     }
+    /* The image of a script that needs no memory: its first page. */
+    recorder->first = memory->base;
+    recorder->end = memory->base + RVIOMMU_PAGE_MASK + 1;
+    if (!write_image(recorder)) {
+        error_setg(errp, "cannot write %s: %s", recorder->image_file, strerror(errno));
+        return NULL;
+    }
+    recorder->first = recorder->end = 0;
     /* A line at a time, so that the record of a QEMU that is killed ends with a whole line. */
     setvbuf(recorder->script, NULL, _IOLBF, 1 << 16);
     recorder->known = g_new0(uint64_t, memory->count);
@@ -433,8 +441,7 @@ void rviommu_record_end(struct rviommu_recorder *recorder)
         return;
     }
     if (recorder->script) {
-        need(recorder, recorder->first == recorder->end ? recorder->memory.base : recorder->first);
-        if (recorder->script && fclose(recorder->script) != 0) {
+        if (fclose(recorder->script) != 0) {
             error_report("rviommu-sys: cannot write %s: %s", recorder->file, strerror(errno));
         }
         recorder->script = NULL;
