@@ -5,8 +5,10 @@ pub use context::{Context, ContextFields};
 pub use directory::{is_too_wide, locate};
 pub use encoding::{context_of, encode_context};
 pub use listing::{DirectoryPath, Met, path};
+pub use refusal::{DirectoryWord, Refusal, why_refused};
 
 mod context;
 mod directory;
 mod encoding;
 mod listing;
+mod refusal;
