@@ -1,5 +1,5 @@
 -- What is told of lines.
-use Rattle.std.proofs.Common.{◌≡◌, ◌+◌, ◌++◌, ℕ, List, [], take, Option, Ok, ◌∙◌, ap, subst}
+use Rattle.std.proofs.Common.{◌≡◌, ◌+◌, ◌++◌, ℕ, false, List, [], take, codes, Option, Ok, ◌∙◌, ap, subst, refl}
 use Rattle.std.specs.Io.KnownBytes.{Appends}
 use Rattle.std.proofs.KnownBytes.{Appends-trans}
 use Rattle.iom_reader.specs.Answering.{Progress}
@@ -9,7 +9,7 @@ use Rattle.iom_debug.specs.Taking.{Desk}
 use Rattle.iom_debug.specs.Telling.{Leaves, answer_at}
 use Rattle.iom_check.specs.Checking.{Checked, CheckSays, IsChecked, by_check, closing, line_told}
 use Rattle.iom_check.specs.Judging.{tables_at, tables_told}
-use Rattle.iom_check.specs.Scoring.{Score, Told, ended, judged, remarked, with_wish}
+use Rattle.iom_check.specs.Scoring.{Score, Told, ended, judged, noted, remarked, with_wish}
 use Rattle.iom_check.specs.declared.rules.Tally.{Tally}
 
 pub checked : (unread left : Option (List ℕ)) (old new : Progress Checked) (holds : Option (List ℕ)) (tally : Tally) →
@@ -36,7 +36,7 @@ check_says before after line kept said answer tables number score cut count left
     let judged = before.score.rules.fails_if_stale in
     let at : tables ≡ tables_at judged before.desk kept = stale ∙ ap (tables_told judged) left.stale in
     let all : line_told before.score number kept answer tables
-        ≡ line_told before.score number kept (answer_at before.desk kept) (tables_at judged before.desk kept) =
+    ≡ line_told before.score number kept (answer_at before.desk kept) (tables_at judged before.desk kept) =
     ap (λ a. line_told before.score number kept a tables) is ∙ ap (λ t. line_told before.score number kept (answer_at before.desk kept) t) at in
     subst (λ l. CheckSays before l said (record { desk = after; number = number; score = score })) cut
     (record {
@@ -54,6 +54,9 @@ pub told_line : (s mid after : Score) (number : ℕ) (line answer tables empty f
 told_line s mid after number line answer tables empty first all none one moved two ended =
     let begun = judged s number line answer tables in (
       two ∙ ap (λ m. first ++ (remarked m number line answer).said) moved
-      ∙ ap (λ p. p ++ (remarked begun.after number line answer).said) (one ∙ ap (λ p. p ++ begun.said) none),
+          ∙ ap (λ p. p ++ (remarked begun.after number line answer).said) (one ∙ ap (λ p. p ++ begun.said) none),
       ended ∙ ap (λ m. with_wish (remarked m number line answer).after line) moved,
     )
+
+pub ended_noted : (s : Score) (number : ℕ) → s.has_wish ≡ false → ended s number ≡ noted s number (codes "no line has a wish")
+ended_noted s number none = rw none refl

@@ -24,7 +24,8 @@ pub struct Checking<'a> {
 }
 
 impl<'a> Checking<'a> {
-    ghost use Rattle.std.specs.Prelude.{◌≡◌, false};
+    ghost use Rattle.std.specs.Prelude.{◌≡◌};
+    ghost use Rattle.std.specs.Option.{option_map};
     ghost use Rattle.iom_check.specs.Judging.{tables_told};
     ghost use Rattle.iom_check.specs.Scores.{begun, score_of};
 

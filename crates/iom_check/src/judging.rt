@@ -1,6 +1,6 @@
 //! Which lines pass and which fail, and what is said of them.
 
-ghost use Rattle.std.specs.Prelude.{◌≡◌, ◌++◌, ◌≤◌, length, codes, IfSome};
+ghost use Rattle.std.specs.Prelude.{◌≡◌, ◌+◌, ◌++◌, ◌≤◌, length, codes, IfSome};
 ghost use Rattle.std.specs.Option.{option_map};
 ghost use Rattle.iom_debug.specs.Telling.{escaped};
 ghost use Rattle.iom_check.specs.Judging.{allows_stale, fails, meets, message, passes, remark, remark_by, tables_text, title, wish_text};
@@ -14,8 +14,8 @@ fn meets(is_judged: bool, wish: Option<&[u8]>, answer: &[u8], tables: &[u8]) -> 
     ensures { result ≡ meets is_judged (option_map (λ wish. wish.now) wish.entry) answer.now tables.now }
 {
     match wish {
-        Some(wish) =>
-            answer_of(wish) == answer && (!tables.is_empty() || !(is_judged && wants_stale(wish))),
+        Some(wish) => answer_of(wish) == answer
+            && (!tables.is_empty() || !(is_judged && wants_stale(wish))),
         None => answer != b"bad".as_slice(),
     }
 }

@@ -205,13 +205,7 @@ fn noted(text: &[u8]) -> OutputPage
 }
 
 /// Appends a note.
-pub fn push_note(
-    out: &mut ReportPage,
-    style: Style,
-    name: Option<&str>,
-    line: u64,
-    text: &[u8],
-)
+pub fn push_note(out: &mut ReportPage, style: Style, name: Option<&str>, line: u64, text: &[u8])
     requires room { length out.old.items + 2200 ≤ 131072 }
     requires short { length text.now ≤ 64 }
     ensures text { out.new.items ≡ out.old.items ++ note_told style (option_map (λ name. name.now) name.entry) line text.now }

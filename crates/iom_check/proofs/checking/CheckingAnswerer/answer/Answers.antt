@@ -8,11 +8,11 @@ use Rattle.iom_check.proofs.checking.CheckingAnswerer.answer.Goals as goal
 pub returns-clause-next : goal.returns-clause-next
 returns-clause-next g c =
     let both = told_line (score_of c.args.self.now.scoring) (score_of c.judge.new.self) (score_of c.remark.new.self) c.saturating_add-self.result
-        c.first_bytes-line.result.now c.line-answer.result.items c.tables-tables.result.items _ _ _ c.clear.ensures
-        (rw (c.as_slice.ensures.value, c.as_slice-2.ensures.value) at c.judge.ensures.text)
-        (rw (c.as_slice.ensures.value, c.as_slice-2.ensures.value) at c.judge.ensures.score)
-        (rw c.as_slice-3.ensures.value at c.remark.ensures.text)
-        (rw c.as_slice-3.ensures.value at c.remark.ensures.score) in
+    c.first_bytes-line.result.now c.line-answer.result.items c.tables-tables.result.items _ _ _ c.clear.ensures
+    (rw (c.as_slice.ensures.value, c.as_slice-2.ensures.value) at c.judge.ensures.text)
+    (rw (c.as_slice.ensures.value, c.as_slice-2.ensures.value) at c.judge.ensures.score)
+    (rw c.as_slice-3.ensures.value at c.remark.ensures.text)
+    (rw c.as_slice-3.ensures.value at c.remark.ensures.score) in
     told_at_once Checked CheckSays c.args.line.now c.as_slice-4.result.now _ _ c.write_told.result
     (check_says _ _ c.args.line.now c.first_bytes-line.result.now c.as_slice-4.result.now c.line-answer.result.items c.tables-tables.result.items
     c.saturating_add-self.result (score_of c.remark.new.self) c.first_bytes-line.ensures.bytes c.saturating_add-self.ensures
