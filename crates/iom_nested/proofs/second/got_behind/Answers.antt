@@ -1,5 +1,5 @@
 use Rattle.std.proofs.Common.{rules}
-use Rattle.iom_nested.proofs.second.SecondWords.word.Goals as goal
+use Rattle.iom_nested.proofs.second.got_behind.Goals as goal
 
 pub returns-in-Leaf : goal.returns-in-Leaf
 returns-in-Leaf g c = search rules
