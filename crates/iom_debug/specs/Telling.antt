@@ -1,5 +1,5 @@
 -- What the word `debug` writes for the lines of a script, and how texts are told.
-use Rattle.std.specs.Prelude.{ℕ, ◌≡◌, ◌+◌, ◌==◌, ◌++◌, ◌&&◌, ◌||◌, nat_lt, nat_le, List, [], ◌∷◌, length, take, codes, Option, Some, None, if◌then◌else◌}
+use Rattle.std.specs.Prelude.{ℕ, ◌≡◌, ◌+◌, ◌==◌, ◌++◌, ◌&&◌, ◌||◌, Bool, nat_lt, nat_le, List, [], ◌∷◌, length, take, codes, Option, Some, None, if◌then◌else◌}
 use Rattle.std.specs.List.{flat_map}
 use Rattle.std.specs.Option.{unwrap_or}
 use Rattle.hex.specs.Hex.{encode_lower}
@@ -11,6 +11,7 @@ use Rattle.iom_debug.specs.Output.{debug_reply, debug_steps_of}
 use Rattle.iom_debug.specs.Comments.{comment_at, without_blanks}
 use Rattle.iom_debug.specs.Reasons.{GoesAlong, last_stale}
 use Rattle.iom_tool.specs.Script.{debug_line_of}
+use Rattle.iom_slips.specs.Slips.{slip_of}
 use Rattle.iom_debug.specs.Summary.{up_to_64_bits}
 use Rattle.iom_debug.specs.Taking.{Desk}
 
@@ -25,10 +26,19 @@ pub record Leaves (before : Desk) (line : List ℕ) (number : ℕ) (after : Desk
   pub stale : after.reasons.stale ≡ last_stale None before.state (debug_steps_of before.state line)
   pub along : GoesAlong before.reasons before.state (debug_steps_of before.state line) number after.reasons after.state
 
--- a desk, and how many lines were read
+-- a desk, how many lines were read, and whether it is told why a line is bad
 pub record Debugged : Type 0 where
   pub desk : Desk
   pub number : ℕ
+  pub tells_slips : Bool
+
+-- why a line is bad, where that is told; of any other line nothing
+abbrev pub slip_told : Bool → List ℕ → List ℕ
+slip_told tells line = if tells then slip_of line else []
+
+-- an answer with that behind it
+abbrev pub with_slip : List ℕ → List ℕ → List ℕ
+with_slip answer slip = if nat_lt 0 (length slip) then answer ++ codes ": " ++ slip else answer
 
 -- an answer with its line end; nothing where there is none
 abbrev pub line_told : List ℕ → List ℕ
@@ -46,7 +56,8 @@ at_once S says = record {
 pub record DebugSays (before : Debugged) (line said : List ℕ) (after : Debugged) : Type 0 where
   pub number : after.number ≡ up_to_64_bits (before.number + 1)
   pub left : Leaves before.desk line after.number after.desk
-  pub text : said ≡ line_told (answer_at before.desk line)
+  pub same : after.tells_slips ≡ before.tells_slips
+  pub text : said ≡ line_told (with_slip (answer_at before.desk line) (slip_told before.tells_slips line))
 
 abbrev pub by_debug : Answering
 by_debug = by_lines (at_once Debugged DebugSays)
