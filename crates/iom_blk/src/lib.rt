@@ -12,6 +12,7 @@ mod device;
 mod flags;
 pub mod offsets;
 mod phase;
+mod progress;
 mod registers;
 mod request;
 mod taking;

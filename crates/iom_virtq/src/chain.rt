@@ -89,6 +89,14 @@ impl Chain {
         Ok(more_of(flags, next))
     }
 
+    /// Its parts, at most 64, in their order.
+    pub fn parts(&self) -> &[ChainPart]
+        ensures parts { result.now ≡ self.now.parts }
+        ensures few { length result.now ≤ 64 }
+    {
+        self.parts.split_at(self.count).0
+    }
+
     /// How many bytes the chain has on a side: at most 64 * (2^32 - 1).
     pub fn total(&self, side: Side) -> u64
         ensures total { result ≡ length (bytes_on self.now side) }
