@@ -15,6 +15,7 @@ mod flags;
 pub mod offsets;
 mod parts;
 mod phase;
+mod progress;
 mod registers;
 mod request;
 mod taking;
