@@ -5,11 +5,11 @@ ghost use Rattle.std.specs.Prelude.{◌≡◌, ◌≤◌, length};
 use crate::device::Blk;
 
 impl Blk {
-    /// How many descriptors of the chain it took, at most 64, of the request that is under way, else of the one before. A descriptor
-    /// that breaks the device isn't taken (VIRTIO 1.2, "The Virtqueue Descriptor Table").
+    /// How many descriptors it took of the chain of the request that is under way, else of the one before; at most as many as the queue
+    /// has. A descriptor that the chain refuses isn't taken (VIRTIO 1.2, "The Virtqueue Descriptor Table").
     pub fn descriptors_taken(&self) -> usize
         ensures count { result ≡ length self.now.chain.parts }
-        ensures few { result ≤ 64 }
+        ensures few { result ≤ self.now.chain.limit }
     {
         self.request.chain.parts().len()
     }
