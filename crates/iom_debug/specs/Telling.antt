@@ -14,21 +14,22 @@ use Rattle.iom_reader.specs.Speaking.{Speaking, Speaks, by_lines}
 use Rattle.iom_tool.specs.Console.{console, trace_after}
 use Rattle.iom_debug.specs.Output.{debug_reply, debug_steps_of}
 use Rattle.iom_debug.specs.Reasons.{GoesAlong, last_stale, stale_only}
-use Rattle.iom_tool.specs.Script.{debug_line_of}
+use Rattle.iom_names.specs.Reading.{line_with, names_after}
 use Rattle.iom_debug.specs.Summary.{and_one, up_to_64_bits}
 use Rattle.iom_debug.specs.Taking.{Desk}
 use Rattle.iom_debug.specs.Wanted.{wanted, past_blanks, before_blanks}
 
 -- the answer to a line; empty where it has none
 abbrev pub answer_at : Desk → List ℕ → List ℕ
-answer_at desk line = unwrap_or (debug_reply (console desk.state desk.trace) desk.reasons.account (debug_line_of line)) []
+answer_at desk line = unwrap_or (debug_reply (console desk.state desk.trace) desk.reasons.account (line_with desk.names line)) []
 
 -- what a line of this number leaves
 pub record Leaves (before : Desk) (line : List ℕ) (number : ℕ) (after : Desk) : Type 0 where
-  pub state : after.state ≡ end_of before.state (debug_steps_of before.state line)
-  pub trace : after.trace ≡ trace_after before.trace before.state (debug_steps_of before.state line)
-  pub stale : after.reasons.stale ≡ last_stale None before.state (debug_steps_of before.state line)
-  pub along : GoesAlong before.reasons before.state (debug_steps_of before.state line) number after.reasons after.state
+  pub state : after.state ≡ end_of before.state (debug_steps_of before.names before.state line)
+  pub trace : after.trace ≡ trace_after before.trace before.state (debug_steps_of before.names before.state line)
+  pub stale : after.reasons.stale ≡ last_stale None before.state (debug_steps_of before.names before.state line)
+  pub along : GoesAlong before.reasons before.state (debug_steps_of before.names before.state line) number after.reasons after.state
+  pub names : after.names ≡ names_after before.names line
 
 -- a desk, and how many lines were read
 pub record Debugged : Type 0 where
@@ -121,7 +122,7 @@ abbrev pub tables_told : Bool → Option (Result ℕ Denial) → List ℕ
 tables_told is_told stale = if is_told then stale_only stale else []
 
 abbrev pub tables_at : Bool → Desk → List ℕ → List ℕ
-tables_at is_told desk line = tables_told is_told (last_stale None desk.state (debug_steps_of desk.state line))
+tables_at is_told desk line = tables_told is_told (last_stale None desk.state (debug_steps_of desk.names desk.state line))
 
 -- `check` tells each line that fails, and counts
 pub record CheckSays (before : Checked) (line said : List ℕ) (after : Checked) : Type 0 where

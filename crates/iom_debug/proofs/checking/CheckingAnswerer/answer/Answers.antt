@@ -10,7 +10,7 @@ returns-clause-next g c =
     (check_says _ _ c.args.line.now c.first_bytes-line.result.now c.as_slice-7.result.now c.line-answer.result.items c.tables-tables.result.items
     c.saturating_add-self.result c.and_one-self.result c.and_one-self-2.result
     c.first_bytes-line.ensures.bytes c.saturating_add-self.ensures
-    (record { state = c.line-answer.ensures.state; trace = c.line-answer.ensures.trace; stale = c.line-answer.ensures.stale; along = c.line-answer.ensures.along })
+    (record { state = c.line-answer.ensures.state; trace = c.line-answer.ensures.trace; stale = c.line-answer.ensures.stale; along = c.line-answer.ensures.along; names = c.line-answer.ensures.names })
     c.line-answer.ensures.reply c.tables-tables.ensures
     (c.as_slice-7.ensures.value ∙ rw (c.as_slice.ensures.value, c.as_slice-2.ensures.value, c.clear.ensures) at c.put_verdict.ensures)
     (c.and_one-self.ensures ∙ ap (λ b. and_one b c.args.self.now.passed)
