@@ -12,7 +12,7 @@ use Rattle.iom_reader.proofs.Chains.{spoken, broken, lawful as by_lines_lawful}
 use Rattle.iom_debug.specs.Summary.{and_one, up_to_64_bits}
 use Rattle.iom_debug.specs.Taking.{Desk}
 use Rattle.iom_debug.specs.Wanted.{wanted}
-use Rattle.iom_debug.specs.Telling.{Checked, CheckSays, Debugged, DebugSays, IsChecked, Leaves, answer_at, at_once, by_check, fails, line_told, passes, tables_at, tables_told, tally_text, verdict}
+use Rattle.iom_debug.specs.Telling.{Checked, CheckSays, Debugged, DebugSays, IsChecked, Leaves, answer_at, at_once, by_check, fails, line_told, passes, slip_told, tables_at, tables_told, tally_text, verdict, with_slip}
 
 pub nothing_written : (a : Option (List ℕ)) (text : List ℕ) → length text ≡ 0 → Appends a a text
 nothing_written a text none = subst (Appends a a) (sym (nil_from_length text none)) (Appends-nil a)
@@ -54,12 +54,18 @@ cut_to most count line is =
 pub cut_short : (most count : ℕ) (line : List ℕ) → count ≡ min (length line) most → length (take count line) ≤ most
 cut_short most count line is = omega (arith, length-take count line)
 
-pub debug_says : (before : Debugged) (after : Desk) (line kept said answer : List ℕ) (number : ℕ) → kept ≡ take 513 line →
+pub debug_says : (before : Debugged) (after : Desk) (line kept said answer slip : List ℕ) (number : ℕ) → kept ≡ take 513 line →
     number ≡ up_to_64_bits (before.number + 1) → Leaves before.desk kept number after → answer ≡ answer_at before.desk kept →
-    said ≡ line_told answer → DebugSays before (take 513 line) said (record { desk = after; number = number })
-debug_says before after line kept said answer number cut count left is told =
-    subst (λ l. DebugSays before l said (record { desk = after; number = number })) cut
-    (record { number = count; left = left; text = told ∙ ap line_told is })
+    slip ≡ slip_told before.tells_slips before.desk.names kept → said ≡ line_told (with_slip answer slip) →
+    DebugSays before (take 513 line) said (record { desk = after; number = number; tells_slips = before.tells_slips })
+debug_says before after line kept said answer slip number cut count left is why told =
+    subst (λ l. DebugSays before l said (record { desk = after; number = number; tells_slips = before.tells_slips })) cut
+    (record {
+      number = count;
+      left = left;
+      same = refl;
+      text = told ∙ ap (λ a. line_told (with_slip a slip)) is ∙ ap (λ w. line_told (with_slip (answer_at before.desk kept) w)) why;
+    })
 
 pub check_says : (before : Checked) (after : Desk) (line kept said answer tables : List ℕ) (number passed failed : ℕ) → kept ≡ take 513 line →
     number ≡ up_to_64_bits (before.number + 1) → Leaves before.desk kept number after → answer ≡ answer_at before.desk kept →

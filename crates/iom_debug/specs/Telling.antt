@@ -14,7 +14,11 @@ use Rattle.iom_reader.specs.Speaking.{Speaking, Speaks, by_lines}
 use Rattle.iom_tool.specs.Console.{console, trace_after}
 use Rattle.iom_debug.specs.Output.{debug_reply, debug_steps_of}
 use Rattle.iom_debug.specs.Reasons.{GoesAlong, last_stale, stale_only}
-use Rattle.iom_names.specs.Reading.{line_with, names_after}
+use Rattle.iom_names.specs.Names.{with_numbers}
+use Rattle.iom_names.specs.Reading.{is_bad, is_let, is_line, line_with, names_after}
+use Rattle.iom_names.specs.declared.names.Binding.{Binding}
+use Rattle.iom_slips.specs.Slips.{slip_of}
+use Rattle.iom_text.specs.Words.{words_of}
 use Rattle.iom_debug.specs.Summary.{and_one, up_to_64_bits}
 use Rattle.iom_debug.specs.Taking.{Desk}
 use Rattle.iom_debug.specs.Wanted.{wanted, past_blanks, before_blanks}
@@ -31,10 +35,30 @@ pub record Leaves (before : Desk) (line : List ℕ) (number : ℕ) (after : Desk
   pub along : GoesAlong before.reasons before.state (debug_steps_of before.names before.state line) number after.reasons after.state
   pub names : after.names ≡ names_after before.names line
 
--- a desk, and how many lines were read
+-- a desk, how many lines were read, and whether it is told why a line is bad
 pub record Debugged : Type 0 where
   pub desk : Desk
   pub number : ℕ
+  pub tells_slips : Bool
+
+-- why a line is bad where there are these names: that of `let`, or of the line with the numbers in place of the names
+abbrev pub let_slip : List ℕ
+let_slip = codes "let: no such NAME or NUMBER, or 64 names already"
+
+abbrev pub numbered : List Binding → List ℕ → List ℕ
+numbered names line = if is_line line then with_numbers names (words_of line) else line
+
+unfoldable pub slip_with : List Binding → List ℕ → List ℕ
+slip_with names line =
+    if is_bad (line_with names line) then (if is_let (words_of line) then let_slip else slip_of (numbered names line)) else []
+
+-- the same, where that is told; of any other line nothing
+abbrev pub slip_told : Bool → List Binding → List ℕ → List ℕ
+slip_told tells names line = if tells then slip_with names line else []
+
+-- an answer with that behind it
+abbrev pub with_slip : List ℕ → List ℕ → List ℕ
+with_slip answer slip = if nat_lt 0 (length slip) then answer ++ codes ": " ++ slip else answer
 
 -- an answer with its line end; nothing where there is none
 abbrev pub line_told : List ℕ → List ℕ
@@ -52,7 +76,8 @@ at_once S says = record {
 pub record DebugSays (before : Debugged) (line said : List ℕ) (after : Debugged) : Type 0 where
   pub number : after.number ≡ up_to_64_bits (before.number + 1)
   pub left : Leaves before.desk line after.number after.desk
-  pub text : said ≡ line_told (answer_at before.desk line)
+  pub same : after.tells_slips ≡ before.tells_slips
+  pub text : said ≡ line_told (with_slip (answer_at before.desk line) (slip_told before.tells_slips before.desk.names line))
 
 abbrev pub by_debug : Answering
 by_debug = by_lines (at_once Debugged DebugSays)

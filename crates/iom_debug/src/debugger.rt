@@ -1,8 +1,10 @@
 use crate::answers::answer_to;
 use crate::reasons::LineAccount;
+use crate::text::reply_of;
 use crate::ways::address_line;
 use iom_core::Platform;
-use iom_names::Names;
+use iom_names::{Names, is_let, is_line};
+use iom_slips::slip;
 use iom_tool::{Console, Line, Reply, Trace};
 
 /// A script of `debug`, given a line at a time.
@@ -29,6 +31,7 @@ impl<'a> Debugger<'a> {
     ghost use Rattle.iom_debug.specs.Desks.{desk_of, names_of};
     ghost use Rattle.iom_debug.specs.Output.{IsAsRun, debug_reply, debug_steps, debug_steps_of};
     ghost use Rattle.iom_debug.specs.Reasons.{GoesAlong, last_stale, stale_only};
+    ghost use Rattle.iom_debug.specs.Telling.{slip_with};
 
     /// A debugger of this platform with this trace and these reasons, to which no line was given yet.
     pub fn new(
@@ -101,6 +104,27 @@ impl<'a> Debugger<'a> {
             Line::Again(actor, most) => self.take_again(number, actor, most),
             Line::Put(addr, words) => self.store_all(number, addr, words.as_slice()),
             plain => Console::new(self.platform, self.trace).reply_to(plain),
+        }
+    }
+
+    /// Why a line would be answered `bad`, given without its line end, as `VALUE is missing`; empty if it would not be. Numbers stand in place
+    /// of names.
+    #[tactic(auto, unfolding(crate::specs::Telling::slip_with), using(crate::proofs::Slips::too_long))]
+    pub fn slip(&self, text: &[u8]) -> Reply
+        ensures { result.items ≡ slip_with self.now.names text.now }
+    {
+        if !matches!(self.names.said(text), Line::Bad) {
+            return Reply::new();
+        }
+        if is_let(text) {
+            return reply_of(b"let: no such NAME or NUMBER, or 64 names already");
+        }
+        if !is_line(text) {
+            return slip(text);
+        }
+        match self.names.with_numbers(text) {
+            Some(line) => slip(line.as_slice()),
+            None => reply_of(b"a line has at most 512 bytes"),
         }
     }
 

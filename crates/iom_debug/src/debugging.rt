@@ -5,11 +5,12 @@ ghost use Rattle.iom_reader.specs.Answering.{progress};
 ghost use Rattle.iom_reader.specs.Running.{Ends};
 ghost use Rattle.iom_reader.specs.Watching.{read_failed, write_failed};
 ghost use Rattle.iom_debug.specs.Desks.{desk_of};
-ghost use Rattle.iom_debug.specs.Telling.{by_debug, line_told};
+ghost use Rattle.iom_debug.specs.Telling.{by_debug, line_told, slip_told, with_slip};
 
 use crate::debugger::Debugger;
 use crate::page::{OutputPage, first_bytes, put, write_told};
 use iom_reader::{Answerer, RunFault, WatchedReader, WatchedWriter, answer_all};
+use iom_tool::Reply;
 use std::io::{Read, Write};
 
 /// A script of `debug`.
@@ -19,20 +20,25 @@ pub struct Debugging<'a> {
     pub debugger: Debugger<'a>,
     // how many lines were read
     number: u64,
+    // whether it is told why a line is bad
+    tells_slips: bool,
     page: OutputPage,
 }
 
 impl<'a> Debugging<'a> {
     ghost use Rattle.std.specs.Prelude.{◌≡◌};
 
-    /// A script of `debug` for what this debugger drives, of no line yet.
-    pub fn new(debugger: Debugger<'a>) -> Debugging<'a>
+    /// A script of `debug` for what this debugger drives, of no line yet. Behind `bad` it tells why, as `bad: VALUE is missing`, if
+    /// `tells_slips`.
+    pub fn new(debugger: Debugger<'a>, tells_slips: bool) -> Debugging<'a>
         ensures debugger { result.debugger ≡ debugger.entry }
         ensures number { result.number ≡ 0 }
+        ensures tells { result.tells_slips ≡ tells_slips }
     {
         Debugging {
             debugger,
             number: 0,
+            tells_slips,
             page: OutputPage::new(),
         }
     }
@@ -47,6 +53,7 @@ impl Answerer for Debugging<'_> {
     ghost state = { λ d. record {
       desk = desk_of d.debugger;
       number = d.number;
+      tells_slips = d.tells_slips;
     } };
 
     ghost names = { λ d. names_of d.debugger };
@@ -57,21 +64,50 @@ impl Answerer for Debugging<'_> {
         writer: &mut WatchedWriter<'_, W>,
     ) -> Result<(), RunFault> {
         self.number = self.number.saturating_add(1);
-        let answer = self.debugger.line(self.number, first_bytes(line));
+        let line = first_bytes(line);
+        let slip = slip_told(self.tells_slips, &self.debugger, line);
+        let answer = self.debugger.line(self.number, line);
         self.page.clear();
-        put_line(&mut self.page, answer.as_slice());
+        put_line(&mut self.page, answer.as_slice(), slip.as_slice());
         write_told(writer, self.page.as_slice())
     }
 }
 
-// Puts an answer with its line end, where there is one.
-fn put_line(out: &mut OutputPage, answer: &[u8])
-    requires empty { length out.old.items ≡ 0 }
-    requires short { length answer.now ≤ 320 }
-    ensures { out.new.items ≡ out.old.items ++ line_told answer.now }
+// Why a line is bad, where that is told.
+fn slip_told(tells_slips: bool, debugger: &Debugger<'_>, line: &[u8]) -> Reply
+    ensures { result.items ≡ slip_told tells_slips debugger.now.names line.now }
 {
-    if !answer.is_empty() {
-        put(out, answer);
+    if tells_slips {
+        debugger.slip(line)
+    } else {
+        Reply::new()
+    }
+}
+
+// Puts an answer, and why its line is bad.
+fn put_answer(out: &mut OutputPage, answer: &[u8], slip: &[u8])
+    requires empty { length out.old.items ≡ 0 }
+    requires answer { length answer.now ≤ 320 }
+    requires slip { length slip.now ≤ 320 }
+    ensures text { out.new.items ≡ with_slip answer.now slip.now }
+    ensures room { length out.new.items ≤ 642 }
+{
+    put(out, answer);
+    if !slip.is_empty() {
+        put(out, b": ");
+        put(out, slip);
+    }
+}
+
+// Puts an answer, and why its line is bad, with its line end, where there is an answer.
+fn put_line(out: &mut OutputPage, answer: &[u8], slip: &[u8])
+    requires empty { length out.old.items ≡ 0 }
+    requires answer { length answer.now ≤ 320 }
+    requires slip { length slip.now ≤ 320 }
+    ensures { out.new.items ≡ line_told (with_slip answer.now slip.now) }
+{
+    put_answer(out, answer, slip);
+    if !out.is_empty() {
         put(out, b"\n");
     }
 }
@@ -89,10 +125,12 @@ pub fn debug<R: Read, W: Write>(
         (progress (W.contents writer.old.inner.now) (record {
           desk = desk_of debugging.old.debugger;
           number = debugging.old.number;
+          tells_slips = debugging.old.tells_slips;
         }))
         (progress (W.contents writer.new.inner.now) (record {
           desk = desk_of debugging.new.debugger;
           number = debugging.new.number;
+          tells_slips = debugging.new.tells_slips;
         })) result }
 {
     answer_all(debugging, reader, writer)

@@ -1,7 +1,7 @@
 //! The names of a script.
 
-ghost use Rattle.std.specs.Prelude.{◌≡◌, ◌≤◌, length};
-ghost use Rattle.iom_names.specs.Reading.{is_bad, is_line};
+ghost use Rattle.std.specs.Prelude.{◌≡◌, ◌<◌, ◌≤◌, IfNone, IfSome, length};
+ghost use Rattle.iom_names.specs.Reading.{is_bad, is_let, is_line};
 ghost use Rattle.iom_names.specs.Names.{with_numbers};
 ghost use Rattle.iom_text.specs.Words.{words_of};
 ghost use Rattle.iom_tool.specs.Parsed.{Fits, line_as};
@@ -64,11 +64,18 @@ fn is_bad(line: &Line) -> bool
     matches!(line, Line::Bad)
 }
 
-// Whether a text can be a line.
-fn is_line(text: &[u8]) -> bool
+/// Whether a text can be a line: it has at most 512 bytes, and no line end.
+pub fn is_line(text: &[u8]) -> bool
     ensures { result ≡ is_line text.now }
 {
     text.len() <= MOST_BYTES_OF_A_LINE && !text.contains(&b'\n')
+}
+
+/// Whether the first word of a text is `let`.
+pub fn is_let(text: &[u8]) -> bool
+    ensures { result ≡ is_let (words_of text.now) }
+{
+    matches!(take_word(text), Some((b"let", _)))
 }
 
 // The text of a name.
@@ -94,8 +101,21 @@ fn line_with_numbers(names: &[Binding], text: &[u8]) -> Line
     }
 }
 
+// The words of a text with numbers in place of names, a blank before each; None where they are above 512 bytes.
+fn numbered(names: &[Binding], text: &[u8]) -> Option<LineText>
+    ensures some { IfSome result (λ out. out.items ≡ with_numbers names.now (words_of text.now)) }
+    ensures none { IfNone result (512 < length (with_numbers names.now (words_of text.now))) }
+{
+    let mut out = LineText::new();
+    if put_with_numbers(&mut out, names, text) {
+        Some(out)
+    } else {
+        None
+    }
+}
+
 impl Names {
-    ghost use Rattle.std.specs.Prelude.{◌≡◌, [], None, Some, false, is_some, length, nat_lt, true};
+    ghost use Rattle.std.specs.Prelude.{◌≡◌, ◌<◌, [], IfNone, IfSome, None, Some, false, is_some, length, nat_lt, true};
     ghost use Rattle.iom_text.specs.Words.{words_of};
     ghost use Rattle.iom_tool.specs.Parsed.{Fits, line_as};
     ghost use Rattle.iom_tool.specs.Script.{debug_line_of};
@@ -183,6 +203,14 @@ impl Names {
         ensures fits { Fits result }
     {
         line_with_numbers(self.bindings.as_slice(), text)
+    }
+
+    /// The words of a line with the numbers in place of the names, a blank before each; None where they are above 512 bytes.
+    pub fn with_numbers(&self, text: &[u8]) -> Option<LineText>
+        ensures some { IfSome result (λ out. out.items ≡ with_numbers self.now (words_of text.now)) }
+        ensures none { IfNone result (512 < length (with_numbers self.now (words_of text.now))) }
+    {
+        numbered(self.bindings.as_slice(), text)
     }
 
     // Whether a name may be given a number.

@@ -63,7 +63,7 @@ fn play<'a, R: Read, W: Write>(
             }
             Ok(())
         }
-        _ => Ok(debug(&mut Debugging::new(debugger), &mut reader, &mut writer)?),
+        _ => Ok(debug(&mut Debugging::new(debugger, false), &mut reader, &mut writer)?),
     }
 }
 

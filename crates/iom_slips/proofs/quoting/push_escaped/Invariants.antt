@@ -1,0 +1,10 @@
+use Rattle.std.proofs.Common.{◌≡◌, ◌+◌, ◌*◌, ◌++◌, ◌≤◌, length, drop}
+use Rattle.iom_slips.specs.Quoting.{escaped}
+use Rattle.iom_slips.proofs.quoting.push_escaped.Given as goal
+
+-- what stands and what remains are all
+abbrev pub invariant-loop-byte : goal.invariant-loop-byte
+invariant-loop-byte l = record {
+  text : l.out.items ++ escaped (drop l.byte-index l.text) ≡ l.initial.out.items ++ escaped l.text;
+  room : length l.out.items ≤ length l.initial.out.items + 4 * l.byte-index;
+}

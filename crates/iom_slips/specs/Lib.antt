@@ -1,0 +1,6 @@
+pub mod Ranges
+pub mod Quoting
+pub mod Patterns
+pub mod Items
+pub mod Slips
+pub mod Telling
