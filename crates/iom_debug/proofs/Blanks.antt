@@ -4,7 +4,7 @@ use Rattle.std.proofs.Math.Seq.{take-suc}
 use Rattle.std.specs.List.{list_all}
 use Rattle.std.proofs.Math.Bool.{and-true}
 use Rattle.iom_text.specs.Words.{is_blank}
-use Rattle.iom_debug.specs.Wanted.{before_blanks}
+use Rattle.iom_debug.specs.Comments.{before_blanks}
 
 and_false : (b : Bool) → (b && false) ≡ false
 and_false true = refl

@@ -6,6 +6,6 @@ pub mod Texts
 pub mod Answers
 pub mod Output
 pub mod Desks
-pub mod Wanted
+pub mod Comments
 pub mod Summary
 pub mod Telling

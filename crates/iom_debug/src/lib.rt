@@ -1,7 +1,7 @@
 //! The language of `debug`: the script of `run`, and more questions about the platform.
 #![tactic(auto)]
 
-pub use checking::{Checking, check};
+pub use comments::{before_comment, comment_of, is_blank, without_blanks};
 pub use debugger::Debugger;
 pub use debugging::{Debugging, debug};
 pub use iom_account::Reason;
@@ -10,13 +10,12 @@ pub use page::{OutputPage, first_bytes, put, put_escaped, put_number, write_told
 pub use parts::{is_told_alike, put_cached, put_part};
 pub use reason::origin_line;
 pub use reasons::LineAccount;
-pub use summary::{AccessOutcome, Summary};
+pub use summary::{AccessOutcome, Summary, and_one};
 pub use taking::{StepAnswer, is_done, reply_with_count, step_by};
-pub use wanting::{before_comment, expected_answer};
 pub use ways::{address_line, address_of};
 
 mod answers;
-mod checking;
+mod comments;
 mod debugger;
 mod debugging;
 mod page;
@@ -28,5 +27,4 @@ mod summary;
 mod taking;
 mod text;
 mod walks;
-mod wanting;
 mod ways;

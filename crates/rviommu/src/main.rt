@@ -3,8 +3,9 @@
 
 use fault::Fault;
 use iom_asm::Item;
+use iom_check::{Checking, Rules, Style, check};
 use iom_cli::{How, Task, WordsFault, task_of};
-use iom_debug::{Checking, Debugger, Debugging, LineAccount, check, debug};
+use iom_debug::{Debugger, Debugging, LineAccount, debug};
 use iom_explain::{Explaining, explain};
 use iom_play::WRITE_BLOCK;
 use iom_reader::{RunFault, WatchedReader, WatchedWriter};
@@ -50,8 +51,14 @@ fn play<'a, R: Read, W: Write>(
     let debugger = Debugger::new(&mut platform, &mut trace, &mut reasons);
     match how {
         How::Check { fails_if_stale } => {
-            let mut checking = Checking::new(debugger, fails_if_stale);
-            if !check(&mut checking, &mut reader, &mut writer)? {
+            let rules = Rules {
+                fails_if_stale,
+                is_strict: false,
+                looks_at_fences: false,
+                style: Style::Text,
+            };
+            let mut checking = Checking::new(debugger, rules, None, 0);
+            if check(&mut checking, &mut reader, &mut writer)?.failed > 0 {
                 return Err(Fault::Failed);
             }
             Ok(())

@@ -1,0 +1,57 @@
+-- What the word `check` writes for the lines of a script, and counts.
+use Rattle.std.specs.Prelude.{ℕ, ◌≡◌, ◌+◌, ◌++◌, List, Option}
+use Rattle.std.specs.Io.KnownBytes.{Appends, Consumes, IsAtEnd}
+use Rattle.iom_reader.specs.Answering.{Answering}
+use Rattle.iom_reader.specs.Lines.{lines_of}
+use Rattle.iom_reader.specs.Running.{IsWithinLimits}
+use Rattle.iom_reader.specs.Speaking.{Speaks, by_lines}
+use Rattle.iom_debug.specs.Summary.{up_to_64_bits}
+use Rattle.iom_debug.specs.Taking.{Desk}
+use Rattle.iom_debug.specs.Telling.{Leaves, answer_at, at_once}
+use Rattle.iom_check.specs.Judging.{tables_at}
+use Rattle.iom_check.specs.Reporting.{tally_told}
+use Rattle.iom_check.specs.Scoring.{Score, Told, ended, judged, remarked, with_wish}
+use Rattle.iom_check.specs.declared.rules.Tally.{Tally}
+
+-- a desk, how many lines were read, and the score
+pub record Checked : Type 0 where
+  pub desk : Desk
+  pub number : ℕ
+  pub score : Score
+
+-- a line's test point, and what would go unnoticed
+abbrev pub line_told : Score → ℕ → List ℕ → List ℕ → List ℕ → Told
+line_told s number line answer tables =
+    let first = judged s number line answer tables in
+    let second = remarked first.after number line answer in
+    record { said = first.said ++ second.said; after = with_wish second.after line }
+
+abbrev pub told_at : Checked → ℕ → List ℕ → Told
+told_at before number line =
+    line_told before.score number line (answer_at before.desk line) (tables_at before.score.rules.fails_if_stale before.desk line)
+
+-- `check` tells the lines one after the other
+pub record CheckSays (before : Checked) (line said : List ℕ) (after : Checked) : Type 0 where
+  pub number : after.number ≡ up_to_64_bits (before.number + 1)
+  pub left : Leaves before.desk line after.number after.desk
+  pub text : said ≡ (told_at before after.number line).said
+  pub score : after.score ≡ (told_at before after.number line).after
+
+abbrev pub by_check : Answering
+by_check = by_lines (at_once Checked CheckSays)
+
+-- what is told at the end of a script
+abbrev pub closing : Told → List ℕ
+closing last = last.said ++ tally_told last.after.rules.style last.after.name last.after.tally.passed last.after.tally.failed
+
+-- A whole script was checked: what was written is what is told of its lines, one after the other, and of its end.
+pub record IsChecked (start : Checked) (unread left held holds : Option (List ℕ)) (tally : Tally) : Type 0 where
+  pub script : List ℕ
+  pub took : Consumes unread left script
+  pub all : IsAtEnd left
+  pub within : IsWithinLimits script
+  pub text : List ℕ
+  pub end : Checked
+  pub said : Speaks (at_once Checked CheckSays) start (lines_of script) text end
+  pub written : Appends held holds (text ++ closing (ended end.score end.number))
+  pub counts : tally ≡ (ended end.score end.number).after.tally

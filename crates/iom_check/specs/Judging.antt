@@ -1,0 +1,62 @@
+-- Which lines of a checked script pass and which fail, and what is said of them.
+use Rattle.std.specs.Prelude.{ℕ, ◌++◌, ◌&&◌, ◌||◌, Bool, false, not, nat_lt, List, [], length, codes, bytes_eq, Option, Some, None, Result, is_some, if◌then◌else◌}
+use Rattle.iom_core.specs.declared.access.Denial.{Denial}
+use Rattle.iom_debug.specs.Output.{debug_steps_of}
+use Rattle.iom_debug.specs.Reasons.{last_stale, stale_only}
+use Rattle.iom_debug.specs.Taking.{Desk}
+use Rattle.iom_debug.specs.Telling.{before_comment, escaped}
+use Rattle.iom_check.specs.Wanted.{answer_of, has_arrow, wanted, wants_stale}
+
+-- what the tables said of a line's last access that was stale, before its step, where stale accesses are judged
+abbrev pub tables_told : Bool → Option (Result ℕ Denial) → List ℕ
+tables_told is_judged stale = if is_judged then stale_only stale else []
+
+abbrev pub tables_at : Bool → Desk → List ℕ → List ℕ
+tables_at is_judged desk line = tables_told is_judged (last_stale None desk.state (debug_steps_of desk.names desk.state line))
+
+-- The answer is the wanted one, and an access is stale where that is wanted and stale accesses are judged. Where nothing is wanted, the
+-- answer isn't `bad`. `tables` is empty where no stale access is to be told.
+abbrev pub meets : Bool → Option (List ℕ) → List ℕ → List ℕ → Bool
+meets is_judged None answer tables = not (bytes_eq answer (codes "bad"))
+meets is_judged (Some wish) answer tables =
+    bytes_eq (answer_of wish) answer && (nat_lt 0 (length tables) || not (is_judged && wants_stale wish))
+
+abbrev pub allows_stale : Option (List ℕ) → Bool
+allows_stale None = false
+allows_stale (Some wish) = wants_stale wish
+
+-- a line with an answer fails where its wish isn't met, or an access is stale and that isn't wanted
+abbrev pub fails : Bool → Option (List ℕ) → List ℕ → List ℕ → Bool
+fails is_judged wish answer tables =
+    nat_lt 0 (length answer) && (not (meets is_judged wish answer tables) || (nat_lt 0 (length tables) && not (allows_stale wish)))
+
+-- a line passes where it has a wish and an answer, and doesn't fail
+abbrev pub passes : Bool → Option (List ℕ) → List ℕ → List ℕ → Bool
+passes is_judged wish answer tables =
+    nat_lt 0 (length answer) && (is_some wish && not (fails is_judged wish answer tables))
+
+-- the wish that isn't met
+abbrev pub wish_text : Bool → Option (List ℕ) → List ℕ → List ℕ → List ℕ
+wish_text is_judged None answer tables = []
+wish_text is_judged (Some wish) answer tables =
+    if meets is_judged (Some wish) answer tables then [] else codes ", wanted " ++ escaped wish
+
+abbrev pub tables_text : List ℕ → List ℕ
+tables_text tables = if nat_lt 0 (length tables) then codes ", stale: the tables now say " ++ escaped tables else []
+
+-- a line as it is told
+abbrev pub title : List ℕ → List ℕ
+title line = escaped (before_comment line)
+
+-- what is said of a line that fails
+unfoldable pub message : Bool → List ℕ → List ℕ → List ℕ → List ℕ
+message is_judged line answer tables =
+    title line ++ codes " -> " ++ escaped answer ++ wish_text is_judged (wanted line) answer tables ++ tables_text tables
+
+-- what would go unnoticed: a wish on a line that has no answer, and a comment that looks like a wish and is none
+abbrev pub remark_by : Option (List ℕ) → List ℕ → List ℕ → List ℕ
+remark_by (Some wish) line answer = if nat_lt 0 (length answer) then [] else codes "the wish is on a line without an answer"
+remark_by None line answer = if has_arrow line then codes "the comment isn't a wish, which is # => ANSWER" else []
+
+unfoldable pub remark : List ℕ → List ℕ → List ℕ
+remark line answer = remark_by (wanted line) line answer

@@ -1,0 +1,7 @@
+pub mod Wanted
+pub mod Judging
+pub mod Reporting
+pub mod Scoring
+pub mod Checking
+pub mod Scores
+pub mod Drives

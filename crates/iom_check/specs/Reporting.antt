@@ -1,0 +1,94 @@
+-- How test points and notes are told: as text, in TAP 14, and as JUnit's XML.
+use Rattle.std.specs.Prelude.{ℕ, ◌==◌, ◌||◌, ◌++◌, List, [], ◌∷◌, take, codes, Option, Some, None, if◌then◌else◌}
+use Rattle.std.specs.List.{flat_map}
+use Rattle.iom_text.specs.Texts.{numeral}
+use Rattle.iom_debug.specs.Telling.{escaped}
+use Rattle.iom_check.specs.declared.pages.Quoting.{Quoting}
+use Rattle.iom_check.specs.declared.pages.Quoting.TheVariants as quoting
+use Rattle.iom_check.specs.declared.rules.Style.{Style}
+use Rattle.iom_check.specs.declared.rules.Style.TheVariants as style
+
+-- a byte in XML
+unfoldable pub in_xml : ℕ → List ℕ
+in_xml c =
+    if c == 38 then codes "&amp;"
+    else if c == 60 then codes "&lt;"
+    else if c == 62 then codes "&gt;"
+    else if c == 34 then codes "&quot;"
+    else if c == 39 then codes "&apos;"
+    else c ∷ []
+
+-- a byte that stands behind a backslash in a description of TAP 14, `#` and the backslash, and in a quoted text of YAML
+abbrev pub quoted_byte : Quoting → ℕ → List ℕ
+quoted_byte quoting.Tap c = if c == 35 || c == 92 then 92 ∷ c ∷ [] else c ∷ []
+quoted_byte quoting.Yaml c = if c == 34 || c == 92 then 92 ∷ c ∷ [] else c ∷ []
+quoted_byte quoting.Xml c = in_xml c
+
+abbrev pub quoted : Quoting → List ℕ → List ℕ
+quoted quoting text = flat_map (quoted_byte quoting) text
+
+-- a file's name, of which 513 bytes are told; without one
+abbrev pub name_told : List ℕ → List ℕ
+name_told name = escaped (take 513 name)
+
+abbrev pub class_told : Option (List ℕ) → List ℕ
+class_told None = codes "script"
+class_told (Some name) = name_told name
+
+-- a line's place
+abbrev pub place_told : Option (List ℕ) → ℕ → List ℕ
+place_told None line = codes "line " ++ numeral 10 line
+place_told (Some name) line = name_told name ++ codes ":" ++ numeral 10 line
+
+unfoldable pub headed : Option (List ℕ) → ℕ → List ℕ → List ℕ
+headed name line text = place_told name line ++ codes ": " ++ text
+
+-- a test point of TAP, without its head
+unfoldable pub tap_point : ℕ → Option (List ℕ) → ℕ → List ℕ → List ℕ
+tap_point number name line title = numeral 10 number ++ codes " - " ++ quoted quoting.Tap (headed name line title) ++ 10 ∷ []
+
+-- its report
+unfoldable pub tap_report : Option (List ℕ) → ℕ → List ℕ → List ℕ
+tap_report name line message =
+    codes "  ---\n  message: \"" ++ quoted quoting.Yaml (headed name line message) ++ codes "\"\n  ...\n"
+
+-- a test of JUnit, up to its end
+unfoldable pub junit_test : Option (List ℕ) → ℕ → List ℕ → List ℕ
+junit_test name line title =
+    codes "<testcase classname=\"" ++ quoted quoting.Xml (class_told name) ++ codes "\" name=\"" ++ quoted quoting.Xml (headed None line title)
+    ++ codes "\""
+
+unfoldable pub junit_failure : List ℕ → List ℕ
+junit_failure message = codes "><failure message=\"" ++ quoted quoting.Xml message ++ codes "\"/></testcase>\n"
+
+-- a test point that passed, of a number and a title
+abbrev pub passed_told : Style → ℕ → Option (List ℕ) → ℕ → List ℕ → List ℕ
+passed_told style.Text number name line title = []
+passed_told style.Tap number name line title = codes "ok " ++ tap_point number name line title
+passed_told style.Junit number name line title = junit_test name line title ++ codes "/>\n"
+
+-- one that failed
+abbrev pub failed_told : Style → ℕ → Option (List ℕ) → ℕ → List ℕ → List ℕ → List ℕ
+failed_told style.Text number name line title message = headed name line message ++ 10 ∷ []
+failed_told style.Tap number name line title message =
+    codes "not ok " ++ tap_point number name line title ++ tap_report name line message
+failed_told style.Junit number name line title message = junit_test name line title ++ junit_failure message
+
+-- a note, which is no test point
+abbrev pub note_told : Style → Option (List ℕ) → ℕ → List ℕ → List ℕ
+note_told style.Text name line text = headed name line (codes "note: " ++ text) ++ 10 ∷ []
+note_told style.Tap name line text = codes "# " ++ headed name line (codes "note: " ++ text) ++ 10 ∷ []
+note_told style.Junit name line text = []
+
+-- the sum of a script
+abbrev pub sum_told : ℕ → ℕ → List ℕ
+sum_told passed failed = numeral 10 passed ++ codes " passed, " ++ numeral 10 failed ++ codes " failed" ++ 10 ∷ []
+
+abbrev pub named_sum : Option (List ℕ) → ℕ → ℕ → List ℕ
+named_sum None passed failed = sum_told passed failed
+named_sum (Some name) passed failed = name_told name ++ codes ": " ++ sum_told passed failed
+
+abbrev pub tally_told : Style → Option (List ℕ) → ℕ → ℕ → List ℕ
+tally_told style.Text name passed failed = named_sum name passed failed
+tally_told style.Tap name passed failed = []
+tally_told style.Junit name passed failed = []

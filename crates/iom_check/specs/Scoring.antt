@@ -1,0 +1,74 @@
+-- How a checked script goes: its test points, one after the other.
+use Rattle.std.specs.Prelude.{ℕ, ◌+◌, ◌||◌, Bool, nat_lt, List, [], length, codes, Option, is_some, if◌then◌else◌}
+use Rattle.iom_debug.specs.Summary.{up_to_64_bits}
+use Rattle.iom_check.specs.Judging.{fails, message, passes, remark, title}
+use Rattle.iom_check.specs.Reporting.{failed_told, note_told, passed_told}
+use Rattle.iom_check.specs.Wanted.{wanted}
+use Rattle.iom_check.specs.declared.rules.Rules.{Rules}
+use Rattle.iom_check.specs.declared.rules.Tally.{Tally}
+
+-- what a script is judged by, its file, how many test points there were, of which scripts before had some, how many of its own passed
+-- and failed, and whether a line had a wish
+pub record Score : Type 0 where
+  pub rules : Rules
+  pub name : Option (List ℕ)
+  pub points : ℕ
+  pub tally : Tally
+  pub has_wish : Bool
+
+-- what is said, and the score after it
+pub record Told : Type 0 where
+  pub said : List ℕ
+  pub after : Score
+
+abbrev pub quiet : Score → Told
+quiet s = record { said = []; after = s }
+
+-- one more: at most 2^64 - 1
+abbrev pub more : ℕ → ℕ
+more n = up_to_64_bits (n + 1)
+
+abbrev pub one_passed : Score → Score
+one_passed s = record s { points = more s.points; tally = record s.tally { passed = more s.tally.passed } }
+
+abbrev pub one_failed : Score → Score
+one_failed s = record s { points = more s.points; tally = record s.tally { failed = more s.tally.failed } }
+
+-- a test point at a line, by its title
+abbrev pub passed : Score → ℕ → List ℕ → Told
+passed s line title = record {
+  said = passed_told s.rules.style (more s.points) s.name line title;
+  after = one_passed s;
+}
+
+abbrev pub failed : Score → ℕ → List ℕ → List ℕ → Told
+failed s line title message = record {
+  said = failed_told s.rules.style (more s.points) s.name line title message;
+  after = one_failed s;
+}
+
+-- a note fails where the rules are strict
+abbrev pub noted : Score → ℕ → List ℕ → Told
+noted s line text =
+    if s.rules.is_strict then failed s line text text
+    else record { said = note_told s.rules.style s.name line text; after = s }
+
+-- a line of this number and its answer
+abbrev pub judged : Score → ℕ → List ℕ → List ℕ → List ℕ → Told
+judged s number line answer tables =
+    if fails s.rules.fails_if_stale (wanted line) answer tables
+    then failed s number (title line) (message s.rules.fails_if_stale line answer tables)
+    else if passes s.rules.fails_if_stale (wanted line) answer tables then passed s number (title line) else quiet s
+
+abbrev pub noted_at : Score → ℕ → List ℕ → Told
+noted_at s number text = if nat_lt 0 (length text) then noted s number text else quiet s
+
+abbrev pub remarked : Score → ℕ → List ℕ → List ℕ → Told
+remarked s number line answer = noted_at s number (remark line answer)
+
+abbrev pub with_wish : Score → List ℕ → Score
+with_wish s line = record s { has_wish = s.has_wish || is_some (wanted line) }
+
+-- at a script's end, behind its last line
+abbrev pub ended : Score → ℕ → Told
+ended s number = if s.has_wish then quiet s else noted s number (codes "no line has a wish")

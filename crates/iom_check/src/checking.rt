@@ -1,0 +1,120 @@
+//! The word `check`: lines that name the answers that they want.
+
+ghost use Rattle.std.specs.Prelude.{◌≡◌, false, IfOk};
+ghost use Rattle.iom_reader.specs.Watching.{read_failed, write_failed};
+ghost use Rattle.iom_check.specs.Checking.{IsChecked};
+ghost use Rattle.iom_check.specs.Drives.{checked_by};
+
+use crate::pages::ReportPage;
+use crate::rules::{Rules, Tally};
+use crate::scoring::Scoring;
+use iom_debug::{Debugger, first_bytes, write_told};
+use iom_reader::{Answerer, RunFault, WatchedReader, WatchedWriter, answer_all};
+use iom_tool::Reply;
+use std::io::{Read, Write};
+
+/// A script whose lines name the answers that they want.
+#[derive(Drop)]
+pub struct Checking<'a> {
+    /// What its lines drive.
+    pub debugger: Debugger<'a>,
+    // how many lines were read
+    number: u64,
+    scoring: Scoring<'a>,
+}
+
+impl<'a> Checking<'a> {
+    ghost use Rattle.std.specs.Prelude.{◌≡◌};
+    ghost use Rattle.std.specs.Option.{option_map};
+    ghost use Rattle.iom_check.specs.Judging.{tables_told};
+    ghost use Rattle.iom_check.specs.Scores.{begun, score_of};
+
+    /// A check of what this debugger drives, by these rules, of no line yet. `name` is the script's file, if it has one, and `points` the
+    /// number of test points before it.
+    pub fn new(
+        debugger: Debugger<'a>,
+        rules: Rules,
+        name: Option<&'a str>,
+        points: u64,
+    ) -> Checking<'a>
+        ensures debugger { result.debugger ≡ debugger.entry }
+        ensures number { result.number ≡ 0 }
+        ensures score { score_of result.scoring ≡ begun rules (option_map (λ name. name.now) name.entry) points }
+    {
+        Checking {
+            debugger,
+            number: 0,
+            scoring: Scoring {
+                rules,
+                name,
+                points,
+                tally: Tally {
+                    passed: 0,
+                    failed: 0,
+                },
+                has_wish: false,
+                page: ReportPage::new(),
+            },
+        }
+    }
+
+    // What the tables said of the last line's last access that was stale, where that is told.
+    fn tables(&self) -> Reply
+        ensures { result.items ≡ tables_told self.now.scoring.rules.fails_if_stale self.now.debugger.reasons.now.stale }
+    {
+        if self.scoring.rules.fails_if_stale {
+            self.debugger.stale_told()
+        } else {
+            Reply::new()
+        }
+    }
+}
+
+impl Answerer for Checking<'_> {
+    ghost use Rattle.iom_debug.specs.Desks.{names_of};
+    ghost use Rattle.iom_check.specs.Checking.{by_check};
+    ghost use Rattle.iom_check.specs.Drives.{checked_by};
+
+    ghost answering = { by_check };
+
+    ghost state = { checked_by };
+
+    ghost names = { λ c. names_of c.debugger };
+
+    fn answer<W: Write>(
+        &mut self,
+        line: &[u8],
+        writer: &mut WatchedWriter<'_, W>,
+    ) -> Result<(), RunFault> {
+        let line = first_bytes(line);
+        self.number = self.number.saturating_add(1);
+        let answer = self.debugger.line(self.number, line);
+        let tables = self.tables();
+        self.scoring.page.clear();
+        self.scoring
+            .judge(self.number, line, answer.as_slice(), tables.as_slice());
+        self.scoring.remark(self.number, line, answer.as_slice());
+        write_told(writer, self.scoring.page.as_slice())
+    }
+}
+
+/// Checks the script that `reader` gives, and tells each line that fails, in the style of its rules, and at the end how many passed and how
+/// many failed, which it answers. The faults are those of `run`.
+#[tactic(auto, using(iom_debug::proofs::Telling::lawful, crate::proofs::Telling::checked))]
+pub fn check<R: Read, W: Write>(
+    checking: &mut Checking<'_>,
+    reader: &mut WatchedReader<'_, R>,
+    writer: &mut WatchedWriter<'_, W>,
+) -> Result<Tally, RunFault>
+    requires can_read { read_failed reader.old ≡ false }
+    requires can_write { write_failed writer.old ≡ false }
+    ensures checked { IfOk result (λ tally. IsChecked (checked_by checking.old)
+        (R.remaining reader.old.inner.now) (R.remaining reader.new.inner.now)
+        (W.contents writer.old.inner.now) (W.contents writer.new.inner.now) tally) }
+{
+    answer_all(checking, reader, writer)?;
+    checking.scoring.page.clear();
+    checking.scoring.end(checking.number);
+    write_told(writer, checking.scoring.page.as_slice())?;
+    Ok(checking.scoring.tally)
+}

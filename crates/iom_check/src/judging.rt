@@ -1,0 +1,150 @@
+//! Which lines pass and which fail, and what is said of them.
+
+ghost use Rattle.std.specs.Prelude.{◌≡◌, ◌+◌, ◌++◌, ◌≤◌, length, codes, IfSome};
+ghost use Rattle.std.specs.Option.{option_map};
+ghost use Rattle.iom_debug.specs.Telling.{escaped};
+ghost use Rattle.iom_check.specs.Judging.{allows_stale, fails, meets, message, passes, remark, remark_by, tables_text, title, wish_text};
+
+use crate::wanting::{answer_of, has_arrow, wants_stale, wish_of};
+use iom_debug::{OutputPage, before_comment, put, put_escaped};
+
+// Whether an answer is the wanted one, with a stale access where that is wanted and stale accesses are judged, or isn't `bad` where nothing
+// is wanted.
+fn meets(is_judged: bool, wish: Option<&[u8]>, answer: &[u8], tables: &[u8]) -> bool
+    ensures { result ≡ meets is_judged (option_map (λ wish. wish.now) wish.entry) answer.now tables.now }
+{
+    match wish {
+        Some(wish) => answer_of(wish) == answer
+            && (!tables.is_empty() || !(is_judged && wants_stale(wish))),
+        None => answer != b"bad".as_slice(),
+    }
+}
+
+// Whether a stale access is wanted.
+fn allows_stale(wish: Option<&[u8]>) -> bool
+    ensures { result ≡ allows_stale (option_map (λ wish. wish.now) wish.entry) }
+{
+    match wish {
+        Some(wish) => wants_stale(wish),
+        None => false,
+    }
+}
+
+/// Whether a line with this wish fails. `tables` is empty where no stale access is to be told.
+pub fn fails(is_judged: bool, wish: Option<&[u8]>, answer: &[u8], tables: &[u8]) -> bool
+    ensures { result ≡ fails is_judged (option_map (λ wish. wish.now) wish.entry) answer.now tables.now }
+{
+    !answer.is_empty()
+        && (!meets(is_judged, wish, answer, tables) || (!tables.is_empty() && !allows_stale(wish)))
+}
+
+/// Whether it passes.
+pub fn passes(is_judged: bool, wish: Option<&[u8]>, answer: &[u8], tables: &[u8]) -> bool
+    ensures { result ≡ passes is_judged (option_map (λ wish. wish.now) wish.entry) answer.now tables.now }
+{
+    !answer.is_empty() && wish.is_some() && !fails(is_judged, wish, answer, tables)
+}
+
+// Puts the wish that isn't met.
+fn put_wish(
+    out: &mut OutputPage,
+    is_judged: bool,
+    wish: Option<&[u8]>,
+    answer: &[u8],
+    tables: &[u8],
+)
+    requires short { IfSome wish (λ wish. length wish.now ≤ 513) }
+    requires room { length out.old.items ≤ 4096 }
+    ensures text { out.new.items ≡ out.old.items
+        ++ wish_text is_judged (option_map (λ wish. wish.now) wish.entry) answer.now tables.now }
+    ensures room { length out.new.items ≤ length out.old.items + 2062 }
+{
+    if let Some(wanted) = wish
+        && !meets(is_judged, wish, answer, tables)
+    {
+        put_wanted(out, wanted);
+    }
+}
+
+// Puts a wish.
+fn put_wanted(out: &mut OutputPage, wish: &[u8])
+    requires short { length wish.now ≤ 513 }
+    requires room { length out.old.items ≤ 8192 }
+    ensures text { out.new.items ≡ out.old.items ++ (codes ", wanted " ++ escaped wish.now) }
+    ensures room { length out.new.items ≤ length out.old.items + 2062 }
+{
+    put(out, b", wanted ");
+    put_escaped(out, wish);
+}
+
+// Puts what the tables said of an access that was stale.
+fn put_tables(out: &mut OutputPage, tables: &[u8])
+    requires short { length tables.now ≤ 320 }
+    requires room { length out.old.items ≤ 8192 }
+    ensures text { out.new.items ≡ out.old.items ++ tables_text tables.now }
+    ensures room { length out.new.items ≤ length out.old.items + 1308 }
+{
+    if !tables.is_empty() {
+        put_stale(out, tables);
+    }
+}
+
+// Puts what the tables say now.
+fn put_stale(out: &mut OutputPage, tables: &[u8])
+    requires short { length tables.now ≤ 320 }
+    requires room { length out.old.items ≤ 8192 }
+    ensures text { out.new.items ≡ out.old.items ++ (codes ", stale: the tables now say " ++ escaped tables.now) }
+    ensures room { length out.new.items ≤ length out.old.items + 1308 }
+{
+    put(out, b", stale: the tables now say ");
+    put_escaped(out, tables);
+}
+
+/// A line as it is told: without its comment, escaped.
+pub fn title(line: &[u8]) -> OutputPage
+    requires { length line.now ≤ 513 }
+    ensures text { result.items ≡ title line.now }
+    ensures room { length result.items ≤ 2052 }
+{
+    let mut out = OutputPage::new();
+    put_escaped(&mut out, before_comment(line));
+    out
+}
+
+/// What is said of a line that fails.
+#[tactic(auto, unfolding(crate::specs::Judging::message))]
+pub fn message(is_judged: bool, line: &[u8], answer: &[u8], tables: &[u8]) -> OutputPage
+    requires line { length line.now ≤ 513 }
+    requires answer { length answer.now ≤ 320 }
+    requires tables { length tables.now ≤ 320 }
+    ensures text { result.items ≡ message is_judged line.now answer.now tables.now }
+    ensures room { length result.items ≤ 8192 }
+{
+    let mut out = title(line);
+    put(&mut out, b" -> ");
+    put_escaped(&mut out, answer);
+    put_wish(&mut out, is_judged, wish_of(line), answer, tables);
+    put_tables(&mut out, tables);
+    out
+}
+
+// What a line with this wish has that would go unnoticed; empty: nothing.
+fn remark_by(wish: Option<&[u8]>, line: &[u8], answer: &[u8]) -> &'static [u8]
+    ensures text { result.now ≡ remark_by (option_map (λ wish. wish.now) wish.entry) line.now answer.now }
+    ensures short { length result.now ≤ 64 }
+{
+    match wish {
+        Some(_) if answer.is_empty() => b"the wish is on a line without an answer",
+        None if has_arrow(line) => b"the comment isn't a wish, which is # => ANSWER",
+        _ => b"",
+    }
+}
+
+/// What a line has that would go unnoticed: a wish, but no answer; or a comment that looks like a wish and is none. Empty: neither.
+#[tactic(auto, unfolding(crate::specs::Judging::remark))]
+pub fn remark(line: &[u8], answer: &[u8]) -> &'static [u8]
+    ensures text { result.now ≡ remark line.now answer.now }
+    ensures short { length result.now ≤ 64 }
+{
+    remark_by(wish_of(line), line, answer)
+}

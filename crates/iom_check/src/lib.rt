@@ -1,0 +1,14 @@
+//! The word `check`: scripts whose lines name the answers that they want.
+#![tactic(auto)]
+
+pub use checking::{Checking, check};
+pub use rules::{Rules, Style, Tally};
+pub use wanting::{answer_of, has_arrow, wants_stale, wish_of};
+
+mod checking;
+mod judging;
+mod pages;
+mod points;
+mod rules;
+mod scoring;
+mod wanting;

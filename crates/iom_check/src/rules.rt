@@ -1,0 +1,33 @@
+/// How `check` tells what it finds.
+#[derive(Clone, Copy)]
+pub enum Style {
+    /// Each line that fails, and how many passed and how many failed.
+    Text,
+    /// TAP 14: each test point, without the version before them and the plan.
+    Tap,
+    /// The `testcase` of JUnit's XML for each test point, without the elements around them.
+    Junit,
+}
+
+/// What fails, and how it is told.
+#[derive(Clone, Copy)]
+pub struct Rules {
+    /// Whether a line fails also where an access of it is stale and its wish doesn't end with `stale`, or it ends so and none is.
+    pub fails_if_stale: bool,
+    /// Whether what is noted fails: a comment that looks like a wish and is none, a wish on a line without an answer, a script without a
+    /// wish.
+    pub is_strict: bool,
+    /// Whether the places of both caches are looked at after each IOFENCE.C too.
+    pub looks_at_fences: bool,
+    /// How it is told.
+    pub style: Style,
+}
+
+/// How many test points passed, and how many failed: at most 2^64 - 1.
+#[derive(Clone, Copy)]
+pub struct Tally {
+    /// Those that passed.
+    pub passed: u64,
+    /// Those that failed.
+    pub failed: u64,
+}

@@ -1,0 +1,146 @@
+//! How a checked script goes.
+
+use crate::judging::{fails, message, passes, remark, title};
+use crate::pages::ReportPage;
+use crate::points::{Point, push_failure, push_note, push_pass, push_tally};
+use crate::rules::{Rules, Tally};
+use crate::wanting::wish_of;
+
+/// What was found in a script up to a line, and what is told of that line.
+#[derive(Drop)]
+pub struct Scoring<'a> {
+    /// What it is judged by.
+    pub rules: Rules,
+    /// Its file, if it has one.
+    pub name: Option<&'a str>,
+    /// How many test points there were, in scripts before it too.
+    pub points: u64,
+    /// How many of its own passed and failed.
+    pub tally: Tally,
+    /// Whether a line had a wish.
+    pub has_wish: bool,
+    /// What is told.
+    pub page: ReportPage,
+}
+
+impl<'a> Scoring<'a> {
+    ghost use Rattle.std.specs.Prelude.{◌≡◌, ◌+◌, ◌++◌, ◌*◌, ◌≤◌, length};
+    ghost use Rattle.std.specs.Option.{option_map};
+    ghost use Rattle.iom_check.specs.Scores.{score_of};
+    ghost use Rattle.iom_check.specs.Scoring.{ended, failed, judged, more, noted, noted_at, passed, remarked, with_wish};
+    ghost use Rattle.iom_check.specs.Checking.{closing};
+
+    // The next test point, at a line.
+    fn point(&self, line: u64) -> Point<'a>
+        ensures name { result.name ≡ self.now.name }
+        ensures line { result.line ≡ line }
+        ensures number { result.number ≡ more self.now.points }
+    {
+        Point {
+            name: self.name,
+            line,
+            number: self.points.saturating_add(1),
+        }
+    }
+
+    // A test point of a line passes.
+    fn pass(&mut self, line: u64, title: &[u8])
+        requires short { length title.now ≤ 2052 }
+        requires room { length self.old.page.items + 40000 ≤ 131072 }
+        ensures text { self.new.page.items ≡ self.old.page.items ++ (passed (score_of self.old) line title.now).said }
+        ensures room { length self.new.page.items ≤ length self.old.page.items + 40000 }
+        ensures score { score_of self.new ≡ (passed (score_of self.old) line title.now).after }
+    {
+        let point = self.point(line);
+        push_pass(&mut self.page, self.rules.style, point, title);
+        self.points = self.points.saturating_add(1);
+        self.tally.passed = self.tally.passed.saturating_add(1);
+    }
+
+    // A test point of a line fails.
+    fn fail(&mut self, line: u64, title: &[u8], message: &[u8])
+        requires title { length title.now ≤ 2052 }
+        requires message { length message.now ≤ 8192 }
+        requires room { length self.old.page.items + 6 * length title.now + 6 * length message.now + 25300 ≤ 131072 }
+        ensures text { self.new.page.items ≡ self.old.page.items ++ (failed (score_of self.old) line title.now message.now).said }
+        ensures room { length self.new.page.items ≤ length self.old.page.items + 6 * length title.now + 6 * length message.now + 25300 }
+        ensures score { score_of self.new ≡ (failed (score_of self.old) line title.now message.now).after }
+    {
+        let point = self.point(line);
+        push_failure(&mut self.page, self.rules.style, point, title, message);
+        self.points = self.points.saturating_add(1);
+        self.tally.failed = self.tally.failed.saturating_add(1);
+    }
+
+    // Notes what would go unnoticed: it fails where the rules are strict.
+    fn note(&mut self, line: u64, text: &[u8])
+        requires short { length text.now ≤ 64 }
+        requires room { length self.old.page.items ≤ 90000 }
+        ensures text { self.new.page.items ≡ self.old.page.items ++ (noted (score_of self.old) line text.now).said }
+        ensures room { length self.new.page.items ≤ 120000 }
+        ensures score { score_of self.new ≡ (noted (score_of self.old) line text.now).after }
+    {
+        if self.rules.is_strict {
+            self.fail(line, text, text);
+        } else {
+            push_note(&mut self.page, self.rules.style, self.name, line, text);
+        }
+    }
+
+    /// Judges a line of this number by its answer. `tables` is empty where no stale access is to be told.
+    pub fn judge(&mut self, number: u64, line: &[u8], answer: &[u8], tables: &[u8])
+        requires line { length line.now ≤ 513 }
+        requires answer { length answer.now ≤ 320 }
+        requires tables { length tables.now ≤ 320 }
+        requires empty { length self.old.page.items ≡ 0 }
+        ensures text { self.new.page.items ≡ self.old.page.items ++ (judged (score_of self.old) number line.now answer.now tables.now).said }
+        ensures room { length self.new.page.items ≤ 90000 }
+        ensures score { score_of self.new ≡ (judged (score_of self.old) number line.now answer.now tables.now).after }
+    {
+        let is_judged = self.rules.fails_if_stale;
+        if fails(is_judged, wish_of(line), answer, tables) {
+            self.fail(
+                number,
+                title(line).as_slice(),
+                message(is_judged, line, answer, tables).as_slice(),
+            );
+        } else if passes(is_judged, wish_of(line), answer, tables) {
+            self.pass(number, title(line).as_slice());
+        }
+    }
+
+    /// Notes what a line of this number has that would go unnoticed, and whether it has a wish.
+    pub fn remark(&mut self, number: u64, line: &[u8], answer: &[u8])
+        requires { length self.old.page.items ≤ 90000 }
+        ensures text { self.new.page.items ≡ self.old.page.items ++ (remarked (score_of self.old) number line.now answer.now).said }
+        ensures score { score_of self.new ≡ with_wish (remarked (score_of self.old) number line.now answer.now).after line.now }
+    {
+        let text = remark(line, answer);
+        if !text.is_empty() {
+            self.note(number, text);
+        }
+        self.has_wish = self.has_wish || wish_of(line).is_some();
+    }
+
+    // Notes at a script's end, of so many lines, that none had a wish.
+    fn note_end(&mut self, number: u64)
+        requires { length self.old.page.items ≡ 0 }
+        ensures text { self.new.page.items ≡ self.old.page.items ++ (ended (score_of self.old) number).said }
+        ensures room { length self.new.page.items ≤ 120000 }
+        ensures score { score_of self.new ≡ (ended (score_of self.old) number).after }
+    {
+        if !self.has_wish {
+            self.note(number, b"no line has a wish");
+        }
+    }
+
+    /// Notes at a script's end, of so many lines, that none had a wish, and tells its sum.
+    pub fn end(&mut self, number: u64)
+        requires { length self.old.page.items ≡ 0 }
+        ensures text { self.new.page.items ≡ self.old.page.items ++ closing (ended (score_of self.old) number) }
+        ensures score { score_of self.new ≡ (ended (score_of self.old) number).after }
+    {
+        self.note_end(number);
+        push_tally(&mut self.page, self.rules.style, self.name, self.tally);
+    }
+}
