@@ -137,6 +137,8 @@ class Shown(Using):
         for name in NAMES:
             image, script = self.image_of(name), read(name, "script")
             told = [self.told([*words, *image], script) for words in (["check"], ["check", "--stale"])]
+            # The page shows neither notes nor the places at the end.
+            told = [[it for it in one if not re.match(r"line \d+: (note: |place \w+ \d+ is stale)", it)] for one in told]
             (*failed, counts), (*either, _) = told
             failed, either = ([int(re.match(r"line (\d+): ", it)[1]) for it in told] for told in (failed, either))
             self.show(name)

@@ -135,7 +135,7 @@ class Progress(Case):
 
     def test_long_script(self):
         """debug, check and explain: how far a long script from a file is stands on a terminal, and is cleared"""
-        wanted = {"debug": b"done\n" + PART * COUNT, "check": b"0 passed, 0 failed\n"}
+        wanted = {"debug": b"done\n" + PART * COUNT, "check": b"line 1048576: note: no line has a wish\n0 passed, 0 failed\n"}
         for word in ("debug", "check", "explain"):
             told, out = self.told(word, LONG_WALK)
             # A fast machine has played it before there is something to tell.

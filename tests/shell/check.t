@@ -1,5 +1,5 @@
-A line whose answer is the wanted one passes; of another one both are printed. Lines that want nothing don't count, and a
-line that is only a comment wants nothing.
+A line whose answer is the wanted one passes; of another one both are printed. Lines that want nothing don't count. What
+would go unnoticed is noted: a wish without an answer, a comment that looks like a wish, a script without one.
 
   $ rviommu check <<'end'
   > reg write 16 8 1 # => done
@@ -13,11 +13,15 @@ line that is only a comment wants nothing.
   > end
   line 3: dma read 5 0x80000000 2 -> 0700, wanted 0800
   line 5: cmd -> idle, wanted done
+  line 7: note: the comment isn't a wish, which is # => ANSWER
+  line 8: note: the wish is on a line without an answer
   3 passed, 2 failed
   [1]
   $ rviommu check < /dev/null
+  line 0: note: no line has a wish
   0 passed, 0 failed
   $ printf ' \t\n# a comment\nreg read 8 4\n' | rviommu check
+  line 3: note: no line has a wish
   0 passed, 0 failed
   $ printf 'store 0x80000000 1 9\nload 0x80000000 1 # => 0x9\n' | rviommu check
   1 passed, 0 failed
@@ -52,6 +56,9 @@ The wanted answer stands without the blanks around it, and whole. The comment be
   line 3: load 0 8 -> bus error, wanted bus  error
   line 4: load 0 8 -> bus error, wanted bus
   line 5: load 0 8 -> bus error, wanted 
+  line 6: note: the comment isn't a wish, which is # => ANSWER
+  line 7: note: the comment isn't a wish, which is # => ANSWER
+  line 8: note: the comment isn't a wish, which is # => ANSWER
   2 passed, 3 failed
   [1]
   $ printf 'load 0 8 #  \t=> \t bus error \t\r\n' | rviommu check
@@ -67,6 +74,7 @@ A last line without a line end is judged.
   1 passed, 0 failed
   $ printf jump | rviommu check
   line 1: jump -> bad
+  line 1: note: no line has a wish
   0 passed, 1 failed
   [1]
   $ printf 'reg read 8 4 # => 0x2\n \t' | rviommu check
@@ -78,6 +86,20 @@ A report is one line of printable characters.
   line 1: a\tb\x00\x1b\xff -> bad
   line 2: cmd -> idle, wanted a\x07b
   0 passed, 2 failed
+  [1]
+
+A form feed is no blank: words part at spaces, tabs and CRs.
+
+  $ printf '\fcmd # => bad\ncmd\f # => idle\n\r cmd\t # => idle\n' | rviommu check
+  line 2: cmd\x0c -> bad, wanted idle
+  2 passed, 1 failed
+  [1]
+
+Without --stale a last word stale of a wish is left out of account. It is one if something stands before it.
+
+  $ printf 'load 0 8 # => bus error stale\nload 0 8 # => bus error  stale\ncmd # => stale\n' | rviommu check
+  line 3: cmd -> idle, wanted stale
+  2 passed, 1 failed
   [1]
 
 A line of 512 bytes is judged, and a longer one is bad.
@@ -138,12 +160,14 @@ The limits of a script are those of a run: 2^20 lines and 2^26 bytes. What was j
   [1]
   $ full() { yes "#$(printf '%510s')" | head -c 67108864; }
   $ full | rviommu check
+  line 131072: note: no line has a wish
   0 passed, 0 failed
   $ { full; echo; } | rviommu check
   rviommu: script too long
   [1]
   $ head -c 67108864 /dev/zero | tr '\0' ' ' | rviommu check
   line 1:  -> bad
+  line 1: note: no line has a wish
   0 passed, 1 failed
   [1]
   $ head -c 67108865 /dev/zero | tr '\0' ' ' | rviommu check

@@ -12,13 +12,16 @@ lines pass.
   $ echo "$unmapped
   > $read" > unmapped
   $ plain < unmapped
+  line 4: note: no line has a wish
   0 passed, 0 failed
   $ stale < unmapped
   line 4: dma read 5 0x40201abc 4 -> 11223344, stale: the tables now say denied 13
+  line 4: note: no line has a wish
   0 passed, 1 failed
   [1]
   $ rviommu check image --stale < unmapped
   line 4: dma read 5 0x40201abc 4 -> 11223344, stale: the tables now say denied 13
+  line 4: note: no line has a wish
   0 passed, 1 failed
   [1]
 
@@ -38,6 +41,23 @@ What is cached and the tables are one; the answer is stale, and the wanted one, 
   0 passed, 1 failed
   [1]
 
+A stale access may be wanted: then the line fails if none is.
+
+  $ echo "$unmapped
+  > $read # => 11223344 stale" | stale
+  1 passed, 0 failed
+  $ echo "$unmapped
+  > $read # => 0 stale" | stale
+  line 4: dma read 5 0x40201abc 4 -> 11223344, wanted 0 stale, stale: the tables now say denied 13
+  0 passed, 1 failed
+  [1]
+  $ echo "$mapped # => 11223344 stale" | stale
+  line 2: dma read 5 0x40201abc 4 -> 11223344, wanted 11223344 stale
+  0 passed, 1 failed
+  [1]
+  $ echo "$mapped # => 11223344 stale" | plain
+  1 passed, 0 failed
+
 The page is mapped to another frame, with the same bytes; the context is no longer valid.
 
   $ echo "$mapped
@@ -45,12 +65,14 @@ The page is mapped to another frame, with the same bytes; the context is no long
   > store 0x80004008 8 0x200044d7
   > $read" | stale
   line 5: dma read 5 0x40201abc 4 -> 11223344, stale: the tables now say addr=0x80011abc
+  line 5: note: no line has a wish
   0 passed, 1 failed
   [1]
   $ echo "$mapped
   > store 0x800010a0 8 0
   > $read" | stale
   line 4: dma read 5 0x40201abc 4 -> 11223344, stale: the tables now say denied 258
+  line 4: note: no line has a wish
   0 passed, 1 failed
   [1]
 
@@ -104,5 +126,6 @@ So are two reads of the example stale_translation.
   $ rviommu check --stale < "$TESTDIR/../../examples/stale_translation.script"
   line 18: dma read 5 0x40201abc 1 -> 11, stale: the tables now say denied 13
   line 30: dma read 5 0x40201abc 1 -> 11, stale: the tables now say denied 13
+  line 33: note: no line has a wish
   0 passed, 2 failed
   [1]

@@ -89,6 +89,9 @@ pub record HistoryView : Type 0 where
   pub walks : List ℕ
   pub walk_contexts : List ℕ
 
+abbrev pub history_of : List ℕ → List ℕ → List ℕ → HistoryView
+history_of contexts walks walk_contexts = record { contexts = contexts; walks = walks; walk_contexts = walk_contexts }
+
 -- the same before step k of a run
 abbrev pub contexts_at : State → List Step → List ℕ → ℕ → List ℕ
 contexts_at start steps numbers k =

@@ -25,11 +25,11 @@ use std::marker::Model;
 #[derive(Drop)]
 pub struct History {
     // Beside each place of the context cache, the number of the step that filled it.
-    contexts: ArrayVec<u64, 16>,
+    pub(crate) contexts: ArrayVec<u64, 16>,
     // Beside each place of the translation cache, the number of the step that filled it.
-    walks: ArrayVec<u64, 64>,
+    pub(crate) walks: ArrayVec<u64, 64>,
     // Beside the same place, the number of the step that had filled the context under which it walked.
-    walk_contexts: ArrayVec<u64, 64>,
+    pub(crate) walk_contexts: ArrayVec<u64, 64>,
 }
 
 impl Model for History {

@@ -15,6 +15,7 @@ mod explaining;
 mod history;
 mod kept;
 mod notes;
+mod numbers;
 mod origin;
 mod others;
 mod reads;

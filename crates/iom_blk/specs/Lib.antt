@@ -1,6 +1,7 @@
 pub mod Breaking
 pub mod Device
 pub mod Layout
+pub mod Parts
 pub mod Phases
 pub mod Registers
 pub mod Requests

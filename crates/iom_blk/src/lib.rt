@@ -3,7 +3,9 @@
 
 pub use broken::Broken;
 pub use device::Blk;
+pub use parts::BlkParts;
 pub use phase::Phase;
+pub use request::BlockRequest;
 pub use want::{Moved, Want};
 
 mod broken;
@@ -11,7 +13,9 @@ mod bytes;
 mod device;
 mod flags;
 pub mod offsets;
+mod parts;
 mod phase;
+mod progress;
 mod registers;
 mod request;
 mod taking;

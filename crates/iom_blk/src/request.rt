@@ -179,7 +179,7 @@ impl BlockRequest {
 
     /// Whether there are data to move, on a disk of `sectors` sectors.
     #[tactic(auto, unfolding(crate::specs::Requests::moves_data))]
-    fn moves_data(&self, sectors: u64, read_only: bool) -> bool
+    pub(crate) fn moves_data(&self, sectors: u64, read_only: bool) -> bool
         requires whole { length self.now.header.items ≡ 16 }
         requires header { HEADER ≤ readable self.now.chain }
         requires status { 1 ≤ writable self.now.chain }

@@ -1,10 +1,10 @@
 -- No two live places have one key: kept by fills and drops.
-use Rattle.std.proofs.Common.{◌≡◌, ◌++◌, List, [], ◌∷◌, ◌==◌, length, map, Bool, true, false, Option, Some, None, if◌then◌else◌, refl, ap, ◌∙◌}
+use Rattle.std.proofs.Common.{◌≡◌, ◌<◌, ◌++◌, List, [], ◌∷◌, ◌==◌, length, map, nat_lt, Bool, true, false, Option, Some, None, is_some, if◌then◌else◌, refl, ap, ◌∙◌, arith}
 use Rattle.iom_nested.specs.declared.translation.Hit.{Hit}
 use Rattle.iom_cache.specs.declared.key.Key.{Key}
 use Rattle.iom_cache.specs.Index.{AreApart}
 use Rattle.iom_cache.specs.Keys.{same_key}
-use Rattle.iom_cache.specs.Places.{dropped_by, find, made_room}
+use Rattle.iom_cache.specs.Places.{dropped_by, find, made_room, may_follow}
 use Rattle.iom_cache.proofs.Same.{same_key_exact, same_key_itself}
 
 -- where nothing is found at a live place and behind it
@@ -54,6 +54,36 @@ apart_filled (Some own ∷ places) entry apart none =
       find_filled own.0 places entry apart.0 (differs_back entry.0 own.0 f.differs),
       apart_filled places entry apart.1 f.behind,
     )
+
+-- an empty place at the end
+find_before_empty : (key : Key) (places : List (Option (Key × Hit))) → find (same_key key) places ≡ None →
+    find (same_key key) (places ++ None ∷ []) ≡ None
+find_before_empty key [] none = refl
+find_before_empty key (None ∷ places) none = find_before_empty key places none
+find_before_empty key (Some own ∷ places) none =
+    let f = found_none key own places none in passed key own (places ++ None ∷ []) f.differs (find_before_empty key places f.behind)
+
+apart_before_empty : (places : List (Option (Key × Hit))) → AreApart places → AreApart (places ++ None ∷ [])
+apart_before_empty [] apart = tt
+apart_before_empty (None ∷ places) apart = apart_before_empty places apart
+apart_before_empty (Some own ∷ places) apart = (find_before_empty own.0 places apart.0, apart_before_empty places apart.1)
+
+not_found : (found : Option Hit) → is_some found ≡ false → found ≡ None
+not_found None e = refl
+not_found (Some hit) e = absurd (cc)
+
+-- what is appended as it is
+pub record IsNext (places : List (Option (Key × Hit))) (place : Option (Key × Hit)) : Type 0 where
+  pub room : length places < 64
+  pub apart : AreApart (places ++ place ∷ [])
+
+pub next_is_apart : (places : List (Option (Key × Hit))) (place : Option (Key × Hit)) → may_follow same_key 64 places place ≡ true →
+    AreApart places → IsNext places place
+next_is_apart places None may apart = record { room = grind arith; apart = apart_before_empty places apart }
+next_is_apart places (Some entry) may apart =
+    let room : nat_lt (length places) 64 ≡ true = grind arith in
+    let new : is_some (find (same_key entry.0) places) ≡ false = grind arith in
+    record { room = grind arith; apart = apart_filled places entry apart (not_found (find (same_key entry.0) places) new) }
 
 -- the oldest place leaves
 pub apart_behind : (place : Option (Key × Hit)) (places : List (Option (Key × Hit))) → AreApart (place ∷ places) → AreApart places

@@ -2,6 +2,7 @@ pub mod Kept
 pub mod Same
 pub mod Held
 mod Shifts
+mod Raised
 pub mod Stamped
 pub mod Since
 pub mod Origins

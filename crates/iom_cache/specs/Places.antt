@@ -1,6 +1,6 @@
 -- A cache is a list of places, oldest first; None is an empty place. RISC-V IOMMU Architecture 1.0, "Caching in-memory data
 -- structures", leaves the number of entries and their replacement to the implementation; this is the model's.
-use Rattle.std.specs.Prelude.{ℕ, suc, ◌++◌, ◌==◌, Bool, List, [], ◌∷◌, length, drop, map, Contains, Option, Some, None, Result, Ok, Err, if◌then◌else◌}
+use Rattle.std.specs.Prelude.{ℕ, suc, ◌++◌, ◌==◌, ◌&&◌, Bool, not, List, [], ◌∷◌, length, drop, map, nat_lt, is_some, Contains, Option, Some, None, Result, Ok, Err, if◌then◌else◌}
 use Rattle.iom_cache.specs.declared.place.Place.{Place}
 use Rattle.iom_cache.specs.declared.place.Place.TheVariants.{Beyond, Empty, Live}
 
@@ -29,6 +29,11 @@ made_room room places = if length places == room then drop 1 places else places
 abbrev pub filled_by : {K V : Type 0} → ℕ → Option (K × V) → List (Option (K × V)) → List (Option (K × V))
 filled_by room None places = places
 filled_by room (Some entry) places = made_room room places ++ Some entry ∷ []
+
+-- whether a place may stand behind these as it is: there is room for one more, and no live place has its key
+abbrev pub may_follow : {K V : Type 0} → (K → K → Bool) → ℕ → List (Option (K × V)) → Option (K × V) → Bool
+may_follow same room places None = nat_lt (length places) room
+may_follow same room places (Some entry) = nat_lt (length places) room && not (is_some (find (same entry.0) places))
 
 -- a place after a drop
 abbrev pub dropped_by : {K V : Type 0} → (K → V → Bool) → Option (K × V) → Option (K × V)

@@ -32,7 +32,8 @@ impl Model for ContextCache {
 }
 
 impl ContextCache {
-    ghost use Rattle.std.specs.Prelude.{◌≡◌, ◌≤◌, [], Some, None, length, slice_get, IfOk};
+    ghost use Rattle.std.specs.Prelude.{◌≡◌, ◌≤◌, ◌++◌, [], ◌∷◌, Some, None, length, nat_lt, slice_get, IfOk};
+    ghost use Rattle.std.specs.Bool.{OnFalse, OnTrue};
     ghost use Rattle.iom_cache.specs.Places.{find, place_of, IsHeld, filled_by, emptied_by, place_in};
     ghost use Rattle.iom_cache.specs.Keys.{same_did};
     ghost use Rattle.iom_cache.specs.Drops.{drops_context};
@@ -109,6 +110,20 @@ impl ContextCache {
         ensures { self.new ≡ filled_by 16 (Some (did, context)) self.old }
     {
         let _oldest = self.places.push_back(Some((did, context)));
+    }
+
+    /// Appends a place as it is, live or empty, and nothing leaves for it: so a cache is made again, place by place. It answers whether it
+    /// did: there are fewer than 16 places. Else nothing changes.
+    pub fn append(&mut self, place: Option<(u32, Context)>) -> bool
+        ensures room { result ≡ nat_lt (length self.old) 16 }
+        ensures appended { OnTrue result (self.new ≡ self.old ++ place ∷ []) }
+        ensures refused { OnFalse result (self.new ≡ self.old) }
+    {
+        if self.places.len() >= PLACES {
+            return false;
+        }
+        let _none = self.places.push_back(place);
+        true
     }
 
     /// Empties, where they stand, the places that a command drops: IODIR.INVAL_DDT all of them, or with DV those of its device id;

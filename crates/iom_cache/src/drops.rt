@@ -43,8 +43,9 @@ pub fn drops_device(command: &Command, own: u32) -> bool
     }
 }
 
-// With GV the entries of that guest, else those that have no second stage.
-fn vma_guest(gv: bool, gscid: u16, own: Option<u16>) -> bool
+/// Whether IOTINVAL.VMA with GV `gv` drops entries that are tagged by this guest, 16 bits, or by none: with GV those of guest `gscid`, else
+/// those that have no second stage.
+pub fn vma_guest(gv: bool, gscid: u16, own: Option<u16>) -> bool
     ensures { result ≡ vma_guest gv gscid own }
 {
     if gv {
@@ -54,8 +55,9 @@ fn vma_guest(gv: bool, gscid: u16, own: Option<u16>) -> bool
     }
 }
 
-// A global entry serves every process, so one process's invalidation leaves it.
-fn vma_process(pscv: bool, pscid: u32, own: Option<u32>, global: bool) -> bool
+/// Whether IOTINVAL.VMA with PSCV `pscv` drops an entry that is tagged by this process, 20 bits, or by none. A global entry serves every
+/// process, so one process's invalidation leaves it.
+pub fn vma_process(pscv: bool, pscid: u32, own: Option<u32>, global: bool) -> bool
     ensures { result ≡ vma_process pscv pscid own global }
 {
     !pscv || own == Some(pscid) && !global
@@ -68,8 +70,8 @@ fn vma_page(av: bool, s: bool, page: u64, own: u64, width: u32) -> bool
     !av || meets(page, range_width(s, page), own, width)
 }
 
-// How many of the lowest bits of a page's number the range of a command leaves out.
-fn range_width(s: bool, page: u64) -> u32
+/// How many of the lowest bits of a page's number, 52 bits, the range of a command leaves out: with S all up to its lowest 0.
+pub fn range_width(s: bool, page: u64) -> u32
     ensures { result ≡ range_width s page }
 {
     if s { page.trailing_ones() + 1 } else { 0 }
@@ -90,9 +92,18 @@ fn meets(page: u64, width: u32, own: u64, own_width: u32) -> bool
     above(own, wider) == above(page, wider)
 }
 
-// A page's number above its lowest `width` bits. Above 63 none is left.
+/// The same if the second range is given by its part: the number of each of its pages, divided by 2^`own_width`.
+#[tactic(auto, using(crate::proofs::Raised::raised_part))]
+pub fn meets_part(page: u64, width: u32, part: u64, own_width: u32) -> bool
+    ensures { result ≡ meets page width (part * 2 ^ own_width) own_width }
+{
+    let wider = if width <= own_width { own_width } else { width };
+    above(part, wider - own_width) == above(page, wider)
+}
+
+/// A page's number, or any of 64 bits, above its lowest `width` bits. Above 63 none is left.
 #[tactic(auto, using(crate::proofs::Shifts::shifted_out))]
-fn above(page: u64, width: u32) -> u64
+pub fn above(page: u64, width: u32) -> u64
     ensures { result ≡ page / 2 ^ width }
 {
     page.checked_shr(width).unwrap_or(0)

@@ -44,8 +44,8 @@ fn pscid_of(context: &Context) -> Option<u32>
     }
 }
 
-// The guest soft-context id that tags an entry: that of a context with a second stage.
-fn gscid_of(context: &Context) -> Option<u16>
+/// The guest soft-context id that tags an entry: that of a context with a second stage.
+pub fn gscid_of(context: &Context) -> Option<u16>
     ensures { result ≡ gscid_of context.now }
 {
     if context.fields.gmode == 0 {

@@ -41,10 +41,11 @@ impl Model for TransCache {
 }
 
 impl TransCache {
-    ghost use Rattle.std.specs.Prelude.{◌≡◌, ◌<◌, ◌≤◌, [], Some, None, get_or, length, slice_get, IfOk, IfSome};
+    ghost use Rattle.std.specs.Prelude.{◌≡◌, ◌<◌, ◌≤◌, ◌++◌, [], ◌∷◌, Some, None, get_or, length, slice_get, IfOk, IfSome};
+    ghost use Rattle.std.specs.Bool.{OnFalse, OnTrue};
     ghost use Rattle.iom_cache.specs.Buckets.{compared};
     ghost use Rattle.iom_cache.specs.Index.{hit_of};
-    ghost use Rattle.iom_cache.specs.Places.{find, place_of, IsHeld, filled_by, emptied_by, place_in};
+    ghost use Rattle.iom_cache.specs.Places.{find, place_of, IsHeld, filled_by, emptied_by, may_follow, place_in};
     ghost use Rattle.iom_cache.specs.Keys.{same_key};
     ghost use Rattle.iom_cache.specs.Drops.{drops_page};
 
@@ -189,6 +190,33 @@ impl TransCache {
         let place = Some((key, hit));
         self.index.append(at, &place);
         let _none = self.places.push_back(place);
+    }
+
+    /// Appends a place as it is, live or empty, and nothing leaves for it: so a cache is made again, place by place. It answers whether it
+    /// did: there are fewer than 64 places, and no live one has the key of this. Else nothing changes.
+    pub fn append(&mut self, place: Option<(Key, Hit)>) -> bool
+        ensures may { result ≡ may_follow same_key 64 self.old place }
+        ensures appended { OnTrue result (self.new ≡ self.old ++ place ∷ []) }
+        ensures refused { OnFalse result (self.new ≡ self.old) }
+    {
+        if !self.may_append(&place) {
+            return false;
+        }
+        let at = self.places.len();
+        self.index.append(at, &place);
+        let _none = self.places.push_back(place);
+        true
+    }
+
+    // Whether a place may stand behind all others.
+    fn may_append(&self, place: &Option<(Key, Hit)>) -> bool
+        ensures { result ≡ may_follow same_key 64 self.now place.now }
+    {
+        let has_room = self.places.len() < PLACES;
+        match place {
+            Some((key, _)) => has_room && self.find(key).is_none(),
+            None => has_room,
+        }
     }
 
     /// Empties, where they stand, the places that a command drops: IOTINVAL.VMA and IOTINVAL.GVMA by their operands; no other

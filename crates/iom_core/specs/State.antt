@@ -42,6 +42,13 @@ pub record Board : Type 0 where
 abbrev pub state_on : Memory → Board → State
 state_on memory board = record { machine = in_front_of memory board.iommu; devices = board.devices }
 
+-- the board of these registers, caches and devices
+abbrev pub board_of : Registers → List (Option (ℕ × Context)) → List (Option (Key × Hit)) → List (ℕ × Device) → Board
+board_of registers contexts pages devices = record {
+  iommu = record { registers = registers; contexts = contexts; pages = pages };
+  devices = devices;
+}
+
 -- the disk of a device
 abbrev pub disk_of : ℕ × Device → List ℕ
 disk_of own = own.1.disk

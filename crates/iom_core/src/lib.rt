@@ -24,6 +24,7 @@ mod iommu;
 mod law;
 mod looking;
 mod others;
+mod parts;
 mod platform;
 mod port;
 mod step;

@@ -1,3 +1,4 @@
 pub mod Contexts
 pub mod Words
 pub mod Directory
+pub mod Refusals

@@ -72,7 +72,14 @@ pub(crate) fn pointed_by<M: Region>(ram: &M, place: u64) -> Result<u64, Cause>
     ensures entry { result ≡ pointed_by (word (M.memory ram.now) place) }
     ensures fits { IfOk result (λ table. table < 2 ^ 44) }
 {
-    let entry = ram.word(place).ok_or(Cause::DirAccess)?;
+    table_of(ram.word(place).ok_or(Cause::DirAccess)?)
+}
+
+/// The same of an entry with this word.
+pub(crate) fn table_of(entry: u64) -> Result<u64, Cause>
+    ensures entry { result ≡ pointed_by (Some entry) }
+    ensures fits { IfOk result (λ table. table < 2 ^ 44) }
+{
     if !has_bit(entry, 0) {
         Err(Cause::DirInvalid)
     } else if field(entry, 1, 9) != 0 || field(entry, 54, 10) != 0 {
@@ -82,8 +89,8 @@ pub(crate) fn pointed_by<M: Region>(ram: &M, place: u64) -> Result<u64, Cause>
     }
 }
 
-// The context at this physical address.
-fn context_at<M: Region>(ram: &M, registers: &Regs, place: u64) -> Result<Context, Cause>
+/// The context at this physical address.
+pub(crate) fn context_at<M: Region>(ram: &M, registers: &Regs, place: u64) -> Result<Context, Cause>
     ensures verdict { decided_by registers.now.features (Leaf place (words_at (M.memory ram.now) place 4)) ≡ Some result }
     ensures meaning { IsContextOf registers.now.features (words_at (M.memory ram.now) place 4) result }
 {

@@ -7,6 +7,7 @@ use Rattle.iom_mem.specs.Memory.{Memory}
 use Rattle.iom_mem.specs.Memory as memory
 use Rattle.iom_ddt.specs.declared.listing.Met.{Met}
 use Rattle.iom_ddt.specs.declared.listing.Met.TheVariants as met
+use Rattle.iom_ddt.specs.Refusals.{why_refused}
 use Rattle.iom_items.specs.Lines.{line_on, operand}
 use Rattle.iom_items.specs.Lines as lines
 use Rattle.iom_items.specs.declared.item.Item.TheVariants as item
@@ -15,18 +16,24 @@ use Rattle.iom_core.specs.declared.access.Request.{Request}
 use Rattle.iom_tables.specs.Fetches.{IsItem, IsRead}
 use Rattle.iom_tables.specs.declared.part.Part.{Part}
 use Rattle.iom_tables.specs.declared.part.Part.TheVariants as part
-use Rattle.iom_debug.specs.Walks.{IsBeforeEnd, met_text, part_text}
+use Rattle.iom_debug.specs.Walks.{IsBeforeEnd, item_text, met_text, part_text, why_text}
 
 -- one item of the directory is told by what was read of it
-met_alike : (now before : Memory) (features : Features) (item : Met) → IsItem now item → IsItem before item →
-    met_text now features item ≡ met_text before features item
-unfolding met_text lines.item_line_on memory.bytes_at
-met_alike now before features (met.Entry place entry) is was =
+item_alike : (now before : Memory) (features : Features) (item : Met) → IsItem now item → IsItem before item →
+    item_text now features item ≡ item_text before features item
+unfolding lines.item_line_on memory.bytes_at
+item_alike now before features (met.Entry place word) is was =
     ap (λ (o : Option ℕ). codes "dir" ++ operand (codes "at") place ++ codes " "
     ++ unwrap_or (option_map (line_on features item.Dir) (memory.before o (Some []))) (codes "outside")) (sym is ∙ was)
-met_alike now before features (met.Leaf place words) is was =
+item_alike now before features (met.Leaf place words) is was =
     ap (λ (o : Option (List ℕ)). codes "context" ++ operand (codes "at") place ++ codes " "
     ++ unwrap_or (option_map (line_on features item.Context) o) (codes "outside")) (sym is ∙ was)
+
+met_alike : (now before : Memory) (features : Features) (item : Met) → IsItem now item → IsItem before item →
+    met_text now features item ≡ met_text before features item
+unfolding met_text
+met_alike now before features item is was =
+    ap (λ (text : List ℕ). text ++ why_text (why_refused features item)) (item_alike now before features item is was)
 
 one_alike : (now before : Machine) (request asked : Request) (p : Part) → IsBeforeEnd p → now.registers.features ≡ before.registers.features →
     IsRead now.memory p → IsRead before.memory p → part_text now request p ≡ part_text before asked p

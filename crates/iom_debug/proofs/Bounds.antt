@@ -1,8 +1,12 @@
 -- Bounds of what is told.
-use Rattle.std.proofs.Common.{◌≡◌, ◌<◌, ◌^◌, ℕ, zero, suc, List, [], ◌∷◌, Option, sym, subst, arith}
+use Rattle.std.proofs.Common.{◌≡◌, ◌<◌, ◌≤◌, ◌^◌, ℕ, zero, suc, List, [], ◌∷◌, Option, length, sym, subst, arith}
 use Rattle.std.specs.Prelude.{IfSome, slice_get}
+use Rattle.std.specs.Int.Digits.{digits_of}
 use Rattle.std.specs.List.{All, AllByRecursion}
+use Rattle.std.proofs.lemmas.Grind.{common_steps}
+use Rattle.std.proofs.lemmas.Int.Digits.{length-digits_of-le}
 use Rattle.std.proofs.lemmas.List.Elements.{recursion_from_All}
+use Rattle.iom_text.specs.Texts.{numeral}
 use Rattle.iom_tables.specs.Bounds.{PartFits}
 use Rattle.iom_tables.specs.declared.part.Part.{Part}
 use Rattle.iom_regs.specs.Table.{Registers}
@@ -23,3 +27,10 @@ at_place (part ∷ more) (suc i) all = at_place more i all.1
 pub part_fits : (parts : List Part) (i : ℕ) (found : Option Part) → found ≡ slice_get parts i → All PartFits parts → IfSome found PartFits
 part_fits parts i found is all =
     subst (λ (p : Option Part). IfSome p PartFits) (sym is) (at_place parts i (recursion_from_All PartFits parts all))
+
+-- a number below 256 has at most three digits
+pub short_numeral : (n : ℕ) → n < 256 → length (numeral 10 n) ≤ 3
+short_numeral zero small = omega arith
+short_numeral (suc n) small =
+    let few : length (digits_of 10 (suc n)) ≤ 3 = length-digits_of-le 10 3 (suc n) (omega arith) (omega (arith, small)) in
+    grind (arith, common_steps, few)

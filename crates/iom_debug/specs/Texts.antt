@@ -2,7 +2,8 @@
 use Rattle.std.specs.Prelude.{ℕ, ◌+◌, ◌*◌, ◌++◌, ◌==◌, nat_le, List, [], length, take, drop, codes, Option, Some, None, if◌then◌else◌}
 use Rattle.hex.specs.Hex.{encode_lower}
 use Rattle.iom_bits.specs.Bits.{flag}
-use Rattle.iom_text.specs.Texts.{hexadecimal}
+use Rattle.iom_bits.specs.Causes.{cause_number}
+use Rattle.iom_text.specs.Texts.{hexadecimal, numeral}
 use Rattle.iom_regs.specs.Table.{Registers}
 use Rattle.iom_regs.specs.Interrupts.{is_high}
 use Rattle.iom_regs.specs.Views.{command_errors_of, fault_errors_of, queue_of}
@@ -104,13 +105,23 @@ reason_text broke.NothingWritable = codes "nothing-writable"
 reason_text (broke.Denied cause) = codes "denied"
 reason_text broke.Outside = codes "bus-error"
 
-abbrev pub broken_text : Option Broken → List ℕ
-broken_text None = []
-broken_text (Some reason) = codes " broken=" ++ reason_text reason
+-- of a denial its cause, and of a descriptor how many of its chain were taken before it
+unfoldable pub detail_text : Device → Broken → List ℕ
+detail_text device (broke.Denied cause) = codes " " ++ numeral 10 (cause_number cause)
+detail_text device (broke.Descriptor fault) = operand (codes "after") (length device.chain.parts)
+detail_text device broke.IndexAhead = []
+detail_text device broke.BadHead = []
+detail_text device broke.ShortHeader = []
+detail_text device broke.NothingWritable = []
+detail_text device broke.Outside = []
+
+abbrev pub broken_text : Device → Option Broken → List ℕ
+broken_text device None = []
+broken_text device (Some reason) = codes " broken=" ++ reason_text reason ++ detail_text device reason
 
 unfoldable pub blk_text : Device → List ℕ
 blk_text device =
-    codes " phase=" ++ phase_text device.phase ++ ask_text (asks device) ++ counts_text device ++ broken_text device.broken
+    codes " phase=" ++ phase_text device.phase ++ ask_text (asks device) ++ counts_text device ++ broken_text device device.broken
 
 -- a block device, with its id
 abbrev pub device_text : Option (ℕ × Device) → List ℕ

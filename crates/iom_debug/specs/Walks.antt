@@ -1,12 +1,17 @@
 -- The texts of the parts of a walk. Their names are those of the standards' terms.
 use Rattle.std.specs.Prelude.{ℕ, ◌+◌, ◌++◌, List, [], ◌∷◌, codes, slice_get, Option, Some, None, Result}
-use Rattle.iom_text.specs.Texts.{hexadecimal}
+use Rattle.iom_text.specs.Texts.{hexadecimal, numeral}
 use Rattle.iom_bits.specs.declared.features.Features.{Features}
 use Rattle.iom_mem.specs.Memory.{Memory}
 use Rattle.iom_regs.specs.declared.views.Mode.{Mode}
 use Rattle.iom_regs.specs.declared.views.Mode.TheVariants as mode
 use Rattle.iom_ddt.specs.declared.listing.Met.{Met}
 use Rattle.iom_ddt.specs.declared.listing.Met.TheVariants as met
+use Rattle.iom_ddt.specs.declared.refusal.DirectoryWord.{DirectoryWord}
+use Rattle.iom_ddt.specs.declared.refusal.DirectoryWord.TheVariants as the
+use Rattle.iom_ddt.specs.declared.refusal.Refusal.{Refusal}
+use Rattle.iom_ddt.specs.declared.refusal.Refusal.TheVariants as refusal
+use Rattle.iom_ddt.specs.Refusals.{why_refused}
 use Rattle.iom_walk.specs.declared.entry.Ruling.{Ruling}
 use Rattle.iom_walk.specs.declared.entry.Ruling.TheVariants as ruling
 use Rattle.iom_walk.specs.declared.listing.PathEntry.{PathEntry}
@@ -33,12 +38,37 @@ mode_number mode.Off = 0
 mode_number mode.Bare = 1
 mode_number (mode.Levels levels) = levels + 1
 
+-- the word of a context that has reserved bits
+unfoldable pub word_text : DirectoryWord → List ℕ
+word_text the.Entry = []
+word_text the.Tc = codes " of tc"
+word_text the.Ta = codes " of ta"
+word_text the.Fsc = codes " of fsc"
+
+-- the row of the directory's checks that refuses; the line of what is outside memory says so already
+unfoldable pub refusal_text : Refusal → List ℕ
+refusal_text refusal.Outside = []
+refusal_text refusal.Invalid = codes " V=0"
+refusal_text (refusal.Reserved which high low) =
+    codes " reserved bits " ++ numeral 10 high ++ codes ":" ++ numeral 10 low ++ word_text which
+refusal_text (refusal.Mode mode) = codes " mode " ++ numeral 10 mode
+refusal_text (refusal.SecondMode mode) = codes " gmode " ++ numeral 10 mode
+refusal_text refusal.Misaligned = codes " gppn not aligned"
+
+abbrev pub why_text : Option Refusal → List ℕ
+why_text None = []
+why_text (Some why) = refusal_text why
+
 -- an item of the directory, with the line that what stands there has on an IOMMU with these features
-unfoldable pub met_text : Memory → Features → Met → List ℕ
-met_text memory features (met.Entry place word) =
+abbrev pub item_text : Memory → Features → Met → List ℕ
+item_text memory features (met.Entry place word) =
     codes "dir" ++ operand (codes "at") place ++ codes " " ++ shown_text memory features item.Dir place
-met_text memory features (met.Leaf place words) =
+item_text memory features (met.Leaf place words) =
     codes "context" ++ operand (codes "at") place ++ codes " " ++ shown_text memory features item.Context place
+
+-- with the reason why the directory refuses it, if it does
+unfoldable pub met_text : Memory → Features → Met → List ℕ
+met_text memory features met = item_text memory features met ++ why_text (why_refused features met)
 
 -- the row of the table of entries that decides
 unfoldable pub row_text : Ruling → List ℕ

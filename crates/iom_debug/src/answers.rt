@@ -8,12 +8,12 @@ ghost use Rattle.iom_blk.specs.Wants.{wanted};
 ghost use Rattle.iom_tool.specs.Console.{console};
 ghost use Rattle.iom_debug.specs.Answers.{inquired};
 ghost use Rattle.iom_tool.specs.Parsed.{InRange};
-ghost use Rattle.iom_debug.specs.Texts.{ask_text, blk_text, broken_text, bytes_text, device_text, disk_text, part_of, phase_text, queue_text, reason_text, stop_text, vectors_text, view_text, with_line};
+ghost use Rattle.iom_debug.specs.Texts.{ask_text, blk_text, broken_text, bytes_text, detail_text, device_text, disk_text, part_of, phase_text, queue_text, reason_text, stop_text, vectors_text, view_text, with_line};
 
 use crate::debugger::Debugger;
 use crate::reason::{context_origin_line, page_origin_line, why_line};
 use crate::standings::{context_standing_line, page_standing_line};
-use crate::text::{push_bytes, push_hexadecimal, push_operand, push_text, reply_of};
+use crate::text::{push_bytes, push_hexadecimal, push_number, push_operand, push_text, reply_of};
 use crate::walks::walk_line;
 use crate::ways::stale_line;
 use iom_bits::flag;
@@ -245,14 +245,30 @@ fn reason_text(reason: Broken) -> &'static [u8]
     }
 }
 
-// Appends what broke a block device, where it is broken.
-fn push_broken(out: &mut Reply, broken: Option<Broken>)
-    requires { length out.old.items ≤ 256 }
-    ensures text { out.new.items ≡ out.old.items ++ broken_text broken }
+// Appends the cause of a denial that broke a block device, or how many descriptors came before the one that did.
+#[tactic(auto, unfolding(crate::specs::Texts::detail_text))]
+fn push_detail(out: &mut Reply, device: &Blk, reason: Broken)
+    requires { length out.old.items ≤ 290 }
+    ensures text { out.new.items ≡ out.old.items ++ detail_text device.now reason }
 {
-    if let Some(reason) = broken {
+    match reason {
+        Broken::Denied(cause) => push_number(out, b" ", u64::from(cause.number())),
+        Broken::Descriptor(_) => {
+            push_operand(out, b"after", device.descriptors_taken() as u64);
+        }
+        _ => {}
+    }
+}
+
+// Appends what broke a block device, where it is broken.
+fn push_broken(out: &mut Reply, device: &Blk)
+    requires { length out.old.items ≤ 256 }
+    ensures text { out.new.items ≡ out.old.items ++ broken_text device.now device.now.broken }
+{
+    if let Some(reason) = device.breakage() {
         push_text(out, b" broken=");
         push_text(out, reason_text(reason));
+        push_detail(out, device, reason);
     }
 }
 
@@ -268,7 +284,7 @@ fn push_blk(out: &mut Reply, device: &Blk)
     push_operand(out, b"head", u64::from(device.head()));
     push_operand(out, b"seen", u64::from(device.taken_index()));
     push_operand(out, b"used", u64::from(device.used_index()));
-    push_broken(out, device.breakage());
+    push_broken(out, device);
 }
 
 // A block device, with its id.

@@ -10,13 +10,13 @@ ghost use Rattle.iom_core.specs.declared.access.Request.{Request};
 ghost use Rattle.iom_tables.specs.Bounds.{PartFits};
 ghost use Rattle.iom_tables.specs.Fetches.{IsRead};
 ghost use Rattle.iom_tool.specs.Debugger.{shown_text};
-ghost use Rattle.iom_debug.specs.Walks.{IsBeforeEnd, end_text, first_text, got_text, in_text, met_text, mode_number, part_text, row_text, second_text, wide_text};
+ghost use Rattle.iom_debug.specs.Walks.{IsBeforeEnd, end_text, first_text, got_text, in_text, item_text, met_text, mode_number, part_text, refusal_text, row_text, second_text, wide_text, word_text};
 ghost use Rattle.iom_debug.specs.Ways.{address_text};
 
 use crate::ways::address_of;
 use iom_bits::{Cause, field};
 use iom_core::{Denial, Platform, Request};
-use iom_ddt::{Context, Met};
+use iom_ddt::{Context, DirectoryWord, Met, Refusal, why_refused};
 use iom_items::{Item, context_line, item_line_on};
 use iom_regs::Mode;
 use iom_tables::{Part, Way, Wide};
@@ -125,9 +125,9 @@ fn push_ddtp(out: &mut ReplyDraft, mode: Mode, root: u64)
 
 // Appends a blank and the line of an item on this platform, or that a byte of it is outside memory.
 fn push_item(out: &mut ReplyDraft, platform: &Platform, kind: Item, addr: u64)
-    requires { length out.old ≤ 63 }
+    requires { length out.old ≤ 33 }
     ensures text { out.new ≡ out.old ++ codes " " ++ shown_text platform.now.machine.memory platform.now.machine.registers.features kind addr }
-    ensures short { length out.new ≤ 320 }
+    ensures room { length out.new ≤ length out.old + 257 }
 {
     out.append(b" ");
     match item_line_on(platform.ram(), platform.registers().features(), kind, addr) {
@@ -136,12 +136,86 @@ fn push_item(out: &mut ReplyDraft, platform: &Platform, kind: Item, addr: u64)
     }
 }
 
-// Appends an item of the directory.
+// Appends a number below 256 in decimal.
+#[tactic(auto, using(crate::proofs::Bounds::short_numeral))]
+fn push_small(out: &mut ReplyDraft, number: u8)
+    requires { length out.old + 3 ≤ 320 }
+    ensures text { out.new ≡ out.old ++ numeral 10 number }
+    ensures room { length out.new ≤ length out.old + 3 }
+{
+    out.append(decimal(u64::from(number)).as_slice());
+}
+
+// The word of a context that has reserved bits.
+#[tactic(auto, unfolding(crate::specs::Walks::word_text))]
+fn word_text(which: DirectoryWord) -> &'static [u8]
+    ensures text { result.now ≡ word_text which }
+    ensures short { length result.now ≤ 7 }
+{
+    match which {
+        DirectoryWord::Entry => b"",
+        DirectoryWord::Tc => b" of tc",
+        DirectoryWord::Ta => b" of ta",
+        DirectoryWord::Fsc => b" of fsc",
+    }
+}
+
+// Appends a range of bits.
+fn push_bits(out: &mut ReplyDraft, high: u8, low: u8)
+    requires { length out.old + 7 ≤ 320 }
+    ensures text { out.new ≡ out.old ++ numeral 10 high ++ codes ":" ++ numeral 10 low }
+    ensures room { length out.new ≤ length out.old + 7 }
+{
+    push_small(out, high);
+    out.append(b":");
+    push_small(out, low);
+}
+
+// Appends why the directory refuses an item.
+#[tactic(auto, unfolding(crate::specs::Walks::refusal_text))]
+fn push_refusal(out: &mut ReplyDraft, refusal: Refusal)
+    requires { length out.old ≤ 290 }
+    ensures text { out.new ≡ out.old ++ refusal_text refusal }
+    ensures short { length out.new ≤ 320 }
+{
+    match refusal {
+        Refusal::Outside => {}
+        Refusal::Invalid => out.append(b" V=0"),
+        Refusal::Reserved { which, high, low } => {
+            out.append(b" reserved bits ");
+            push_bits(out, high, low);
+            out.append(word_text(which));
+        }
+        Refusal::Mode(mode) => {
+            out.append(b" mode ");
+            push_small(out, mode);
+        }
+        Refusal::SecondMode(mode) => {
+            out.append(b" gmode ");
+            push_small(out, mode);
+        }
+        Refusal::Misaligned => out.append(b" gppn not aligned"),
+    }
+}
+
+// Appends an item of the directory, and why it is refused.
 #[tactic(auto, unfolding(crate::specs::Walks::met_text))]
 fn push_met(out: &mut ReplyDraft, platform: &Platform, met: &Met)
     requires { length out.old ≡ 0 }
     ensures text { out.new ≡ out.old ++ met_text platform.now.machine.memory platform.now.machine.registers.features met.now }
     ensures short { length out.new ≤ 320 }
+{
+    push_directory_item(out, platform, met);
+    if let Some(refusal) = why_refused(platform.registers().features(), met) {
+        push_refusal(out, refusal);
+    }
+}
+
+// Appends an item of the directory.
+fn push_directory_item(out: &mut ReplyDraft, platform: &Platform, met: &Met)
+    requires { length out.old ≡ 0 }
+    ensures text { out.new ≡ out.old ++ item_text platform.now.machine.memory platform.now.machine.registers.features met.now }
+    ensures room { length out.new ≤ 290 }
 {
     match met {
         Met::Entry { place, .. } => {

@@ -11,3 +11,4 @@ pub mod Reading
 pub mod Midway
 pub mod Below
 pub mod Trees
+pub mod OneMemory

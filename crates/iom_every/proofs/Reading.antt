@@ -16,7 +16,7 @@ use Rattle.iom_ddt.specs.declared.listing.Met.{Met as Listed}
 use Rattle.iom_ddt.specs.declared.listing.Met.TheVariants as listed
 use Rattle.iom_ddt.specs.Directory.{path_of, with_modes}
 use Rattle.iom_ddt.specs.Words.{context_in}
-use Rattle.iom_walk.specs.Path.{MetEntry as Met}
+use Rattle.iom_walk.specs.declared.met.MetEntry.{MetEntry as Met}
 use Rattle.iom_walk.specs.Verdict.{is_global, is_valid, word_of}
 use Rattle.iom_walk.specs.declared.shape.Shape.{Shape}
 use Rattle.iom_nested.specs.Faults.{Failure}

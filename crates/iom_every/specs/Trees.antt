@@ -14,7 +14,8 @@ use Rattle.iom_ddt.specs.Contexts.{is_bare}
 use Rattle.iom_ddt.specs.Directory.{is_too_wide}
 use Rattle.iom_ddt.specs.declared.context.Context.{Context}
 use Rattle.iom_walk.specs.Outcome.{verdict_on_path}
-use Rattle.iom_walk.specs.Path.{MetEntry as Met, entry_at, next_table, verdict_on}
+use Rattle.iom_walk.specs.Path.{entry_at, next_table, verdict_on}
+use Rattle.iom_walk.specs.declared.met.MetEntry.{MetEntry as Met}
 use Rattle.iom_walk.specs.Shape.{is_in_width, levels}
 use Rattle.iom_walk.specs.Verdict.{is_pointer}
 use Rattle.iom_walk.specs.declared.outcome.Outcome.TheVariants as outcome

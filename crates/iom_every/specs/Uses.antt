@@ -1,13 +1,14 @@
 -- Which entry a look-up of a walk may use: RISC-V IOMMU Architecture 1.0, "Caching in-memory data structures". A look-up takes the first use of the
 -- source that fits it; further ones have no effect.
-use Rattle.std.specs.Prelude.{ℕ, ◌/◌, ◌==◌, ◌&&◌, ◌||◌, Bool, List, [], ◌∷◌, nat_lt, Option, Some, None, Result, if◌then◌else◌}
-use Rattle.iom_bits.specs.declared.causes.Cause.{Cause}
+use Rattle.std.specs.Prelude.{ℕ, ◌/◌, ◌==◌, ◌&&◌, ◌||◌, Bool, List, [], ◌∷◌, nat_lt, Option, Some, None, if◌then◌else◌}
 use Rattle.iom_ddt.specs.declared.context.Context.{Context}
 use Rattle.iom_walk.specs.Shape.{levels}
 use Rattle.iom_walk.specs.declared.shape.Shape.{Shape}
 use Rattle.iom_nested.specs.declared.translation.Hit.{Hit}
 use Rattle.iom_cache.specs.Keys.{gscid_of, same_id, same_key}
 use Rattle.iom_cache.specs.declared.key.Key.{Key}
+pub use Rattle.iom_every.specs.declared.uses.Entered.{Entered}
+pub use Rattle.iom_every.specs.declared.uses.Entered.TheVariants.{AtLeaf, Below}
 use Rattle.iom_every.specs.Entries.{Entry, Held, OfDirectory, OfDevice, OfFirst, OfSecond, OfPage, covers, id_part}
 
 -- The look-ups of one request: one for the device's context; one for the whole translation; one in the first stage; and in the second stage one for
@@ -27,11 +28,6 @@ or_else (Some x) other = Some x
 abbrev pub used_by : {X : Type 0} → (Look → Entry → Option X) → List (Look × Entry) → Option X
 used_by fits [] = None
 used_by fits (used ∷ source) = or_else (fits used.0 used.1) (used_by fits source)
-
--- the beginning of a search of the directory: at a leaf that is held, or below a non-leaf entry of some level
-pub data Entered : Type 0 where
-  AtLeaf : (said : Result Context Cause) → Entered
-  Below : (level word : ℕ) → Entered
 
 abbrev pub where_fits : {X : Type 0} → Bool → X → Option X
 where_fits fits x = if fits then Some x else None

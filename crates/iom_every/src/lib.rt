@@ -1,16 +1,26 @@
 //! Every IOMMU that the standard allows (RISC-V IOMMU Architecture 1.0, "Caching in-memory data structures"): the systems of
-//! `iom_choices`, with the walks, the commands and the steps of this model. This crate has definitions and laws, but no code.
+//! `iom_choices`, with the walks, the commands and the steps of this model; and the entries that they may keep.
 #![tactic(auto)]
 
+pub use dropping::drops_entry;
 pub use drops::{drops_of_directory_entries, drops_of_stage_entries, drops_of_this_models_entries};
 pub use entering::fresh_entries_lead_alike;
+pub use entry::{Entry, Held};
+pub use keeping::{DirectoryEntries, HeldPath, directory_in, held_in};
 pub use laws::{
     answers_are_settled, held_entries_are_listed, model_is_one, runs_are_this_models,
     sources_are_used, tables_lead, walks_are_trees,
 };
 pub use reads::{met_entries_are_read, requests_read, valid_entries_alone};
+pub use uses::{Entered, device_use, first_use, page_use, second_use};
+pub use walks::{met, outcome_by};
 
+mod dropping;
 mod drops;
 mod entering;
+mod entry;
+mod keeping;
 mod laws;
 mod reads;
+mod uses;
+mod walks;

@@ -6,7 +6,7 @@ ghost use Rattle.iom_regs.specs.Views.{mode_of};
 ghost use Rattle.iom_regs.specs.declared.views.Mode.TheVariants.{Levels};
 ghost use Rattle.iom_ddt.specs.Contexts.{is_bare};
 ghost use Rattle.iom_ddt.specs.declared.context.Context.{Context};
-ghost use Rattle.iom_walk.specs.Path.{MetEntry as Met};
+ghost use Rattle.iom_walk.specs.declared.met.MetEntry.{MetEntry as Met};
 ghost use Rattle.iom_walk.specs.Verdict.{is_valid, word_of};
 ghost use Rattle.iom_walk.specs.declared.shape.Shape.{Shape};
 ghost use Rattle.iom_nested.specs.Stages.{first_shape_of, format_of, second_shape_of};

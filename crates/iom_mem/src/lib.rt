@@ -1,7 +1,7 @@
 //! Physical memory: one region of bytes.
 #![tactic(auto)]
 
-ghost use Rattle.std.specs.Prelude.{◌≡◌, ◌+◌, ◌/◌, ◌&&◌, ◌≤◌, ◌<◌, ◌⊎◌, length, take, drop, Some, None, IfOk, IfErr, IfSome, IfNone};
+ghost use Rattle.std.specs.Prelude.{◌≡◌, ◌+◌, ◌*◌, ◌/◌, ◌&&◌, ◌≤◌, ◌<◌, ◌⊎◌, length, take, drop, Some, None, IfOk, IfErr, IfSome, IfNone};
 ghost use Rattle.std.specs.Bool.{OnTrue, OnFalse};
 ghost use Rattle.std.specs.Option.{is_some};
 ghost use Rattle.iom_mem.specs.Sizes.{covers, is_good_size, is_paged};
@@ -92,6 +92,8 @@ impl Model for Ram {
 impl Ram {
     ghost use Rattle.iom_mem.specs.Memory.{size_of, bytes_at, word, words_at, put, ReplacesBytes};
     ghost use Rattle.iom_mem.specs.Sizes.{IsLegal, refusal_of, zeroed};
+    ghost use Rattle.iom_mem.specs.Lent.{memory_of};
+    ghost use Rattle.iom_mem.specs.Words.{bytes_of_words};
 
     /// Memory of `size` bytes, all 0, from physical address `base` on.
     ///
@@ -115,6 +117,24 @@ impl Ram {
         words
             .resize(size as usize / 8, 0)
             .map_err(|_| MemFault::OutOfMemory)?;
+        Ok(Ram { base, words })
+    }
+
+    /// Memory of these words, the first of them at physical address `base`. It is refused as by `new`, by a size of eight bytes a word.
+    #[tactic(auto, using(crate::proofs::WordBytes::words_hold))]
+    pub fn of_words(alloc: Global, base: u64, words: &[u64]) -> Result<Ram, MemFault>
+        ensures refused { IfSome (refusal_of base (8 * length words.now)) (λ fault. result ≡ Err fault) }
+        ensures made { IfOk result (λ ram. ram ≡ memory_of base words.now) }
+        ensures accepted { IfNone (refusal_of base (8 * length words.now))
+            (IfErr result (λ fault. fault ≡ MemFault.OutOfMemory)) }
+    {
+        if !is_paged(base) {
+            return Err(MemFault::BadBase);
+        }
+        if !is_good_size(base, 8 * words.len() as u64) {
+            return Err(MemFault::BadSize);
+        }
+        let words = Vec::from_slice(alloc, words).map_err(|_| MemFault::OutOfMemory)?;
         Ok(Ram { base, words })
     }
 
@@ -193,7 +213,8 @@ impl Ram {
 
     /// All of memory as words: word i is the one at physical address `base + 8 * i`.
     pub fn as_words(&self) -> &[u64]
-        ensures { words_at self.now self.now.base (size_of self.now / 8) ≡ Some result.now }
+        ensures read { words_at self.now self.now.base (size_of self.now / 8) ≡ Some result.now }
+        ensures bytes { bytes_of_words result.now ≡ self.now.bytes }
     {
         all_words(&self.words)
     }

@@ -3,10 +3,10 @@
 #![tactic(auto)]
 
 pub use physical::Physical;
-pub use second::{Second, second_shape};
+pub use second::{Second, got_behind, second_shape};
 pub use translation::{
-    Fault, Hit, Reached, first_shape, first_stage, first_stage_listed, one_hit_a_page,
-    second_stage, translate,
+    Fault, Hit, Reached, first_shape, first_stage, first_stage_listed, hit_by, one_hit_a_page,
+    reached_by, second_stage, translate,
 };
 
 mod physical;

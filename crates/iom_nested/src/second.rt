@@ -1,5 +1,6 @@
 ghost use Rattle.std.specs.Prelude.{◌≡◌, ◌<◌, ◌^◌, IsSome};
-ghost use Rattle.iom_nested.specs.Stages.{guest_got, second_shape_of, table_got};
+ghost use Rattle.iom_nested.specs.Stages.{got_behind, guest_got, second_shape_of, table_got};
+ghost use Rattle.iom_nested.specs.Nested.{LeafReaches};
 
 use crate::physical::Physical;
 use iom_bits::{Features, Kind};
@@ -38,17 +39,26 @@ impl<M: Region> Words for Second<'_, M> {
     ghost at = { λ source. guest_got (M.memory source.ram.now) source.format source.root };
 
     fn word(&self, addr: u64) -> Got {
-        match walk(
+        let outcome = walk(
             &Physical { ram: self.ram },
             self.format,
             self.root,
             addr,
             Kind::Read,
-        ) {
-            Outcome::Leaf(leaf) => Physical { ram: self.ram }.word(leaf.frame * 4096 + addr % 4096),
-            Outcome::Outside => Got::Outside,
-            Outcome::Guest(_) | Outcome::Fault => Got::Guest,
-        }
+        );
+        got_behind(self.ram, addr, outcome)
+    }
+}
+
+/// What a guest has at an address of its own, if the second stage's walk of that address, for a read, ends so.
+pub fn got_behind<M: Region>(ram: &M, addr: u64, outcome: Outcome) -> Got
+    requires { LeafReaches outcome }
+    ensures { result ≡ got_behind (M.memory ram.now) addr outcome }
+{
+    match outcome {
+        Outcome::Leaf(leaf) => Physical { ram }.word(leaf.frame * 4096 + addr % 4096),
+        Outcome::Outside => Got::Outside,
+        Outcome::Guest(_) | Outcome::Fault => Got::Guest,
     }
 }
 

@@ -3,7 +3,7 @@ ghost use Rattle.arrayvec.specs.ArrayVec.{array_vec_len};
 ghost use Rattle.iom_ddt.specs.Contexts.{is_bare};
 ghost use Rattle.iom_nested.specs.Stages.{first_shape_of, second_shape_of};
 ghost use Rattle.iom_nested.specs.Faults.{fault_of, EntryOutside};
-ghost use Rattle.iom_nested.specs.Nested.{LeafReaches, first_path, first_stage, reached_by, second_stage, told_of, translation};
+ghost use Rattle.iom_nested.specs.Nested.{LeafReaches, first_path, first_stage, hit_by, reached_by, second_stage, told_of, translation};
 ghost use Rattle.iom_nested.specs.Pages.{OneHitAPage};
 
 use crate::physical::Physical;
@@ -172,9 +172,9 @@ fn unmoved(iova: u64) -> Reached
     }
 }
 
-// Where the first stage leads an IOVA whose walk ends so.
+/// Where the first stage leads an IOVA whose walk ends so.
 #[inline(always)]
-fn reached_by(outcome: Outcome, iova: u64, kind: Kind) -> Result<Reached, Fault>
+pub fn reached_by(outcome: Outcome, iova: u64, kind: Kind) -> Result<Reached, Fault>
     requires { LeafReaches outcome }
     ensures reached { result ≡ told_of kind (reached_by iova outcome) }
     ensures fits { IfOk result (λ reached. (reached.addr < 2 ^ 56) × (reached.level < 5)) }
@@ -212,31 +212,53 @@ pub fn second_stage<M: Region>(
     ensures hit { result
         ≡ told_of kind (second_stage (M.memory ram.now) features context.now kind (second_shape_of context.now) reached) }
 {
-    let frame = match second_shape(context) {
-        None => reached.addr / 4096,
-        Some(shape) => match walk(
-            &Physical { ram },
-            Format { shape, features },
-            context.fields.gppn,
-            reached.addr,
+    match second_shape(context) {
+        None => Ok(hit_at(reached, reached.addr / 4096)),
+        Some(shape) => hit_by(
+            reached,
+            walk(
+                &Physical { ram },
+                Format { shape, features },
+                context.fields.gppn,
+                reached.addr,
+                kind,
+            ),
             kind,
-        ) {
-            Outcome::Leaf(leaf) => leaf.frame,
-            Outcome::Outside => return Err(entry_outside(kind)),
-            Outcome::Guest(_) | Outcome::Fault => {
-                return Err(Fault {
-                    cause: Cause::Guest(kind),
-                    iotval2: reached.addr & !3,
-                });
-            }
-        },
+        ),
+    }
+}
+
+/// Where the second stage leads what the first one reached, if its walk for the access itself ends so.
+pub fn hit_by(reached: Reached, outcome: Outcome, kind: Kind) -> Result<Hit, Fault>
+    requires level { reached.level < 5 }
+    requires leaf { LeafReaches outcome }
+    ensures hit { result ≡ told_of kind (hit_by reached outcome) }
+{
+    let frame = match outcome {
+        Outcome::Leaf(leaf) => leaf.frame,
+        Outcome::Outside => return Err(entry_outside(kind)),
+        Outcome::Guest(_) | Outcome::Fault => {
+            return Err(Fault {
+                cause: Cause::Guest(kind),
+                iotval2: reached.addr & !3,
+            });
+        }
     };
-    Ok(Hit {
+    Ok(hit_at(reached, frame))
+}
+
+// What the first stage reached, in this frame.
+fn hit_at(reached: Reached, frame: u64) -> Hit
+    requires level { reached.level < 5 }
+    requires frame { frame < 2 ^ 44 }
+    ensures { result ≡ record { frame = frame; level = reached.level; global = reached.global; napot = reached.napot } }
+{
+    Hit {
         frame,
         level: reached.level,
         global: reached.global,
         napot: reached.napot,
-    })
+    }
 }
 
 // The fault of an entry of either stage that is outside memory.

@@ -1,8 +1,9 @@
-pub mod Offers
-pub mod Table
 pub mod Controls
+pub mod Interrupts
+pub mod Offers
 pub mod Queues
 pub mod Rings
 pub mod Sound
-pub mod Interrupts
+pub mod Table
+pub mod Values
 pub mod Views

@@ -3,7 +3,7 @@ use Rattle.std.specs.Prelude.{ℕ, ◌≡◌, ◌+◌, ◌*◌, ◌<◌, ◌≤�
 use Rattle.std.specs.Int.{bit_at}
 use Rattle.iom_bits.specs.Bits.{field_of}
 use Rattle.iom_regs.specs.Offers.{icvec_of}
-use Rattle.iom_regs.specs.Table.{Registers, ddtp_of, queue_base_of, entries_of}
+use Rattle.iom_regs.specs.Table.{Registers, ddtp_of, queue_base_of, entries_of, with_pending}
 
 -- a control and status register without its reserved bits: bits 1:0, `count` flags from bit 8 on, and bit 16
 abbrev pub named_bits : ℕ → ℕ → ℕ
@@ -29,3 +29,8 @@ pub record IsSound (r : Registers) : Type 0 where
   pub ipsr : r.ipsr < 4
   -- icvec has only the bits that number a vector
   pub icvec : icvec_of r.features.vectors r.icvec ≡ r.icvec
+
+-- sound, and an enabled interrupt is pending while one of its causes is set
+pub record IsSettled (r : Registers) : Type 0 where
+  pub sound : IsSound r
+  pub settled : with_pending r ≡ r

@@ -6,6 +6,7 @@ pub use layout::{
     register_layout,
 };
 pub use regs::Regs;
+pub use values::RegValues;
 pub use views::{CommandErrors, FaultErrors, Mode, Queue, Which};
 
 mod flags;
@@ -14,4 +15,5 @@ mod mapped;
 mod offers;
 mod regs;
 mod ring;
+mod values;
 mod views;

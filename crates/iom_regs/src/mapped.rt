@@ -25,12 +25,12 @@ const HIGHEST_MODE: u64 = 4;
 /// The register file without the rule of pending interrupts: `settle` follows each change.
 #[derive(Clone, Copy)]
 pub struct MappedRegisters {
-    features: Features,
-    ddtp: u64,
-    commands: Ring,
-    faults: Ring,
-    ipsr: u64,
-    icvec: u64,
+    pub(crate) features: Features,
+    pub(crate) ddtp: u64,
+    pub(crate) commands: Ring,
+    pub(crate) faults: Ring,
+    pub(crate) ipsr: u64,
+    pub(crate) icvec: u64,
 }
 
 impl Model for MappedRegisters {

@@ -12,7 +12,7 @@ use std::marker::Model;
 /// interrupt is pending while one of its causes is set.
 #[derive(Clone, Copy)]
 pub struct Regs {
-    mapped: MappedRegisters,
+    pub(crate) mapped: MappedRegisters,
 }
 
 impl Model for Regs {

@@ -64,6 +64,11 @@ unfoldable pub range_of : List Key → List ℕ → Option Range
 range_of [] name = None
 range_of (key ∷ keys) name = if bytes_eq name key.name then Some key.range else range_of keys name
 
+unfoldable pub capability_keys : List Key
+capability_keys =
+    key (codes "sv57") Flag ∷ key (codes "sv57x4") Flag ∷ key (codes "svpbmt") Flag ∷ key (codes "nl") Flag ∷ key (codes "s") Flag
+    ∷ key (codes "vectors") Any ∷ []
+
 -- what is wrong with a value; empty where nothing is
 abbrev pub value_slip : Option Range → List ℕ → List ℕ → List ℕ
 value_slip None word value = quoted word ++ codes " has an unknown key"

@@ -3,4 +3,5 @@ pub mod Quoting
 pub mod Patterns
 pub mod Items
 pub mod Slips
+pub mod Statements
 pub mod Telling

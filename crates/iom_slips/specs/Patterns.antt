@@ -22,6 +22,8 @@ pub data Piece : Type 0 where
   Register : Piece
   BlockRegister : Piece
   Data : Piece
+  -- bytes of a text, as many as there are
+  Hex : Piece
   -- all words that are left
   Item : Piece
 
@@ -33,6 +35,7 @@ part_of (Number operand range) = part.Number
 part_of Register = part.Register
 part_of BlockRegister = part.BlockRegister
 part_of Data = part.Data
+part_of Hex = part.Data
 part_of Item = part.Item
 
 -- what the help calls a number
@@ -48,6 +51,8 @@ name_of op.Device = codes "N"
 name_of op.Byte = codes "BYTE"
 name_of op.Place = codes "I"
 name_of op.Most = codes "MAX"
+name_of op.Base = codes "BASE"
+name_of op.Sectors = codes "SECTORS"
 
 -- the words that may follow
 unfoldable pub words_among : Choice → List ℕ
@@ -152,6 +157,7 @@ piece_as (own.Number operand range) = Number operand range
 piece_as own.Register = Register
 piece_as own.BlockRegister = BlockRegister
 piece_as own.Data = Data
+piece_as own.Hex = Hex
 piece_as own.Item = Item
 
 abbrev pub pattern_as : OwnPattern → List Piece

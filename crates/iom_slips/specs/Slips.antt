@@ -1,6 +1,6 @@
 -- Why `debug` answers `bad`: of the rows of the table of forms the first whose longest front the words of the line fit, and the first
 -- word at which the line leaves it.
-use Rattle.std.specs.Prelude.{ℕ, ◌+◌, ◌%◌, ◌==◌, ◌++◌, ◌||◌, Bool, true, false, nat_lt, List, [], ◌∷◌, length, take, codes, bytes_eq, is_some, if◌then◌else◌}
+use Rattle.std.specs.Prelude.{ℕ, ◌+◌, ◌%◌, ◌==◌, ◌++◌, ◌&&◌, ◌||◌, Bool, true, false, nat_lt, List, [], ◌∷◌, length, take, codes, bytes_eq, is_some, if◌then◌else◌}
 use Rattle.std.specs.Char.{digit_value}
 use Rattle.std.specs.List.{list_all, list_any}
 use Rattle.iom_text.specs.Words.{number, words_of}
@@ -10,7 +10,10 @@ use Rattle.iom_tool.specs.Words.{bytes_of}
 use Rattle.iom_slips.specs.Ranges.{is_one_in, unlike_number}
 use Rattle.iom_slips.specs.Quoting.{quoted}
 use Rattle.iom_slips.specs.Items.{item_slip}
-use Rattle.iom_slips.specs.Patterns.{Among, BlockRegister, Data, Item, Number, Piece, Register, Word, name_of, patterns, words_among}
+use Rattle.iom_slips.specs.Patterns.{Among, BlockRegister, Data, Item, Number, Piece, Register, Word, Hex, name_of, patterns, words_among}
+
+abbrev pub is_hex : List ℕ → Bool
+is_hex word = list_all (λ c. nat_lt (digit_value c) 16) word
 
 -- whether a word is this piece; an item judges its words itself
 unfoldable pub is_piece : Piece → List ℕ → Bool
@@ -20,6 +23,7 @@ is_piece (Number operand range) word = is_one_in range (number word)
 is_piece Register word = is_some (named_in registers word)
 is_piece BlockRegister word = is_some (named_in block_registers word)
 is_piece Data word = is_some (bytes_of word)
+is_piece Hex word = is_hex word && length word % 2 == 0
 is_piece Item word = false
 
 abbrev pub begins_with_digit : List ℕ → Bool
@@ -54,14 +58,15 @@ missing (Number operand range) = name_of operand ++ codes " is missing"
 missing Register = codes "NAME is missing"
 missing BlockRegister = codes "NAME is missing"
 missing Data = codes "DATA is missing"
+missing Hex = codes "HEX is missing"
 missing Item = codes "ITEM is missing"
 
--- what is wrong with a word of data
-unfoldable pub data_slip : List ℕ → List ℕ
-data_slip word =
-    if list_all (λ c. nat_lt (digit_value c) 16) word
-    then if length word % 2 == 1 then codes "DATA has an odd number of digits" else codes "DATA has more than 64 bytes"
-    else codes "DATA " ++ quoted word ++ codes " isn't hex digits"
+-- what is wrong with a word of bytes, which has this name
+unfoldable pub data_slip : List ℕ → List ℕ → List ℕ
+data_slip name word =
+    if is_hex word
+    then if length word % 2 == 1 then name ++ codes " has an odd number of digits" else name ++ codes " has more than 64 bytes"
+    else name ++ codes " " ++ quoted word ++ codes " isn't hex digits"
 
 -- what is wrong with a word that is not this piece
 unfoldable pub unlike : Piece → List ℕ → List ℕ
@@ -70,7 +75,8 @@ unlike (Among name choice) word = quoted word ++ codes " isn't " ++ words_among 
 unlike (Number operand range) word = name_of operand ++ codes " " ++ quoted word ++ unlike_number range word
 unlike Register word = quoted word ++ codes " is no register"
 unlike BlockRegister word = quoted word ++ codes " is no register of a block device"
-unlike Data word = data_slip word
+unlike Data word = data_slip (codes "DATA") word
+unlike Hex word = data_slip (codes "HEX") word
 unlike Item word = codes "ITEM is missing"
 
 -- what is wrong behind all pieces; where no word is left, the last text

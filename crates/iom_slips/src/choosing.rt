@@ -1,14 +1,15 @@
 //! The row that the words of a line fit farthest.
 
-ghost use Rattle.std.specs.Prelude.{◌≡◌, ◌*◌, ◌≤◌, [], is_some, length, map};
+ghost use Rattle.std.specs.Prelude.{◌≡◌, ◌*◌, ◌%◌, ◌==◌, ◌&&◌, ◌≤◌, [], is_some, length, map};
 ghost use Rattle.std.specs.List.{AllByRecursion};
 ghost use Rattle.iom_text.specs.Words.{words_of};
 ghost use Rattle.iom_tool.specs.Words.{bytes_of};
 ghost use Rattle.iom_slips.specs.Patterns.{IsShort, pattern_as, patterns, piece_as};
-ghost use Rattle.iom_slips.specs.Slips.{begins_with_digit, closest, fit};
+ghost use Rattle.iom_slips.specs.Slips.{begins_with_digit, closest, fit, is_hex};
 
 use crate::patterns::{PATTERNS, Pattern};
 use crate::pieces::Piece;
+use crate::ranges::all_digits;
 use arrayvec::ArrayVec;
 use iom_text::{digit_value, number, take_word};
 use iom_tool::{block_register_named, put_bytes_of, register_named};
@@ -31,6 +32,13 @@ fn is_data(word: &[u8]) -> bool
     put_bytes_of(word, &mut bytes)
 }
 
+// Whether a word is hex digits, two a byte.
+fn is_hex_pairs(word: &[u8]) -> bool
+    ensures { result ≡ (is_hex word.now && length word.now % 2 == 0) }
+{
+    all_digits(16, word) && word.len() % 2 == 0
+}
+
 impl Piece {
     ghost use Rattle.std.specs.Prelude.{◌≡◌};
     ghost use Rattle.iom_slips.specs.Patterns.{piece_as};
@@ -48,6 +56,7 @@ impl Piece {
             Piece::Register => register_named(word).is_some(),
             Piece::BlockRegister => block_register_named(word).is_some(),
             Piece::Data => is_data(word),
+            Piece::Hex => is_hex_pairs(word),
             Piece::Item => false,
         }
     }

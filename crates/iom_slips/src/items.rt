@@ -6,9 +6,9 @@ ghost use Rattle.std.specs.Option.{option_map};
 ghost use Rattle.iom_items.specs.Operands.{has_key, is_given, operand_of};
 ghost use Rattle.iom_slips.specs.Quoting.{quoted};
 ghost use Rattle.iom_slips.specs.Ranges.{unlike_number};
-ghost use Rattle.iom_slips.specs.Items.{command_slip, context_keys, dir_keys, fault_keys, fence_keys, gvma_keys, iodir_keys, item_slip, key_as, numbers_slip, operand_slip, operands_slip, or_told, pte_keys, range_of, statement_slip, unfit, value_slip, vma_keys};
+ghost use Rattle.iom_slips.specs.Items.{capability_keys, command_slip, context_keys, dir_keys, fault_keys, fence_keys, gvma_keys, iodir_keys, item_slip, key_as, numbers_slip, operand_slip, operands_slip, or_told, pte_keys, range_of, statement_slip, unfit, value_slip, vma_keys};
 
-use crate::keys::{CONTEXT, DIR, FAULT, FENCE, GVMA, IODIR, Key, PTE, VMA};
+use crate::keys::{CAPABILITIES, CONTEXT, DIR, FAULT, FENCE, GVMA, IODIR, Key, PTE, VMA};
 use crate::quoting::{push_text, quoted_with, reply_of};
 use crate::ranges::{Range, unlike_number};
 use iom_items::words_for;
@@ -233,6 +233,15 @@ fn pte_slip(words: &[&[u8]]) -> Reply
     ensures { result.items ≡ operands_slip pte_keys (map (λ word. word.now) words.now) unfit }
 {
     operands_slip(&PTE, words, UNFIT)
+}
+
+/// What is wrong with the operands of `capabilities`; the last text, of at most 64 bytes, where none is wrong by itself.
+#[tactic(auto, unfolding(crate::specs::Items::capability_keys))]
+pub fn capabilities_slip(words: &[&[u8]], last: &[u8]) -> Reply
+    requires { length last.now ≤ 64 }
+    ensures { result.items ≡ operands_slip capability_keys (map (λ word. word.now) words.now) last.now }
+{
+    operands_slip(&CAPABILITIES, words, last)
 }
 
 // What is wrong with an item of this name that stands for no words.

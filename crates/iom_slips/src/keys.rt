@@ -44,6 +44,12 @@ pub const CONTEXT: [Key; 9] = [
     Key(b"pscid", Bits20), Key(b"mode", Bits4), Key(b"ppn", Bits44),
 ];
 
+/// Those of the statement `capabilities`.
+#[rattlefmt::skip]
+pub const CAPABILITIES: [Key; 6] = [
+    Key(b"sv57", Flag), Key(b"sv57x4", Flag), Key(b"svpbmt", Flag), Key(b"nl", Flag), Key(b"s", Flag), Key(b"vectors", Any),
+];
+
 /// Those of a directory entry.
 pub const DIR: [Key; 1] = [Key(b"ppn", Bits44)];
 

@@ -3,7 +3,8 @@
 
 pub use iom_tool::Reply;
 pub use slips::slip;
-pub use telling::slips_are_of_the_rows;
+pub use statements::statement_slip;
+pub use telling::slips_are_told;
 
 mod choosing;
 mod items;
@@ -13,4 +14,5 @@ mod pieces;
 mod quoting;
 mod ranges;
 mod slips;
+mod statements;
 mod telling;

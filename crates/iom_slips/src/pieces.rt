@@ -29,6 +29,10 @@ pub enum Operand {
     Place,
     /// MAX, how many steps at most.
     Most,
+    /// BASE of memory, a physical address.
+    Base,
+    /// SECTORS, of 512 bytes each.
+    Sectors,
 }
 
 /// The words of which one follows the first word of a line.
@@ -65,6 +69,8 @@ pub enum Piece {
     BlockRegister,
     /// 1 to 64 bytes in hex.
     Data,
+    /// Bytes in hex.
+    Hex,
     /// All words that are left.
     Item,
 }
@@ -73,11 +79,11 @@ impl Operand {
     ghost use Rattle.std.specs.Prelude.{◌≡◌, ◌≤◌, length};
     ghost use Rattle.iom_slips.specs.Patterns.{name_of};
 
-    /// What the help calls it, at most 5 bytes.
+    /// What the help calls it, at most 7 bytes.
     #[tactic(auto, unfolding(crate::specs::Patterns::name_of))]
     pub fn name(self) -> &'static [u8]
         ensures text { result.now ≡ name_of self }
-        ensures short { length result.now ≤ 5 }
+        ensures short { length result.now ≤ 7 }
     {
         match self {
             Operand::Address => b"ADDR",
@@ -91,6 +97,8 @@ impl Operand {
             Operand::Byte => b"BYTE",
             Operand::Place => b"I",
             Operand::Most => b"MAX",
+            Operand::Base => b"BASE",
+            Operand::Sectors => b"SECTORS",
         }
     }
 }

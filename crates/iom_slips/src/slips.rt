@@ -17,8 +17,8 @@ use crate::ranges::{Range, all_digits, unlike_number};
 use iom_text::{take_word, words};
 use iom_tool::{Language, Line, Reply, line_of};
 
-// A text of at most 64 bytes, and a word between quotes behind it.
-fn with_quoted(text: &[u8], word: &[u8]) -> Reply
+/// A text of at most 64 bytes, and a word between quotes behind it.
+pub fn with_quoted(text: &[u8], word: &[u8]) -> Reply
     requires { length text.now ≤ 64 }
     ensures text { result.items ≡ text.now ++ quoted word.now }
     ensures room { length result.items ≤ 196 }
@@ -40,25 +40,35 @@ fn joined(first: &[u8], second: &[u8]) -> Reply
     out
 }
 
-// What is wrong with a word of data.
+// What is said of a word of this name, which isn't hex digits.
+fn not_hex(name: &[u8], word: &[u8]) -> Reply
+    requires { length name.now ≤ 7 }
+    ensures { result.items ≡ name.now ++ codes " " ++ quoted word.now ++ codes " isn't hex digits" }
+{
+    let mut out = joined(name, b" ");
+    push_quoted(&mut out, word);
+    push_text(&mut out, b" isn't hex digits");
+    out
+}
+
+// What is wrong with a word of bytes, which has this name.
 #[tactic(auto, unfolding(crate::specs::Slips::data_slip))]
-fn data_slip(word: &[u8]) -> Reply
-    ensures { result.items ≡ data_slip word.now }
+fn data_slip(name: &[u8], word: &[u8]) -> Reply
+    requires { length name.now ≤ 7 }
+    ensures { result.items ≡ data_slip name.now word.now }
 {
     if !all_digits(16, word) {
-        let mut out = with_quoted(b"DATA ", word);
-        push_text(&mut out, b" isn't hex digits");
-        out
+        not_hex(name, word)
     } else if word.len() % 2 == 1 {
-        reply_of(b"DATA has an odd number of digits")
+        joined(name, b" has an odd number of digits")
     } else {
-        reply_of(b"DATA has more than 64 bytes")
+        joined(name, b" has more than 64 bytes")
     }
 }
 
 // What is wrong with a word that writes no number of this name and range.
 fn number_slip(name: &[u8], range: Range, word: &[u8]) -> Reply
-    requires { length name.now ≤ 5 }
+    requires { length name.now ≤ 7 }
     ensures { result.items ≡ name.now ++ codes " " ++ quoted word.now ++ unlike_number range word.now }
 {
     let mut out = joined(name, b" ");
@@ -83,6 +93,7 @@ impl Piece {
             Piece::Number(operand, _) => joined(operand.name(), b" is missing"),
             Piece::Register | Piece::BlockRegister => reply_of(b"NAME is missing"),
             Piece::Data => reply_of(b"DATA is missing"),
+            Piece::Hex => reply_of(b"HEX is missing"),
             Piece::Item => reply_of(b"ITEM is missing"),
         }
     }
@@ -102,7 +113,8 @@ impl Piece {
             Piece::Number(operand, range) => number_slip(operand.name(), range, word),
             Piece::Register => quoted_with(word, b" is no register"),
             Piece::BlockRegister => quoted_with(word, b" is no register of a block device"),
-            Piece::Data => data_slip(word),
+            Piece::Data => data_slip(b"DATA", word),
+            Piece::Hex => data_slip(b"HEX", word),
             Piece::Item => reply_of(b"ITEM is missing"),
         }
     }

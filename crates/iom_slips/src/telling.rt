@@ -1,8 +1,10 @@
 //! A law of reasons.
 
-ghost use Rattle.iom_slips.specs.Telling.{AreRows};
+ghost use Rattle.iom_slips.specs.Telling.{AreRows, AreTold};
 
-/// A law of `slip`, which cites the same definitions. The lines among which it looks are the rows of the table of forms, part by part.
-pub fn slips_are_of_the_rows()
-    ensures { AreRows }
+/// A law of `slip`, which cites the same definitions. The lines among which it looks are the rows of the table of forms, part by part. It has
+/// a reason for a line exactly where the line is bad.
+pub fn slips_are_told()
+    ensures rows { AreRows }
+    ensures told { AreTold }
 {}

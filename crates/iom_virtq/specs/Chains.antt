@@ -1,7 +1,7 @@
 -- Chains of descriptors: VIRTIO 1.2, "The Virtqueue Descriptor Table". A part is the buffer of one descriptor; its address is an
 -- IOVA.
 use Rattle.std.specs.Prelude.{ℕ, zero, suc, ◌≡◌, ◌+◌, ◌/◌, ◌^◌, ◌<◌, ◌≤◌, ◌==◌, ◌&&◌, Bool, true, false, IsTrue, List, [], ◌∷◌, ◌++◌, length, take, get_or, nat_le, if◌then◌else◌}
-use Rattle.std.specs.List.{prefix_len}
+use Rattle.std.specs.List.{list_all, prefix_len}
 use Rattle.iom_virtq.specs.declared.parts.Side.{Side}
 use Rattle.iom_virtq.specs.declared.parts.Side.TheVariants.{Readable, Writable}
 use Rattle.iom_virtq.specs.declared.parts.ChainPart.{ChainPart}
@@ -71,3 +71,7 @@ pub record IsPiece (items : List Item) (address count : ℕ) : Type 0 where
 -- the last byte of a part is below 2^64
 abbrev pub fits : ChainPart → Bool
 fits part = nat_le (part.addr + part.len) (2 ^ 64)
+
+-- whether there is a chain of these parts in a queue of so many descriptors
+abbrev pub is_chain : ℕ → List ChainPart → Bool
+is_chain limit parts = nat_le limit 64 && (nat_le (length parts) limit && list_all fits parts)

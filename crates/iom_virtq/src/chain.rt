@@ -1,8 +1,10 @@
 //! A chain of descriptors.
 
 ghost use Rattle.std.specs.Prelude.{◌≡◌, ◌+◌, ◌^◌, ◌<◌, ◌≤◌, true};
+ghost use Rattle.std.specs.List.{list_all};
 ghost use Rattle.iom_bits.specs.Bits.{has_bit};
 ghost use Rattle.iom_virtq.specs.Adding.{part_of, more_of};
+ghost use Rattle.iom_virtq.specs.Chains.{fits};
 
 use crate::parts::{ChainFault, ChainPart, More, Side};
 use crate::pieces::{piece_of, total_of};
@@ -47,10 +49,10 @@ impl Model for Chain {
 }
 
 impl Chain {
-    ghost use Rattle.std.specs.Prelude.{◌*◌, [], ◌∷◌, ◌++◌, length, drop, IfNone, IfOk, OnOk, OnErr};
+    ghost use Rattle.std.specs.Prelude.{◌*◌, [], ◌∷◌, ◌++◌, length, drop, is_some, IfNone, IfOk, IfSome, OnOk, OnErr};
     ghost use Rattle.std.specs.List.{list_any};
     ghost use Rattle.iom_virtq.specs.Bus.{IsShort};
-    ghost use Rattle.iom_virtq.specs.Chains.{bytes_on, address_of, run_length, IsPiece, fits};
+    ghost use Rattle.iom_virtq.specs.Chains.{bytes_on, address_of, run_length, IsPiece, fits, is_chain};
     ghost use Rattle.iom_virtq.specs.Adding.{add_result, with_part, refusal_of, is_on, IsBelow};
 
     /// A chain without parts, in a queue of `limit` descriptors, the queue size: 1 to 64.
@@ -64,6 +66,40 @@ impl Chain {
             parts: [NO_PART; MOST_PARTS],
             count: 0,
         }
+    }
+
+    /// The chain of these parts, as one that was taken apart; None if there is no such chain: `limit`, the queue size, is above 64, there
+    /// are more parts than that, or one ends above IOVA 2^64.
+    pub fn of(limit: u16, parts: &[ChainPart]) -> Option<Chain>
+        ensures legal { is_some result ≡ is_chain limit parts.now }
+        ensures chain { IfSome result (λ chain. chain ≡ record { limit = limit; parts = parts.now }) }
+    {
+        if limit as usize > MOST_PARTS || parts.len() > limit as usize || !all_fit(parts) {
+            return None;
+        }
+        let mut places = [NO_PART; MOST_PARTS];
+        places[..parts.len()].copy_from_slice(parts);
+        Some(Chain {
+            limit,
+            parts: places,
+            count: parts.len(),
+        })
+    }
+
+    /// How many descriptors its queue has, at most 64.
+    pub fn limit(&self) -> u16
+        ensures limit { result ≡ self.now.limit }
+        ensures most { result ≤ 64 }
+    {
+        self.limit
+    }
+
+    /// Its parts, in their order, at most as many as its queue has descriptors.
+    pub fn parts(&self) -> &[ChainPart]
+        ensures parts { result.now ≡ self.now.parts }
+        ensures few { length result.now ≤ self.now.limit }
+    {
+        &self.parts[..self.count]
     }
 
     /// Adds a descriptor as the chain's last part, and returns what comes next: the index of a further descriptor, below the
@@ -162,6 +198,15 @@ impl Chain {
         self.parts[self.count] = part;
         self.count += 1;
     }
+}
+
+// Whether each part ends at IOVA 2^64 or below.
+fn all_fit(parts: &[ChainPart]) -> bool
+    ensures { result ≡ list_all fits parts.now }
+{
+    parts
+        .iter()
+        .all(|part| part.addr as u128 + part.len as u128 <= 1 << 64)
 }
 
 // Whether a flag is set.

@@ -4,3 +4,4 @@ pub mod Listed
 pub mod Pages
 pub mod Paths
 pub mod Walks
+pub mod Below

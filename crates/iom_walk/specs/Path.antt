@@ -8,13 +8,8 @@ use Rattle.iom_walk.specs.declared.source.Got.{Got}
 use Rattle.iom_walk.specs.declared.shape.Format.{Format}
 use Rattle.iom_walk.specs.Shape.{levels, index_of}
 use Rattle.iom_walk.specs.declared.entry.Verdict.{Verdict}
+pub use Rattle.iom_walk.specs.declared.met.MetEntry.{MetEntry}
 use Rattle.iom_walk.specs.Verdict.{verdict_of, is_pointer, ppn, word_of}
-
--- an entry that is met: its level, its address and what was read there
-pub record MetEntry : Type 0 where
-  pub level : ℕ
-  pub place : ℕ
-  pub got : Got
 
 -- the entry that an address is met at in a table of some level: the table's first byte stands at its PPN times 4096, and each
 -- entry has eight bytes (PTESIZE)

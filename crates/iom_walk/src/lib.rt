@@ -4,6 +4,7 @@
 
 pub use entry::{Ruling, Verdict};
 pub use listing::{PathEntries, PathEntry, path, walk_listed};
+pub use met::{MetEntry, MetPath, end_of, path_below, place_in};
 pub use outcome::{Leaf, Outcome};
 pub use shape::{Format, Shape};
 pub use source::{Got, Words};
@@ -11,6 +12,7 @@ pub use walking::{one_end_a_page, walk};
 
 mod entry;
 mod listing;
+mod met;
 mod outcome;
 mod shape;
 mod source;

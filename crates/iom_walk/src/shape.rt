@@ -38,7 +38,7 @@ impl Shape {
     ghost use Rattle.iom_walk.specs.Shape.{levels, widening, index_of, is_in_width};
 
     /// How many levels there are. The level of the root is one less; that of the last table is 0.
-    pub(crate) fn levels(self) -> u8
+    pub fn levels(self) -> u8
         ensures value { result ≡ levels self }
         ensures most { result ≤ 5 }
     {

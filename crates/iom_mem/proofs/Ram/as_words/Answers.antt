@@ -6,8 +6,12 @@ use Rattle.iom_mem.proofs.Several.{words_at_inside}
 use Rattle.iom_mem.proofs.WordBytes.{words_hold}
 use Rattle.iom_mem.proofs.Ram.as_words.Goals as goal
 
-pub returns : goal.returns
-returns c =
+pub returns-clause-bytes : goal.returns-clause-bytes
+returns-clause-bytes c =
+    ap bytes_of_words c.all_words.ensures.all ∙ ap bytes_of_words c.deref.ensures.value ∙ ap (λ m. m.bytes) c.self.view_is
+
+pub returns-clause-read : goal.returns-clause-read
+returns-clause-read c =
     let memory = c.args.self.now in
     let words : List ℕ = c.all_words.result.now in
     let same : words ≡ c.deref.result.now = c.all_words.ensures.all in

@@ -1,0 +1,61 @@
+//! A history by its numbers.
+
+ghost use Rattle.std.specs.Prelude.{◌≡◌, ◌≤◌, ◌&&◌, IfSome, is_some, length, nat_le};
+ghost use Rattle.iom_account.specs.Following.{history_of};
+
+use crate::History;
+use arrayvec::ArrayVec;
+
+impl History {
+    /// The history of these numbers, each beside a place of a cache, the oldest first: of the step that filled a context, of that which
+    /// filled a translation, and of that which had filled the context under which it walked. None if there are more of one list than that
+    /// cache has places: 16, 64 and 64.
+    pub fn of(contexts: &[u64], walks: &[u64], walk_contexts: &[u64]) -> Option<History>
+        ensures fits { is_some result
+            ≡ (nat_le (length contexts.now) 16 && (nat_le (length walks.now) 64 && nat_le (length walk_contexts.now) 64)) }
+        ensures history { IfSome result (λ history. history ≡ history_of contexts.now walks.now walk_contexts.now) }
+    {
+        if contexts.len() > 16 || walks.len() > 64 || walk_contexts.len() > 64 {
+            return None;
+        }
+        Some(History {
+            contexts: noted(contexts),
+            walks: noted(walks),
+            walk_contexts: noted(walk_contexts),
+        })
+    }
+
+    /// The number beside each place of the context cache, the oldest first: that of the step that filled it.
+    pub fn contexts(&self) -> &[u64]
+        ensures numbers { result.now ≡ self.now.contexts }
+        ensures few { length result.now ≤ 16 }
+    {
+        self.contexts.as_slice()
+    }
+
+    /// The number beside each place of the translation cache, the oldest first: that of the step that filled it.
+    pub fn walks(&self) -> &[u64]
+        ensures numbers { result.now ≡ self.now.walks }
+        ensures few { length result.now ≤ 64 }
+    {
+        self.walks.as_slice()
+    }
+
+    /// Beside the same places, the number of the step that had filled the context under which it walked.
+    pub fn walk_contexts(&self) -> &[u64]
+        ensures numbers { result.now ≡ self.now.walk_contexts }
+        ensures few { length result.now ≤ 64 }
+    {
+        self.walk_contexts.as_slice()
+    }
+}
+
+// These numbers, beside as many places.
+fn noted<const N: usize>(numbers: &[u64]) -> ArrayVec<u64, N>
+    requires { length numbers.now ≤ N }
+    ensures { result.items ≡ numbers.now }
+{
+    let mut notes = ArrayVec::new();
+    let _fits = notes.try_extend_from_slice(numbers);
+    notes
+}

@@ -1,0 +1,12 @@
+use Rattle.std.proofs.Common.{refl}
+use Rattle.iom_tool.specs.Script.{rows}
+use Rattle.iom_slips.specs.Patterns.{patterns}
+use Rattle.iom_slips.proofs.Told.{are_told}
+use Rattle.iom_slips.proofs.telling.slips_are_told.Goals as goal
+
+pub returns-clause-rows : goal.returns-clause-rows
+unfolding rows patterns
+returns-clause-rows c = refl
+
+pub returns-clause-told : goal.returns-clause-told
+returns-clause-told c = are_told
