@@ -12,7 +12,7 @@ abbrev pub tables_told : Bool → Option (Result ℕ Denial) → List ℕ
 tables_told is_judged stale = if is_judged then stale_only stale else []
 
 abbrev pub tables_at : Bool → Desk → List ℕ → List ℕ
-tables_at is_judged desk line = tables_told is_judged (last_stale None desk.state (debug_steps_of desk.state line))
+tables_at is_judged desk line = tables_told is_judged (last_stale None desk.state (debug_steps_of desk.names desk.state line))
 
 -- The answer is the wanted one, and an access is stale where that is wanted and stale accesses are judged. Where nothing is wanted, the
 -- answer isn't `bad`. `tables` is empty where no stale access is to be told.

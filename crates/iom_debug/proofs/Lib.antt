@@ -6,3 +6,4 @@ pub mod Remaining
 pub mod Summing
 pub mod Telling
 pub mod Alike
+pub mod Slips

@@ -5,17 +5,19 @@ use Rattle.iom_core.specs.State.{State}
 use Rattle.iom_core.specs.Run.{end_of}
 use Rattle.iom_account.specs.Account.{AccountView}
 use Rattle.iom_tool.specs.Console.{Console, console, trace_after}
-use Rattle.iom_tool.specs.Script.{Bad, DebugLine, debug_line_of, line_of}
-use Rattle.iom_tool.proofs.Languages.{as_run as same_line}
+use Rattle.iom_tool.specs.Script.{Bad, DebugLine, line_of}
+use Rattle.iom_names.specs.Reading.{line_with}
+use Rattle.iom_names.specs.declared.names.Binding.{Binding}
+use Rattle.iom_names.proofs.Kept.{as_run as same_line}
 use Rattle.iom_tool.specs.declared.trace.TracedStep.{TracedStep}
 use Rattle.iom_tool.specs.Output.{steps_of}
 use Rattle.iom_debug.specs.Output.{IsAsRun, debug_reply, debug_steps, debug_steps_of}
 
-pub as_run : (now : Console) (account : AccountView) (text given : List ℕ) (state : State) (trace : List TracedStep) → line_of text ≢ Bad →
-    given ≡ unwrap_or (debug_reply now account (debug_line_of text)) [] → state ≡ end_of now.state (debug_steps_of now.state text) →
-    trace ≡ trace_after now.trace now.state (debug_steps_of now.state text) → IsAsRun now text given (console state trace)
-as_run now account text given state trace other answered moved kept =
-    let same = same_line text other in
+pub as_run : (names : List Binding) (now : Console) (account : AccountView) (text given : List ℕ) (state : State) (trace : List TracedStep) → line_of text ≢ Bad →
+    given ≡ unwrap_or (debug_reply now account (line_with names text)) [] → state ≡ end_of now.state (debug_steps_of names now.state text) →
+    trace ≡ trace_after now.trace now.state (debug_steps_of names now.state text) → IsAsRun now text given (console state trace)
+as_run names now account text given state trace other answered moved kept =
+    let same = same_line names text other in
     record {
       answered = answered ∙ ap (λ (l : DebugLine). unwrap_or (debug_reply now account l) []) same;
       stepped =

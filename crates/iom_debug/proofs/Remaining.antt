@@ -20,6 +20,7 @@ pub record Left (start : Desk) (number : ℕ) (all : List Step) (here : Desk) (r
       ≡ last_stale here.reasons.stale here.state (taken here.state rest)
   pub along : (after : LineAccountView) (left : State) → GoesAlong here.reasons here.state (taken here.state rest) number after left →
       GoesAlong start.reasons start.state (taken start.state all) number after left
+  pub names_is : here.names ≡ start.names
   pub count_is : length (taken start.state all) ≡ count + length (taken here.state rest)
   pub last_is : last_answer start.state all ≡ last_answer here.state rest
 
@@ -29,6 +30,7 @@ begins start number all = record {
   trace_is = refl;
   stale_is = refl;
   along = λ after left is. is;
+  names_is = refl;
   count_is = omega arith;
   last_is = refl;
 }
@@ -57,6 +59,7 @@ module _ (start : Desk) (number : ℕ) (all : List Step) (here : Desk) (step : S
             (subst (λ (steps : List Step). GoesAlong here.reasons here.state steps number last end) (sym is)
             (along_more here.reasons.account after.reasons.account last.account here.state after.state end step (taken there rest) number took.along
             (subst (λ (s : State). GoesAlong after.reasons after.state (taken s rest) number last end) took.state more)));
+        names_is = took.names ∙ left.names_is;
         count_is =
             let one : length (taken here.state (step ∷ rest)) ≡ suc (length (taken there rest)) = ap length is in
             let same : length (taken there rest) ≡ length (taken after.state rest) = ap (λ (s : State). length (taken s rest)) (sym took.state) in
@@ -74,6 +77,7 @@ module _ (start : Desk) (number : ℕ) (all : List Step) (here : Desk) (step : S
           stale = took.stale ∙ sym (left.stale_is ∙ ap (last_stale here.reasons.stale here.state) is);
           along = left.along after.reasons after.state
               (subst (λ (steps : List Step). GoesAlong here.reasons here.state steps number after.reasons after.state) (sym is) took.along);
+          names = took.names ∙ left.names_is;
         };
         count_is =
             let one : length (taken here.state (step ∷ rest)) ≡ 1 = ap length is in
@@ -88,6 +92,7 @@ ends start number all here count left = record {
   trace = sym left.trace_is;
   stale = sym left.stale_is;
   along = left.along here.reasons here.state (along_none here.reasons.account here.state number);
+  names = left.names_is;
 }
 
 -- a step that is repeated

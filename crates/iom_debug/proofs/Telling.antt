@@ -40,7 +40,7 @@ cut_short most count line is = omega (arith, length-take count line)
 
 pub debug_says : (before : Debugged) (after : Desk) (line kept said answer slip : List ℕ) (number : ℕ) → kept ≡ take 513 line →
     number ≡ up_to_64_bits (before.number + 1) → Leaves before.desk kept number after → answer ≡ answer_at before.desk kept →
-    slip ≡ slip_told before.tells_slips kept → said ≡ line_told (with_slip answer slip) →
+    slip ≡ slip_told before.tells_slips before.desk.names kept → said ≡ line_told (with_slip answer slip) →
     DebugSays before (take 513 line) said (record { desk = after; number = number; tells_slips = before.tells_slips })
 debug_says before after line kept said answer slip number cut count left is why told =
     subst (λ l. DebugSays before l said (record { desk = after; number = number; tells_slips = before.tells_slips })) cut

@@ -5,8 +5,10 @@ use Rattle.iom_core.specs.State.{State}
 use Rattle.iom_core.specs.declared.step.Step.{Step}
 use Rattle.iom_tool.specs.Console.{Console, console_after}
 use Rattle.iom_tool.specs.Output.{reply, steps_in, steps_of}
-use Rattle.iom_tool.specs.Script.{Again, DebugLine, Does, Inquires, Named, Plain, Stores, debug_line_of, line_of}
+use Rattle.iom_tool.specs.Script.{Again, DebugLine, Does, Inquires, Named, Plain, Stores, line_of}
 use Rattle.iom_tool.specs.Texts.{text_of}
+use Rattle.iom_names.specs.Reading.{line_with}
+use Rattle.iom_names.specs.declared.names.Binding.{Binding}
 use Rattle.iom_debug.specs.Taking.{last_answer, run_text, taken}
 use Rattle.iom_debug.specs.Answers.{inquired}
 use Rattle.iom_account.specs.Account.{AccountView}
@@ -27,8 +29,9 @@ debug_steps state (Inquires inquiry) = []
 debug_steps state (Again step most) = taken state (replicate most step)
 debug_steps state (Stores steps) = taken state steps
 
-abbrev pub debug_steps_of : State → List ℕ → List Step
-debug_steps_of state text = debug_steps state (debug_line_of text)
+-- the same, of the text of a line where there are these names
+abbrev pub debug_steps_of : List Binding → State → List ℕ → List Step
+debug_steps_of names state text = debug_steps state (line_with names text)
 
 -- an answer, empty where there is none, and what stands after it, are those that `run` has
 pub record IsAsRun (now : Console) (text given : List ℕ) (left : Console) : Type 0 where

@@ -10,16 +10,18 @@ use Rattle.iom_core.specs.declared.step.Answer.TheVariants as answer
 use Rattle.iom_tool.specs.Console.{trace_after, traced}
 use Rattle.iom_tool.specs.Texts.{text_of}
 use Rattle.iom_tool.specs.declared.trace.TracedStep.{TracedStep}
+use Rattle.iom_names.specs.declared.names.Binding.{Binding}
 use Rattle.iom_debug.specs.Reasons.{GoesAlong, LineAccountView, last_stale, later, stale_in}
 
--- what the lines of `debug` drive: a platform, the trace of its last steps, and what is told beside them
+-- what the lines of `debug` drive: a platform, the trace of its last steps, what is told beside them, and the names of numbers
 pub record Desk : Type 0 where
   pub state : State
   pub trace : List TracedStep
   pub reasons : LineAccountView
+  pub names : List Binding
 
-abbrev pub desk : State → List TracedStep → LineAccountView → Desk
-desk state trace reasons = record { state = state; trace = trace; reasons = reasons }
+abbrev pub desk : State → List TracedStep → LineAccountView → List Binding → Desk
+desk state trace reasons names = record { state = state; trace = trace; reasons = reasons; names = names }
 
 -- what a step of a line of this number leaves
 pub record Took (before : Desk) (step : Step) (number : ℕ) (after : Desk) : Type 0 where
@@ -27,6 +29,7 @@ pub record Took (before : Desk) (step : Step) (number : ℕ) (after : Desk) : Ty
   pub trace : after.trace ≡ traced before.trace step (next before.state step).answer
   pub stale : after.reasons.stale ≡ later before.reasons.stale (stale_in before.state (request_of_step before.state step))
   pub along : GoesAlong before.reasons before.state (step ∷ []) number after.reasons after.state
+  pub names : after.names ≡ before.names
 
 unfoldable pub is_done : Answer → Bool
 is_done answer.Done = true
@@ -50,6 +53,7 @@ pub record TookAll (before : Desk) (steps : List Step) (number : ℕ) (after : D
   pub trace : after.trace ≡ trace_after before.trace before.state (taken before.state steps)
   pub stale : after.reasons.stale ≡ last_stale before.reasons.stale before.state (taken before.state steps)
   pub along : GoesAlong before.reasons before.state (taken before.state steps) number after.reasons after.state
+  pub names : after.names ≡ before.names
 
 -- how many steps were taken, and the last answer
 unfoldable pub count_text : ℕ → Answer → List ℕ

@@ -10,21 +10,25 @@ use Rattle.iom_tool.specs.Console.{console, trace_after}
 use Rattle.iom_debug.specs.Output.{debug_reply, debug_steps_of}
 use Rattle.iom_debug.specs.Comments.{comment_at, without_blanks}
 use Rattle.iom_debug.specs.Reasons.{GoesAlong, last_stale}
-use Rattle.iom_tool.specs.Script.{debug_line_of}
+use Rattle.iom_text.specs.Words.{words_of}
+use Rattle.iom_names.specs.Names.{with_numbers}
+use Rattle.iom_names.specs.Reading.{is_bad, is_let, is_line, line_with, names_after}
+use Rattle.iom_names.specs.declared.names.Binding.{Binding}
 use Rattle.iom_slips.specs.Slips.{slip_of}
 use Rattle.iom_debug.specs.Summary.{up_to_64_bits}
 use Rattle.iom_debug.specs.Taking.{Desk}
 
 -- the answer to a line; empty where it has none
 abbrev pub answer_at : Desk → List ℕ → List ℕ
-answer_at desk line = unwrap_or (debug_reply (console desk.state desk.trace) desk.reasons.account (debug_line_of line)) []
+answer_at desk line = unwrap_or (debug_reply (console desk.state desk.trace) desk.reasons.account (line_with desk.names line)) []
 
 -- what a line of this number leaves
 pub record Leaves (before : Desk) (line : List ℕ) (number : ℕ) (after : Desk) : Type 0 where
-  pub state : after.state ≡ end_of before.state (debug_steps_of before.state line)
-  pub trace : after.trace ≡ trace_after before.trace before.state (debug_steps_of before.state line)
-  pub stale : after.reasons.stale ≡ last_stale None before.state (debug_steps_of before.state line)
-  pub along : GoesAlong before.reasons before.state (debug_steps_of before.state line) number after.reasons after.state
+  pub state : after.state ≡ end_of before.state (debug_steps_of before.names before.state line)
+  pub trace : after.trace ≡ trace_after before.trace before.state (debug_steps_of before.names before.state line)
+  pub stale : after.reasons.stale ≡ last_stale None before.state (debug_steps_of before.names before.state line)
+  pub along : GoesAlong before.reasons before.state (debug_steps_of before.names before.state line) number after.reasons after.state
+  pub names : after.names ≡ names_after before.names line
 
 -- a desk, how many lines were read, and whether it is told why a line is bad
 pub record Debugged : Type 0 where
@@ -32,9 +36,20 @@ pub record Debugged : Type 0 where
   pub number : ℕ
   pub tells_slips : Bool
 
--- why a line is bad, where that is told; of any other line nothing
-abbrev pub slip_told : Bool → List ℕ → List ℕ
-slip_told tells line = if tells then slip_of line else []
+-- why a line is bad where there are these names: that of `let`, or of the line with the numbers in place of the names
+abbrev pub let_slip : List ℕ
+let_slip = codes "let: no such NAME or NUMBER, or 64 names already"
+
+abbrev pub numbered : List Binding → List ℕ → List ℕ
+numbered names line = if is_line line then with_numbers names (words_of line) else line
+
+unfoldable pub slip_with : List Binding → List ℕ → List ℕ
+slip_with names line =
+    if is_bad (line_with names line) then (if is_let (words_of line) then let_slip else slip_of (numbered names line)) else []
+
+-- the same, where that is told; of any other line nothing
+abbrev pub slip_told : Bool → List Binding → List ℕ → List ℕ
+slip_told tells names line = if tells then slip_with names line else []
 
 -- an answer with that behind it
 abbrev pub with_slip : List ℕ → List ℕ → List ℕ
@@ -57,7 +72,7 @@ pub record DebugSays (before : Debugged) (line said : List ℕ) (after : Debugge
   pub number : after.number ≡ up_to_64_bits (before.number + 1)
   pub left : Leaves before.desk line after.number after.desk
   pub same : after.tells_slips ≡ before.tells_slips
-  pub text : said ≡ line_told (with_slip (answer_at before.desk line) (slip_told before.tells_slips line))
+  pub text : said ≡ line_told (with_slip (answer_at before.desk line) (slip_told before.tells_slips before.desk.names line))
 
 abbrev pub by_debug : Answering
 by_debug = by_lines (at_once Debugged DebugSays)

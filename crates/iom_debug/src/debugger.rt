@@ -1,8 +1,11 @@
 use crate::answers::answer_to;
 use crate::reasons::LineAccount;
+use crate::text::reply_of;
 use crate::ways::address_line;
 use iom_core::Platform;
-use iom_tool::{Console, Language, Line, Reply, Trace, line_of};
+use iom_names::{Names, is_let, is_line};
+use iom_slips::slip;
+use iom_tool::{Console, Line, Reply, Trace};
 
 /// A script of `debug`, given a line at a time.
 #[derive(Drop)]
@@ -13,6 +16,8 @@ pub struct Debugger<'a> {
     pub trace: &'a mut Trace,
     /// The account of these steps.
     pub reasons: &'a mut LineAccount,
+    /// The names that its lines gave numbers.
+    pub names: Names,
 }
 
 impl<'a> Debugger<'a> {
@@ -21,10 +26,12 @@ impl<'a> Debugger<'a> {
     ghost use Rattle.iom_core.specs.Run.{end_of};
     ghost use Rattle.iom_tool.specs.Console.{console, trace_after};
     ghost use Rattle.iom_tool.specs.Parsed.{Fits, line_as};
-    ghost use Rattle.iom_tool.specs.Script.{Bad, debug_line_of, line_of};
+    ghost use Rattle.iom_names.specs.Reading.{line_with, names_after};
+    ghost use Rattle.iom_tool.specs.Script.{Bad, line_of};
     ghost use Rattle.iom_debug.specs.Desks.{desk_of, names_of};
     ghost use Rattle.iom_debug.specs.Output.{IsAsRun, debug_reply, debug_steps, debug_steps_of};
     ghost use Rattle.iom_debug.specs.Reasons.{GoesAlong, last_stale, stale_only};
+    ghost use Rattle.iom_debug.specs.Telling.{slip_with};
 
     /// A debugger of this platform with this trace and these reasons, to which no line was given yet.
     pub fn new(
@@ -38,36 +45,40 @@ impl<'a> Debugger<'a> {
         ensures platform { result.platform.now ≡ platform.old }
         ensures trace { result.trace.now ≡ trace.old }
         ensures reasons { result.reasons.now ≡ reasons.old }
+        ensures names { result.names ≡ [] }
     {
         Debugger {
             platform,
             trace,
             reasons,
+            names: Names::new(),
         }
     }
 
     /// Carries out a line, given without its line end, whose steps have this number, and answers its text: empty for a blank line, `bad`
     /// for what is no line, as for a text above 512 bytes or with a line end. A line that `run` answers otherwise than `bad` is answered so
-    /// here too, and leaves the same.
+    /// here too, and leaves the same. `let NAME NUMBER` is answered `done`: in the lines after it the name stands for the number.
     pub fn line(&mut self, number: u64, text: &[u8]) -> Reply
         ensures reply { result.items ≡ unwrap_or
-            (debug_reply (console self.old.platform.now self.old.trace.now) self.old.reasons.now.account (debug_line_of text.now)) [] }
+            (debug_reply (console self.old.platform.now self.old.trace.now) self.old.reasons.now.account (line_with self.old.names text.now)) [] }
         ensures state { self.new.platform.now
-            ≡ end_of self.old.platform.now (debug_steps_of self.old.platform.now text.now) }
+            ≡ end_of self.old.platform.now (debug_steps_of self.old.names self.old.platform.now text.now) }
         ensures trace { self.new.trace.now
-            ≡ trace_after self.old.trace.now self.old.platform.now (debug_steps_of self.old.platform.now text.now) }
+            ≡ trace_after self.old.trace.now self.old.platform.now (debug_steps_of self.old.names self.old.platform.now text.now) }
         ensures as_run { line_of text.now ≢ Bad →
             IsAsRun (console self.old.platform.now self.old.trace.now) text.now
             result.items (console self.new.platform.now self.new.trace.now) }
 
         // What is told goes along with the steps, and of this line where the tables led its last access that was stale.
-        ensures along { GoesAlong self.old.reasons.now self.old.platform.now (debug_steps_of self.old.platform.now text.now) number
+        ensures along { GoesAlong self.old.reasons.now self.old.platform.now (debug_steps_of self.old.names self.old.platform.now text.now) number
             self.new.reasons.now self.new.platform.now }
         ensures stale { self.new.reasons.now.stale
-            ≡ last_stale None self.old.platform.now (debug_steps_of self.old.platform.now text.now) }
+            ≡ last_stale None self.old.platform.now (debug_steps_of self.old.names self.old.platform.now text.now) }
+        ensures names { self.new.names ≡ names_after self.old.names text.now }
         ensures same { names_of self.new ≡ names_of self.old }
     {
-        self.carry_out(number, line_of(Language::Debug, text))
+        let line = self.names.read(text);
+        self.carry_out(number, line)
     }
 
     /// Carries out a line that was read, whose steps have this number, and answers its text, as `line` does.
@@ -82,6 +93,7 @@ impl<'a> Debugger<'a> {
             self.new.reasons.now self.new.platform.now }
         ensures stale { self.new.reasons.now.stale
             ≡ last_stale None self.old.platform.now (debug_steps self.old.platform.now (line_as line)) }
+        ensures names { self.new.names ≡ self.old.names }
         ensures same { names_of self.new ≡ names_of self.old }
     {
         self.reasons.begin_line();
@@ -92,6 +104,27 @@ impl<'a> Debugger<'a> {
             Line::Again(actor, most) => self.take_again(number, actor, most),
             Line::Put(addr, words) => self.store_all(number, addr, words.as_slice()),
             plain => Console::new(self.platform, self.trace).reply_to(plain),
+        }
+    }
+
+    /// Why a line would be answered `bad`, given without its line end, as `VALUE is missing`; empty if it would not be. Numbers stand in place
+    /// of names.
+    #[tactic(auto, unfolding(crate::specs::Telling::slip_with), using(crate::proofs::Slips::too_long))]
+    pub fn slip(&self, text: &[u8]) -> Reply
+        ensures { result.items ≡ slip_with self.now.names text.now }
+    {
+        if !matches!(self.names.said(text), Line::Bad) {
+            return Reply::new();
+        }
+        if is_let(text) {
+            return reply_of(b"let: no such NAME or NUMBER, or 64 names already");
+        }
+        if !is_line(text) {
+            return slip(text);
+        }
+        match self.names.with_numbers(text) {
+            Some(line) => slip(line.as_slice()),
+            None => reply_of(b"a line has at most 512 bytes"),
         }
     }
 

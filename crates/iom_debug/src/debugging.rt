@@ -10,7 +10,6 @@ ghost use Rattle.iom_debug.specs.Telling.{by_debug, line_told, slip_told, with_s
 use crate::debugger::Debugger;
 use crate::page::{OutputPage, first_bytes, put, write_told};
 use iom_reader::{Answerer, RunFault, WatchedReader, WatchedWriter, answer_all};
-use iom_slips::slip;
 use iom_tool::Reply;
 use std::io::{Read, Write};
 
@@ -66,8 +65,8 @@ impl Answerer for Debugging<'_> {
     ) -> Result<(), RunFault> {
         self.number = self.number.saturating_add(1);
         let line = first_bytes(line);
+        let slip = slip_told(self.tells_slips, &self.debugger, line);
         let answer = self.debugger.line(self.number, line);
-        let slip = slip_told(self.tells_slips, line);
         self.page.clear();
         put_line(&mut self.page, answer.as_slice(), slip.as_slice());
         write_told(writer, self.page.as_slice())
@@ -75,11 +74,11 @@ impl Answerer for Debugging<'_> {
 }
 
 // Why a line is bad, where that is told.
-fn slip_told(tells_slips: bool, line: &[u8]) -> Reply
-    ensures { result.items ≡ slip_told tells_slips line.now }
+fn slip_told(tells_slips: bool, debugger: &Debugger<'_>, line: &[u8]) -> Reply
+    ensures { result.items ≡ slip_told tells_slips debugger.now.names line.now }
 {
     if tells_slips {
-        slip(line)
+        debugger.slip(line)
     } else {
         Reply::new()
     }

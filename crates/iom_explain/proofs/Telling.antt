@@ -19,7 +19,8 @@ use Rattle.iom_reader.specs.declared.fault.RunFault.{RunFault}
 use Rattle.iom_reader.specs.Running.{Ends}
 use Rattle.iom_reader.proofs.Chains.{spoken, lawful as by_lines_lawful}
 use Rattle.iom_tool.specs.Console.{traced}
-use Rattle.iom_tool.specs.Script.{DebugLine, debug_line_of}
+use Rattle.iom_tool.specs.Script.{DebugLine}
+use Rattle.iom_names.specs.Reading.{line_with}
 use Rattle.iom_tool.specs.Parsed.{line_as}
 use Rattle.iom_tool.specs.declared.language.Actor.{Actor}
 use Rattle.iom_tool.specs.declared.language.Line.{Line}
@@ -162,11 +163,11 @@ unheard line now short =
 
 pub heard : (line cut : List ℕ) (old new : Progress Progressed) (result : Result (Unit {0}) RunFault) (number : ℕ) (own : DebugLine) →
     cut ≡ take 513 line → old.console.is_short ≡ false → number ≡ up_to_64_bits (old.console.number + 1) → new.console.number ≡ number →
-    own ≡ debug_line_of cut → Wrote result old.written new.written new.console.is_short (λ said. LineTold old.console.told number cut own said new.console.told) →
+    own ≡ line_with old.console.told.desk.names cut → Wrote result old.written new.written new.console.is_short (λ said. LineTold old.console.told number cut own said new.console.told) →
     AnswersNext by_explain line old new result
 heard line cut old new (Ok done) number own is long counted same own_is w =
-    let told : new.console.is_short ≡ false → LineTold old.console.told new.console.number cut (debug_line_of cut) w.0 new.console.told =
-    λ m. subst (λ n. LineTold old.console.told n cut (debug_line_of cut) w.0 new.console.told) (sym same)
+    let told : new.console.is_short ≡ false → LineTold old.console.told new.console.number cut (line_with old.console.told.desk.names cut) w.0 new.console.told =
+    λ m. subst (λ n. LineTold old.console.told n cut (line_with old.console.told.desk.names cut) w.0 new.console.told) (sym same)
     (subst (λ (l : DebugLine). LineTold old.console.told number cut l w.0 new.console.told) own_is (w.2 m)) in
     spoken explaining line w.0 old new (subst (λ l. ExplainSays old.console l w.0 new.console) is (record {
       short = λ other. absurd (cc (long, other));

@@ -21,7 +21,9 @@ use Rattle.iom_reader.specs.Answering.{Answering}
 use Rattle.iom_reader.specs.Lines.{lines_of}
 use Rattle.iom_reader.specs.Running.{IsWithinLimits}
 use Rattle.iom_reader.specs.Speaking.{Speaking, Speaks, Spoken}
-use Rattle.iom_tool.specs.Script.{Again, DebugLine, Does, Plain, debug_line_of}
+use Rattle.iom_tool.specs.Script.{Again, DebugLine, Does, Plain}
+use Rattle.iom_names.specs.Reading.{line_with}
+use Rattle.iom_names.specs.declared.names.Binding.{Binding}
 use Rattle.iom_tool.specs.Texts.{entry_text}
 use Rattle.iom_tool.specs.declared.trace.TracedStep.{TracedStep}
 use Rattle.iom_debug.specs.Reasons.{LineAccountView, newest_origin}
@@ -70,8 +72,8 @@ pub record Explained : Type 0 where
   pub desk : Desk
   pub counts : Counts
 
-abbrev pub explained : State → List TracedStep → LineAccountView → Counts → Explained
-explained state trace reasons counts = record { desk = desk state trace reasons; counts = counts }
+abbrev pub explained : State → List TracedStep → LineAccountView → List Binding → Counts → Explained
+explained state trace reasons names counts = record { desk = desk state trace reasons names; counts = counts }
 
 -- a step of the line of this number was taken, told and counted. Where its translation came from is what the account keeps of it
 pub record StepTold (before : Explained) (number : ℕ) (step : Step) (said : List ℕ) (after : Explained) : Type 0 where
@@ -123,7 +125,7 @@ pub record ExplainSays (before : Progressed) (line said : List ℕ) (after : Pro
   pub short : before.is_short ≡ true → after.is_short ≡ true
   pub number : after.is_short ≡ false → after.number ≡ up_to_64_bits (before.number + 1)
   pub told : after.is_short ≡ false
-      → LineTold before.told after.number line (debug_line_of line) said after.told
+      → LineTold before.told after.number line (line_with before.told.desk.names line) said after.told
 
 abbrev pub explaining : Speaking
 explaining = record { State = Progressed; says = ExplainSays; breaks = λ before line front after. Unit {0} }

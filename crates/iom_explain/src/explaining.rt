@@ -15,7 +15,7 @@ use iom_debug::{
     put_number, reply_with_count, step_by, write_told,
 };
 use iom_reader::{Answerer, RunFault, WatchedReader, WatchedWriter, answer_all};
-use iom_tool::{Actor, Language, Line, Reply, TracedStep, answer_text, line_of};
+use iom_tool::{Actor, Line, Reply, TracedStep, answer_text};
 use std::alloc::{AllocError, Global};
 use std::io::{Read, Write};
 
@@ -90,8 +90,7 @@ impl Explaining<'_> {
     ghost use Rattle.iom_core.specs.Table.{next};
     ghost use Rattle.iom_reader.specs.Running.{is_write};
     ghost use Rattle.iom_reader.specs.Watching.{write_failed};
-    ghost use Rattle.iom_tool.specs.Parsed.{Fits, line_as, step_of};
-    ghost use Rattle.iom_tool.specs.Script.{debug_line_of};
+    ghost use Rattle.iom_tool.specs.Parsed.{step_of};
     ghost use Rattle.iom_tool.specs.Texts.{text_of};
     ghost use Rattle.iom_debug.specs.Desks.{names_of};
     ghost use Rattle.iom_debug.specs.Taking.{is_done, run_text, taken};
@@ -199,13 +198,10 @@ impl Explaining<'_> {
     fn tell_other<W: Write>(
         &mut self,
         text: &[u8],
-        line: Line,
         writer: &mut WatchedWriter<'_, W>,
     ) -> Result<(), RunFault>
         requires can { write_failed writer.old ≡ false }
         requires short { length text.now ≤ 513 }
-        requires fits { Fits line }
-        requires said { line_as line ≡ debug_line_of text.now }
         ensures ok { OnOk result ((said : List ℕ) × Appends (W.contents writer.old.inner.now) (W.contents writer.new.inner.now) said
             × (self.new.teller.is_short ≡ false → OtherTold (told self.old) self.old.number text.now said (told self.new))) }
         ensures fault { IfErr result (λ fault. fault ≡ RunFault.Write) }
@@ -214,7 +210,7 @@ impl Explaining<'_> {
         ensures same { names_of self.new.debugger ≡ names_of self.old.debugger }
         ensures number { self.new.number ≡ self.old.number }
     {
-        let reply = self.debugger.carry_out(self.number, line);
+        let reply = self.debugger.line(self.number, text);
         put_line(&mut self.teller.page, self.number, text, reply.as_slice());
         write(&self.teller.page, self.teller.is_short, writer)
     }
@@ -241,13 +237,13 @@ impl Answerer for Explaining<'_> {
         }
         self.number = self.number.saturating_add(1);
         let line = first_bytes(line);
-        match line_of(Language::Debug, line) {
+        match self.debugger.names.said(line) {
             Line::Does(step) => {
                 let _answered = self.tell_step(step, writer)?;
                 Ok(())
             }
             Line::Again(actor, most) => self.tell_run(line, actor, most, writer),
-            other => self.tell_other(line, other, writer),
+            _ => self.tell_other(line, writer),
         }
     }
 }

@@ -198,11 +198,11 @@ pub fn take(debugger: &mut Debugger<'_>, teller: &mut Teller, number: u64, entry
     ensures step { entry.new.step ≡ entry.old.step }
     ensures answer { entry.new.answer ≡ (next debugger.old.platform.now entry.old.step).answer }
     ensures told { teller.new.is_short ≡ false → StepTold
-        (explained debugger.old.platform.now debugger.old.trace.now debugger.old.reasons.now teller.old.summary)
+        (explained debugger.old.platform.now debugger.old.trace.now debugger.old.reasons.now debugger.old.names teller.old.summary)
         number entry.old.step teller.new.page.items
         (explained debugger.new.platform.now
         (traced debugger.old.trace.now entry.old.step (next debugger.old.platform.now entry.old.step).answer)
-        debugger.new.reasons.now teller.new.summary) }
+        debugger.new.reasons.now debugger.new.names teller.new.summary) }
     ensures short { teller.old.is_short ≡ true → teller.new.is_short ≡ true }
     ensures trace { debugger.new.trace.now ≡ debugger.old.trace.now }
     ensures same { names_of debugger.new ≡ names_of debugger.old }

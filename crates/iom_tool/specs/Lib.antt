@@ -2,6 +2,7 @@ pub mod Words
 pub mod Names
 pub mod Values
 pub mod Script
+pub mod Reserved
 pub mod Parsed
 pub mod Operands
 pub mod Texts

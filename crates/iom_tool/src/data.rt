@@ -1,4 +1,4 @@
-ghost use Rattle.std.specs.Prelude.{◌≡◌, ◌*◌, ◌-◌, ◌++◌, ◌<◌, ◌≤◌, Some, None, true, false, length, replicate};
+ghost use Rattle.std.specs.Prelude.{◌≡◌, ◌*◌, ◌-◌, ◌++◌, ◌<◌, ◌≤◌, Some, None, true, false, is_some, length, replicate};
 ghost use Rattle.std.specs.Result.{result_ok};
 ghost use Rattle.hex.specs.Hex.{hex_digit_value, decode_pairs};
 ghost use Rattle.iom_tool.specs.Words.{bytes_of};
@@ -68,4 +68,12 @@ pub fn put_bytes_of(word: &[u8], bytes: &mut ArrayVec<u8, 64>) -> bool
     *bytes = ArrayVec::from(all);
     bytes.truncate(word.len() / 2);
     true
+}
+
+/// Whether a word is 1 to 64 bytes in hex.
+pub fn is_data(word: &[u8]) -> bool
+    ensures { result ≡ is_some (bytes_of word.now) }
+{
+    let mut bytes = ArrayVec::new();
+    put_bytes_of(word, &mut bytes)
 }

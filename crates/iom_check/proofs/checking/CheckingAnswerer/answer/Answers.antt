@@ -16,6 +16,6 @@ returns-clause-next g c =
     told_at_once Checked CheckSays c.args.line.now c.as_slice-4.result.now _ _ c.write_told.result
     (check_says _ _ c.args.line.now c.first_bytes-line.result.now c.as_slice-4.result.now c.line-answer.result.items c.tables-tables.result.items
     c.saturating_add-self.result (score_of c.remark.new.self) c.first_bytes-line.ensures.bytes c.saturating_add-self.ensures
-    (record { state = c.line-answer.ensures.state; trace = c.line-answer.ensures.trace; stale = c.line-answer.ensures.stale; along = c.line-answer.ensures.along })
+    (record { state = c.line-answer.ensures.state; trace = c.line-answer.ensures.trace; stale = c.line-answer.ensures.stale; along = c.line-answer.ensures.along; names = c.line-answer.ensures.names })
     c.line-answer.ensures.reply c.tables-tables.ensures (c.as_slice-4.ensures.value ∙ both.0) both.1)
     c.write_told.ensures.ok c.write_told.ensures.front

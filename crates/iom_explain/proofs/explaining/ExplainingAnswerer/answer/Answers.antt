@@ -21,6 +21,6 @@ returns-in-Again-clause-next g c =
 
 pub returns-in_default-clause-next : goal.returns-in_default-clause-next
 returns-in_default-clause-next g c =
-    heard c.args.line.now c.first_bytes-line.result.now _ _ c.tell_other.result c.saturating_add-self.result (line_as c.line_of.result)
-    c.first_bytes-line.ensures.bytes c.if-self.false c.saturating_add-self.ensures c.tell_other.ensures.number c.line_of.ensures.line
-    (others c.tell_other.result _ _ _ c.line_of.result _ _ _ _ c.in_default.not-Does c.in_default.not-Again c.tell_other.ensures.ok)
+    heard c.args.line.now c.first_bytes-line.result.now _ _ c.tell_other.result c.saturating_add-self.result (line_as c.said.result)
+    c.first_bytes-line.ensures.bytes c.if-self.false c.saturating_add-self.ensures c.tell_other.ensures.number c.said.ensures.line
+    (others c.tell_other.result _ _ _ c.said.result _ _ _ _ c.in_default.not-Does c.in_default.not-Again c.tell_other.ensures.ok)
