@@ -1,3 +1,7 @@
+ghost use Rattle.std.specs.Prelude.{◌≡◌};
+ghost use Rattle.iom_names.specs.Reading.{is_bad};
+ghost use Rattle.iom_tool.specs.Parsed.{line_as};
+
 use crate::answers::answer_to;
 use crate::reasons::LineAccount;
 use crate::text::reply_of;
@@ -6,6 +10,13 @@ use iom_core::Platform;
 use iom_names::{Names, is_let, is_line};
 use iom_slips::slip;
 use iom_tool::{Console, Line, Reply, Trace};
+
+// Whether a line says nothing.
+fn is_bad(line: &Line) -> bool
+    ensures { result ≡ is_bad (line_as line.now) }
+{
+    matches!(line, Line::Bad)
+}
 
 /// A script of `debug`, given a line at a time.
 #[derive(Drop)]
@@ -113,7 +124,8 @@ impl<'a> Debugger<'a> {
     pub fn slip(&self, text: &[u8]) -> Reply
         ensures { result.items ≡ slip_with self.now.names text.now }
     {
-        if !matches!(self.names.said(text), Line::Bad) {
+        let line = self.names.said(text);
+        if !is_bad(&line) {
             return Reply::new();
         }
         if is_let(text) {
