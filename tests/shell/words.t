@@ -98,6 +98,7 @@ is 3, since 1 says that a line failed.
   rviommu: write failed
   run: 1
   rviommu: cannot read none
+  1 file: 0 passed, 0 failed, 1 not read
   check: 3
   rviommu: bad: truncated
   check: 3

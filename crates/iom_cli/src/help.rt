@@ -124,6 +124,8 @@ The script has the lines of `rviommu --help` and these:
   why I                         the lines that cached what step I of the trace
                                 used, and whether it was stale
 
+If standard output is a terminal, bad is followed by its reason.
+
 An example:
 
   $ echo 'dump 0x80000000 4' | rviommu debug seven.image
@@ -139,10 +141,11 @@ Below each access of a device come the reasons for its answer:
   caches: ..    the cached entries for it, and the lines that filled them
   walk: ..      the parts of its walk, if it was not fully cached
   warrant: ..   the lines that its translation comes from
-  stale: ..     the answer of the tables, if it is another one
+  stale: ..     if it was stale, what served it and what the tables say
 
 At the end it counts the accesses: granted, denied by cause, served from the
-caches, and stale, with their lines.
+caches, and stale, with their lines. With --only, the accesses of that kind
+alone are printed before.
 
 An example:
 

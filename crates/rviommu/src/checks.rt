@@ -215,8 +215,9 @@ impl<R: Clock + Eprint + Files, W: Write> Round<'_, R, W> {
             None
         };
         let mut input = Progress::new(self.rt, "check", size, script);
-        let fault = self.play(image, name, &mut input)?;
+        let ended = self.play(image, name, &mut input);
         input.clear();
+        let fault = ended?;
         if self.suites.is_some() {
             let fault = fault.as_ref().map(|text| text.as_str());
             self.play_again(image, name, script, fault)?;
@@ -239,8 +240,9 @@ impl<R: Clock + Eprint + Files, W: Write> Round<'_, R, W> {
         }
         let size = size_of_input(self.rt, self.has_terminal);
         let mut input = Progress::new(self.rt, "check", size, input);
-        let _fault = self.play(image, name, &mut input)?;
+        let ended = self.play(image, name, &mut input);
         input.clear();
+        let _told = ended?;
         Ok(())
     }
 
