@@ -186,15 +186,7 @@ impl<R: Clock + Eprint + Files, W: Write> Round<'_, R, W> {
             style: Style::Junit,
             ..self.rules
         };
-        let judged = judge(
-            self.alloc,
-            image,
-            rules,
-            name,
-            0,
-            &mut script,
-            &mut cases,
-        )?;
+        let judged = judge(self.alloc, image, rules, name, 0, &mut script, &mut cases)?;
         // A vector can't be written where memory is refused.
         if let Some(RunFault::Write) = judged.fault {
             return Err(Fault::OutOfMemory);

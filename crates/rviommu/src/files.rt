@@ -1,9 +1,9 @@
 //! Files, each as a whole.
 
 use crate::fault::Fault;
+use iom_reader::RunFault;
 use std::alloc::Global;
 use std::fs::{self, File, Files};
-use iom_reader::RunFault;
 use std::io::{ErrorKind, Read};
 
 /// The most bytes of a file that is read.

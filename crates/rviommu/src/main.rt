@@ -33,6 +33,8 @@ struct Streams<I, O> {
     output: O,
     // Whether standard error is a terminal.
     has_terminal: bool,
+    // Whether standard output is one.
+    output_is_terminal: bool,
 }
 
 // Runs, debugs or explains the script that an input gives.
@@ -40,6 +42,7 @@ fn play<'a, R: Read, W: Write>(
     alloc: Global,
     image: &[u8],
     how: How,
+    tells_slips: bool,
     input: &mut R,
     output: &mut W,
 ) -> Result<(), Fault<'a>> {
@@ -60,7 +63,11 @@ fn play<'a, R: Read, W: Write>(
             }
             Ok(())
         }
-        _ => Ok(debug(&mut Debugging::new(debugger, false), &mut reader, &mut writer)?),
+        _ => Ok(debug(
+            &mut Debugging::new(debugger, tells_slips),
+            &mut reader,
+            &mut writer,
+        )?),
     }
 }
 
@@ -72,13 +79,20 @@ fn play_image<'a>(
     how: How,
     streams: Streams<impl Read + Drop, impl Write + Drop>,
 ) -> Result<(), Fault<'a>> {
-    let is_shown = streams.has_terminal && !matches!(how, How::Run);
-    let size = size_of_input(rt, is_shown);
+    let has_progress = streams.has_terminal && !matches!(how, How::Run);
+    let size = size_of_input(rt, has_progress);
     let mut input = Progress::new(rt, how.word(), size, streams.input);
     let mut writer = BufWriter::with_capacity(alloc, WRITE_BLOCK, streams.output).map_err(
         |_| Fault::OutOfMemory,
     )?;
-    let ended = play(alloc, image, how, &mut input, &mut writer);
+    let ended = play(
+        alloc,
+        image,
+        how,
+        streams.output_is_terminal,
+        &mut input,
+        &mut writer,
+    );
     input.clear();
     // The answers before a fault are written too.
     writer.flush().map_err(|_| RunFault::Write)?;
@@ -257,6 +271,7 @@ fn main(rt: HostRuntime) -> ExitCode {
         input: rt.stdin(),
         output: rt.stdout(),
         has_terminal: rt.stderr().is_terminal(),
+        output_is_terminal: rt.stdout().is_terminal(),
     };
     program(&rt, rt.alloc(), streams)
 }
