@@ -45,7 +45,7 @@ struct Round<'r, R, W> {
 }
 
 // Judges a script on an image. The faults are those before its first line.
-fn judge<R: Read, W: Write>(
+fn judge<'f, R: Read, W: Write>(
     alloc: Global,
     image: &[u8],
     rules: Rules,
@@ -53,7 +53,7 @@ fn judge<R: Read, W: Write>(
     points: u64,
     input: &mut R,
     output: &mut W,
-) -> Result<Judged, Fault<'static>> {
+) -> Result<Judged, Fault<'f>> {
     let mut reader = WatchedReader::new(input);
     let mut writer = WatchedWriter::new(output);
     let mut platform = iom_asm::load(alloc, image)?;
@@ -76,12 +76,12 @@ impl<R: Clock + Eprint + Files, W: Write> Round<'_, R, W> {
     }
 
     // Writes to standard output.
-    fn write(&mut self, text: &[u8]) -> Result<(), Fault<'static>> {
+    fn write<'f>(&mut self, text: &[u8]) -> Result<(), Fault<'f>> {
         Ok(self.output.write_all(text).map_err(|_| RunFault::Write)?)
     }
 
     // What is told of a fault: with the name of its file, where that isn't in it.
-    fn told(&self, name: Option<&str>, fault: &Fault<'_>) -> Result<String, Fault<'static>> {
+    fn told<'f>(&self, name: Option<&str>, fault: &Fault<'_>) -> Result<String, Fault<'f>> {
         Ok(match (name, fault) {
             (None, _) | (_, Fault::CannotRead(_)) => format!(in self.alloc; "{fault}")?,
             (Some(name), _) => format!(in self.alloc; "{}: {fault}", Escaped(name))?,
@@ -89,7 +89,7 @@ impl<R: Clock + Eprint + Files, W: Write> Round<'_, R, W> {
     }
 
     // Tells that a script wasn't judged to its end, on standard error after all that was written before, and as a test point of TAP.
-    fn tell(&mut self, text: &str) -> Result<(), Fault<'static>> {
+    fn tell<'f>(&mut self, text: &str) -> Result<(), Fault<'f>> {
         self.output.flush().map_err(|_| RunFault::Write)?;
         let _ = self.rt.eprintln(format_args!("rviommu: {text}"));
         if let Style::Tap = self.rules.style {
@@ -103,13 +103,13 @@ impl<R: Clock + Eprint + Files, W: Write> Round<'_, R, W> {
     }
 
     // Appends a suite to JUnit's XML, if it is wanted.
-    fn add_suite(
+    fn add_suite<'f>(
         &mut self,
         name: Option<&str>,
         tally: Tally,
         mut cases: Vec<u8>,
         fault: Option<&str>,
-    ) -> Result<(), Fault<'static>> {
+    ) -> Result<(), Fault<'f>> {
         let Some(suites) = &mut self.suites else {
             return Ok(());
         };
@@ -129,7 +129,7 @@ impl<R: Clock + Eprint + Files, W: Write> Round<'_, R, W> {
     }
 
     // Tells of a file that can't be read, or is no image.
-    fn refuse(&mut self, name: Option<&str>, fault: &Fault<'_>) -> Result<(), Fault<'static>> {
+    fn refuse<'f>(&mut self, name: Option<&str>, fault: &Fault<'_>) -> Result<(), Fault<'f>> {
         let text = self.told(name, fault)?;
         self.tell(text.as_str())?;
         let none = Tally {
@@ -140,12 +140,12 @@ impl<R: Clock + Eprint + Files, W: Write> Round<'_, R, W> {
     }
 
     // Judges a script on an image, and writes what is told of it. Answers what is told of the fault that ended it before its end.
-    fn play(
+    fn play<'f>(
         &mut self,
         image: &[u8],
         name: Option<&str>,
         input: &mut impl Read,
-    ) -> Result<Option<String>, Fault<'static>> {
+    ) -> Result<Option<String>, Fault<'f>> {
         let points = self.points();
         let ended = judge(
             self.alloc,
@@ -174,13 +174,13 @@ impl<R: Clock + Eprint + Files, W: Write> Round<'_, R, W> {
     }
 
     // Judges once more a script that was judged, for JUnit's XML.
-    fn play_again(
+    fn play_again<'f>(
         &mut self,
         image: &[u8],
         name: Option<&str>,
         mut script: &[u8],
         fault: Option<&str>,
-    ) -> Result<(), Fault<'static>> {
+    ) -> Result<(), Fault<'f>> {
         let mut cases = Vec::new(self.alloc);
         let rules = Rules {
             style: Style::Junit,
@@ -195,12 +195,12 @@ impl<R: Clock + Eprint + Files, W: Write> Round<'_, R, W> {
     }
 
     // Judges the script of a file that was read.
-    fn judge_bytes(
+    fn judge_bytes<'f>(
         &mut self,
         image: &[u8],
         name: Option<&str>,
         script: &[u8],
-    ) -> Result<(), Fault<'static>> {
+    ) -> Result<(), Fault<'f>> {
         let size = if self.has_terminal {
             Some(script.len() as u64)
         } else {
@@ -218,12 +218,12 @@ impl<R: Clock + Eprint + Files, W: Write> Round<'_, R, W> {
     }
 
     // Judges the script on standard input, which is read as a whole only where it is judged twice.
-    fn judge_input(
+    fn judge_input<'f>(
         &mut self,
         image: &[u8],
         name: Option<&str>,
         input: &mut impl Read,
-    ) -> Result<(), Fault<'static>> {
+    ) -> Result<(), Fault<'f>> {
         if self.suites.is_some() {
             return match files::read_script(self.alloc, input) {
                 Ok(script) => self.judge_bytes(image, name, script.as_slice()),
@@ -239,7 +239,7 @@ impl<R: Clock + Eprint + Files, W: Write> Round<'_, R, W> {
     }
 
     // Judges the script of a file.
-    fn judge_file(&mut self, image: &[u8], name: &str) -> Result<(), Fault<'static>> {
+    fn judge_file<'f>(&mut self, image: &[u8], name: &str) -> Result<(), Fault<'f>> {
         match files::read(self.rt, self.alloc, name) {
             Ok(script) => self.judge_bytes(image, Some(name), script.as_slice()),
             Err(fault) => self.refuse(Some(name), &fault),
@@ -247,12 +247,12 @@ impl<R: Clock + Eprint + Files, W: Write> Round<'_, R, W> {
     }
 
     // Judges scripts on an image; if there is none, standard input.
-    fn judge_scripts(
+    fn judge_scripts<'f>(
         &mut self,
         image: &[u8],
         scripts: &[Option<&str>],
         input: &mut impl Read,
-    ) -> Result<(), Fault<'static>> {
+    ) -> Result<(), Fault<'f>> {
         if scripts.is_empty() {
             return self.judge_input(image, None, input);
         }
@@ -267,13 +267,13 @@ impl<R: Clock + Eprint + Files, W: Write> Round<'_, R, W> {
     }
 
     // Judges scripts on the image that was read from a file.
-    fn judge_on(
+    fn judge_on<'f>(
         &mut self,
         name: &str,
         image: &[u8],
         scripts: &[Option<&str>],
         input: &mut impl Read,
-    ) -> Result<(), Fault<'static>> {
+    ) -> Result<(), Fault<'f>> {
         match iom_asm::judge(image) {
             Ok(()) => self.judge_scripts(image, scripts, input),
             Err(fault) => self.refuse(Some(name), &Fault::Load(fault)),
@@ -281,7 +281,7 @@ impl<R: Clock + Eprint + Files, W: Write> Round<'_, R, W> {
     }
 
     // Of one file and no image: if it begins as an image does, it is the image of the script on standard input, else a script.
-    fn judge_one(&mut self, name: &str, input: &mut impl Read) -> Result<(), Fault<'static>> {
+    fn judge_one<'f>(&mut self, name: &str, input: &mut impl Read) -> Result<(), Fault<'f>> {
         match files::read(self.rt, self.alloc, name) {
             Ok(bytes) if begins_as_image(bytes.as_slice()) => {
                 self.judge_on(name, bytes.as_slice(), &[], input)
@@ -298,11 +298,11 @@ impl<R: Clock + Eprint + Files, W: Write> Round<'_, R, W> {
     }
 
     // Judges all scripts that the words name.
-    fn judge_all(
+    fn judge_all<'f>(
         &mut self,
         checks: &Checks<'_>,
         input: &mut impl Read,
-    ) -> Result<(), Fault<'static>> {
+    ) -> Result<(), Fault<'f>> {
         let scripts = checks.scripts.as_slice();
         match (checks.image, scripts) {
             (Some(name), _) => match files::read(self.rt, self.alloc, name) {
@@ -315,7 +315,7 @@ impl<R: Clock + Eprint + Files, W: Write> Round<'_, R, W> {
     }
 
     // Writes what stands before the first script.
-    fn begin(&mut self) -> Result<(), Fault<'static>> {
+    fn begin<'f>(&mut self) -> Result<(), Fault<'f>> {
         if let Style::Tap = self.rules.style {
             self.write(TAP_HEAD)?;
         }
@@ -326,7 +326,7 @@ impl<R: Clock + Eprint + Files, W: Write> Round<'_, R, W> {
     }
 
     // Writes what stands behind the last script: the plan of TAP, or the sum over files where they have names.
-    fn end(&mut self) -> Result<(), Fault<'static>> {
+    fn end<'f>(&mut self) -> Result<(), Fault<'f>> {
         let mut text = Vec::new(self.alloc);
         match self.rules.style {
             Style::Tap => put_plan(&mut text, self.points())?,
