@@ -22,10 +22,8 @@ bash offers the words that may follow at the end of a line, and no other.
   $ offered check -; offered debug -; offered explain -; offered run -
   [--stale --at-fences --strict --tap --junit --image --help]
   [--help]
-  [--only --help]
   [--help]
-  $ offered explain --only ''
-  [denied stale denied,stale]
+  [--help]
   $ offered help ''
   [asm run check debug explain list upgrade]
 

@@ -56,7 +56,7 @@ fn play<'a, R: Read, W: Write>(
     let mut reasons = LineAccount::new(&platform);
     let debugger = Debugger::new(&mut platform, &mut trace, &mut reasons);
     match how {
-        How::Explain { .. } => {
+        How::Explain => {
             let mut explaining = Explaining::new(alloc, debugger)?;
             if !explain(&mut explaining, &mut reader, &mut writer)? {
                 return Err(Fault::OutOfMemory);
