@@ -14,7 +14,9 @@ _rviommu() {
     fi
     case ${COMP_WORDS[1]}:$current in
         check:-*)
-            mapfile -t COMPREPLY < <(compgen -W "--stale --help" -- "$current")
+            mapfile -t COMPREPLY < <(
+                compgen -W "--stale --at-fences --strict --tap --junit --image --help" -- "$current"
+            )
             return
             ;;
         asm:-* | run:-* | debug:-* | explain:-* | list:-* | upgrade:-*)
@@ -23,7 +25,7 @@ _rviommu() {
             ;;
     esac
     case ${COMP_WORDS[1]}:$COMP_CWORD in
-        asm:2 | asm:3 | run:2 | check:2 | check:3 | debug:2 | explain:2 | list:2 | upgrade:2 | upgrade:3) _rviommu_files ;;
+        check:* | asm:2 | asm:3 | run:2 | debug:2 | explain:2 | list:2 | upgrade:2 | upgrade:3) _rviommu_files ;;
         list:3) mapfile -t COMPREPLY < <(compgen -W "cmd fault context dir pte u64" -- "$current") ;;
         help:2) mapfile -t COMPREPLY < <(compgen -W "asm run check debug explain list upgrade" -- "$current") ;;
     esac

@@ -16,9 +16,11 @@ CAPABILITIES = 0x10 | 1 << 9 | 1 << 10 | 1 << 17 | 1 << 18 | 1 << 28 | 56 << 32
 def operands(word, told):
     """What a word of the program is followed by, as its help has it: its options, and its operands."""
     usage = re.search(rf"(?m)^Usage: \S+ {word}(.*)$", told)[1]
-    options = re.findall(r"(?m)^ +(?:-\w, )?(--\w+)", told[told.index("Options:") :].partition("\n\n")[0])
-    named = [must or f"[{may}]" for must, may in re.findall(r"<(\w+)>|\[([A-Z]+)\]", usage) if may != "OPTIONS"]
-    return [f"[{it}]" for it in options if it != "--help"] + named
+    listed = told[told.index("Options:") :].partition("\n\n")[0]
+    options = re.findall(r"(?m)^ +(?:-\w, )?(--[\w-]+)(?: <(\w+)>)?", listed)
+    found = re.findall(r"<(\w+)>|\[([A-Z]+)\](\.\.\.)?", usage)
+    named = [must or f"[{may}{' ..' if more else ''}]" for must, may, more in found if may != "OPTIONS"]
+    return [f"[{' '.join(filter(None, it))}]" for it in options if it[0] != "--help"] + named
 
 
 def pattern(answer):

@@ -144,27 +144,27 @@ The limits of a script are those of a run: 2^20 lines and 2^26 bytes. What was j
   $ for more in 'cmd # => idle' '' ' ' jump; do { many; printf '%s\n' "$more"; } | rviommu check; echo $?; done
   line 1: jump -> bad
   rviommu: script too long
-  1
+  3
   line 1: jump -> bad
   rviommu: script too long
-  1
+  3
   line 1: jump -> bad
   rviommu: script too long
-  1
+  3
   line 1: jump -> bad
   rviommu: script too long
-  1
+  3
   $ { many; printf ' '; } | rviommu check
   line 1: jump -> bad
   rviommu: script too long
-  [1]
+  [3]
   $ full() { yes "#$(printf '%510s')" | head -c 67108864; }
   $ full | rviommu check
   line 131072: note: no line has a wish
   0 passed, 0 failed
   $ { full; echo; } | rviommu check
   rviommu: script too long
-  [1]
+  [3]
   $ head -c 67108864 /dev/zero | tr '\0' ' ' | rviommu check
   line 1:  -> bad
   line 1: note: no line has a wish
@@ -172,7 +172,7 @@ The limits of a script are those of a run: 2^20 lines and 2^26 bytes. What was j
   [1]
   $ head -c 67108865 /dev/zero | tr '\0' ' ' | rviommu check
   rviommu: script too long
-  [1]
+  [3]
 
 It goes on an image, and has the lines of debug.
 

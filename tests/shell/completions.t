@@ -20,18 +20,19 @@ bash offers the words that may follow at the end of a line, and no other.
   $ offered list image cmd 0 ''
   []
   $ offered check -; offered debug -; offered explain -; offered run -
-  [--stale --help]
+  [--stale --at-fences --strict --tap --junit --image --help]
   [--help]
   [--help]
   [--help]
   $ offered help ''
   [asm run check debug explain list upgrade]
 
-Both completions know every word and every kind.
+Both completions know every word, every kind and every option.
 
   $ words=$(rviommu --help | sed -n '/^Commands:/,/^$/s/^  \([a-z]*\).*/\1/p')
+  $ options=$(for word in $words; do test $word = help || rviommu $word --help; done | sed -n 's/^ *\(-., \)*\(--[a-z-]*\).*/\2/p')
   $ for name in rviommu.bash _rviommu; do
-  >   for word in $words --help --version cmd fault context dir pte u64; do
+  >   for word in $words $options --help --version cmd fault context dir pte u64; do
   >     grep -qw -e "$word" "$TOP/completions/$name" || echo "$name lacks $word"
   >   done
   > done

@@ -1,12 +1,12 @@
 Each allocation of a run is refused in turn: then the program says so and writes nothing, or it does without that
-allocation; `clap` may refuse the words.
+allocation; `clap` may refuse the words. Of check the status is 3, once its words are known.
 
   $ command -v cc > none || exit 80
   $ cc -shared -fPIC -o refusing.so "$TESTDIR/../c/refusing.c"
   $ printf 'ram 0x80000000 0x1000\nu64 1 2 3\ndisk 5 2 c0ffee\n' > source; rviommu asm source image
   $ printf 'reg read 8 4' > ask
   $ run() { env "$@" < ask > out 2> errors; ended="$? $(cat out errors new | cksum)"; }
-  $ refusal="1 $(printf 'rviommu: out of memory\nbefore\n' | cksum)"
+  $ refusal="$(printf 'rviommu: out of memory\nbefore\n' | cksum)"
   $ refused() {
   >   echo before > new; run "$RVIOMMU_PROGRAM" "$@"; ample=$ended
   >   number=0; seen=nothing
@@ -15,7 +15,8 @@ allocation; `clap` may refuse the words.
   >     run LD_PRELOAD=./refusing.so REFUSED=$number COUNTED=counted "$RVIOMMU_PROGRAM" "$@"
   >     test -e counted || break
   >     case $ended in
-  >       "$refusal") seen='out of memory';;
+  >       "1 $refusal") seen='out of memory';;
+  >       "3 $refusal") test "$1" = check && seen='out of memory' || echo "allocation $number: $ended";;
   >       "$ample") ;;
   >       *) test "${ended%% *}$(cat new)" = 2before || echo "allocation $number: $(cat errors)";;
   >     esac
@@ -40,6 +41,20 @@ allocation; `clap` may refuse the words.
   list image u64 0x80000000 100: out of memory
   $ refused upgrade image new
   upgrade image new: out of memory
+
+Of scripts that are named each that lacks memory is told, and the others are judged.
+
+  $ cp ask again; echo before > new; run "$RVIOMMU_PROGRAM" check --junit new ask again; ample=$ended; number=0
+  $ while number=$((number + 1)); do
+  >   rm -f counted
+  >   run LD_PRELOAD=./refusing.so REFUSED=$number COUNTED=counted "$RVIOMMU_PROGRAM" check --junit new ask again
+  >   test -e counted || break
+  >   case ${ended%% *} in
+  >     0) test "$ended" = "$ample" || echo "allocation $number: other answers";;
+  >     1 | 3) grep -q '^rviommu: .*out of memory$' errors || echo "allocation $number: $(cat errors)";;
+  >     *) test "${ended%% *}" = 2 || echo "allocation $number: $ended";;
+  >   esac
+  > done
 
 With enough memory to begin with, and too little for the built-in image, a limit says so too.
 

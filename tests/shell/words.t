@@ -12,7 +12,12 @@ on standard error, and nothing on standard output.
   > asm source image more
   > run
   > run image more
-  > check image more
+  > check - -
+  > check - one -
+  > check --at-fences
+  > check --junit
+  > check --image
+  > check --tap=1
   > debug image more
   > explain image more
   > check --jump
@@ -32,7 +37,12 @@ on standard error, and nothing on standard output.
   asm source image more: 2 0 1
   run: 2 0 1
   run image more: 2 0 1
-  check image more: 2 0 1
+  check - -: 2 0 1
+  check - one -: 2 0 1
+  check --at-fences: 2 0 1
+  check --junit: 2 0 1
+  check --image: 2 0 1
+  check --tap=1: 2 0 1
   debug image more: 2 0 1
   explain image more: 2 0 1
   check --jump: 2 0 1
@@ -58,7 +68,8 @@ So they are with standard error closed.
   2
   2
 
-Each word that carries out a script has the same faults: of its image, of its input and of its output.
+Each word that carries out a script has the same faults: of its image, of its input and of its output. Of check the status
+is 3, since 1 says that a line failed.
 
   $ printf 'ram 0x80000000 0x1000\nrodisk 5 1 aa\n' > text && rviommu asm text image
   $ head -c 31 image > bad
@@ -79,15 +90,16 @@ Each word that carries out a script has the same faults: of its image, of its in
   rviommu: write failed
   run: 1
   rviommu: cannot read none
-  check: 1
-  rviommu: truncated
-  check: 1
+  1 file: 0 passed, 0 failed, 1 not read
+  check: 3
+  rviommu: bad: truncated
+  check: 3
   rviommu: read failed
-  check: 1
+  check: 3
   rviommu: write failed
-  check: 1
+  check: 3
   rviommu: write failed
-  check: 1
+  check: 3
   rviommu: cannot read none
   debug: 1
   rviommu: truncated
@@ -113,11 +125,11 @@ Each word that carries out a script has the same faults: of its image, of its in
   >   for script in short long; do tell $word < $script > /dev/full; done
   > done
   rviommu: read failed
-  check: 1
+  check: 3
   rviommu: write failed
-  check: 1
+  check: 3
   rviommu: write failed
-  check: 1
+  check: 3
   rviommu: read failed
   debug: 1
   rviommu: write failed
@@ -138,4 +150,7 @@ Each word that carries out a script has the same faults: of its image, of its in
   : 1
   $ rviommu check < /dev/null > /dev/full
   rviommu: write failed
-  [1]
+  [3]
+  $ rviommu check --help > /dev/full
+  rviommu: write failed
+  [3]

@@ -58,6 +58,13 @@ impl<'a> Checking<'a> {
         }
     }
 
+    /// How many test points passed, and how many failed, by now.
+    pub fn tally(&self) -> Tally
+        ensures { result ≡ self.now.scoring.tally }
+    {
+        self.scoring.tally
+    }
+
     // What the tables said of the last line's last access that was stale, where that is told.
     fn tables(&self) -> Reply
         ensures { result.items ≡ tables_told self.now.scoring.rules.fails_if_stale self.now.debugger.reasons.now.stale }

@@ -9,6 +9,9 @@ pub enum WordsFault<'a> {
     /// The word for the operand `name` is no number below 2^64.
     #[error("{}: {name} is decimal, or hex after 0x, below 2^64", Escaped(*.word))]
     BadNumber { name: &'a str, word: &'a str },
+    /// Standard input is named twice.
+    #[error("- stands for standard input, and only once")]
+    InputTwice,
     /// A request for help or for the version, or an error that clap found.
     #[error("{0}")]
     Clap(clap::Error),
@@ -21,7 +24,7 @@ impl WordsFault<'_> {
     /// The exit status: 0 if help or the version was asked for, 1 if an allocation was refused, else 2.
     pub fn status(&self) -> u8 {
         match self {
-            WordsFault::BadNumber { .. } => 2,
+            WordsFault::BadNumber { .. } | WordsFault::InputTwice => 2,
             WordsFault::Clap(error) => error.exit_code() as u8,
             WordsFault::OutOfMemory => 1,
         }

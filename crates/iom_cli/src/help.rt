@@ -71,15 +71,22 @@ The script has the lines of `rviommu --help`. An example:
 
 /// The end of the help of `check`.
 pub const CHECK: &str = "\
+Each FILE is a script, and runs on a platform of its own. Without a FILE the
+script is standard input. A single FILE without --image may be the image, if it
+begins as one: then the script is standard input.
+
 A line may end with its expected answer, in a comment '# => ANSWER'. It fails
 if it has another answer; a line that expects none fails only if it is bad.
-Prints each line that fails, and at the end how many passed and failed. The
-exit status is 1 if a line failed. The script has the lines of
+Prints each line that fails, and how many lines of each script passed and
+failed; after files that were named, also their sum. A script has the lines of
 `rviommu debug --help`.
 
 With --stale, a line also fails if an access of a device, by dma, dev step or
 dev run, used a cached translation or context that no longer matches the
 tables in memory: an invalidation is missing.
+
+The exit status is 1 if a line failed, and 3 if a file could not be read, is
+no image, could not be run to its end, or not be written.
 
 An example:
 
@@ -116,6 +123,8 @@ The script has the lines of `rviommu --help` and these:
   origin page I                 the context of a translation
   why I                         the lines that cached what step I of the trace
                                 used, and whether it was stale
+
+If standard output is a terminal, bad is followed by its reason.
 
 An example:
 

@@ -11,6 +11,27 @@ const KIND: &str = "KIND";
 /// The option of `check` by which stale accesses fail.
 const STALE: &str = "stale";
 
+/// The option of `check` by which the caches are looked at after fences.
+const FENCES: &str = "at-fences";
+
+/// The option of `check` by which what is noted fails.
+const STRICT: &str = "strict";
+
+/// The option of `check` by which it writes TAP.
+const TAP: &str = "tap";
+
+/// The option of `check` for the file of JUnit's XML.
+const JUNIT: &str = "junit";
+
+/// The option of `check` for the file of the image.
+const IMAGE: &str = "image";
+
+/// The operand of `check` for its scripts.
+const FILE: &str = "FILE";
+
+/// The word for standard input in place of a file.
+const INPUT: &str = "-";
+
 /// The names of the items that can be listed.
 const KINDS: [&str; 6] = ["cmd", "fault", "context", "dir", "pte", "u64"];
 
@@ -21,8 +42,6 @@ pub enum How {
     Run,
     /// Each line is answered, and may be one of `debug`.
     Debug,
-    /// Each line that fails is printed. If `fails_if_stale`, a line with a stale access fails.
-    Check { fails_if_stale: bool },
     /// Each line is printed with its answer and the reasons of its accesses.
     Explain,
 }
@@ -33,19 +52,41 @@ impl How {
         match self {
             How::Run => "run",
             How::Debug => "debug",
-            How::Check { .. } => "check",
             How::Explain => "explain",
         }
     }
 }
 
+/// Which scripts `check` judges, and how.
+#[derive(Drop)]
+pub struct Checks<'a> {
+    /// Whether a line fails also where an access of it is stale.
+    pub fails_if_stale: bool,
+    /// Whether what is only noted fails.
+    pub is_strict: bool,
+    /// Whether the caches are looked at after each fence, too.
+    pub looks_at_fences: bool,
+    /// Whether standard output is TAP, and not text.
+    pub is_tap: bool,
+    /// The file for JUnit's XML.
+    pub junit: Option<&'a str>,
+    /// The file of the image. If it is None and there is one script, that may be the image.
+    pub image: Option<&'a str>,
+    /// The files of the scripts, where None is standard input, which stands at most once. If there is none, it is standard input, without
+    /// a name.
+    pub scripts: Vec<Option<&'a str>>,
+}
+
 /// The task that the command line asks for.
+#[derive(Drop)]
 pub enum Task<'a> {
     /// Plays a script on the image in a file, or on the built-in one.
     Play {
         how: How,
         image: Option<&'a str>,
     },
+    /// Judges scripts.
+    Check(Checks<'a>),
     /// Assembles a text file into an image file.
     Assemble {
         source: &'a str,
@@ -85,8 +126,12 @@ struct Operand {
 enum Need {
     Required,
     Optional,
+    /// It may be given several times.
+    Several,
     /// It is an option with this name, without a value.
     Flag,
+    /// It is an option with this name, whose value help calls so.
+    Valued(&'static str),
 }
 
 const VERBS: [Verb; 7] = [
@@ -119,7 +164,7 @@ const VERBS: [Verb; 7] = [
     },
     Verb {
         name: "check",
-        about: "Runs a script and compares its answers with the expected ones",
+        about: "Runs scripts and compares their answers with the expected ones",
         after_help: help::CHECK,
         operands: &[
             Operand {
@@ -128,9 +173,34 @@ const VERBS: [Verb; 7] = [
                 need: Need::Flag,
             },
             Operand {
-                name: "IMAGE",
+                name: FENCES,
+                help: "With --stale, look at the caches after each fence too",
+                need: Need::Flag,
+            },
+            Operand {
+                name: STRICT,
+                help: "Fail where an expected answer is noted as a slip",
+                need: Need::Flag,
+            },
+            Operand {
+                name: TAP,
+                help: "Print TAP 14 in place of text",
+                need: Need::Flag,
+            },
+            Operand {
+                name: JUNIT,
+                help: "Also write JUnit's XML to the file OUT",
+                need: Need::Valued("OUT"),
+            },
+            Operand {
+                name: IMAGE,
                 help: "The file of the image; without it, the built-in image",
-                need: Need::Optional,
+                need: Need::Valued("IMAGE"),
+            },
+            Operand {
+                name: FILE,
+                help: "The files of the scripts, - for standard input",
+                need: Need::Several,
             },
         ],
     },
@@ -200,14 +270,28 @@ const VERBS: [Verb; 7] = [
     },
 ];
 
+// An option without a value, for clap.
+fn flag<'a>(arg: Arg<'a>, name: &'static str) -> Result<Arg<'a>, AllocError> {
+    let arg = arg.long(name).action(ArgAction::SetTrue);
+    if name == FENCES {
+        arg.requires_arg(STALE)
+    } else {
+        Ok(arg)
+    }
+}
+
 // An operand, for clap.
-fn arg<'a>(alloc: Global, operand: &Operand) -> Arg<'a> {
+fn arg<'a>(alloc: Global, operand: &Operand) -> Result<Arg<'a>, AllocError> {
     let arg = Arg::new(alloc, operand.name).help(operand.help);
     match operand.need {
-        Need::Required if operand.name == KIND => arg.required(true).value_parser(KINDS.as_slice()),
-        Need::Required => arg.required(true),
-        Need::Optional => arg,
-        Need::Flag => arg.long(operand.name).action(ArgAction::SetTrue),
+        Need::Required if operand.name == KIND => {
+            Ok(arg.required(true).value_parser(KINDS.as_slice()))
+        }
+        Need::Required => Ok(arg.required(true)),
+        Need::Optional => Ok(arg),
+        Need::Several => Ok(arg.num_args(1..).action(ArgAction::Append)),
+        Need::Flag => flag(arg, operand.name),
+        Need::Valued(value) => Ok(arg.long(operand.name).value_name(value)),
     }
 }
 
@@ -217,7 +301,7 @@ fn subcommand<'a>(alloc: Global, verb: &Verb) -> Result<Command<'a>, AllocError>
         .about(verb.about)
         .after_help(verb.after_help);
     for operand in verb.operands {
-        command = command.arg(arg(alloc, operand))?;
+        command = command.arg(arg(alloc, operand)?)?;
     }
     Ok(command)
 }
@@ -263,8 +347,40 @@ fn script<'a>(how: How, found: &ArgMatches<'a>) -> Task<'a> {
     }
 }
 
+// The scripts that `check` names.
+fn scripts<'a>(
+    alloc: Global,
+    found: &ArgMatches<'a>,
+) -> Result<Vec<Option<&'a str>>, WordsFault<'a>> {
+    let mut scripts = Vec::new(alloc);
+    let mut names_input = false;
+    for name in found.get_strs(FILE).unwrap_or(&[]) {
+        let is_input = *name == INPUT;
+        if is_input && names_input {
+            return Err(WordsFault::InputTwice);
+        }
+        names_input |= is_input;
+        let script = if is_input { None } else { Some(*name) };
+        scripts.push(script).map_err(AllocError::from)?;
+    }
+    Ok(scripts)
+}
+
+// The task of `check`.
+fn judging<'a>(alloc: Global, found: &ArgMatches<'a>) -> Result<Task<'a>, WordsFault<'a>> {
+    Ok(Task::Check(Checks {
+        fails_if_stale: found.get_flag(STALE),
+        is_strict: found.get_flag(STRICT),
+        looks_at_fences: found.get_flag(FENCES),
+        is_tap: found.get_flag(TAP),
+        junit: found.get_str(JUNIT),
+        image: found.get_str(IMAGE),
+        scripts: scripts(alloc, found)?,
+    }))
+}
+
 // The task of words that clap accepts.
-fn task_in<'a>(matches: &ArgMatches<'a>) -> Result<Task<'a>, WordsFault<'a>> {
+fn task_in<'a>(alloc: Global, matches: &ArgMatches<'a>) -> Result<Task<'a>, WordsFault<'a>> {
     match matches.subcommand() {
         Some(("asm", found)) => Ok(Task::Assemble {
             source: value(found, "SOURCE"),
@@ -273,10 +389,7 @@ fn task_in<'a>(matches: &ArgMatches<'a>) -> Result<Task<'a>, WordsFault<'a>> {
         Some(("run", found)) => Ok(script(How::Run, found)),
         Some(("debug", found)) => Ok(script(How::Debug, found)),
         Some(("explain", found)) => Ok(script(How::Explain, found)),
-        Some(("check", found)) => {
-            let fails_if_stale = found.get_flag(STALE);
-            Ok(script(How::Check { fails_if_stale }, found))
-        }
+        Some(("check", found)) => judging(alloc, found),
         Some(("upgrade", found)) => Ok(Task::Upgrade {
             image: value(found, "IMAGE"),
             new: value(found, "NEW"),
@@ -293,5 +406,5 @@ fn task_in<'a>(matches: &ArgMatches<'a>) -> Result<Task<'a>, WordsFault<'a>> {
 pub fn task_of<'a>(alloc: Global, words: &'a [String]) -> Result<Task<'a>, WordsFault<'a>> {
     let command = command(alloc)?;
     let matches = command.try_get_matches_from(words)?;
-    task_in(&matches)
+    task_in(alloc, &matches)
 }

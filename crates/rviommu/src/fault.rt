@@ -34,9 +34,6 @@ pub enum Fault<'a> {
     /// A run of a script ended before its end, or an output can't be written.
     #[error("{0}")]
     Run(RunFault),
-    /// A line of a checked script failed, as standard output shows.
-    #[error("a line failed")]
-    Failed,
     /// An allocation was refused.
     #[error("out of memory")]
     OutOfMemory,

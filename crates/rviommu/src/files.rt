@@ -1,12 +1,16 @@
 //! Files, each as a whole.
 
 use crate::fault::Fault;
+use iom_reader::RunFault;
 use std::alloc::Global;
 use std::fs::{self, File, Files};
 use std::io::{ErrorKind, Read};
 
 /// The most bytes of a file that is read.
 const MOST_BYTES: u64 = 1 << 30;
+
+/// One byte more than a script may have.
+const SCRIPT_BYTES: u64 = (1 << 26) + 1;
 
 /// The bytes of a file of at most 2^30 bytes. The faults are `CannotRead` and `OutOfMemory`.
 pub fn read<'a>(rt: &impl Files, alloc: Global, name: &'a str) -> Result<Vec<u8>, Fault<'a>> {
@@ -16,6 +20,16 @@ pub fn read<'a>(rt: &impl Files, alloc: Global, name: &'a str) -> Result<Vec<u8>
         Ok(_) if bytes.len() as u64 <= MOST_BYTES => Ok(bytes),
         Err(error) if error.kind() == ErrorKind::OutOfMemory => Err(Fault::OutOfMemory),
         _ => Err(Fault::CannotRead(name)),
+    }
+}
+
+/// The bytes of a script; of one that is too long, as many as show it. The faults are those of a read, and `OutOfMemory`.
+pub fn read_script(alloc: Global, input: &mut impl Read) -> Result<Vec<u8>, Fault<'static>> {
+    let mut bytes = Vec::new(alloc);
+    match input.take(SCRIPT_BYTES).read_to_end(&mut bytes) {
+        Ok(_) => Ok(bytes),
+        Err(error) if error.kind() == ErrorKind::OutOfMemory => Err(Fault::OutOfMemory),
+        Err(_) => Err(Fault::Run(RunFault::Read)),
     }
 }
 

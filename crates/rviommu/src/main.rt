@@ -3,14 +3,13 @@
 
 use fault::Fault;
 use iom_asm::Item;
-use iom_check::{Checking, Rules, Style, check};
-use iom_cli::{How, Task, WordsFault, task_of};
+use iom_cli::{Checks, How, Task, WordsFault, check_status, task_of};
 use iom_debug::{Debugger, Debugging, LineAccount, debug};
 use iom_explain::{Explaining, explain};
 use iom_play::WRITE_BLOCK;
 use iom_reader::{RunFault, WatchedReader, WatchedWriter};
 use iom_tool::Trace;
-use progress::Progress;
+use progress::{Progress, size_of_input};
 use std::alloc::Global;
 use std::env;
 use std::fs::Files;
@@ -19,9 +18,13 @@ use std::process::ExitCode;
 use std::rt::Env;
 use std::time::Clock;
 
+mod checks;
 mod fault;
 mod files;
 mod progress;
+
+/// The status of `check` where something couldn't be read, judged or written.
+const UNJUDGED: u8 = 3;
 
 // What the program reads and writes.
 #[derive(Drop)]
@@ -30,13 +33,16 @@ struct Streams<I, O> {
     output: O,
     // Whether standard error is a terminal.
     has_terminal: bool,
+    // Whether standard output is one.
+    output_is_terminal: bool,
 }
 
-// Runs, debugs, checks or explains the script that an input gives.
+// Runs, debugs or explains the script that an input gives.
 fn play<'a, R: Read, W: Write>(
     alloc: Global,
     image: &[u8],
     how: How,
+    tells_slips: bool,
     input: &mut R,
     output: &mut W,
 ) -> Result<(), Fault<'a>> {
@@ -50,19 +56,6 @@ fn play<'a, R: Read, W: Write>(
     let mut reasons = LineAccount::new(&platform);
     let debugger = Debugger::new(&mut platform, &mut trace, &mut reasons);
     match how {
-        How::Check { fails_if_stale } => {
-            let rules = Rules {
-                fails_if_stale,
-                is_strict: false,
-                looks_at_fences: false,
-                style: Style::Text,
-            };
-            let mut checking = Checking::new(debugger, rules, None, 0);
-            if check(&mut checking, &mut reader, &mut writer)?.failed > 0 {
-                return Err(Fault::Failed);
-            }
-            Ok(())
-        }
         How::Explain => {
             let mut explaining = Explaining::new(alloc, debugger)?;
             if !explain(&mut explaining, &mut reader, &mut writer)? {
@@ -70,7 +63,11 @@ fn play<'a, R: Read, W: Write>(
             }
             Ok(())
         }
-        _ => Ok(debug(&mut Debugging::new(debugger, false), &mut reader, &mut writer)?),
+        _ => Ok(debug(
+            &mut Debugging::new(debugger, tells_slips),
+            &mut reader,
+            &mut writer,
+        )?),
     }
 }
 
@@ -82,12 +79,20 @@ fn play_image<'a>(
     how: How,
     streams: Streams<impl Read + Drop, impl Write + Drop>,
 ) -> Result<(), Fault<'a>> {
-    let is_shown = streams.has_terminal && !matches!(how, How::Run);
-    let mut input = Progress::new(rt, how.word(), is_shown, streams.input);
+    let has_progress = streams.has_terminal && !matches!(how, How::Run);
+    let size = size_of_input(rt, has_progress);
+    let mut input = Progress::new(rt, how.word(), size, streams.input);
     let mut writer = BufWriter::with_capacity(alloc, WRITE_BLOCK, streams.output).map_err(
         |_| Fault::OutOfMemory,
     )?;
-    let ended = play(alloc, image, how, &mut input, &mut writer);
+    let ended = play(
+        alloc,
+        image,
+        how,
+        streams.output_is_terminal,
+        &mut input,
+        &mut writer,
+    );
     input.clear();
     // The answers before a fault are written too.
     writer.flush().map_err(|_| RunFault::Write)?;
@@ -137,26 +142,48 @@ fn list<'a>(
     Ok(())
 }
 
-// Does what the words of the command line ask for.
+// Judges scripts, and answers the status to end with.
+fn check<'a>(
+    rt: &(impl Clock + Eprint + Files),
+    alloc: Global,
+    checks: &Checks<'a>,
+    mut streams: Streams<impl Read + Drop, impl Write + Drop>,
+) -> Result<u8, Fault<'a>> {
+    let output = BufWriter::with_capacity(alloc, WRITE_BLOCK, streams.output).map_err(
+        |_| Fault::OutOfMemory,
+    )?;
+    let sum = checks::judge_named(
+        rt,
+        alloc,
+        checks,
+        &mut streams.input,
+        output,
+        streams.has_terminal,
+    )?;
+    Ok(check_status(&sum))
+}
+
+// Does what the words of the command line ask for, and answers the status to end with.
 fn carry_out<'a>(
     rt: &(impl Clock + Eprint + Files),
     alloc: Global,
     task: Task<'a>,
     streams: Streams<impl Read + Drop, impl Write + Drop>,
-) -> Result<(), Fault<'a>> {
+) -> Result<u8, Fault<'a>> {
     match task {
         Task::Play { how, image: None } => {
-            play_image(rt, alloc, &iom_asm::built_in(), how, streams)
+            play_image(rt, alloc, &iom_asm::built_in(), how, streams)?;
         }
         Task::Play {
             how,
             image: Some(image),
         } => {
             let image = files::read(rt, alloc, image)?;
-            play_image(rt, alloc, image.as_slice(), how, streams)
+            play_image(rt, alloc, image.as_slice(), how, streams)?;
         }
-        Task::Assemble { source, image } => assemble(rt, alloc, source, image),
-        Task::Upgrade { image, new } => upgrade(rt, alloc, image, new),
+        Task::Check(checks) => return check(rt, alloc, &checks, streams),
+        Task::Assemble { source, image } => assemble(rt, alloc, source, image)?,
+        Task::Upgrade { image, new } => upgrade(rt, alloc, image, new)?,
         Task::List {
             image,
             kind,
@@ -165,9 +192,10 @@ fn carry_out<'a>(
         } => {
             let item = Item::named(kind.as_bytes()).ok_or(Fault::BadKind { word: kind })?;
             let image = files::read(rt, alloc, image)?;
-            list(alloc, image.as_slice(), item, addr, count, streams.output)
+            list(alloc, image.as_slice(), item, addr, count, streams.output)?;
         }
     }
+    Ok(0)
 }
 
 // The words that the program was started with.
@@ -197,13 +225,19 @@ fn print_fault(rt: &impl Eprint, fault: &Fault<'_>) -> u8 {
     fault.status()
 }
 
-// Tells a fault, and the status to end with.
-fn status_of(rt: &(impl Print + Eprint), ended: Result<(), Fault<'_>>) -> ExitCode {
-    match ended {
-        Ok(()) => ExitCode::SUCCESS,
-        Err(Fault::Words(fault)) => ExitCode::from(show_words_fault(rt, &fault)),
-        Err(Fault::Failed) => ExitCode::FAILURE,
-        Err(fault) => ExitCode::from(print_fault(rt, &fault)),
+// Tells a fault, and answers the status to end with.
+fn tell_fault(rt: &(impl Print + Eprint), fault: &Fault<'_>) -> u8 {
+    match fault {
+        Fault::Words(fault) => show_words_fault(rt, fault),
+        fault => print_fault(rt, fault),
+    }
+}
+
+// Whether the first word is `check`, of which status 1 says that a line failed.
+fn is_check(words: &[String]) -> bool {
+    match words.get(1) {
+        Some(word) => word.as_str() == "check",
+        None => false,
     }
 }
 
@@ -215,13 +249,20 @@ fn program(
 ) -> ExitCode {
     let words = match arguments(rt, alloc) {
         Ok(words) => words,
-        Err(fault) => return status_of(rt, Err(fault)),
+        Err(fault) => return ExitCode::from(tell_fault(rt, &fault)),
     };
     let ended = match task_of(alloc, words.as_slice()) {
         Ok(task) => carry_out(rt, alloc, task, streams),
         Err(fault) => Err(Fault::Words(fault)),
     };
-    status_of(rt, ended)
+    let status = match ended {
+        Ok(status) => status,
+        Err(fault) => match tell_fault(rt, &fault) {
+            1 if is_check(words.as_slice()) => UNJUDGED,
+            status => status,
+        },
+    };
+    ExitCode::from(status)
 }
 
 // The program over the streams of its process.
@@ -230,6 +271,7 @@ fn main(rt: HostRuntime) -> ExitCode {
         input: rt.stdin(),
         output: rt.stdout(),
         has_terminal: rt.stderr().is_terminal(),
+        output_is_terminal: rt.stdout().is_terminal(),
     };
     program(&rt, rt.alloc(), streams)
 }

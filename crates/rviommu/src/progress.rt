@@ -28,26 +28,39 @@ pub struct Progress<'r, R, I> {
     taken: u64,
 }
 
-// A watch on the script on standard input, where that is a file which isn't empty.
-fn watch_on(rt: &(impl Clock + Files)) -> Option<Watch> {
+/// The bytes of the script on standard input, where that is a file and its progress is shown.
+pub fn size_of_input(rt: &impl Files, is_shown: bool) -> Option<u64> {
+    if !is_shown {
+        return None;
+    }
     let script = fs::metadata(rt, "/dev/stdin").ok()?;
-    if !script.is_file() || script.len() == 0 {
+    if script.is_file() {
+        Some(script.len())
+    } else {
+        None
+    }
+}
+
+// A watch on a script of a known size, where it isn't empty.
+fn watch_on(rt: &impl Clock, size: Option<u64>) -> Option<Watch> {
+    let size = size?;
+    if size == 0 {
         return None;
     }
     Some(Watch {
         start: Instant::now(rt).ok()?,
-        size: script.len(),
+        size,
         told: None,
     })
 }
 
-impl<'r, R: Clock + Eprint + Files, I: Read> Progress<'r, R, I> {
-    /// The progress of the script on standard input that this word plays. It is shown only on a terminal, and only if the script is a file.
-    pub fn new(rt: &'r R, word: &'r str, has_terminal: bool, input: I) -> Progress<'r, R, I> {
+impl<'r, R: Clock + Eprint, I: Read> Progress<'r, R, I> {
+    /// The progress of a script that this word plays. It is shown only if the script's size is given.
+    pub fn new(rt: &'r R, word: &'r str, size: Option<u64>, input: I) -> Progress<'r, R, I> {
         Progress {
             rt,
             word,
-            watch: if has_terminal { watch_on(rt) } else { None },
+            watch: watch_on(rt, size),
             input,
             taken: 0,
         }
@@ -61,7 +74,7 @@ impl<'r, R: Clock + Eprint + Files, I: Read> Progress<'r, R, I> {
     }
 }
 
-impl<R: Clock + Eprint + Files, I: Read> Read for Progress<'_, R, I> {
+impl<R: Clock + Eprint, I: Read> Read for Progress<'_, R, I> {
     ghost remaining = { λ p. I.remaining p.input };
 
     // What was read before is played by now.

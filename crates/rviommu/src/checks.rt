@@ -1,0 +1,389 @@
+//! The word `check`: scripts that are judged, each on a platform of its own.
+
+use crate::fault::Fault;
+use crate::files;
+use crate::progress::{Progress, size_of_input};
+use iom_check::{Checking, Rules, Style, Tally, check};
+use iom_cli::{
+    Checks, Escaped, SUITES_END, SUITES_HEAD, Sum, TAP_HEAD, begins_as_image, put_error_case,
+    put_fault_point, put_plan, put_suite, put_sum,
+};
+use iom_debug::{Debugger, LineAccount, OutputPage, first_bytes, put_escaped};
+use iom_reader::{RunFault, WatchedReader, WatchedWriter};
+use iom_tool::Trace;
+use std::alloc::Global;
+use std::fs::Files;
+use std::io::{Read, Write};
+use std::time::Clock;
+
+/// What standard input is called among files.
+const INPUT: &str = "-";
+
+/// What the suite of a script without a name is called.
+const UNNAMED: &str = "script";
+
+/// What a script came to, and the fault that ended it before its end.
+#[derive(Clone, Copy)]
+struct Judged {
+    tally: Tally,
+    fault: Option<RunFault>,
+}
+
+/// Scripts that are judged one after the other, and what is written of them.
+#[derive(Drop)]
+struct Round<'r, R, W> {
+    rt: &'r R,
+    alloc: Global,
+    // the style is that of standard output
+    rules: Rules,
+    // whether standard error is a terminal
+    has_terminal: bool,
+    output: W,
+    // JUnit's XML, where it is wanted
+    suites: Option<Vec<u8>>,
+    sum: Sum,
+}
+
+// Judges a script on an image. The faults are those before its first line.
+fn judge<'f, R: Read, W: Write>(
+    alloc: Global,
+    image: &[u8],
+    rules: Rules,
+    name: Option<&str>,
+    points: u64,
+    input: &mut R,
+    output: &mut W,
+) -> Result<Judged, Fault<'f>> {
+    let mut reader = WatchedReader::new(input);
+    let mut writer = WatchedWriter::new(output);
+    let mut platform = iom_asm::load(alloc, image)?;
+    let mut trace = Trace::new(alloc)?;
+    let mut reasons = LineAccount::new(&platform);
+    let debugger = Debugger::new(&mut platform, &mut trace, &mut reasons);
+    let mut checking = Checking::new(debugger, rules, name, points);
+    let ended = check(&mut checking, &mut reader, &mut writer);
+    Ok(Judged {
+        tally: checking.tally(),
+        fault: ended.err(),
+    })
+}
+
+impl<R: Clock + Eprint + Files, W: Write> Round<'_, R, W> {
+    // How many test points there are by now.
+    fn points(&self) -> u64 {
+        let judged = self.sum.passed.saturating_add(self.sum.failed);
+        judged.saturating_add(self.sum.unread)
+    }
+
+    // Writes to standard output.
+    fn write<'f>(&mut self, text: &[u8]) -> Result<(), Fault<'f>> {
+        Ok(self.output.write_all(text).map_err(|_| RunFault::Write)?)
+    }
+
+    // What is told of a fault: with the name of its file, where that isn't in it.
+    fn told<'f>(&self, name: Option<&str>, fault: &Fault<'_>) -> Result<String, Fault<'f>> {
+        Ok(match (name, fault) {
+            (None, _) | (_, Fault::CannotRead(_)) => format!(in self.alloc; "{fault}")?,
+            (Some(name), _) => format!(in self.alloc; "{}: {fault}", Escaped(name))?,
+        })
+    }
+
+    // Tells that a script wasn't judged to its end, on standard error after all that was written before, and as a test point of TAP.
+    fn tell<'f>(&mut self, text: &str) -> Result<(), Fault<'f>> {
+        self.output.flush().map_err(|_| RunFault::Write)?;
+        let _ = self.rt.eprintln(format_args!("rviommu: {text}"));
+        if let Style::Tap = self.rules.style {
+            let mut point = Vec::new(self.alloc);
+            let number = self.points().saturating_add(1);
+            put_fault_point(&mut point, number, text.as_bytes())?;
+            self.write(point.as_slice())?;
+        }
+        self.sum.unread = self.sum.unread.saturating_add(1);
+        Ok(())
+    }
+
+    // Appends a suite to JUnit's XML, if it is wanted.
+    fn add_suite<'f>(
+        &mut self,
+        name: Option<&str>,
+        tally: Tally,
+        mut cases: Vec<u8>,
+        fault: Option<&str>,
+    ) -> Result<(), Fault<'f>> {
+        let Some(suites) = &mut self.suites else {
+            return Ok(());
+        };
+        // As its test cases name it.
+        let mut class = OutputPage::new();
+        put_escaped(&mut class, first_bytes(name.unwrap_or(UNNAMED).as_bytes()));
+        if let Some(text) = fault {
+            put_error_case(&mut cases, class.as_slice(), text.as_bytes())?;
+        }
+        let sum = Sum {
+            scripts: 1,
+            passed: tally.passed,
+            failed: tally.failed,
+            unread: fault.is_some() as u64,
+        };
+        Ok(put_suite(suites, class.as_slice(), &sum, cases.as_slice())?)
+    }
+
+    // Tells of a file that can't be read, or is no image.
+    fn refuse<'f>(&mut self, name: Option<&str>, fault: &Fault<'_>) -> Result<(), Fault<'f>> {
+        let text = self.told(name, fault)?;
+        self.tell(text.as_str())?;
+        let none = Tally {
+            passed: 0,
+            failed: 0,
+        };
+        self.add_suite(name, none, Vec::new(self.alloc), Some(text.as_str()))
+    }
+
+    // Judges a script on an image, and writes what is told of it. Answers what is told of the fault that ended it before its end.
+    fn play<'f>(
+        &mut self,
+        image: &[u8],
+        name: Option<&str>,
+        input: &mut impl Read,
+    ) -> Result<Option<String>, Fault<'f>> {
+        let points = self.points();
+        let ended = judge(
+            self.alloc,
+            image,
+            self.rules,
+            name,
+            points,
+            input,
+            &mut self.output,
+        );
+        let fault = match ended {
+            Ok(judged) => {
+                self.sum.passed = self.sum.passed.saturating_add(judged.tally.passed);
+                self.sum.failed = self.sum.failed.saturating_add(judged.tally.failed);
+                match judged.fault {
+                    None => return Ok(None),
+                    Some(RunFault::Write) => return Err(Fault::Run(RunFault::Write)),
+                    Some(fault) => Fault::Run(fault),
+                }
+            }
+            Err(fault) => fault,
+        };
+        let text = self.told(name, &fault)?;
+        self.tell(text.as_str())?;
+        Ok(Some(text))
+    }
+
+    // Judges once more a script that was judged, for JUnit's XML.
+    fn play_again<'f>(
+        &mut self,
+        image: &[u8],
+        name: Option<&str>,
+        mut script: &[u8],
+        fault: Option<&str>,
+    ) -> Result<(), Fault<'f>> {
+        let mut cases = Vec::new(self.alloc);
+        let rules = Rules {
+            style: Style::Junit,
+            ..self.rules
+        };
+        let judged = judge(self.alloc, image, rules, name, 0, &mut script, &mut cases)?;
+        // A vector can't be written where memory is refused.
+        if let Some(RunFault::Write) = judged.fault {
+            return Err(Fault::OutOfMemory);
+        }
+        self.add_suite(name, judged.tally, cases, fault)
+    }
+
+    // Judges the script of a file that was read.
+    fn judge_bytes<'f>(
+        &mut self,
+        image: &[u8],
+        name: Option<&str>,
+        script: &[u8],
+    ) -> Result<(), Fault<'f>> {
+        let size = if self.has_terminal {
+            Some(script.len() as u64)
+        } else {
+            None
+        };
+        let mut input = Progress::new(self.rt, "check", size, script);
+        let ended = self.play(image, name, &mut input);
+        input.clear();
+        let fault = ended?;
+        if self.suites.is_some() {
+            let fault = fault.as_ref().map(|text| text.as_str());
+            self.play_again(image, name, script, fault)?;
+        }
+        Ok(())
+    }
+
+    // Judges the script on standard input, which is read as a whole only where it is judged twice.
+    fn judge_input<'f>(
+        &mut self,
+        image: &[u8],
+        name: Option<&str>,
+        input: &mut impl Read,
+    ) -> Result<(), Fault<'f>> {
+        if self.suites.is_some() {
+            return match files::read_script(self.alloc, input) {
+                Ok(script) => self.judge_bytes(image, name, script.as_slice()),
+                Err(fault) => self.refuse(name, &fault),
+            };
+        }
+        let size = size_of_input(self.rt, self.has_terminal);
+        let mut input = Progress::new(self.rt, "check", size, input);
+        let ended = self.play(image, name, &mut input);
+        input.clear();
+        let _told = ended?;
+        Ok(())
+    }
+
+    // Judges the script of a file.
+    fn judge_file<'f>(&mut self, image: &[u8], name: &str) -> Result<(), Fault<'f>> {
+        match files::read(self.rt, self.alloc, name) {
+            Ok(script) => self.judge_bytes(image, Some(name), script.as_slice()),
+            Err(fault) => self.refuse(Some(name), &fault),
+        }
+    }
+
+    // Judges scripts on an image; if there is none, standard input.
+    fn judge_scripts<'f>(
+        &mut self,
+        image: &[u8],
+        scripts: &[Option<&str>],
+        input: &mut impl Read,
+    ) -> Result<(), Fault<'f>> {
+        if scripts.is_empty() {
+            return self.judge_input(image, None, input);
+        }
+        for script in scripts {
+            self.sum.scripts = self.sum.scripts.saturating_add(1);
+            match *script {
+                Some(name) => self.judge_file(image, name)?,
+                None => self.judge_input(image, Some(INPUT), input)?,
+            }
+        }
+        Ok(())
+    }
+
+    // Judges scripts on the image that was read from a file.
+    fn judge_on<'f>(
+        &mut self,
+        name: &str,
+        image: &[u8],
+        scripts: &[Option<&str>],
+        input: &mut impl Read,
+    ) -> Result<(), Fault<'f>> {
+        match iom_asm::judge(image) {
+            Ok(()) => self.judge_scripts(image, scripts, input),
+            Err(fault) => self.refuse(Some(name), &Fault::Load(fault)),
+        }
+    }
+
+    // Of one file and no image: if it begins as an image does, it is the image of the script on standard input, else a script.
+    fn judge_one<'f>(&mut self, name: &str, input: &mut impl Read) -> Result<(), Fault<'f>> {
+        match files::read(self.rt, self.alloc, name) {
+            Ok(bytes) if begins_as_image(bytes.as_slice()) => {
+                self.judge_on(name, bytes.as_slice(), &[], input)
+            }
+            Ok(bytes) => {
+                self.sum.scripts = 1;
+                self.judge_bytes(&iom_asm::built_in(), Some(name), bytes.as_slice())
+            }
+            Err(fault) => {
+                self.sum.scripts = 1;
+                self.refuse(Some(name), &fault)
+            }
+        }
+    }
+
+    // Judges all scripts that the words name.
+    fn judge_all<'f>(
+        &mut self,
+        checks: &Checks<'_>,
+        input: &mut impl Read,
+    ) -> Result<(), Fault<'f>> {
+        let scripts = checks.scripts.as_slice();
+        match (checks.image, scripts) {
+            (Some(name), _) => match files::read(self.rt, self.alloc, name) {
+                Ok(image) => self.judge_on(name, image.as_slice(), scripts, input),
+                Err(fault) => self.refuse(Some(name), &fault),
+            },
+            (None, [Some(name)]) => self.judge_one(name, input),
+            (None, _) => self.judge_scripts(&iom_asm::built_in(), scripts, input),
+        }
+    }
+
+    // Writes what stands before the first script.
+    fn begin<'f>(&mut self) -> Result<(), Fault<'f>> {
+        if let Style::Tap = self.rules.style {
+            self.write(TAP_HEAD)?;
+        }
+        if let Some(suites) = &mut self.suites {
+            suites.extend_from_slice(SUITES_HEAD)?;
+        }
+        Ok(())
+    }
+
+    // Writes what stands behind the last script: the plan of TAP, or the sum over files where they have names.
+    fn end<'f>(&mut self) -> Result<(), Fault<'f>> {
+        let mut text = Vec::new(self.alloc);
+        match self.rules.style {
+            Style::Tap => put_plan(&mut text, self.points())?,
+            _ if self.sum.scripts > 0 => put_sum(&mut text, &self.sum)?,
+            _ => (),
+        }
+        self.write(text.as_slice())?;
+        if let Some(suites) = &mut self.suites {
+            suites.extend_from_slice(SUITES_END)?;
+        }
+        Ok(self.output.flush().map_err(|_| RunFault::Write)?)
+    }
+}
+
+// How what the words ask for is judged, and written to standard output.
+fn rules_of(checks: &Checks<'_>) -> Rules {
+    Rules {
+        fails_if_stale: checks.fails_if_stale,
+        is_strict: checks.is_strict,
+        looks_at_fences: checks.looks_at_fences,
+        style: if checks.is_tap {
+            Style::Tap
+        } else {
+            Style::Text
+        },
+    }
+}
+
+/// Judges the scripts that the words name, and writes what is told of them. A script that can't be read or judged to its end is told, and
+/// counted in the sum. The faults are those that end all: of a write, and of memory.
+pub fn judge_named<'a>(
+    rt: &(impl Clock + Eprint + Files),
+    alloc: Global,
+    checks: &Checks<'a>,
+    input: &mut impl Read,
+    output: impl Write + Drop,
+    has_terminal: bool,
+) -> Result<Sum, Fault<'a>> {
+    let mut round = Round {
+        rt,
+        alloc,
+        rules: rules_of(checks),
+        has_terminal,
+        output,
+        suites: checks.junit.map(|_| Vec::new(alloc)),
+        sum: Sum {
+            scripts: 0,
+            passed: 0,
+            failed: 0,
+            unread: 0,
+        },
+    };
+    round.begin()?;
+    round.judge_all(checks, input)?;
+    round.end()?;
+    if let (Some(name), Some(suites)) = (checks.junit, &round.suites) {
+        files::write(rt, name, suites.as_slice())?;
+    }
+    Ok(round.sum)
+}
