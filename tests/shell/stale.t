@@ -1,5 +1,5 @@
-With --stale a line fails, too, if an access of it used what is cached and the tables no longer say. Without it these
-lines pass.
+With --stale a line fails, too, if an access of it used what is cached and the tables no longer say, and so does each
+place of a cache that is stale at the script's end. Without it these lines pass.
 
   $ rviommu asm "$TESTDIR/../mapped.asm" image
   $ read='dma read 5 0x40201abc 4'
@@ -16,13 +16,15 @@ lines pass.
   0 passed, 0 failed
   $ stale < unmapped
   line 4: dma read 5 0x40201abc 4 -> 11223344, stale: the tables now say denied 13
+  line 4: place page 0 is stale: the tables now say denied 13
   line 4: note: no line has a wish
-  0 passed, 1 failed
+  0 passed, 2 failed
   [1]
   $ rviommu check image --stale < unmapped
   line 4: dma read 5 0x40201abc 4 -> 11223344, stale: the tables now say denied 13
+  line 4: place page 0 is stale: the tables now say denied 13
   line 4: note: no line has a wish
-  0 passed, 1 failed
+  0 passed, 2 failed
   [1]
 
 What is cached and the tables are one; the answer is stale, and the wanted one, or not.
@@ -33,23 +35,28 @@ What is cached and the tables are one; the answer is stale, and the wanted one, 
   $ echo "$unmapped
   > $read # => 11223344" | stale
   line 4: dma read 5 0x40201abc 4 -> 11223344, stale: the tables now say denied 13
-  0 passed, 1 failed
+  line 4: place page 0 is stale: the tables now say denied 13
+  0 passed, 2 failed
   [1]
   $ echo "$unmapped
   > $read # => 0" | stale
   line 4: dma read 5 0x40201abc 4 -> 11223344, wanted 0, stale: the tables now say denied 13
-  0 passed, 1 failed
+  line 4: place page 0 is stale: the tables now say denied 13
+  0 passed, 2 failed
   [1]
 
 A stale access may be wanted: then the line fails if none is.
 
   $ echo "$unmapped
   > $read # => 11223344 stale" | stale
-  1 passed, 0 failed
+  line 4: place page 0 is stale: the tables now say denied 13
+  1 passed, 1 failed
+  [1]
   $ echo "$unmapped
   > $read # => 0 stale" | stale
   line 4: dma read 5 0x40201abc 4 -> 11223344, wanted 0 stale, stale: the tables now say denied 13
-  0 passed, 1 failed
+  line 4: place page 0 is stale: the tables now say denied 13
+  0 passed, 2 failed
   [1]
   $ echo "$mapped # => 11223344 stale" | stale
   line 2: dma read 5 0x40201abc 4 -> 11223344, wanted 11223344 stale
@@ -65,15 +72,18 @@ The page is mapped to another frame, with the same bytes; the context is no long
   > store 0x80004008 8 0x200044d7
   > $read" | stale
   line 5: dma read 5 0x40201abc 4 -> 11223344, stale: the tables now say addr=0x80011abc
+  line 5: place page 0 is stale: the tables now say page pscid=0x3 gscid=- frame=0x80011 level=0x0 global=0x0
   line 5: note: no line has a wish
-  0 passed, 1 failed
+  0 passed, 2 failed
   [1]
   $ echo "$mapped
   > store 0x800010a0 8 0
   > $read" | stale
   line 4: dma read 5 0x40201abc 4 -> 11223344, stale: the tables now say denied 258
+  line 4: place context 0 is stale: the tables now say denied 258
+  line 4: place page 0 is stale: the tables now say denied 258
   line 4: note: no line has a wish
-  0 passed, 1 failed
+  0 passed, 3 failed
   [1]
 
 The invalidation comes in time; the kind of access isn't cached; lines make no access.
@@ -92,7 +102,9 @@ The invalidation comes in time; the kind of access isn't cached; lines make no a
   > load 0x80010abc 4
   > place page 0
   > dma read 5 0 0 # => misuse" | stale
-  3 passed, 0 failed
+  line 9: place page 0 is stale: the tables now say denied 13
+  3 passed, 1 failed
+  [1]
 
 A block device's access is stale: one by itself, or one of a line of many.
 
@@ -113,12 +125,14 @@ A block device's access is stale: one by itself, or one of a line of many.
   $ echo "$device
   > dev step 0" | stale
   line 15: dev step 0 -> done, stale: the tables now say denied 13
-  1 passed, 1 failed
+  line 15: place page 0 is stale: the tables now say denied 13
+  1 passed, 2 failed
   [1]
   $ echo "$device
   > dev run 0 99" | stale
   line 15: dev run 0 99 -> 0x3 idle, stale: the tables now say denied 13
-  1 passed, 1 failed
+  line 15: place page 0 is stale: the tables now say denied 13
+  1 passed, 2 failed
   [1]
 
 So are two reads of the example stale_translation.

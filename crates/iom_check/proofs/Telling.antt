@@ -7,14 +7,14 @@ use Rattle.iom_reader.specs.Running.{Ends}
 use Rattle.iom_debug.specs.Summary.{up_to_64_bits}
 use Rattle.iom_debug.specs.Taking.{Desk}
 use Rattle.iom_debug.specs.Telling.{Leaves, answer_at}
-use Rattle.iom_check.specs.Checking.{Checked, CheckSays, IsChecked, by_check, closing, line_told}
+use Rattle.iom_check.specs.Checking.{Checked, CheckSays, IsChecked, by_check, closing, line_told, places_told}
 use Rattle.iom_check.specs.Judging.{tables_at, tables_told}
 use Rattle.iom_check.specs.Scoring.{Score, Told, ended, judged, noted, remarked, with_wish}
 use Rattle.iom_check.specs.declared.rules.Tally.{Tally}
 
 pub checked : (unread left : Option (List ℕ)) (old new : Progress Checked) (holds : Option (List ℕ)) (tally : Tally) →
-    Ends by_check unread left old new (Ok tt) → Appends new.written holds (closing (ended new.console.score new.console.number)) →
-    tally ≡ (ended new.console.score new.console.number).after.tally → IsChecked old.console unread left old.written holds tally
+    Ends by_check unread left old new (Ok tt) → Appends new.written holds ((places_told new.console).said ++ closing (ended (places_told new.console).after new.console.number)) →
+    tally ≡ (ended (places_told new.console).after new.console.number).after.tally → IsChecked old.console unread left old.written holds tally
 checked unread left old new holds tally h wrote is = record {
   script = h.text;
   took = h.took;

@@ -9,6 +9,7 @@ use Rattle.iom_debug.specs.Summary.{up_to_64_bits}
 use Rattle.iom_debug.specs.Taking.{Desk}
 use Rattle.iom_debug.specs.Telling.{Leaves, answer_at, at_once}
 use Rattle.iom_check.specs.Judging.{tables_at}
+use Rattle.iom_check.specs.Looking.{looked_by}
 use Rattle.iom_check.specs.Reporting.{tally_told}
 use Rattle.iom_check.specs.Scoring.{Score, Told, ended, judged, remarked, with_wish}
 use Rattle.iom_check.specs.declared.rules.Tally.{Tally}
@@ -40,6 +41,10 @@ pub record CheckSays (before : Checked) (line said : List ℕ) (after : Checked)
 abbrev pub by_check : Answering
 by_check = by_lines (at_once Checked CheckSays)
 
+-- the places of the caches, behind the last line
+abbrev pub places_told : Checked → Told
+places_told end = looked_by end.desk.state.machine end.number end.score
+
 -- what is told at the end of a script
 abbrev pub closing : Told → List ℕ
 closing last = last.said ++ tally_told last.after.rules.style last.after.name last.after.tally.passed last.after.tally.failed
@@ -53,5 +58,5 @@ pub record IsChecked (start : Checked) (unread left held holds : Option (List �
   pub text : List ℕ
   pub end : Checked
   pub said : Speaks (at_once Checked CheckSays) start (lines_of script) text end
-  pub written : Appends held holds (text ++ closing (ended end.score end.number))
-  pub counts : tally ≡ (ended end.score end.number).after.tally
+  pub written : Appends held holds (text ++ ((places_told end).said ++ closing (ended (places_told end).after end.number)))
+  pub counts : tally ≡ (ended (places_told end).after end.number).after.tally

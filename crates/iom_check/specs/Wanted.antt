@@ -1,6 +1,5 @@
 -- The answer that a line's comment wants: `# => ANSWER`, and whether it wants a stale access: `# => ANSWER stale`.
-use Rattle.std.specs.Prelude.{ℕ, ◌-◌, ◌==◌, ◌&&◌, ◌||◌, Bool, false, nat_lt, List, [], ◌∷◌, length, take, drop, get_or, codes, bytes_eq, Option, Some, None, is_some, if◌then◌else◌}
-use Rattle.std.specs.Option.{unwrap_or}
+use Rattle.std.specs.Prelude.{ℕ, ◌-◌, ◌==◌, ◌&&◌, ◌||◌, Bool, false, nat_lt, List, [], ◌∷◌, length, take, drop, get_or, codes, bytes_eq, Option, Some, None, if◌then◌else◌}
 use Rattle.iom_text.specs.Words.{is_blank}
 use Rattle.iom_items.specs.Operands.{◌>>=◌}
 use Rattle.iom_debug.specs.Comments.{comment_of, past_blanks, without_blanks}

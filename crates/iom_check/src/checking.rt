@@ -5,6 +5,7 @@ ghost use Rattle.iom_reader.specs.Watching.{read_failed, write_failed};
 ghost use Rattle.iom_check.specs.Checking.{IsChecked};
 ghost use Rattle.iom_check.specs.Drives.{checked_by};
 
+use crate::looking::{Cache, standing_at};
 use crate::pages::ReportPage;
 use crate::rules::{Rules, Tally};
 use crate::scoring::Scoring;
@@ -77,6 +78,82 @@ impl<'a> Checking<'a> {
     }
 }
 
+impl Checking<'_> {
+    ghost use Rattle.std.specs.Prelude.{◌≡◌, ◌≤◌, false, OnOk};
+    ghost use Rattle.std.specs.Io.KnownBytes.{Appends};
+    ghost use Rattle.iom_reader.specs.Running.{is_write};
+    ghost use Rattle.iom_reader.specs.Watching.{write_failed};
+    ghost use Rattle.iom_check.specs.Looking.{all_looked, looked, looked_at, looked_by, standing_at};
+    ghost use Rattle.iom_check.specs.Scores.{score_of};
+
+    // Tells of place `i` of a cache if it is stale.
+    fn look_at<W: Write>(
+        &mut self,
+        cache: Cache,
+        i: u64,
+        writer: &mut WatchedWriter<'_, W>,
+    ) -> Result<(), RunFault>
+        requires { write_failed writer.old ≡ false }
+        ensures ok { OnOk result (Appends (W.contents writer.old.inner.now) (W.contents writer.new.inner.now)
+            (looked_at (score_of self.old.scoring) self.old.number cache i (standing_at self.old.debugger.platform.now.machine cache i)).said) }
+        ensures score { score_of self.new.scoring
+            ≡ (looked_at (score_of self.old.scoring) self.old.number cache i (standing_at self.old.debugger.platform.now.machine cache i)).after }
+        ensures told { write_failed writer.new ≡ is_write result }
+        ensures same_writer { writer.new.inner.ghost_name ≡ writer.old.inner.ghost_name }
+        ensures number { self.new.number ≡ self.old.number }
+        ensures machine { self.new.debugger.platform.now ≡ self.old.debugger.platform.now }
+    {
+        let answer = standing_at(&self.debugger, cache, i);
+        self.scoring.page.clear();
+        self.scoring.look(self.number, cache, i, answer.as_slice());
+        write_told(writer, self.scoring.page.as_slice())
+    }
+
+    // Tells of the first places of a cache, as many as `count`, those that are stale.
+    fn look_at_places<W: Write>(
+        &mut self,
+        cache: Cache,
+        count: u64,
+        writer: &mut WatchedWriter<'_, W>,
+    ) -> Result<(), RunFault>
+        requires { write_failed writer.old ≡ false }
+        ensures ok { OnOk result (Appends (W.contents writer.old.inner.now) (W.contents writer.new.inner.now)
+            (looked self.old.debugger.platform.now.machine cache self.old.number (score_of self.old.scoring) 0 count).said) }
+        ensures score { OnOk result (score_of self.new.scoring
+            ≡ (looked self.old.debugger.platform.now.machine cache self.old.number (score_of self.old.scoring) 0 count).after) }
+        ensures told { write_failed writer.new ≡ is_write result }
+        ensures same_writer { writer.new.inner.ghost_name ≡ writer.old.inner.ghost_name }
+        ensures number { self.new.number ≡ self.old.number }
+        ensures machine { self.new.debugger.platform.now ≡ self.old.debugger.platform.now }
+    {
+        for i in 0..count {
+            self.look_at(cache, i, writer)?;
+        }
+        Ok(())
+    }
+
+    // Tells of all places of both caches those that are stale, where stale accesses are judged.
+    fn look_at_caches<W: Write>(
+        &mut self,
+        writer: &mut WatchedWriter<'_, W>,
+    ) -> Result<(), RunFault>
+        requires { write_failed writer.old ≡ false }
+        ensures ok { OnOk result (Appends (W.contents writer.old.inner.now) (W.contents writer.new.inner.now)
+            (looked_by self.old.debugger.platform.now.machine self.old.number (score_of self.old.scoring)).said) }
+        ensures score { OnOk result (score_of self.new.scoring
+            ≡ (looked_by self.old.debugger.platform.now.machine self.old.number (score_of self.old.scoring)).after) }
+        ensures told { write_failed writer.new ≡ is_write result }
+        ensures same_writer { writer.new.inner.ghost_name ≡ writer.old.inner.ghost_name }
+        ensures number { self.new.number ≡ self.old.number }
+    {
+        if self.scoring.rules.fails_if_stale {
+            self.look_at_places(Cache::Contexts, 16, writer)?;
+            self.look_at_places(Cache::Pages, 64, writer)?;
+        }
+        Ok(())
+    }
+}
+
 impl Answerer for Checking<'_> {
     ghost use Rattle.iom_debug.specs.Desks.{names_of};
     ghost use Rattle.iom_check.specs.Checking.{by_check};
@@ -120,6 +197,7 @@ pub fn check<R: Read, W: Write>(
         (W.contents writer.old.inner.now) (W.contents writer.new.inner.now) tally) }
 {
     answer_all(checking, reader, writer)?;
+    checking.look_at_caches(writer)?;
     checking.scoring.page.clear();
     checking.scoring.end(checking.number);
     write_told(writer, checking.scoring.page.as_slice())?;

@@ -7,6 +7,7 @@ pub use wanting::{answer_of, has_arrow, wants_stale, wish_of};
 
 mod checking;
 mod judging;
+mod looking;
 mod pages;
 mod points;
 mod rules;

@@ -1,6 +1,7 @@
 //! How a checked script goes.
 
 use crate::judging::{fails, message, passes, remark, title};
+use crate::looking::{Cache, is_current, place_message, place_title};
 use crate::pages::ReportPage;
 use crate::points::{Point, push_failure, push_note, push_pass, push_tally};
 use crate::rules::{Rules, Tally};
@@ -29,6 +30,7 @@ impl<'a> Scoring<'a> {
     ghost use Rattle.iom_check.specs.Scores.{score_of};
     ghost use Rattle.iom_check.specs.Scoring.{ended, failed, judged, more, noted, noted_at, passed, remarked, with_wish};
     ghost use Rattle.iom_check.specs.Checking.{closing};
+    ghost use Rattle.iom_check.specs.Looking.{looked_at};
 
     // The next test point, at a line.
     fn point(&self, line: u64) -> Point<'a>
@@ -120,6 +122,23 @@ impl<'a> Scoring<'a> {
             self.note(number, text);
         }
         self.has_wish = self.has_wish || wish_of(line).is_some();
+    }
+
+    /// Judges place `i` of a cache by its answer, at a line of this number.
+    pub fn look(&mut self, number: u64, cache: Cache, i: u64, answer: &[u8])
+        requires answer { length answer.now ≤ 320 }
+        requires empty { length self.old.page.items ≡ 0 }
+        ensures text { self.new.page.items ≡ self.old.page.items ++ (looked_at (score_of self.old) number cache i answer.now).said }
+        ensures score { score_of self.new ≡ (looked_at (score_of self.old) number cache i answer.now).after }
+    {
+        if !is_current(answer) {
+            let title = place_title(cache, i);
+            self.fail(
+                number,
+                title.as_slice(),
+                place_message(title.as_slice(), answer).as_slice(),
+            );
+        }
     }
 
     // Notes at a script's end, of so many lines, that none had a wish.

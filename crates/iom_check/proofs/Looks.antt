@@ -1,0 +1,76 @@
+-- Places that are looked at one after the other.
+use Rattle.std.proofs.Common.{◌≡◌, ◌+◌, ◌-◌, ◌<◌, ◌≤◌, ◌++◌, ◌∙◌, ℕ, zero, suc, true, List, [], Option, sym, ap, subst, refl, append_assoc, append-nil, arith}
+use Rattle.std.specs.Io.KnownBytes.{Appends}
+use Rattle.std.proofs.KnownBytes.{Appends-nil, Appends-trans}
+use Rattle.iom_core.specs.State.{Machine}
+use Rattle.iom_check.specs.Looking.{all_looked, looked, looked_at, looked_by, standing_at}
+use Rattle.iom_check.specs.Scoring.{Score, Told}
+use Rattle.iom_check.specs.declared.looking.Cache.{Cache}
+use Rattle.iom_check.specs.declared.looking.Cache.TheVariants as cache
+
+-- something was said before
+abbrev pub behind : List ℕ → Told → Told
+behind said told = record { said = said ++ told.said; after = told.after }
+
+-- of so many places those before place i were looked at
+pub record LooksOn (m : Machine) (one : Cache) (line : ℕ) (start now : Score) (count i : ℕ) (old new : Option (List ℕ)) : Type 0 where
+  pub said : List ℕ
+  pub wrote : Appends old new said
+  pub left : looked m one line start 0 count ≡ behind said (looked m one line now i (count - i))
+
+module _ (m : Machine) (one : Cache) (line : ℕ) where
+  pub begins : (s : Score) (count : ℕ) (a : Option (List ℕ)) → LooksOn m one line s s count 0 a a
+  begins s count a =
+      let all : count - 0 ≡ count = omega arith in
+      record {
+        said = [];
+        wrote = Appends-nil a;
+        left = ap (looked m one line s 0) (sym all);
+      }
+
+  one_less : (s : Score) (count i : ℕ) → i < count →
+      looked m one line s i (count - i) ≡ behind (looked_at s line one i (standing_at m one i)).said
+      (looked m one line (looked_at s line one i (standing_at m one i)).after (i + 1) (count - (i + 1)))
+  unfolding looked
+  one_less s count i lt =
+      let is : count - i ≡ suc (count - (i + 1)) = omega arith in
+      ap (looked m one line s i) is
+
+  pub goes_on : (start now next : Score) (count i : ℕ) (a b c : Option (List ℕ)) → LooksOn m one line start now count i a b → i < count →
+      Appends b c (looked_at now line one i (standing_at m one i)).said → next ≡ (looked_at now line one i (standing_at m one i)).after →
+      LooksOn m one line start next count (i + 1) a c
+  goes_on start now next count i a b c so_far lt wrote is =
+      let first = looked_at now line one i (standing_at m one i) in
+      record {
+        said = so_far.said ++ first.said;
+        wrote = Appends-trans _ _ _ _ _ so_far.wrote wrote;
+        left = so_far.left ∙ ap (behind so_far.said) (one_less now count i lt)
+            ∙ ap (λ l. record { said = l; after = (looked m one line first.after (i + 1) (count - (i + 1))).after })
+            (sym (append_assoc so_far.said first.said (looked m one line first.after (i + 1) (count - (i + 1))).said))
+            ∙ ap (λ s. behind (so_far.said ++ first.said) (looked m one line s (i + 1) (count - (i + 1)))) (sym is);
+      }
+
+  pub finishes : (start now : Score) (count i : ℕ) (a b : Option (List ℕ)) → LooksOn m one line start now count i a b → count ≤ i →
+      Appends a b (looked m one line start 0 count).said × (now ≡ (looked m one line start 0 count).after)
+  unfolding looked
+  finishes start now count i a b so_far over =
+      let none : count - i ≡ 0 = omega arith in
+      let is : looked m one line start 0 count ≡ behind so_far.said (looked m one line now i 0) =
+      so_far.left ∙ ap (λ n. behind so_far.said (looked m one line now i n)) none in
+      let said : (looked m one line start 0 count).said ≡ so_far.said = ap (λ (t : Told). t.said) is ∙ append-nil so_far.said in (
+        subst (Appends a b) (sym said) so_far.wrote,
+        sym (ap (λ (t : Told). t.after) is),
+      )
+
+-- both caches, one after the other
+pub all_of : (m : Machine) (line : ℕ) (s mid after : Score) (a b c : Option (List ℕ)) → Appends a b (looked m cache.Contexts line s 0 16).said →
+    mid ≡ (looked m cache.Contexts line s 0 16).after → Appends b c (looked m cache.Pages line mid 0 64).said →
+    after ≡ (looked m cache.Pages line mid 0 64).after → s.rules.fails_if_stale ≡ true →
+    Appends a c (looked_by m line s).said × (after ≡ (looked_by m line s).after)
+unfolding all_looked
+all_of m line s mid after a b c first moved second ended judged =
+    let is : looked_by m line s ≡ all_looked m line s = rw judged refl in (
+      subst (λ (t : Told). Appends a c t.said) (sym is)
+          (Appends-trans _ _ _ _ _ first (subst (λ (t : Score). Appends b c (looked m cache.Pages line t 0 64).said) moved second)),
+      ended ∙ ap (λ (t : Score). (looked m cache.Pages line t 0 64).after) moved ∙ ap (λ (t : Told). t.after) (sym is),
+    )

@@ -1,0 +1,50 @@
+-- The places of both caches at a script's end: each that is stale is a test point that fails.
+use Rattle.std.specs.Prelude.{ℕ, zero, suc, ◌+◌, ◌||◌, ◌++◌, Bool, List, codes, bytes_eq, if◌then◌else◌}
+use Rattle.iom_text.specs.Texts.{numeral}
+use Rattle.iom_core.specs.State.{Machine}
+use Rattle.iom_debug.specs.Telling.{escaped}
+use Rattle.iom_debug.specs.Ways.{stale_context_text, stale_page_text}
+use Rattle.iom_check.specs.Scoring.{Score, Told, failed, quiet}
+use Rattle.iom_check.specs.declared.looking.Cache.{Cache}
+use Rattle.iom_check.specs.declared.looking.Cache.TheVariants as cache
+
+-- what `stale context I` and `stale page I` answer of a place that isn't stale
+abbrev pub is_current : List ℕ → Bool
+is_current answer = bytes_eq answer (codes "none") || (bytes_eq answer (codes "empty") || bytes_eq answer (codes "same"))
+
+abbrev pub cache_told : Cache → List ℕ
+cache_told cache.Contexts = codes "place context "
+cache_told cache.Pages = codes "place page "
+
+-- what they answer of a place
+abbrev pub standing_at : Machine → Cache → ℕ → List ℕ
+standing_at m cache.Contexts i = stale_context_text m i
+standing_at m cache.Pages i = stale_page_text m i
+
+unfoldable pub place_title : Cache → ℕ → List ℕ
+place_title cache i = cache_told cache ++ numeral 10 i
+
+unfoldable pub place_message : List ℕ → List ℕ → List ℕ
+place_message title answer = title ++ (codes " is stale: the tables now say " ++ escaped answer)
+
+abbrev pub looked_at : Score → ℕ → Cache → ℕ → List ℕ → Told
+looked_at s line cache i answer =
+    if is_current answer then quiet s else failed s line (place_title cache i) (place_message (place_title cache i) answer)
+
+-- so many places from place i on
+unfoldable pub looked : Machine → Cache → ℕ → Score → ℕ → ℕ → Told
+looked m cache line s i zero = quiet s
+looked m cache line s i (suc count) =
+    let first = looked_at s line cache i (standing_at m cache i) in
+    let rest = looked m cache line first.after (i + 1) count in
+    record { said = first.said ++ rest.said; after = rest.after }
+
+-- a context cache of 16 places, and a translation cache of 64
+unfoldable pub all_looked : Machine → ℕ → Score → Told
+all_looked m line s =
+    let contexts = looked m cache.Contexts line s 0 16 in
+    let pages = looked m cache.Pages line contexts.after 0 64 in
+    record { said = contexts.said ++ pages.said; after = pages.after }
+
+abbrev pub looked_by : Machine → ℕ → Score → Told
+looked_by m line s = if s.rules.fails_if_stale then all_looked m line s else quiet s
