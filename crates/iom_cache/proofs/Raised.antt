@@ -1,5 +1,5 @@
 -- A range of pages by its part.
-use Rattle.std.proofs.Common.{◌≡◌, ℕ, ◌+◌, ◌-◌, ◌*◌, ◌/◌, ◌^◌, ◌≤◌, ◌<◌, sym, ap, ◌∙◌, arith}
+use Rattle.std.proofs.Common.{◌≡◌, ℕ, ◌+◌, ◌-◌, ◌*◌, ◌/◌, ◌^◌, ◌≤◌, sym, ap, ◌∙◌, arith}
 use Rattle.std.proofs.Math.Nat.{div-div-eq-div-mul, mul-div_cancel}
 use Rattle.std.proofs.lemmas.Nat.{pow-add, pow_pos}
 

@@ -97,7 +97,7 @@ fn meets(page: u64, width: u32, own: u64, own_width: u32) -> bool
 pub fn meets_part(page: u64, width: u32, part: u64, own_width: u32) -> bool
     ensures { result ≡ meets page width (part * 2 ^ own_width) own_width }
 {
-    let wider = if width <= own_width { own_width } else { width };
+    let wider = if own_width >= width { own_width } else { width };
     above(part, wider - own_width) == above(page, wider)
 }
 

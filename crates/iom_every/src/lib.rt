@@ -5,13 +5,15 @@
 pub use dropping::drops_entry;
 pub use drops::{drops_of_directory_entries, drops_of_stage_entries, drops_of_this_models_entries};
 pub use entering::fresh_entries_lead_alike;
-pub use entry::{Entry, Held};
+pub use entry::{Entry, Held, is_same};
 pub use keeping::{DirectoryEntries, HeldPath, directory_in, held_in};
 pub use laws::{
     answers_are_settled, held_entries_are_listed, model_is_one, runs_are_this_models,
     sources_are_used, tables_lead, walks_are_trees,
 };
+pub use located::{depth_of, directory_reads, located_by};
 pub use reads::{met_entries_are_read, requests_read, valid_entries_alone};
+pub use stages::{ReadEntries, second_outcome, second_reads};
 pub use uses::{Entered, device_use, first_use, page_use, second_use};
 pub use walks::{met, outcome_by};
 
@@ -21,6 +23,8 @@ mod entering;
 mod entry;
 mod keeping;
 mod laws;
+mod located;
 mod reads;
+mod stages;
 mod uses;
 mod walks;

@@ -1,4 +1,4 @@
-use Rattle.std.proofs.Common.{◌+◌, ◌-◌, ◌∙◌, ◌<◌, sym, arith}
+use Rattle.std.proofs.Common.{◌-◌, ◌∙◌, ◌<◌, sym, arith}
 use Rattle.std.proofs.lemmas.List.Elements.{All-push}
 use Rattle.iom_walk.specs.Path.{MetEntry}
 use Rattle.iom_walk.proofs.Below.{met, most_levels, runs_out, stops, turns}
