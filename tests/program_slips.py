@@ -1,0 +1,57 @@
+"""Why a line of a script can't be read, as debug tells it on a terminal."""
+import os
+import subprocess
+import tty
+
+from frame import Case, program, run
+
+# Lines of a script, each with what is answered.
+LINES = {
+    "lod 0x80000000 8": 'no line begins with "lod"',
+    "LOAD 0x80000000 8": 'no line begins with "LOAD"',
+    "store 0x80000001 8": "VALUE is missing",
+    "load 0x80000000 8 7": '"7" is one word too many',
+    "load 0xzz 8": 'ADDR "0xzz" isn\'t a number',
+    "load 0x80000000 18446744073709551616": 'SIZE "18446744073709551616" is 2^64 or more',
+    "reg reed 8 4": '"reed" isn\'t read or write',
+    "reg": "read or write is missing",
+    "reg read ddtq": '"ddtq" is no register',
+    "reg read ddtp 8": '"8" is one word too many',
+    "dev read 0 status": '"status" is no register of a block device',
+    "dma write 5 0x80000000 c0f": "DATA has an odd number of digits",
+    "dma write 5 0x80000000 0x12": 'DATA "0x12" isn\'t hex digits',
+    "dump 0x80000000 65": 'LEN "65" isn\'t 1 to 64',
+    "stale read 0x1000000 0": 'DID "0x1000000" is 2^24 or more',
+    "put 0x80000000": "ITEM is missing",
+    "put 0x80000000 cmd vnaa": '"vnaa" isn\'t vma, gvma, fence or iodir',
+    "put 0x80000000 cmd vma pg=1": '"pg=1" has an unknown key',
+    "put 0x80000000 cmd vma av=1 av=1": '"av=1" has a key that is given twice',
+    "put 0x80000000 cmd iodir dv=2": '"dv=2": the value isn\'t 0 or 1',
+    "put 0xfffffffffffffff8 cmd iodir": "ITEM would end above 2^64",
+    "\N{BELL}": 'no line begins with "\\xf0\\x9f\\x94\\x94"',
+    "x" * 33: f'no line begins with "{"x" * 32}.."',
+    "x" * 513: "a line has at most 512 bytes",
+}
+
+
+class Slips(Case):
+    def answers(self, line):
+        """What debug writes on a terminal for a line."""
+        ours, theirs = os.openpty()
+        tty.setraw(theirs)
+        self.addCleanup(os.close, ours)
+        with open(theirs, "wb", buffering=0) as terminal:
+            subprocess.run([program(), "debug"], input=line.encode() + b"\n", stdout=terminal, check=True)
+            terminal.write(b"|")
+        told = b""
+        while not told.endswith(b"|"):
+            told += os.read(ours, 1 << 16)
+        return told[:-1].decode()
+
+    def test_lines(self):
+        """debug: on a terminal it tells why a line is bad, and nothing else otherwise; at a pipe it does not"""
+        for line, reason in LINES.items():
+            self.assertEqual(self.answers(line), f"bad: {reason}\n", line)
+        self.assertEqual(self.answers("cmd"), "idle\n")
+        script = "".join(f"{line}\n" for line in LINES)
+        self.assertEqual(run(["debug"], script.encode())[1], b"bad\n" * len(LINES))
