@@ -14,9 +14,7 @@ _rviommu() {
     fi
     case ${COMP_WORDS[1]}:$current in
         check:-*)
-            mapfile -t COMPREPLY < <(
-                compgen -W "--stale --at-fences --strict --tap --junit --image --help" -- "$current"
-            )
+            mapfile -t COMPREPLY < <(compgen -W "--stale --strict --tap --junit --image --help" -- "$current")
             return
             ;;
         asm:-* | run:-* | debug:-* | explain:-* | list:-* | upgrade:-*)

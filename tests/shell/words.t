@@ -14,7 +14,6 @@ on standard error, and nothing on standard output.
   > run image more
   > check - -
   > check - one -
-  > check --at-fences
   > check --junit
   > check --image
   > check --tap=1
@@ -39,7 +38,6 @@ on standard error, and nothing on standard output.
   run image more: 2 0 1
   check - -: 2 0 1
   check - one -: 2 0 1
-  check --at-fences: 2 0 1
   check --junit: 2 0 1
   check --image: 2 0 1
   check --tap=1: 2 0 1

@@ -83,7 +83,11 @@ failed; after files that were named, also their sum. A script has the lines of
 
 With --stale, a line also fails if an access of a device, by dma, dev step or
 dev run, used a cached translation or context that no longer matches the
-tables in memory: an invalidation is missing.
+tables in memory: an invalidation is missing. '# => ANSWER stale' wants this.
+
+A comment that looks like an expected answer and is none, an expected answer
+on a line that has no answer, and a script that expects none are noted, and
+fail with --strict.
 
 The exit status is 1 if a line failed, and 3 if a file could not be read, is
 no image, could not be run to its end, or not be written.
@@ -113,6 +117,7 @@ The script has the lines of `rviommu --help` and these:
   dev run N MAX                 dev step N while it is done, MAX times at most
   cmd run MAX                   cmd while it is done, MAX times at most
   put ADDR ITEM ..              the hart stores an item of `asm --help`
+  let NAME NUMBER               NAME stands for NUMBER in the lines after it
   stale read DID IOVA           whether the tables would lead an access as the
   stale write DID IOVA          caches do: same, or the address or the cause
   stale context I               whether the tables still give place I of a

@@ -11,9 +11,6 @@ const KIND: &str = "KIND";
 /// The option of `check` by which stale accesses fail.
 const STALE: &str = "stale";
 
-/// The option of `check` by which the caches are looked at after fences.
-const FENCES: &str = "at-fences";
-
 /// The option of `check` by which what is noted fails.
 const STRICT: &str = "strict";
 
@@ -64,8 +61,6 @@ pub struct Checks<'a> {
     pub fails_if_stale: bool,
     /// Whether what is only noted fails.
     pub is_strict: bool,
-    /// Whether the caches are looked at after each fence, too.
-    pub looks_at_fences: bool,
     /// Whether standard output is TAP, and not text.
     pub is_tap: bool,
     /// The file for JUnit's XML.
@@ -173,13 +168,8 @@ const VERBS: [Verb; 7] = [
                 need: Need::Flag,
             },
             Operand {
-                name: FENCES,
-                help: "With --stale, look at the caches after each fence too",
-                need: Need::Flag,
-            },
-            Operand {
                 name: STRICT,
-                help: "Fail where an expected answer is noted as a slip",
+                help: "Also fail what is only noted",
                 need: Need::Flag,
             },
             Operand {
@@ -270,28 +260,16 @@ const VERBS: [Verb; 7] = [
     },
 ];
 
-// An option without a value, for clap.
-fn flag<'a>(arg: Arg<'a>, name: &'static str) -> Result<Arg<'a>, AllocError> {
-    let arg = arg.long(name).action(ArgAction::SetTrue);
-    if name == FENCES {
-        arg.requires_arg(STALE)
-    } else {
-        Ok(arg)
-    }
-}
-
 // An operand, for clap.
-fn arg<'a>(alloc: Global, operand: &Operand) -> Result<Arg<'a>, AllocError> {
+fn arg<'a>(alloc: Global, operand: &Operand) -> Arg<'a> {
     let arg = Arg::new(alloc, operand.name).help(operand.help);
     match operand.need {
-        Need::Required if operand.name == KIND => {
-            Ok(arg.required(true).value_parser(KINDS.as_slice()))
-        }
-        Need::Required => Ok(arg.required(true)),
-        Need::Optional => Ok(arg),
-        Need::Several => Ok(arg.num_args(1..).action(ArgAction::Append)),
-        Need::Flag => flag(arg, operand.name),
-        Need::Valued(value) => Ok(arg.long(operand.name).value_name(value)),
+        Need::Required if operand.name == KIND => arg.required(true).value_parser(KINDS.as_slice()),
+        Need::Required => arg.required(true),
+        Need::Optional => arg,
+        Need::Several => arg.num_args(1..).action(ArgAction::Append),
+        Need::Flag => arg.long(operand.name).action(ArgAction::SetTrue),
+        Need::Valued(value) => arg.long(operand.name).value_name(value),
     }
 }
 
@@ -301,7 +279,7 @@ fn subcommand<'a>(alloc: Global, verb: &Verb) -> Result<Command<'a>, AllocError>
         .about(verb.about)
         .after_help(verb.after_help);
     for operand in verb.operands {
-        command = command.arg(arg(alloc, operand)?)?;
+        command = command.arg(arg(alloc, operand))?;
     }
     Ok(command)
 }
@@ -371,7 +349,6 @@ fn judging<'a>(alloc: Global, found: &ArgMatches<'a>) -> Result<Task<'a>, WordsF
     Ok(Task::Check(Checks {
         fails_if_stale: found.get_flag(STALE),
         is_strict: found.get_flag(STRICT),
-        looks_at_fences: found.get_flag(FENCES),
         is_tap: found.get_flag(TAP),
         junit: found.get_str(JUNIT),
         image: found.get_str(IMAGE),

@@ -346,7 +346,7 @@ fn rules_of(checks: &Checks<'_>) -> Rules {
     Rules {
         fails_if_stale: checks.fails_if_stale,
         is_strict: checks.is_strict,
-        looks_at_fences: checks.looks_at_fences,
+        looks_at_fences: false,
         style: if checks.is_tap {
             Style::Tap
         } else {
