@@ -25,7 +25,7 @@ TO_MEET = {f"{stage} {it}" for stage in ("first", "second") for it in JUDGED} | 
 TO_MEET |= {"dir width, denied 260", *(f"first width, denied {cause}" for cause in (13, 15))}
 TO_MEET |= {f"second width, {it}" for it in (f"first {GUEST}", "denied 21", "denied 23")}
 # What explain is to have told.
-TO_MEET |= {"stale: the tables", "walk: cached context"}
+TO_MEET |= {"stale: read 0x", "stale: write 0x", "stale: another context", "walk: cached context"}
 # Pages of the hart's memory that its walks leave alone, and what is written to have directory and fault queue there.
 DIRECTORY, FAULTS, HARTS_SIZE = 0x800F8, 0x800FA, 1 << 20
 SET_UP = [("reg", DDTP, 8, DIRECTORY << 10 | 2), ("reg", FQB, 8, FAULTS << 10 | 6), ("reg", FQCSR, 4, 1)]
@@ -75,9 +75,13 @@ class Told(Parts):
             lines.append("warrant: none, it is denied")
         else:
             lines.append(f"warrant: context {current}" if is_bare else f"warrant: walked {origin} current={current}")
-        now = outcome(now, said, parts)
-        if outcome(used, found, shown) != now:
-            lines.append(f"stale: the tables now say {now[1]}")
+        tables = outcome(now, said, parts)
+        if outcome(used, found, shown) != tables:
+            # What changed of the context that it went by, if the tables lead it at all.
+            changed = [it for it, its in zip(now.line().split(), used.line().split()) if it != its] if found and tables[0] else []
+            lines.append(f"stale: {'read' if kind == READ else 'write'} {iova:#x} {'served' if found else 'denied'} by line "
+                         f"{entry.filled if entry and not changed else cached.filled}, "
+                         + (f"same address, another context: {' '.join(changed)}" if found == tables[1] else f"the tables now say {tables[1]}"))
         self.explained[line] = lines
 
     def note(self, line):
@@ -115,7 +119,9 @@ class Peer(Case):
         said = peer.program_answers(program(), script.image, [it[1] for it in script.rows], "explain")
         heads = [at for at, it in enumerate(said) if not it.startswith("    ")]
         below = {said[at].partition(":")[0]: said[at + 1 : end] for at, end in zip(heads, heads[1:])}
-        met.update(" ".join(it.split()[:3]) for lines in told.explained.values() for it in lines)
+        for it in (it for lines in told.explained.values() for it in lines):
+            met.update([re.sub(r"0x\w+", "0x", " ".join(it.split()[:3]))])
+            met.update(["stale: another context"] if ", another context: " in it else [])
         wanted = {str(line): ["    " + it for it in lines] for line, lines in told.explained.items()}
         others = [(line, below[line], lines) for line, lines in wanted.items() if below[line] != lines]
         return script.played(program(), word="debug")[0] + others[:1]

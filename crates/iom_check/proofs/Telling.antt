@@ -8,7 +8,7 @@ use Rattle.iom_debug.specs.Summary.{up_to_64_bits}
 use Rattle.iom_debug.specs.Taking.{Desk}
 use Rattle.iom_debug.specs.Telling.{Leaves, answer_at}
 use Rattle.iom_check.specs.Checking.{Checked, CheckSays, IsChecked, by_check, closing, line_told, places_told}
-use Rattle.iom_check.specs.Judging.{tables_at, tables_told}
+use Rattle.iom_check.specs.Judging.{tables_told}
 use Rattle.iom_check.specs.Scoring.{Score, Told, ended, judged, noted, remarked, with_wish}
 use Rattle.iom_check.specs.declared.rules.Tally.{Tally}
 
@@ -34,10 +34,9 @@ pub check_says : (before : Checked) (after : Desk) (line kept said answer tables
     CheckSays before (take 513 line) said (record { desk = after; number = number; score = score })
 check_says before after line kept said answer tables number score cut count left is stale told scored =
     let judged = before.score.rules.fails_if_stale in
-    let at : tables ≡ tables_at judged before.desk kept = stale ∙ ap (tables_told judged) left.stale in
     let all : line_told before.score number kept answer tables
-    ≡ line_told before.score number kept (answer_at before.desk kept) (tables_at judged before.desk kept) =
-    ap (λ a. line_told before.score number kept a tables) is ∙ ap (λ t. line_told before.score number kept (answer_at before.desk kept) t) at in
+    ≡ line_told before.score number kept (answer_at before.desk kept) (tables_told judged after.reasons.stale) =
+    ap (λ a. line_told before.score number kept a tables) is ∙ ap (λ t. line_told before.score number kept (answer_at before.desk kept) t) stale in
     subst (λ l. CheckSays before l said (record { desk = after; number = number; score = score })) cut
     (record {
       number = count;

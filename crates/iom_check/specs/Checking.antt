@@ -8,7 +8,8 @@ use Rattle.iom_reader.specs.Speaking.{Speaks, by_lines}
 use Rattle.iom_debug.specs.Summary.{up_to_64_bits}
 use Rattle.iom_debug.specs.Taking.{Desk}
 use Rattle.iom_debug.specs.Telling.{Leaves, answer_at, at_once}
-use Rattle.iom_check.specs.Judging.{tables_at}
+use Rattle.iom_debug.specs.declared.stale.StaleAccess.{StaleAccess}
+use Rattle.iom_check.specs.Judging.{tables_told}
 use Rattle.iom_check.specs.Looking.{looked_by}
 use Rattle.iom_check.specs.Reporting.{tally_told}
 use Rattle.iom_check.specs.Scoring.{Score, Told, ended, judged, remarked, with_wish}
@@ -27,16 +28,17 @@ line_told s number line answer tables =
     let second = remarked first.after number line answer in
     record { said = first.said ++ second.said; after = with_wish second.after line }
 
-abbrev pub told_at : Checked → ℕ → List ℕ → Told
-told_at before number line =
-    line_told before.score number line (answer_at before.desk line) (tables_at before.score.rules.fails_if_stale before.desk line)
+-- by the line's last access that was stale
+abbrev pub told_at : Checked → ℕ → List ℕ → Option StaleAccess → Told
+told_at before number line stale =
+    line_told before.score number line (answer_at before.desk line) (tables_told before.score.rules.fails_if_stale stale)
 
 -- `check` tells the lines one after the other
 pub record CheckSays (before : Checked) (line said : List ℕ) (after : Checked) : Type 0 where
   pub number : after.number ≡ up_to_64_bits (before.number + 1)
   pub left : Leaves before.desk line after.number after.desk
-  pub text : said ≡ (told_at before after.number line).said
-  pub score : after.score ≡ (told_at before after.number line).after
+  pub text : said ≡ (told_at before after.number line after.desk.reasons.stale).said
+  pub score : after.score ≡ (told_at before after.number line after.desk.reasons.stale).after
 
 abbrev pub by_check : Answering
 by_check = by_lines (at_once Checked CheckSays)

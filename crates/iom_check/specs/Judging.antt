@@ -1,18 +1,13 @@
 -- Which lines of a checked script pass and which fail, and what is said of them.
-use Rattle.std.specs.Prelude.{ℕ, ◌++◌, ◌&&◌, ◌||◌, Bool, false, not, nat_lt, List, [], length, codes, bytes_eq, Option, Some, None, Result, is_some, if◌then◌else◌}
-use Rattle.iom_core.specs.declared.access.Denial.{Denial}
-use Rattle.iom_debug.specs.Output.{debug_steps_of}
-use Rattle.iom_debug.specs.Reasons.{last_stale, stale_only}
-use Rattle.iom_debug.specs.Taking.{Desk}
+use Rattle.std.specs.Prelude.{ℕ, ◌++◌, ◌&&◌, ◌||◌, Bool, false, not, nat_lt, List, [], length, codes, bytes_eq, Option, Some, None, is_some, if◌then◌else◌}
+use Rattle.iom_debug.specs.Stale.{stale_told}
+use Rattle.iom_debug.specs.declared.stale.StaleAccess.{StaleAccess}
 use Rattle.iom_debug.specs.Telling.{before_comment, escaped}
 use Rattle.iom_check.specs.Wanted.{answer_of, has_arrow, wanted, wants_stale}
 
--- what the tables said of a line's last access that was stale, before its step, where stale accesses are judged
-abbrev pub tables_told : Bool → Option (Result ℕ Denial) → List ℕ
-tables_told is_judged stale = if is_judged then stale_only stale else []
-
-abbrev pub tables_at : Bool → Desk → List ℕ → List ℕ
-tables_at is_judged desk line = tables_told is_judged (last_stale None desk.state (debug_steps_of desk.names desk.state line))
+-- a line's last access that was stale, as it is told, where stale accesses are judged
+abbrev pub tables_told : Bool → Option StaleAccess → List ℕ
+tables_told is_judged stale = if is_judged then stale_told stale else []
 
 -- The answer is the wanted one, and an access is stale where that is wanted and stale accesses are judged. Where nothing is wanted, the
 -- answer isn't `bad`. `tables` is empty where no stale access is to be told.
@@ -42,7 +37,7 @@ wish_text is_judged (Some wish) answer tables =
     if meets is_judged (Some wish) answer tables then [] else codes ", wanted " ++ escaped wish
 
 abbrev pub tables_text : List ℕ → List ℕ
-tables_text tables = if nat_lt 0 (length tables) then codes ", stale: the tables now say " ++ escaped tables else []
+tables_text tables = if nat_lt 0 (length tables) then codes ", stale: " ++ escaped tables else []
 
 -- a line as it is told
 abbrev pub title : List ℕ → List ℕ

@@ -93,10 +93,10 @@ fn put_tables(out: &mut OutputPage, tables: &[u8])
 fn put_stale(out: &mut OutputPage, tables: &[u8])
     requires short { length tables.now ≤ 320 }
     requires room { length out.old.items ≤ 8192 }
-    ensures text { out.new.items ≡ out.old.items ++ (codes ", stale: the tables now say " ++ escaped tables.now) }
+    ensures text { out.new.items ≡ out.old.items ++ (codes ", stale: " ++ escaped tables.now) }
     ensures room { length out.new.items ≤ length out.old.items + 1308 }
 {
-    put(out, b", stale: the tables now say ");
+    put(out, b", stale: ");
     put_escaped(out, tables);
 }
 

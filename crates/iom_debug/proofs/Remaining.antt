@@ -8,7 +8,7 @@ use Rattle.iom_core.specs.declared.step.Step.TheVariants as step
 use Rattle.iom_account.proofs.Telling.{along_more, along_none}
 use Rattle.iom_tool.specs.declared.trace.TracedStep.{TracedStep}
 use Rattle.iom_tool.specs.Console.{trace_after}
-use Rattle.iom_debug.specs.Reasons.{GoesAlong, LineAccountView, last_stale}
+use Rattle.iom_debug.specs.Reasons.{GoesAlong, KeepsLastStale, LineAccountView}
 use Rattle.iom_tool.specs.Script.{stores_at}
 use Rattle.iom_debug.specs.Taking.{Desk, Took, TookAll, is_done, last_answer, taken}
 
@@ -16,8 +16,8 @@ use Rattle.iom_debug.specs.Taking.{Desk, Took, TookAll, is_done, last_answer, ta
 pub record Left (start : Desk) (number : ℕ) (all : List Step) (here : Desk) (rest : List Step) (count : ℕ) : Type 0 where
   pub state_is : end_of start.state (taken start.state all) ≡ end_of here.state (taken here.state rest)
   pub trace_is : trace_after start.trace start.state (taken start.state all) ≡ trace_after here.trace here.state (taken here.state rest)
-  pub stale_is : last_stale start.reasons.stale start.state (taken start.state all)
-      ≡ last_stale here.reasons.stale here.state (taken here.state rest)
+  pub stale : (after : LineAccountView) → KeepsLastStale here.reasons here.state (taken here.state rest) number after →
+      KeepsLastStale start.reasons start.state (taken start.state all) number after
   pub along : (after : LineAccountView) (left : State) → GoesAlong here.reasons here.state (taken here.state rest) number after left →
       GoesAlong start.reasons start.state (taken start.state all) number after left
   pub names_is : here.names ≡ start.names
@@ -28,12 +28,22 @@ pub begins : (start : Desk) (number : ℕ) (all : List Step) → Left start numb
 begins start number all = record {
   state_is = refl;
   trace_is = refl;
-  stale_is = refl;
+  stale = λ after is. is;
   along = λ after left is. is;
   names_is = refl;
   count_is = omega arith;
   last_is = refl;
 }
+
+-- one step by itself
+one_along : (here : Desk) (step : Step) (number : ℕ) (after : Desk) → Took here step number after →
+    GoesAlong here.reasons here.state (step ∷ []) number after.reasons (next here.state step).state
+one_along here step number after took =
+    subst (λ (s : State). GoesAlong here.reasons here.state (step ∷ []) number after.reasons s) took.state took.along
+
+pub one_kept : (here : Desk) (step : Step) (number : ℕ) (after : Desk) → Took here step number after →
+    KeepsLastStale here.reasons here.state (step ∷ []) number after.reasons
+one_kept here step number after took = (after.reasons, one_along here step number after took, took.stale, refl)
 
 -- where the next step isn't done
 pub record Stopped (start : Desk) (number : ℕ) (all : List Step) (here : Desk) (step : Step) (count : ℕ) (after : Desk) : Type 0 where
@@ -52,9 +62,13 @@ module _ (start : Desk) (number : ℕ) (all : List Step) (here : Desk) (step : S
         trace_is = left.trace_is ∙ ap (trace_after here.trace here.state) is
             ∙ ap (λ (t : List TracedStep). trace_after t there (taken there rest)) (sym took.trace)
             ∙ ap (λ (s : State). trace_after after.trace s (taken s rest)) (sym took.state);
-        stale_is = left.stale_is ∙ ap (last_stale here.reasons.stale here.state) is
-            ∙ ap (λ found. last_stale found there (taken there rest)) (sym took.stale)
-            ∙ ap (λ (s : State). last_stale after.reasons.stale s (taken s rest)) (sym took.state);
+        stale = λ last more. left.stale last
+            (subst (λ (steps : List Step). KeepsLastStale here.reasons here.state steps number last) (sym is) (
+              after.reasons,
+              one_along here step number after took,
+              took.stale,
+              subst (λ (s : State). KeepsLastStale after.reasons s (taken s rest) number last) took.state more,
+            ));
         along = λ last end more. left.along last end
             (subst (λ (steps : List Step). GoesAlong here.reasons here.state steps number last end) (sym is)
             (along_more here.reasons.account after.reasons.account last.account here.state after.state end step (taken there rest) number took.along
@@ -74,7 +88,9 @@ module _ (start : Desk) (number : ℕ) (all : List Step) (here : Desk) (step : S
         took = record {
           state = took.state ∙ sym (left.state_is ∙ ap (end_of here.state) is);
           trace = took.trace ∙ sym (left.trace_is ∙ ap (trace_after here.trace here.state) is);
-          stale = took.stale ∙ sym (left.stale_is ∙ ap (last_stale here.reasons.stale here.state) is);
+          stale = left.stale after.reasons
+              (subst (λ (steps : List Step). KeepsLastStale here.reasons here.state steps number after.reasons) (sym is)
+              (one_kept here step number after took));
           along = left.along after.reasons after.state
               (subst (λ (steps : List Step). GoesAlong here.reasons here.state steps number after.reasons after.state) (sym is) took.along);
           names = took.names ∙ left.names_is;
@@ -90,7 +106,7 @@ pub ends : (start : Desk) (number : ℕ) (all : List Step) (here : Desk) (count 
 ends start number all here count left = record {
   state = sym left.state_is;
   trace = sym left.trace_is;
-  stale = sym left.stale_is;
+  stale = left.stale here.reasons refl;
   along = left.along here.reasons here.state (along_none here.reasons.account here.state number);
   names = left.names_is;
 }

@@ -1,4 +1,5 @@
 pub mod Ways
+pub mod Stale
 pub mod Reasons
 pub mod Taking
 pub mod Walks

@@ -1,6 +1,6 @@
 -- What is told of the steps of lines while they are carried out: where each access's translation came from, and where the tables led it
--- then.
-use Rattle.std.specs.Prelude.{ℕ, ◌++◌, List, [], ◌∷◌, codes, Option, Some, None, Result, slice_get}
+-- then, if it was stale.
+use Rattle.std.specs.Prelude.{ℕ, ◌≡◌, ◌++◌, List, [], ◌∷◌, codes, Option, Some, None, Result, slice_get}
 use Rattle.std.specs.Option.{option_and_then, option_map}
 use Rattle.circular_buffer.specs.Buffer.{last_item}
 use Rattle.iom_text.specs.Texts.{numeral}
@@ -16,12 +16,9 @@ use Rattle.iom_account.specs.Account.{AccountView, GoesAlong as AccountGoesAlong
 use Rattle.iom_account.specs.Following.{HistoryView, numbers_of}
 use Rattle.iom_account.specs.declared.history.FilledBy.{FilledBy}
 use Rattle.iom_account.specs.declared.reason.Reason.{Reason}
-use Rattle.iom_debug.specs.Ways.{address_of, address_text, stale_address}
-
--- where the tables lead an access that is stale, before the step that makes it; None: it isn't, or there is none
-abbrev pub stale_in : State → Option Request → Option (Result ℕ Denial)
-stale_in state None = None
-stale_in state (Some request) = stale_address state.machine request
+use Rattle.iom_debug.specs.Stale.{stale_access}
+use Rattle.iom_debug.specs.Ways.{address_of, address_text}
+use Rattle.iom_debug.specs.declared.stale.StaleAccess.{StaleAccess}
 
 -- where a way leads a request, if there are both
 abbrev pub address_by : Option Request → Option Way → Option (Result ℕ Denial)
@@ -39,24 +36,46 @@ origin_of reason = reason.origin
 abbrev pub newest_origin : AccountView → Option NumberedWarrant
 newest_origin account = option_and_then origin_of (last_item account.reasons)
 
--- what is kept beside a platform: the account of its steps, and where the tables led the last access of a line that was stale
+-- the way that the tables said of that access, where it was stale
+abbrev pub tables_of : Reason → Option Way
+tables_of reason = reason.stale
+
+abbrev pub newest_tables : AccountView → Option Way
+newest_tables account = option_and_then tables_of (last_item account.reasons)
+
+-- what is kept beside a platform: the account of its steps, and the last access of a line that was stale
 pub record LineAccountView : Type 0 where
   pub account : AccountView
-  pub stale : Option (Result ℕ Denial)
+  pub stale : Option StaleAccess
 
 -- It went along with these steps of one number.
 abbrev pub GoesAlong : LineAccountView → State → List Step → ℕ → LineAccountView → State → Type 0
 GoesAlong before state more number after left = AccountGoesAlong before.account state more number after.account left
 
--- where the tables led the last access of some steps that was stale; `found`: that of the steps before them
-abbrev pub later : Option (Result ℕ Denial) → Option (Result ℕ Denial) → Option (Result ℕ Denial)
-later found None = found
-later found (Some address) = Some address
+-- a line begins
+abbrev pub begun : LineAccountView → LineAccountView
+begun reasons = record reasons { stale = None }
 
-abbrev pub last_stale : Option (Result ℕ Denial) → State → List Step → Option (Result ℕ Denial)
-last_stale found state [] = found
-last_stale found state (step ∷ steps) =
-    last_stale (later found (stale_in state (request_of_step state step))) (next state step).state steps
+-- the last of two, where there is one
+abbrev pub later : Option StaleAccess → Option StaleAccess → Option StaleAccess
+later found None = found
+later found (Some stale) = Some stale
+
+-- the access of a step, where it was stale: by what is kept before and after it
+abbrev pub stale_in : LineAccountView → State → Step → LineAccountView → Option StaleAccess
+stale_in before state step after =
+    stale_access before.account.history state (request_of_step state step) (newest_origin after.account)
+
+-- a step leaves this: its access, where that was stale
+abbrev pub KeepsStale : LineAccountView → State → Step → LineAccountView → Type 0
+KeepsStale before state step after = after.stale ≡ later before.stale (stale_in before state step after)
+
+-- the same of steps of one number, one after the other: of the last of their accesses that was stale
+abbrev pub KeepsLastStale : LineAccountView → State → List Step → ℕ → LineAccountView → Type 0
+KeepsLastStale before state [] number after = after ≡ before
+KeepsLastStale before state (step ∷ steps) number after =
+    (mid : LineAccountView) × GoesAlong before state (step ∷ []) number mid (next state step).state × KeepsStale before state step mid
+    × KeepsLastStale mid (next state step).state steps number after
 
 -- the numbers of the steps that filled what an access used
 abbrev pub origin_text : NumberedWarrant → List ℕ
@@ -80,11 +99,6 @@ reason_text reason = used_text reason.request reason.origin ++ tables_text (stal
 abbrev pub why_text : Option Reason → List ℕ
 why_text None = codes "none"
 why_text (Some reason) = reason_text reason
-
--- the same address by itself; nothing where there is none
-abbrev pub stale_only : Option (Result ℕ Denial) → List ℕ
-stale_only None = []
-stale_only (Some address) = address_text address
 
 -- which lines filled a place of a cache, also where what stood there was dropped: of a context one, of a translation that of its context too
 abbrev pub context_origin_by : Option ℕ → List ℕ

@@ -3,7 +3,7 @@ use Rattle.std.specs.Prelude.{ℕ, ◌≡◌, ◌++◌, Bool, true, false, List,
 use Rattle.iom_text.specs.Texts.{hexadecimal}
 use Rattle.iom_core.specs.State.{State}
 use Rattle.iom_core.specs.Run.{end_of}
-use Rattle.iom_core.specs.Table.{next, request_of_step}
+use Rattle.iom_core.specs.Table.{next}
 use Rattle.iom_core.specs.declared.step.Step.{Step}
 use Rattle.iom_core.specs.declared.step.Answer.{Answer}
 use Rattle.iom_core.specs.declared.step.Answer.TheVariants as answer
@@ -11,7 +11,7 @@ use Rattle.iom_tool.specs.Console.{trace_after, traced}
 use Rattle.iom_tool.specs.Texts.{text_of}
 use Rattle.iom_tool.specs.declared.trace.TracedStep.{TracedStep}
 use Rattle.iom_names.specs.declared.names.Binding.{Binding}
-use Rattle.iom_debug.specs.Reasons.{GoesAlong, LineAccountView, last_stale, later, stale_in}
+use Rattle.iom_debug.specs.Reasons.{GoesAlong, KeepsLastStale, KeepsStale, LineAccountView}
 
 -- what the lines of `debug` drive: a platform, the trace of its last steps, what is told beside them, and the names of numbers
 pub record Desk : Type 0 where
@@ -27,7 +27,7 @@ desk state trace reasons names = record { state = state; trace = trace; reasons 
 pub record Took (before : Desk) (step : Step) (number : ℕ) (after : Desk) : Type 0 where
   pub state : after.state ≡ (next before.state step).state
   pub trace : after.trace ≡ traced before.trace step (next before.state step).answer
-  pub stale : after.reasons.stale ≡ later before.reasons.stale (stale_in before.state (request_of_step before.state step))
+  pub stale : KeepsStale before.reasons before.state step after.reasons
   pub along : GoesAlong before.reasons before.state (step ∷ []) number after.reasons after.state
   pub names : after.names ≡ before.names
 
@@ -51,7 +51,7 @@ last_answer state (step ∷ steps) =
 pub record TookAll (before : Desk) (steps : List Step) (number : ℕ) (after : Desk) : Type 0 where
   pub state : after.state ≡ end_of before.state (taken before.state steps)
   pub trace : after.trace ≡ trace_after before.trace before.state (taken before.state steps)
-  pub stale : after.reasons.stale ≡ last_stale before.reasons.stale before.state (taken before.state steps)
+  pub stale : KeepsLastStale before.reasons before.state (taken before.state steps) number after.reasons
   pub along : GoesAlong before.reasons before.state (taken before.state steps) number after.reasons after.state
   pub names : after.names ≡ before.names
 

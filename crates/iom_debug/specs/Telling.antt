@@ -9,7 +9,7 @@ use Rattle.iom_reader.specs.Speaking.{Speaking, by_lines}
 use Rattle.iom_tool.specs.Console.{console, trace_after}
 use Rattle.iom_debug.specs.Output.{debug_reply, debug_steps_of}
 use Rattle.iom_debug.specs.Comments.{comment_at, without_blanks}
-use Rattle.iom_debug.specs.Reasons.{GoesAlong, last_stale}
+use Rattle.iom_debug.specs.Reasons.{GoesAlong, KeepsLastStale, begun}
 use Rattle.iom_text.specs.Words.{words_of}
 use Rattle.iom_names.specs.Names.{with_numbers}
 use Rattle.iom_names.specs.Reading.{is_bad, is_let, is_line, line_with, names_after}
@@ -26,7 +26,7 @@ answer_at desk line = unwrap_or (debug_reply (console desk.state desk.trace) des
 pub record Leaves (before : Desk) (line : List ℕ) (number : ℕ) (after : Desk) : Type 0 where
   pub state : after.state ≡ end_of before.state (debug_steps_of before.names before.state line)
   pub trace : after.trace ≡ trace_after before.trace before.state (debug_steps_of before.names before.state line)
-  pub stale : after.reasons.stale ≡ last_stale None before.state (debug_steps_of before.names before.state line)
+  pub stale : KeepsLastStale (begun before.reasons) before.state (debug_steps_of before.names before.state line) number after.reasons
   pub along : GoesAlong before.reasons before.state (debug_steps_of before.names before.state line) number after.reasons after.state
   pub names : after.names ≡ names_after before.names line
 

@@ -4,8 +4,8 @@ ghost use Rattle.iom_tool.specs.Parsed.{line_as};
 
 use crate::answers::answer_to;
 use crate::reasons::LineAccount;
+use crate::stale::stale_access_line;
 use crate::text::reply_of;
-use crate::ways::address_line;
 use iom_core::Platform;
 use iom_names::{Names, is_let, is_line};
 use iom_slips::slip;
@@ -32,7 +32,7 @@ pub struct Debugger<'a> {
 }
 
 impl<'a> Debugger<'a> {
-    ghost use Rattle.std.specs.Prelude.{◌≡◌, ◌≢◌, [], None};
+    ghost use Rattle.std.specs.Prelude.{◌≡◌, ◌≢◌, []};
     ghost use Rattle.std.specs.Option.{unwrap_or};
     ghost use Rattle.iom_core.specs.Run.{end_of};
     ghost use Rattle.iom_tool.specs.Console.{console, trace_after};
@@ -41,7 +41,8 @@ impl<'a> Debugger<'a> {
     ghost use Rattle.iom_tool.specs.Script.{Bad, line_of};
     ghost use Rattle.iom_debug.specs.Desks.{desk_of, names_of};
     ghost use Rattle.iom_debug.specs.Output.{IsAsRun, debug_reply, debug_steps, debug_steps_of};
-    ghost use Rattle.iom_debug.specs.Reasons.{GoesAlong, last_stale, stale_only};
+    ghost use Rattle.iom_debug.specs.Reasons.{GoesAlong, KeepsLastStale, begun};
+    ghost use Rattle.iom_debug.specs.Stale.{stale_told};
     ghost use Rattle.iom_debug.specs.Telling.{slip_with};
 
     /// A debugger of this platform with this trace and these reasons, to which no line was given yet.
@@ -80,11 +81,11 @@ impl<'a> Debugger<'a> {
             IsAsRun (console self.old.platform.now self.old.trace.now) text.now
             result.items (console self.new.platform.now self.new.trace.now) }
 
-        // What is told goes along with the steps, and of this line where the tables led its last access that was stale.
+        // What is told goes along with the steps, and of this line its last access that was stale is kept.
         ensures along { GoesAlong self.old.reasons.now self.old.platform.now (debug_steps_of self.old.names self.old.platform.now text.now) number
             self.new.reasons.now self.new.platform.now }
-        ensures stale { self.new.reasons.now.stale
-            ≡ last_stale None self.old.platform.now (debug_steps_of self.old.names self.old.platform.now text.now) }
+        ensures stale { KeepsLastStale (begun self.old.reasons.now) self.old.platform.now
+            (debug_steps_of self.old.names self.old.platform.now text.now) number self.new.reasons.now }
         ensures names { self.new.names ≡ names_after self.old.names text.now }
         ensures same { names_of self.new ≡ names_of self.old }
     {
@@ -102,8 +103,8 @@ impl<'a> Debugger<'a> {
             ≡ trace_after self.old.trace.now self.old.platform.now (debug_steps self.old.platform.now (line_as line)) }
         ensures along { GoesAlong self.old.reasons.now self.old.platform.now (debug_steps self.old.platform.now (line_as line)) number
             self.new.reasons.now self.new.platform.now }
-        ensures stale { self.new.reasons.now.stale
-            ≡ last_stale None self.old.platform.now (debug_steps self.old.platform.now (line_as line)) }
+        ensures stale { KeepsLastStale (begun self.old.reasons.now) self.old.platform.now
+            (debug_steps self.old.platform.now (line_as line)) number self.new.reasons.now }
         ensures names { self.new.names ≡ self.old.names }
         ensures same { names_of self.new ≡ names_of self.old }
     {
@@ -140,13 +141,13 @@ impl<'a> Debugger<'a> {
         }
     }
 
-    /// The answer of the tables, as `stale` prints it (`denied 13`, `addr=0x80010abc`), just before the last stale access of the last line.
-    /// Empty if none of its accesses was stale.
+    /// The last access of the last line that was stale, as `read 0x40202abc served by line 12, the tables now say denied 13`. Empty if none
+    /// of its accesses was.
     pub fn stale_told(&self) -> Reply
-        ensures { result.items ≡ stale_only self.now.reasons.now.stale }
+        ensures { result.items ≡ stale_told self.now.reasons.now.stale }
     {
         match self.reasons.stale() {
-            Some(address) => address_line(address),
+            Some(stale) => stale_access_line(&stale),
             None => Reply::new(),
         }
     }

@@ -2,17 +2,17 @@
 
 ghost use Rattle.std.specs.Prelude.{◌≡◌};
 
-use crate::reason::stale_of;
+use crate::stale::{StaleAccess, kept_by, led_by};
 use iom_account::{Account, History, NumberedWarrant, Reason};
-use iom_core::{Answer, Denial, Platform, Step};
+use iom_core::{Answer, Platform, Step, Way};
 use std::marker::Model;
 
-/// The reasons of the last 32 steps of a script, beside a platform and a trace: the warrant of each access, and the address that the tables
-/// gave it then.
+/// The reasons of the last 32 steps of a script, beside a platform and a trace: the warrant of each access, and the way that the tables gave
+/// it then if it was stale; and the last access of a line that was stale.
 #[derive(Drop)]
 pub struct LineAccount {
     account: Account,
-    stale: Option<Result<u64, Denial>>,
+    stale: Option<StaleAccess>,
 }
 
 impl Model for LineAccount {
@@ -25,11 +25,11 @@ impl Model for LineAccount {
 
 impl LineAccount {
     ghost use Rattle.std.specs.Prelude.{◌≡◌, [], ◌∷◌, None, slice_get};
-    ghost use Rattle.std.specs.Option.{option_and_then, option_copied};
+    ghost use Rattle.std.specs.Option.{option_copied};
     ghost use Rattle.circular_buffer.specs.Buffer.{last_item};
     ghost use Rattle.iom_account.specs.Account.{Accounts};
-    ghost use Rattle.iom_core.specs.Table.{next, request_of_step};
-    ghost use Rattle.iom_debug.specs.Reasons.{GoesAlong, later, newest_origin, stale_in, stale_of};
+    ghost use Rattle.iom_core.specs.Table.{next};
+    ghost use Rattle.iom_debug.specs.Reasons.{GoesAlong, KeepsStale, begun, newest_origin, newest_tables, stale_in};
 
     /// Empty reasons of this platform. No call of theirs takes memory. Origins are known only if both caches are empty now.
     pub fn new(platform: &Platform) -> LineAccount
@@ -72,15 +72,15 @@ impl LineAccount {
         self.newest()?.origin
     }
 
-    /// The answer of the tables, a physical address or a denial, just before the last step's access; None if that was not stale.
-    pub fn newest_stale(&self) -> Option<Result<u64, Denial>>
-        ensures { result ≡ option_and_then stale_of (last_item self.now.account.reasons) }
+    // The way of the tables just before the last step's access; None if that was not stale.
+    fn newest_tables(&self) -> Option<Way>
+        ensures { result ≡ newest_tables self.now.account }
     {
-        stale_of(self.newest()?)
+        self.newest()?.stale
     }
 
-    /// The answer of the tables just before the last stale access of the last line; None if none was stale.
-    pub fn stale(&self) -> Option<Result<u64, Denial>>
+    /// The last access of the last line that was stale; None if none was.
+    pub fn stale(&self) -> Option<StaleAccess>
         ensures { result ≡ self.now.stale }
     {
         self.stale
@@ -88,26 +88,33 @@ impl LineAccount {
 
     /// A line begins: none of its accesses was stale yet.
     pub fn begin_line(&mut self)
-        ensures { self.new ≡ record self.old { stale = None } }
+        ensures { self.new ≡ begun self.old }
     {
         self.stale = None;
     }
 
     /// Carries out the next step on the platform, a step of the line of this number, writes its answer to `answer`, and keeps its reason.
-    /// If there are 32 the oldest leaves.
-    #[tactic(auto, using(crate::proofs::Newest::stale_newest))]
-    pub fn step(&mut self, platform: &mut Platform, step: &Step, number: u64, answer: &mut Answer)
+    /// If there are 32 the oldest leaves. Answers the step's access if that was stale.
+    #[tactic(auto, using(crate::proofs::Newest::tables_newest))]
+    pub fn step(
+        &mut self,
+        platform: &mut Platform,
+        step: &Step,
+        number: u64,
+        answer: &mut Answer,
+    ) -> Option<StaleAccess>
         ensures answer { answer.new ≡ (next platform.old step.now).answer }
         ensures state { platform.new ≡ (next platform.old step.now).state }
-        ensures stale { self.new.stale ≡ later self.old.stale (stale_in platform.old (request_of_step platform.old step.now)) }
-        ensures newest { option_and_then stale_of (last_item self.new.account.reasons)
-            ≡ stale_in platform.old (request_of_step platform.old step.now) }
+        ensures access { result ≡ stale_in self.old platform.old step.now self.new }
+        ensures stale { KeepsStale self.old platform.old step.now self.new }
         ensures along { GoesAlong self.old platform.old (step.now ∷ []) number self.new platform.new }
     {
+        let led = led_by(self.account.history(), platform, step);
         self.account.step(platform, step, number, answer);
-        let stale = self.newest_stale();
+        let stale = kept_by(led, self.newest_origin(), self.newest_tables());
         if stale.is_some() {
             self.stale = stale;
         }
+        stale
     }
 }

@@ -69,7 +69,7 @@ impl Debugger<'_> {
         ensures same { names_of self.new ≡ names_of self.old }
     {
         let mut answer = Answer::Done;
-        self.reasons.step(self.platform, &step, number, &mut answer);
+        let _stale = self.reasons.step(self.platform, &step, number, &mut answer);
         let answered = StepAnswer {
             is_done: is_done(&answer),
             text: answer_text(&answer),

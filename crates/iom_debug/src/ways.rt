@@ -44,7 +44,8 @@ pub fn push_address(out: &mut Reply, address: Result<u64, Denial>)
 
 /// An address, or the cause of a denial, by itself.
 pub fn address_line(address: Result<u64, Denial>) -> Reply
-    ensures { result.items ≡ address_text address }
+    ensures text { result.items ≡ address_text address }
+    ensures short { length result.items ≤ 27 }
 {
     let mut out = Reply::new();
     push_address(&mut out, address);

@@ -1,6 +1,7 @@
 -- What is told of lines.
-use Rattle.std.proofs.Common.{◌≡◌, ◌∙◌, ◌++◌, ◌∷◌, [], ℕ, Bool, List, Option, Some, None, true, false, Result, Ok, Err, OnOk, ◌+◌, take, replicate, is_some, refl, sym, subst, ap, codes}
+use Rattle.std.proofs.Common.{◌≡◌, ◌∙◌, ◌++◌, ◌∷◌, [], ℕ, Bool, List, Option, Some, None, true, false, Result, Ok, Err, OnOk, ◌+◌, take, is_some, refl, sym, subst, ap, append-nil, codes}
 use Rattle.std.specs.Result.{is_err}
+use Rattle.arrayvec.specs.ArrayVec.{ArrayVec}
 use Rattle.std.specs.declared.alloc.AllocError.{AllocError}
 use Rattle.std.specs.Io.KnownBytes.{Appends}
 use Rattle.std.proofs.KnownBytes.{Appends-nil, Appends-trans}
@@ -8,11 +9,13 @@ use Rattle.iom_text.specs.Texts.{numeral}
 use Rattle.iom_core.specs.State.{State}
 use Rattle.iom_core.specs.Table.{next, request_of_step}
 use Rattle.iom_core.specs.Looking.{is_cached, seen_in}
-use Rattle.iom_core.specs.declared.access.Denial.{Denial}
 use Rattle.iom_core.specs.declared.access.Request.{Request}
 use Rattle.iom_core.specs.declared.looking.Lookup.{Lookup}
 use Rattle.iom_core.specs.declared.step.Step.{Step}
 use Rattle.iom_core.specs.declared.step.Answer.{Answer}
+use Rattle.iom_core.specs.declared.way.Way.{Way}
+use Rattle.iom_tables.specs.Stale.{stale_way}
+use Rattle.iom_account.specs.Following.{HistoryView}
 use Rattle.iom_account.specs.declared.origin.NumberedWarrant.{NumberedWarrant}
 use Rattle.iom_reader.specs.Answering.{Progress, AnswersNext, IsAnswering}
 use Rattle.iom_reader.specs.declared.fault.RunFault.{RunFault}
@@ -28,14 +31,17 @@ use Rattle.iom_tool.specs.declared.language.Line.TheVariants as own
 use Rattle.iom_tool.specs.declared.trace.TracedStep.{TracedStep}
 use Rattle.iom_debug.specs.Telling.{Leaves, answer_at}
 use Rattle.iom_tool.specs.Texts.{entry_text}
-use Rattle.iom_debug.specs.Reasons.{LineAccountView, newest_origin, stale_in}
-use Rattle.iom_debug.specs.Ways.{stale_address}
-use Rattle.iom_explain.specs.Accesses.{asks_text, caches_by, filler, stale_text, warrant_text}
+use Rattle.iom_debug.specs.Reasons.{newest_origin, stale_in}
+use Rattle.iom_debug.specs.Stale.{filler, kept_by, led_by, stale_access}
+use Rattle.iom_debug.specs.declared.stale.Led.{Led}
+use Rattle.iom_debug.specs.declared.stale.StaleAccess.{StaleAccess}
+use Rattle.iom_explain.specs.Accesses.{asks_text, caches_by, stale_text, warrant_text}
 use Rattle.iom_explain.specs.Walking.{walk_text}
 use Rattle.iom_debug.specs.Summary.{Counts, counts_of, up_to_64_bits}
-use Rattle.iom_debug.specs.Taking.{Desk, Took, run_text, taken}
+use Rattle.iom_debug.specs.Taking.{Desk, Took, taken}
 use Rattle.iom_debug.specs.declared.summary.AccessOutcome.{AccessOutcome}
-use Rattle.iom_explain.specs.Explaining.{Explained, ExplainSays, IsExplained, LineTold, OtherTold, Progressed, RunTold, StepTold, StepsTold, access_by, access_text, by_explain, denied_for, explained, explaining, line_told, outcomes_by, summary_text}
+use Rattle.iom_explain.specs.Explaining.{Explained, ExplainSays, IsExplained, LineTold, OtherTold, Progressed, RunTold, StepTold, StepsTold, access_by, access_text, by_explain, denied_for, explaining, if_told, is_step_told, is_told, line_told, outcomes_by, step_told, summary_text}
+use Rattle.iom_explain.specs.declared.only.Only.{Only}
 
 pub lawful : IsAnswering by_explain
 lawful =
@@ -63,94 +69,145 @@ whole unread left old new holds h memory wrote = record {
 }
 
 -- a step with its answer, and below it what is told of its access
-pub step_is : (before : Explained) (number : ℕ) (step : Step) (request : Option Request) (answer : Answer) (entry below page : List ℕ) (used : Option NumberedWarrant)
-    (after : Desk) (counts : Counts) → Took before.desk step number after → request ≡ request_of_step before.desk.state step →
-    answer ≡ (next before.desk.state step).answer → entry ≡ entry_text (Some (record { step = step; answer = answer })) →
-    used ≡ newest_origin after.reasons.account → below ≡ access_by before.desk step request used →
-    page ≡ (numeral 10 number ++ codes ": " ++ entry ++ 10 ∷ []) ++ below →
+pub step_is : (before : Explained) (number : ℕ) (step : Step) (request : Option Request) (answer : Answer) (entry below page : List ℕ) (told : Bool)
+    (used : Option NumberedWarrant) (after : Desk) (counts : Counts) (only : Option Only) → Took before.desk step number after →
+    request ≡ request_of_step before.desk.state step → answer ≡ (next before.desk.state step).answer →
+    entry ≡ entry_text (Some (record { step = step; answer = answer })) → used ≡ newest_origin after.reasons.account →
+    below ≡ access_by before.desk step request used → told ≡ is_step_told before.only (outcomes_by before.desk number step request) →
+    page ≡ if_told told ((numeral 10 number ++ codes ": " ++ entry ++ 10 ∷ []) ++ below) →
     ((earlier : List AccessOutcome) → before.counts ≡ counts_of earlier → counts ≡ counts_of (earlier ++ outcomes_by before.desk number step request)) →
-    StepTold before number step page (record { desk = after; counts = counts })
-step_is before number step request answer entry below page used after counts took asked answered entry_is used_is below_is page_is counted = record {
-  took = took;
-  text = page_is
-      ∙ ap (λ (e : List ℕ). (numeral 10 number ++ codes ": " ++ e ++ 10 ∷ []) ++ below)
-      (entry_is ∙ ap (λ (a : Answer). entry_text (Some (record { step = step; answer = a }))) answered)
-      ∙ ap (λ (b : List ℕ). (numeral 10 number ++ codes ": "
-      ++ entry_text (Some (record { step = step; answer = (next before.desk.state step).answer })) ++ 10 ∷ []) ++ b)
-      (below_is ∙ ap (λ (r : Option Request). access_by before.desk step r used) asked
-      ∙ ap (λ (u : Option NumberedWarrant). access_by before.desk step (request_of_step before.desk.state step) u) used_is);
-  counts = λ earlier is. counted earlier is
-      ∙ ap (λ (r : Option Request). counts_of (earlier ++ outcomes_by before.desk number step r)) asked;
-}
+    only ≡ before.only → StepTold before number step page (record { desk = after; counts = counts; only = only })
+step_is before number step request answer entry below page told used after counts only took asked answered entry_is used_is below_is told_is
+    page_is counted same =
+    let whole : (numeral 10 number ++ codes ": " ++ entry ++ 10 ∷ []) ++ below
+    ≡ step_told before.desk number step (newest_origin after.reasons.account) =
+    ap (λ (e : List ℕ). (numeral 10 number ++ codes ": " ++ e ++ 10 ∷ []) ++ below)
+    (entry_is ∙ ap (λ (a : Answer). entry_text (Some (record { step = step; answer = a }))) answered)
+    ∙ ap (λ (b : List ℕ). (numeral 10 number ++ codes ": "
+    ++ entry_text (Some (record { step = step; answer = (next before.desk.state step).answer })) ++ 10 ∷ []) ++ b)
+    (below_is ∙ ap (λ (r : Option Request). access_by before.desk step r used) asked
+    ∙ ap (λ (u : Option NumberedWarrant). access_by before.desk step (request_of_step before.desk.state step) u) used_is) in
+    let kept : told ≡ is_step_told before.only (outcomes_by before.desk number step (request_of_step before.desk.state step)) =
+    told_is ∙ ap (λ (r : Option Request). is_step_told before.only (outcomes_by before.desk number step r)) asked in
+    record {
+      took = took;
+      text = page_is ∙ ap (if_told told) whole
+          ∙ ap (λ (b : Bool). if_told b (step_told before.desk number step (newest_origin after.reasons.account))) kept;
+      counts = λ earlier is. counted earlier is
+          ∙ ap (λ (r : Option Request). counts_of (earlier ++ outcomes_by before.desk number step r)) asked;
+      same = same;
+    }
 
-access_is : (now : Desk) (step : Step) (request : Request) (seen : Lookup) (line : ℕ) (used : Option NumberedWarrant) (stale : Option (Result ℕ Denial))
+access_is : (now : Desk) (step : Step) (request : Request) (seen : Lookup) (line : ℕ) (used : Option NumberedWarrant) (stale : Option StaleAccess)
     (asks walk : List ℕ) → asks ≡ asks_text now.state step → seen ≡ seen_in now.state.machine request →
     line ≡ filler now.reasons.account.history now.state.machine request.did → walk ≡ walk_text seen now.state.machine request →
-    stale ≡ stale_address now.state.machine request →
+    stale ≡ stale_access now.reasons.account.history now.state (Some request) used →
     asks ++ caches_by seen.context seen line request.iova used ++ walk ++ warrant_text used ++ stale_text stale
     ≡ access_text now step request (seen_in now.state.machine request) used
 access_is now step request seen line used stale asks walk asks_is seen_is line_is walk_is stale_is =
     rw (asks_is, walk_is, stale_is, line_is, seen_is) refl
 
-outcome_is : (now : Desk) (number : ℕ) (step : Step) (request : Request) (seen : Lookup) (denied : Option ℕ) (stale : Option (Result ℕ Denial)) →
-    denied ≡ denied_for (next now.state step).answer → seen ≡ seen_in now.state.machine request → stale ≡ stale_address now.state.machine request →
+-- an access is kept where the tables lead it another way
+some_kept : (led : Led) (used : Option NumberedWarrant) (tables : Option Way) → is_some (kept_by (Some led) used tables) ≡ is_some tables
+some_kept led used None = refl
+some_kept led used (Some way) = refl
+
+outcome_is : (now : Desk) (number : ℕ) (step : Step) (request : Request) (seen : Lookup) (denied : Option ℕ) (used : Option NumberedWarrant)
+    (stale : Option StaleAccess) → denied ≡ denied_for (next now.state step).answer → seen ≡ seen_in now.state.machine request →
+    stale ≡ stale_access now.reasons.account.history now.state (Some request) used →
     record { number = number; denied = denied; is_cached = is_cached seen; is_stale = is_some stale } ∷ []
     ≡ outcomes_by now number step (Some request)
-outcome_is now number step request seen denied stale denied_is seen_is stale_is = rw (denied_is, stale_is, seen_is) refl
+outcome_is now number step request seen denied used stale denied_is seen_is stale_is =
+    let some : is_some stale ≡ is_some (stale_way now.state.machine request) =
+    ap (λ (s : Option StaleAccess). is_some s) stale_is ∙ some_kept _ used (stale_way now.state.machine request) in
+    rw (denied_is, some, seen_is) refl
 
 on_ok : {A : Type 0} (result : Result (Unit {0}) AllocError) → is_err result ≡ false → OnOk result A → A
 on_ok (Ok done) is holds = holds
 on_ok (Err f) is holds = absurd (cc is)
 
--- a step that made an access, by what is known of that
-pub accessed : (before : Explained) (number : ℕ) (step : Step) (request : Request) (seen : Lookup) (line : ℕ) (denied : Option ℕ) (used : Option NumberedWarrant)
-    (stale : Option (Result ℕ Denial)) (answer : Answer) (asks walk entry page : List ℕ) (after : Desk) (counts : Counts)
-    (result : Result (Unit {0}) AllocError) → Took before.desk step number after → Some request ≡ request_of_step before.desk.state step →
+-- what leads the access of a step that asks something
+record LeadsIt (history : HistoryView) (state : State) (asked : Option Request) (led : Led) : Type 0 where
+  pub request : Some led.request ≡ asked
+  pub seen : led.seen ≡ seen_in state.machine led.request
+  pub line : led.line ≡ filler history state.machine led.request.did
+
+leads_it : (history : HistoryView) (state : State) (asked : Option Request) (led : Led) → Some led ≡ led_by history state asked →
+    LeadsIt history state asked led
+leads_it history state None led is = absurd (cc is)
+leads_it history state (Some request) led is =
+    let same : led ≡ record { request = request; seen = seen_in state.machine request; line = filler history state.machine request.did } = cc is in
+    subst (λ (l : Led). LeadsIt history state (Some request) l) (sym same) (record { request = refl; seen = refl; line = refl })
+
+leads_none : (history : HistoryView) (state : State) (asked : Option Request) (found : Option Led) → found ≡ led_by history state asked →
+    ((led : Led) → found ≡ Some led → ⊥) → None ≡ asked
+leads_none history state None found is other = refl
+leads_none history state (Some request) found is other = absurd (other _ is)
+
+-- a step that made no access
+pub unaccessed : (before : Explained) (number : ℕ) (step : Step) (found : Option Led) (answer : Answer) (entry page : List ℕ) (after : Desk)
+    (counts : Counts) (only : Option Only) → Took before.desk step number after →
+    found ≡ led_by before.desk.reasons.account.history before.desk.state (request_of_step before.desk.state step) →
+    ((led : Led) → found ≡ Some led → ⊥) → answer ≡ (next before.desk.state step).answer →
+    entry ≡ entry_text (Some (record { step = step; answer = answer })) →
+    page ≡ if_told (is_told before.only false false) (numeral 10 number ++ codes ": " ++ entry ++ 10 ∷ []) → counts ≡ before.counts →
+    only ≡ before.only → StepTold before number step page (record { desk = after; counts = counts; only = only })
+unaccessed before number step found answer entry page after counts only took is other answered entry_is page_is counted same =
+    step_is before number step None answer entry [] page _ _ after counts only took (leads_none _ _ _ found is other) answered entry_is refl refl
+    refl (page_is ∙ ap (if_told (is_told before.only false false)) (sym (append-nil (numeral 10 number ++ codes ": " ++ entry ++ 10 ∷ []))))
+    (λ earlier is. counted ∙ is ∙ ap counts_of (sym (append-nil earlier))) same
+
+-- a step that made an access, by what leads that
+pub accessed : (before : Explained) (number : ℕ) (step : Step) (led : Led) (denied : Option ℕ) (used : Option NumberedWarrant)
+    (stale : Option StaleAccess) (answer : Answer) (asks walk entry page : List ℕ) (after : Desk) (counts : Counts) (only : Option Only)
+    (result : Result (Unit {0}) AllocError) → Took before.desk step number after →
+    Some led ≡ led_by before.desk.reasons.account.history before.desk.state (request_of_step before.desk.state step) →
     answer ≡ (next before.desk.state step).answer → entry ≡ entry_text (Some (record { step = step; answer = answer })) →
-    used ≡ newest_origin after.reasons.account → asks ≡ asks_text before.desk.state step → seen ≡ seen_in before.desk.state.machine request →
-    line ≡ filler before.desk.reasons.account.history before.desk.state.machine request.did →
-    walk ≡ walk_text seen before.desk.state.machine request →
-    stale ≡ stale_in before.desk.state (request_of_step before.desk.state step) → denied ≡ denied_for answer → is_err result ≡ false →
+    used ≡ newest_origin after.reasons.account → asks ≡ asks_text before.desk.state step →
+    walk ≡ walk_text led.seen before.desk.state.machine led.request → stale ≡ stale_in before.desk.reasons before.desk.state step after.reasons →
+    denied ≡ denied_for answer → is_err result ≡ false →
     OnOk result ((earlier : List AccessOutcome) → before.counts ≡ counts_of earlier → counts ≡ counts_of (earlier
-    ++ record { number = number; denied = denied; is_cached = is_cached seen; is_stale = is_some stale } ∷ [])) →
-    page ≡ (numeral 10 number ++ codes ": " ++ entry ++ 10 ∷ [])
-    ++ (asks ++ caches_by seen.context seen line request.iova used ++ walk ++ warrant_text used ++ stale_text stale) →
-    StepTold before number step page (record { desk = after; counts = counts })
-accessed before number step request seen line denied used stale answer asks walk entry page after counts result took asked answered entry_is
-    used_is asks_is seen_is line_is walk_is stale_is denied_is well counted page_is =
-    let told : stale ≡ stale_address before.desk.state.machine request =
-    stale_is ∙ ap (λ (r : Option Request). stale_in before.desk.state r) (sym asked) in
-    step_is before number step (Some request) answer entry _ page used after counts took asked answered entry_is used_is
-    (access_is before.desk step request seen line used stale asks walk asks_is seen_is line_is walk_is told) page_is
-    (λ earlier is. on_ok result well counted earlier is
-    ∙ ap (λ (os : List AccessOutcome). counts_of (earlier ++ os))
-    (outcome_is before.desk number step request seen denied stale (denied_is ∙ ap denied_for answered) seen_is told))
+    ++ record { number = number; denied = denied; is_cached = is_cached led.seen; is_stale = is_some stale } ∷ [])) →
+    page ≡ if_told (is_told before.only (is_some denied) (is_some stale)) ((numeral 10 number ++ codes ": " ++ entry ++ 10 ∷ [])
+    ++ (asks ++ caches_by led.seen.context led.seen led.line led.request.iova used ++ walk ++ warrant_text used ++ stale_text stale)) →
+    only ≡ before.only → StepTold before number step page (record { desk = after; counts = counts; only = only })
+accessed before number step led denied used stale answer asks walk entry page after counts only result took led_is answered entry_is used_is asks_is
+    walk_is stale_is denied_is well counted page_is same =
+    let leads = leads_it _ _ _ led led_is in
+    let kept : stale ≡ stale_access before.desk.reasons.account.history before.desk.state (Some led.request) used =
+    stale_is ∙ ap (λ (r : Option Request). stale_access before.desk.reasons.account.history before.desk.state r (newest_origin after.reasons.account))
+    (sym leads.request)
+    ∙ ap (λ (u : Option NumberedWarrant). stale_access before.desk.reasons.account.history before.desk.state (Some led.request) u) (sym used_is) in
+    let outcome = outcome_is before.desk number step led.request led.seen denied used stale (denied_is ∙ ap denied_for answered) leads.seen kept in
+    step_is before number step (Some led.request) answer entry _ page _ used after counts only took leads.request answered entry_is used_is
+    (access_is before.desk step led.request led.seen led.line used stale asks walk asks_is leads.seen leads.line walk_is kept)
+    (ap (is_step_told before.only) outcome) page_is
+    (λ earlier is. on_ok result well counted earlier is ∙ ap (λ (os : List AccessOutcome). counts_of (earlier ++ os)) outcome) same
 
 -- what was written is told of a line; of a refused memory nothing is known
 abbrev pub Wrote : Result (Unit {0}) RunFault → Option (List ℕ) → Option (List ℕ) → Bool → (List ℕ → Type 0) → Type 0
 Wrote result held holds short Told = OnOk result ((said : List ℕ) × Appends held holds said × (short ≡ false → Told said))
 
-pub line_again : (result : Result (Unit {0}) RunFault) (a b c : Option (List ℕ)) (short : Bool) (before after : Explained) (number most : ℕ)
-    (line : List ℕ) (step : Step) (page reply : List ℕ) →
-    ((said : List ℕ) × Appends a b said × (short ≡ false → StepsTold before number (taken before.desk.state (replicate most step)) said after
-    × (reply ≡ run_text before.desk.state (replicate most step)))) →
-    Wrote result b c short (λ said. said ≡ page) → page ≡ line_told number line reply →
-    Wrote result a c short (λ said. RunTold before number line step most said after)
-line_again (Ok done) a b c short before after number most line step page reply s w page_is = (
+pub line_after : (result : Result (Unit {0}) RunFault) (a b c : Option (List ℕ)) (short : Bool) (before after : Explained) (number : ℕ)
+    (line : List ℕ) (steps : List Step) (answer reply : List ℕ) →
+    ((said : List ℕ) × Appends a b said × (short ≡ false → StepsTold before number (taken before.desk.state steps) said after × (reply ≡ answer))) →
+    Wrote result b c short (λ said. said ≡ line_told before.only number line reply) →
+    Wrote result a c short (λ said. RunTold before number line steps answer said after)
+line_after (Ok done) a b c short before after number line steps answer reply s w = (
   s.0 ++ w.0,
   Appends-trans _ _ _ _ _ s.1 w.1,
   λ m.
-      (s.0, (s.2 m).0, ap (λ l. s.0 ++ l) (w.2 m ∙ page_is ∙ ap (line_told number line) (s.2 m).1)),
+      (s.0, (s.2 m).0, ap (λ l. s.0 ++ l) (w.2 m ∙ ap (line_told before.only number line) (s.2 m).1)),
 )
-line_again (Err f) a b c short before after number most line step page reply s w page_is = tt
+line_after (Err f) a b c short before after number line steps answer reply s w = tt
 
 pub line_other : (result : Result (Unit {0}) RunFault) (b c : Option (List ℕ)) (short : Bool) (before after : Explained) (number : ℕ)
-    (line : List ℕ) (page reply : List ℕ) → Leaves before.desk line number after.desk → after.counts ≡ before.counts →
-    reply ≡ answer_at before.desk line → Wrote result b c short (λ said. said ≡ page) → page ≡ line_told number line reply →
+    (line : List ℕ) (reply : List ℕ) → Leaves before.desk line number after.desk → after.counts ≡ before.counts → after.only ≡ before.only →
+    reply ≡ answer_at before.desk line → Wrote result b c short (λ said. said ≡ line_told before.only number line reply) →
     Wrote result b c short (λ said. OtherTold before number line said after)
-line_other (Ok done) b c short before after number line page reply leaves same reply_is w page_is =
-    (w.0, w.1, λ m. (leaves, same, w.2 m ∙ page_is ∙ ap (line_told number line) reply_is))
-line_other (Err f) b c short before after number line page reply leaves same reply_is w page_is = tt
+line_other (Ok done) b c short before after number line reply leaves same alike reply_is w =
+    (w.0, w.1, λ m. (leaves, same, alike, w.2 m ∙ ap (line_told before.only number line) reply_is))
+line_other (Err f) b c short before after number line reply leaves same alike reply_is w = tt
 
 -- nothing is told of a line after memory was refused
 pub unheard : (line : List ℕ) (now : Progress Progressed) → now.console.is_short ≡ true → AnswersNext by_explain line now now (Ok tt)
@@ -177,24 +234,26 @@ heard line cut old new (Ok done) number own is long counted same own_is w =
 heard line cut old new (Err f) number own is long counted same own_is w = λ start lines h. tt
 
 other_told : (line : Line) (before after : Explained) (number : ℕ) (cut said : List ℕ) → ((step : Step) → line ≡ own.Does step → ⊥) →
-    ((actor : Actor) (most : ℕ) → line ≡ own.Again actor most → ⊥) → OtherTold before number cut said after →
+    ((step : Step) → line ≡ own.Named step → ⊥) → ((actor : Actor) (most : ℕ) → line ≡ own.Again actor most → ⊥) →
+    ((addr : ℕ) (words : ArrayVec ℕ) → line ≡ own.Put addr words → ⊥) → OtherTold before number cut said after →
     LineTold before number cut (line_as line) said after
-other_told own.Blank before after number cut said no_step no_run told = told
-other_told own.Bad before after number cut said no_step no_run told = told
-other_told (own.Does step) before after number cut said no_step no_run told = absurd (no_step step refl)
-other_told (own.Named step) before after number cut said no_step no_run told = told
-other_told (own.Asks question) before after number cut said no_step no_run told = told
-other_told (own.Inquires inquiry) before after number cut said no_step no_run told = told
-other_told (own.Again actor most) before after number cut said no_step no_run told = absurd (no_run actor most refl)
-other_told (own.Put addr words) before after number cut said no_step no_run told = told
+other_told own.Blank before after number cut said no_step no_name no_run no_put told = told
+other_told own.Bad before after number cut said no_step no_name no_run no_put told = told
+other_told (own.Does step) before after number cut said no_step no_name no_run no_put told = absurd (no_step step refl)
+other_told (own.Named step) before after number cut said no_step no_name no_run no_put told = absurd (no_name step refl)
+other_told (own.Asks question) before after number cut said no_step no_name no_run no_put told = told
+other_told (own.Inquires inquiry) before after number cut said no_step no_name no_run no_put told = told
+other_told (own.Again actor most) before after number cut said no_step no_name no_run no_put told = absurd (no_run actor most refl)
+other_told (own.Put addr words) before after number cut said no_step no_name no_run no_put told = absurd (no_put addr words refl)
 
 pub others : (result : Result (Unit {0}) RunFault) (a b : Option (List ℕ)) (short : Bool) (line : Line) (before after : Explained) (number : ℕ)
-    (cut : List ℕ) → ((step : Step) → line ≡ own.Does step → ⊥) → ((actor : Actor) (most : ℕ) → line ≡ own.Again actor most → ⊥) →
+    (cut : List ℕ) → ((step : Step) → line ≡ own.Does step → ⊥) → ((step : Step) → line ≡ own.Named step → ⊥) →
+    ((actor : Actor) (most : ℕ) → line ≡ own.Again actor most → ⊥) → ((addr : ℕ) (words : ArrayVec ℕ) → line ≡ own.Put addr words → ⊥) →
     Wrote result a b short (λ said. OtherTold before number cut said after) →
     Wrote result a b short (λ said. LineTold before number cut (line_as line) said after)
-others (Ok done) a b short line before after number cut no_step no_run w =
-    (w.0, w.1, λ m. other_told line before after number cut w.0 no_step no_run (w.2 m))
-others (Err f) a b short line before after number cut no_step no_run w = tt
+others (Ok done) a b short line before after number cut no_step no_name no_run no_put w =
+    (w.0, w.1, λ m. other_told line before after number cut w.0 no_step no_name no_run no_put (w.2 m))
+others (Err f) a b short line before after number cut no_step no_name no_run no_put w = tt
 
 pub four_written : (result : Result (Unit {0}) RunFault) (a b c d e : Option (List ℕ)) (s t u v : List ℕ) → Appends a b s → Appends b c t →
     Appends c d u → OnOk result (Appends d e v) → OnOk result (Appends a e (s ++ t ++ u ++ v))

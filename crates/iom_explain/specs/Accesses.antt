@@ -1,6 +1,5 @@
 -- What `explain` writes below a step that makes an access: what a block device asks, what the caches hold, and why it was let through.
 use Rattle.std.specs.Prelude.{ℕ, ◌++◌, ◌||◌, Bool, true, false, List, [], ◌∷◌, length, codes, slice_get, Option, Some, None, Result, Ok, Err}
-use Rattle.std.specs.Option.{unwrap_or}
 use Rattle.iom_text.specs.Texts.{hexadecimal, numeral}
 use Rattle.iom_virtq.specs.Bus.{Ask, Read, Write}
 use Rattle.iom_blk.specs.Device.{Device}
@@ -8,9 +7,7 @@ use Rattle.iom_blk.specs.Phases.{asks}
 use Rattle.iom_blk.specs.declared.phase.Phase.{Phase}
 use Rattle.iom_blk.specs.declared.phase.Phase.TheVariants as phase
 use Rattle.iom_ddt.specs.declared.context.Context.{Context}
-use Rattle.iom_cache.specs.Keys.{same_did}
-use Rattle.iom_cache.specs.Places.{place_of}
-use Rattle.iom_core.specs.State.{Machine, State}
+use Rattle.iom_core.specs.State.{State}
 use Rattle.iom_core.specs.Looking.{is_cached}
 use Rattle.iom_core.specs.declared.access.Denial.{Denial}
 use Rattle.iom_core.specs.declared.looking.Lookup.{Lookup}
@@ -20,12 +17,13 @@ use Rattle.iom_core.specs.declared.way.Way.{Way}
 use Rattle.iom_core.specs.declared.way.Way.TheVariants as way
 use Rattle.iom_core.specs.declared.witness.Source.{Source}
 use Rattle.iom_core.specs.declared.witness.Source.TheVariants as source
-use Rattle.iom_account.specs.Following.{HistoryView}
 use Rattle.iom_account.specs.declared.origin.NumberedWarrant.{NumberedWarrant}
 use Rattle.iom_account.specs.declared.origin.NumberedWarrant.TheVariants as origin
 use Rattle.iom_items.specs.Lines.{operand}
 use Rattle.iom_debug.specs.Reasons.{origin_text}
-use Rattle.iom_debug.specs.Ways.{address_of, address_text}
+use Rattle.iom_debug.specs.Stale.{access_text}
+use Rattle.iom_debug.specs.Ways.{address_of}
+use Rattle.iom_debug.specs.declared.stale.StaleAccess.{StaleAccess}
 
 -- what an access of a block device is for: VIRTIO 1.2, "Split Virtqueues" and "Block Device"
 unfoldable pub phase_text : Phase → List ℕ
@@ -59,10 +57,7 @@ unfoldable pub asks_text : State → Step → List ℕ
 asks_text state (step.Device dev) = device_asks (slice_get state.devices dev)
 asks_text state _ = []
 
--- the line that filled the live context of a device id
-abbrev pub filler : HistoryView → Machine → ℕ → ℕ
-filler history m did = unwrap_or (slice_get history.contexts (place_of (same_did did) m.contexts)) 0
-
+-- where the context comes from that leads an access: of one that is cached the line that filled it
 abbrev pub context_text : Source → ℕ → List ℕ
 context_text source.Found line = codes "context of line " ++ numeral 10 line
 context_text source.Read line = codes "no context"
@@ -112,7 +107,7 @@ used_text (Some used) = origin_text used
 abbrev pub warrant_text : Option NumberedWarrant → List ℕ
 warrant_text used = codes "    warrant: " ++ used_text used ++ 10 ∷ []
 
--- where the tables led an access that was stale, before its step
-abbrev pub stale_text : Option (Result ℕ Denial) → List ℕ
+-- an access that was stale
+abbrev pub stale_text : Option StaleAccess → List ℕ
 stale_text None = []
-stale_text (Some address) = codes "    stale: the tables now say " ++ address_text address ++ 10 ∷ []
+stale_text (Some stale) = codes "    stale: " ++ access_text stale ++ 10 ∷ []

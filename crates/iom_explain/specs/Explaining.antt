@@ -1,6 +1,6 @@
 -- What the word `explain` writes for the lines of a script: each line with its number and its answer, below each step that makes an access
--- the reasons of that, and at the end how the accesses went.
-use Rattle.std.specs.Prelude.{ℕ, ◌≡◌, ◌+◌, ◌==◌, ◌++◌, Bool, false, true, nat_lt, List, [], ◌∷◌, length, replicate, codes, Option, Some, None, is_some, if◌then◌else◌}
+-- the reasons of that, and at the end how the accesses went. If it is to tell some accesses only, no other step is told, and no line.
+use Rattle.std.specs.Prelude.{ℕ, ◌≡◌, ◌+◌, ◌==◌, ◌++◌, ◌&&◌, ◌||◌, Bool, false, true, nat_lt, List, [], ◌∷◌, length, replicate, codes, Option, Some, None, is_some, if◌then◌else◌}
 use Rattle.std.specs.List.{flat_map}
 use Rattle.std.specs.Option.{option_and_then}
 use Rattle.std.specs.Io.KnownBytes.{Appends, Consumes, IsAtEnd}
@@ -21,26 +21,29 @@ use Rattle.iom_reader.specs.Answering.{Answering}
 use Rattle.iom_reader.specs.Lines.{lines_of}
 use Rattle.iom_reader.specs.Running.{IsWithinLimits}
 use Rattle.iom_reader.specs.Speaking.{Speaking, Speaks, Spoken}
-use Rattle.iom_tool.specs.Script.{Again, DebugLine, Does, Plain}
+use Rattle.iom_tool.specs.Script.{Again, DebugLine, Does, Named, Plain, Stores}
 use Rattle.iom_names.specs.Reading.{line_with}
 use Rattle.iom_names.specs.declared.names.Binding.{Binding}
-use Rattle.iom_tool.specs.Texts.{entry_text}
+use Rattle.iom_tool.specs.Texts.{entry_text, text_of}
 use Rattle.iom_tool.specs.declared.trace.TracedStep.{TracedStep}
 use Rattle.iom_debug.specs.Reasons.{LineAccountView, newest_origin}
+use Rattle.iom_debug.specs.Stale.{filler, stale_access}
 use Rattle.iom_debug.specs.Summary.{Counts, counts_of, up_to_64_bits}
-use Rattle.iom_debug.specs.Taking.{Desk, Took, desk, run_text, taken}
+use Rattle.iom_debug.specs.Taking.{Desk, Took, desk, last_answer, run_text, taken}
 use Rattle.iom_debug.specs.Telling.{Leaves, answer_at, before_comment, escaped}
-use Rattle.iom_debug.specs.Ways.{stale_address}
 use Rattle.iom_debug.specs.declared.summary.AccessOutcome.{AccessOutcome}
-use Rattle.iom_explain.specs.Accesses.{asks_text, caches_by, filler, stale_text, warrant_text}
+use Rattle.iom_explain.specs.Accesses.{asks_text, caches_by, stale_text, warrant_text}
 use Rattle.iom_explain.specs.Walking.{walk_text}
+use Rattle.iom_explain.specs.declared.only.Only.{Only}
+use Rattle.iom_tables.specs.Stale.{stale_way}
 
 -- what is told below a step that makes an access, by what stood before it and where the translation came from that it used
 abbrev pub access_text : Desk → Step → Request → Lookup → Option NumberedWarrant → List ℕ
 access_text now step request seen used =
     asks_text now.state step
     ++ caches_by seen.context seen (filler now.reasons.account.history now.state.machine request.did) request.iova used
-    ++ walk_text seen now.state.machine request ++ warrant_text used ++ stale_text (stale_address now.state.machine request)
+    ++ walk_text seen now.state.machine request ++ warrant_text used
+    ++ stale_text (stale_access now.reasons.account.history now.state (Some request) used)
 
 abbrev pub access_by : Desk → Step → Option Request → Option NumberedWarrant → List ℕ
 access_by now step None used = []
@@ -64,23 +67,41 @@ outcomes_by now number step (Some request) = record {
   number = number;
   denied = denied_for (next now.state step).answer;
   is_cached = is_cached (seen_in now.state.machine request);
-  is_stale = is_some (stale_address now.state.machine request);
+  is_stale = is_some (stale_way now.state.machine request);
 } ∷ []
 
--- what lines drive, and how many accesses went how
+-- a step is told whose access is denied or stale, or not: each where all are told, and else one whose access is among those
+abbrev pub is_told : Option Only → Bool → Bool → Bool
+is_told None denied stale = true
+is_told (Some only) denied stale = (only.denied && denied) || (only.stale && stale)
+
+abbrev pub is_step_told : Option Only → List AccessOutcome → Bool
+is_step_told only [] = is_told only false false
+is_step_told only (outcome ∷ more) = is_told only (is_some outcome.denied) outcome.is_stale
+
+-- a text that is told or not
+abbrev pub if_told : Bool → List ℕ → List ℕ
+if_told told text = if told then text else []
+
+-- what lines drive, how many accesses went how, and which accesses are told; None: all that is said
 pub record Explained : Type 0 where
   pub desk : Desk
   pub counts : Counts
+  pub only : Option Only
 
-abbrev pub explained : State → List TracedStep → LineAccountView → List Binding → Counts → Explained
-explained state trace reasons names counts = record { desk = desk state trace reasons names; counts = counts }
+abbrev pub explained : State → List TracedStep → LineAccountView → List Binding → Counts → Option Only → Explained
+explained state trace reasons names counts only = record { desk = desk state trace reasons names; counts = counts; only = only }
 
--- a step of the line of this number was taken, told and counted. Where its translation came from is what the account keeps of it
+-- A step of the line of this number was taken, counted, and told where it is to be. Where its translation came from is what the account
+-- keeps of it.
 pub record StepTold (before : Explained) (number : ℕ) (step : Step) (said : List ℕ) (after : Explained) : Type 0 where
   pub took : Took before.desk step number after.desk
-  pub text : said ≡ step_told before.desk number step (newest_origin after.desk.reasons.account)
+  pub text : said ≡ if_told
+      (is_step_told before.only (outcomes_by before.desk number step (request_of_step before.desk.state step)))
+      (step_told before.desk number step (newest_origin after.desk.reasons.account))
   pub counts : (earlier : List AccessOutcome) → before.counts ≡ counts_of earlier
       → after.counts ≡ counts_of (earlier ++ outcomes_by before.desk number step (request_of_step before.desk.state step))
+  pub same : after.only ≡ before.only
 
 -- steps one after the other
 abbrev pub StepsTold : Explained → ℕ → List Step → List ℕ → Explained → Type 0
@@ -89,29 +110,34 @@ StepsTold now number (step ∷ steps) text later =
     (said : List ℕ) × (rest : List ℕ) × (mid : Explained) × (text ≡ said ++ rest) × StepTold now number step said mid
     × StepsTold mid number steps rest later
 
--- a line that is no step by itself, with its answer; nothing where it has none
-abbrev pub line_told : ℕ → List ℕ → List ℕ → List ℕ
-line_told number line answer =
+-- a line that is no step by itself, with its answer; nothing where it has none, or where some accesses only are told
+abbrev pub line_told : Option Only → ℕ → List ℕ → List ℕ → List ℕ
+line_told None number line answer =
     if nat_lt 0 (length answer)
     then numeral 10 number ++ codes ": " ++ escaped (before_comment line) ++ codes " -> " ++ escaped answer ++ 10 ∷ []
     else []
+line_told (Some only) number line answer = []
 
--- a line that takes a step again and again: each step, and after them the line
-abbrev pub RunTold : Explained → ℕ → List ℕ → Step → ℕ → List ℕ → Explained → Type 0
-RunTold before number line step most said after =
-    (text : List ℕ) × StepsTold before number (taken before.desk.state (replicate most step)) text after
-    × (said ≡ text ++ line_told number line (run_text before.desk.state (replicate most step)))
+-- a line that takes several steps: each that is taken, and after them the line with its answer
+abbrev pub RunTold : Explained → ℕ → List ℕ → List Step → List ℕ → List ℕ → Explained → Type 0
+RunTold before number line steps answer said after =
+    (text : List ℕ) × StepsTold before number (taken before.desk.state steps) text after
+    × (said ≡ text ++ line_told before.only number line answer)
 
 -- any other line
 abbrev pub OtherTold : Explained → ℕ → List ℕ → List ℕ → Explained → Type 0
 OtherTold before number line said after =
-    Leaves before.desk line number after.desk × (after.counts ≡ before.counts)
-    × (said ≡ line_told number line (answer_at before.desk line))
+    Leaves before.desk line number after.desk × (after.counts ≡ before.counts) × (after.only ≡ before.only)
+    × (said ≡ line_told before.only number line (answer_at before.desk line))
 
 -- a line of this number, by what it says
 abbrev pub LineTold : Explained → ℕ → List ℕ → DebugLine → List ℕ → Explained → Type 0
 LineTold before number line (Plain (Does step)) said after = StepTold before number step said after
-LineTold before number line (Again step most) said after = RunTold before number line step most said after
+LineTold before number line (Named step) said after = StepTold before number step said after
+LineTold before number line (Again step most) said after =
+    RunTold before number line (replicate most step) (run_text before.desk.state (replicate most step)) said after
+LineTold before number line (Stores steps) said after =
+    RunTold before number line steps (text_of (last_answer before.desk.state steps)) said after
 LineTold before number line other said after = OtherTold before number line said after
 
 -- the same, how many lines were read, and whether memory was refused

@@ -8,7 +8,7 @@ ghost use Rattle.iom_explain.specs.Accesses.{addr_text, caches_by, context_text,
 use crate::text::put_decimal;
 use iom_account::NumberedWarrant;
 use iom_core::{Denial, Lookup, Source, Way};
-use iom_debug::{OutputPage, address_line, address_of, origin_line, put};
+use iom_debug::{OutputPage, StaleAccess, address_of, origin_line, put, stale_access_line};
 use iom_text::hexadecimal;
 
 // Appends where a context comes from.
@@ -136,14 +136,14 @@ pub fn put_warrant(out: &mut OutputPage, used: Option<NumberedWarrant>)
     put(out, b"\n");
 }
 
-/// Appends the answer of the tables for a stale access, as a line; nothing for any other access.
-pub fn put_stale(out: &mut OutputPage, stale: Option<Result<u64, Denial>>)
+/// Appends an access that was stale, as a line; nothing if it wasn't.
+pub fn put_stale(out: &mut OutputPage, stale: Option<StaleAccess>)
     requires { length out.old.items ≤ 15300 }
-    ensures text { out.new.items ≡ out.old.items ++ stale_text stale }
+    ensures { out.new.items ≡ out.old.items ++ stale_text stale }
 {
-    if let Some(address) = stale {
-        put(out, b"    stale: the tables now say ");
-        put(out, address_line(address).as_slice());
+    if let Some(stale) = stale {
+        put(out, b"    stale: ");
+        put(out, stale_access_line(&stale).as_slice());
         put(out, b"\n");
     }
 }

@@ -7,6 +7,7 @@ ghost use Rattle.iom_reader.specs.Watching.{read_failed, write_failed};
 ghost use Rattle.iom_explain.specs.Drives.{progressed};
 ghost use Rattle.iom_explain.specs.Explaining.{IsExplained, line_told};
 
+use crate::only::Only;
 use crate::steps::{Teller, take};
 use crate::summary::write_summary;
 use iom_core::{Answer, Step};
@@ -33,17 +34,23 @@ impl<'a> Explaining<'a> {
     ghost use Rattle.std.specs.Prelude.{◌≡◌, [], false, IfOk};
     ghost use Rattle.iom_debug.specs.Summary.{counts_of};
 
-    /// A script for what this debugger drives, of no line yet. The fault is want of memory.
-    pub fn new(alloc: Global, debugger: Debugger<'a>) -> Result<Explaining<'a>, AllocError>
+    /// A script for what this debugger drives, of no line yet. If `only` is some, the output has the accesses that it names alone, and the
+    /// summary. The fault is want of memory.
+    pub fn new(
+        alloc: Global,
+        debugger: Debugger<'a>,
+        only: Option<Only>,
+    ) -> Result<Explaining<'a>, AllocError>
         ensures debugger { IfOk result (λ explaining. explaining.debugger ≡ debugger.entry) }
         ensures number { IfOk result (λ explaining. explaining.number ≡ 0) }
         ensures counts { IfOk result (λ explaining. explaining.teller.summary ≡ counts_of []) }
         ensures short { IfOk result (λ explaining. explaining.teller.is_short ≡ false) }
+        ensures only { IfOk result (λ explaining. explaining.teller.only ≡ only) }
     {
         Ok(Explaining {
             debugger,
             number: 0,
-            teller: Teller::new(alloc)?,
+            teller: Teller::new(alloc, only)?,
         })
     }
 }
@@ -67,14 +74,14 @@ fn write<W: Write>(
     write_told(writer, page.as_slice())
 }
 
-// Puts a line that is no step by itself, and its answer, if it has one.
-fn put_line(out: &mut OutputPage, number: u64, line: &[u8], answer: &[u8])
+// Puts a line that is no step by itself, and its answer, if it has one and lines are told.
+fn put_line(out: &mut OutputPage, only: Option<Only>, number: u64, line: &[u8], answer: &[u8])
     requires line { length line.now ≤ 513 }
     requires answer { length answer.now ≤ 320 }
-    ensures { out.new.items ≡ line_told number line.now answer.now }
+    ensures { out.new.items ≡ line_told only number line.now answer.now }
 {
     out.clear();
-    if !answer.is_empty() {
+    if only.is_none() && !answer.is_empty() {
         put_number(out, number);
         put(out, b": ");
         put_escaped(out, before_comment(line));
@@ -84,16 +91,42 @@ fn put_line(out: &mut OutputPage, number: u64, line: &[u8], answer: &[u8])
     }
 }
 
+// Writes a line that is no step by itself, and its answer, as `put_line` puts them, unless memory was refused.
+fn write_line<W: Write>(
+    teller: &mut Teller,
+    number: u64,
+    line: &[u8],
+    answer: &[u8],
+    writer: &mut WatchedWriter<'_, W>,
+) -> Result<(), RunFault>
+    requires can { write_failed writer.old ≡ false }
+    requires line { length line.now ≤ 513 }
+    requires answer { length answer.now ≤ 320 }
+    ensures ok { OnOk result ((said : List ℕ) × Appends (W.contents writer.old.inner.now) (W.contents writer.new.inner.now) said
+        × (teller.old.is_short ≡ false → said ≡ line_told teller.old.only number line.now answer.now)) }
+    ensures fault { IfErr result (λ fault. fault ≡ RunFault.Write) }
+    ensures told { write_failed writer.new ≡ is_write result }
+    ensures same_writer { writer.new.inner.ghost_name ≡ writer.old.inner.ghost_name }
+    ensures short { teller.new.is_short ≡ teller.old.is_short }
+    ensures counts { teller.new.summary ≡ teller.old.summary }
+    ensures only { teller.new.only ≡ teller.old.only }
+{
+    let only = teller.only;
+    put_line(&mut teller.page, only, number, line, answer);
+    write(&teller.page, teller.is_short, writer)
+}
+
 impl Explaining<'_> {
-    ghost use Rattle.std.specs.Prelude.{◌≡◌, ◌≤◌, ℕ, List, true, false, length, replicate, IfErr, IfOk, OnOk};
+    ghost use Rattle.std.specs.Prelude.{◌≡◌, ◌+◌, ◌*◌, ◌^◌, ◌≤◌, ℕ, List, true, false, length, replicate, IfErr, IfOk, OnOk};
     ghost use Rattle.std.specs.Io.KnownBytes.{Appends};
     ghost use Rattle.iom_core.specs.Table.{next};
     ghost use Rattle.iom_reader.specs.Running.{is_write};
     ghost use Rattle.iom_reader.specs.Watching.{write_failed};
     ghost use Rattle.iom_tool.specs.Parsed.{step_of};
+    ghost use Rattle.iom_tool.specs.Script.{stores_at};
     ghost use Rattle.iom_tool.specs.Texts.{text_of};
     ghost use Rattle.iom_debug.specs.Desks.{names_of};
-    ghost use Rattle.iom_debug.specs.Taking.{is_done, run_text, taken};
+    ghost use Rattle.iom_debug.specs.Taking.{is_done, last_answer, run_text, taken};
     ghost use Rattle.iom_explain.specs.Drives.{told};
     ghost use Rattle.iom_explain.specs.Explaining.{OtherTold, RunTold, StepTold, StepsTold};
 
@@ -115,6 +148,7 @@ impl Explaining<'_> {
         ensures same_writer { writer.new.inner.ghost_name ≡ writer.old.inner.ghost_name }
         ensures same { names_of self.new.debugger ≡ names_of self.old.debugger }
         ensures number { self.new.number ≡ self.old.number }
+        ensures only { self.new.teller.only ≡ self.old.teller.only }
     {
         let mut entry = TracedStep {
             step,
@@ -133,6 +167,25 @@ impl Explaining<'_> {
         self.debugger.trace.keep(entry.step, entry.answer);
         write(&self.teller.page, self.teller.is_short, writer)?;
         Ok(answered)
+    }
+
+    // Takes the step that a line is, and tells it.
+    fn tell_one<W: Write>(
+        &mut self,
+        step: Step,
+        writer: &mut WatchedWriter<'_, W>,
+    ) -> Result<(), RunFault>
+        requires { write_failed writer.old ≡ false }
+        ensures ok { OnOk result ((said : List ℕ) × Appends (W.contents writer.old.inner.now) (W.contents writer.new.inner.now) said
+            × (self.new.teller.is_short ≡ false → StepTold (told self.old) self.old.number step said (told self.new))) }
+        ensures fault { IfErr result (λ fault. fault ≡ RunFault.Write) }
+        ensures told { write_failed writer.new ≡ is_write result }
+        ensures same_writer { writer.new.inner.ghost_name ≡ writer.old.inner.ghost_name }
+        ensures same { names_of self.new.debugger ≡ names_of self.old.debugger }
+        ensures number { self.new.number ≡ self.old.number }
+    {
+        let _answered = self.tell_step(step, writer)?;
+        Ok(())
     }
 
     // Takes the step of one that goes on by itself again and again while it is done, at most this number of times, and tells each. The
@@ -154,6 +207,7 @@ impl Explaining<'_> {
         ensures same_writer { writer.new.inner.ghost_name ≡ writer.old.inner.ghost_name }
         ensures same { names_of self.new.debugger ≡ names_of self.old.debugger }
         ensures number { self.new.number ≡ self.old.number }
+        ensures only { self.new.teller.only ≡ self.old.teller.only }
     {
         for i in 0..most {
             let answered = self.tell_step(step_by(actor), writer)?;
@@ -165,6 +219,45 @@ impl Explaining<'_> {
             }
         }
         Ok(reply_with_count(most, b"done"))
+    }
+
+    // Takes the stores of words of 8 bytes from a physical address on while each is done, and tells each. The answer to the line comes
+    // back.
+    fn tell_stores<W: Write>(
+        &mut self,
+        addr: u64,
+        words: &[u64],
+        writer: &mut WatchedWriter<'_, W>,
+    ) -> Result<Reply, RunFault>
+        requires can { write_failed writer.old ≡ false }
+        requires memory { self.old.teller.is_short ≡ false }
+        requires fits { addr + 8 * length words.now ≤ 2 ^ 64 }
+        ensures ok { IfOk result (λ reply. (said : List ℕ) × Appends (W.contents writer.old.inner.now) (W.contents writer.new.inner.now) said
+            × (self.new.teller.is_short ≡ false → StepsTold (told self.old) self.old.number
+            (taken self.old.debugger.platform.now (stores_at addr words.now)) said (told self.new)
+            × (reply.items ≡ text_of (last_answer self.old.debugger.platform.now (stores_at addr words.now))))) }
+        ensures fault { IfErr result (λ fault. fault ≡ RunFault.Write) }
+        ensures told { write_failed writer.new ≡ is_write result }
+        ensures same_writer { writer.new.inner.ghost_name ≡ writer.old.inner.ghost_name }
+        ensures same { names_of self.new.debugger ≡ names_of self.old.debugger }
+        ensures number { self.new.number ≡ self.old.number }
+        ensures only { self.new.teller.only ≡ self.old.teller.only }
+    {
+        for (i, word) in words.iter().enumerate() {
+            let step = Step::Store {
+                addr: addr + 8 * i as u64,
+                size: 8,
+                value: *word,
+            };
+            let answered = self.tell_step(step, writer)?;
+            if self.teller.is_short {
+                return Ok(Reply::new());
+            }
+            if !answered.is_done {
+                return Ok(answered.text);
+            }
+        }
+        Ok(answer_text(&Answer::Done))
     }
 
     // Tells a line that takes the step of one that goes on by itself again and again: each step, and after them the line.
@@ -181,7 +274,8 @@ impl Explaining<'_> {
         requires short { length line.now ≤ 513 }
         ensures ok { OnOk result ((said : List ℕ) × Appends (W.contents writer.old.inner.now) (W.contents writer.new.inner.now) said
             × (self.new.teller.is_short ≡ false
-            → RunTold (told self.old) self.old.number line.now (step_of actor) most said (told self.new))) }
+            → RunTold (told self.old) self.old.number line.now (replicate most (step_of actor))
+            (run_text self.old.debugger.platform.now (replicate most (step_of actor))) said (told self.new))) }
         ensures fault { IfErr result (λ fault. fault ≡ RunFault.Write) }
         ensures told { write_failed writer.new ≡ is_write result }
         ensures same_writer { writer.new.inner.ghost_name ≡ writer.old.inner.ghost_name }
@@ -189,8 +283,46 @@ impl Explaining<'_> {
         ensures number { self.new.number ≡ self.old.number }
     {
         let reply = self.tell_again(actor, most, writer)?;
-        put_line(&mut self.teller.page, self.number, line, reply.as_slice());
-        write(&self.teller.page, self.teller.is_short, writer)
+        write_line(
+            &mut self.teller,
+            self.number,
+            line,
+            reply.as_slice(),
+            writer,
+        )
+    }
+
+    // Tells a line that stores words: each store, and after them the line.
+    #[inline(never)]
+    fn tell_put<W: Write>(
+        &mut self,
+        line: &[u8],
+        addr: u64,
+        words: &[u64],
+        writer: &mut WatchedWriter<'_, W>,
+    ) -> Result<(), RunFault>
+        requires can { write_failed writer.old ≡ false }
+        requires memory { self.old.teller.is_short ≡ false }
+        requires short { length line.now ≤ 513 }
+        requires fits { addr + 8 * length words.now ≤ 2 ^ 64 }
+        ensures ok { OnOk result ((said : List ℕ) × Appends (W.contents writer.old.inner.now) (W.contents writer.new.inner.now) said
+            × (self.new.teller.is_short ≡ false
+            → RunTold (told self.old) self.old.number line.now (stores_at addr words.now)
+            (text_of (last_answer self.old.debugger.platform.now (stores_at addr words.now))) said (told self.new))) }
+        ensures fault { IfErr result (λ fault. fault ≡ RunFault.Write) }
+        ensures told { write_failed writer.new ≡ is_write result }
+        ensures same_writer { writer.new.inner.ghost_name ≡ writer.old.inner.ghost_name }
+        ensures same { names_of self.new.debugger ≡ names_of self.old.debugger }
+        ensures number { self.new.number ≡ self.old.number }
+    {
+        let reply = self.tell_stores(addr, words, writer)?;
+        write_line(
+            &mut self.teller,
+            self.number,
+            line,
+            reply.as_slice(),
+            writer,
+        )
     }
 
     // Carries out any other line, of this text, and tells it.
@@ -211,8 +343,13 @@ impl Explaining<'_> {
         ensures number { self.new.number ≡ self.old.number }
     {
         let reply = self.debugger.line(self.number, text);
-        put_line(&mut self.teller.page, self.number, text, reply.as_slice());
-        write(&self.teller.page, self.teller.is_short, writer)
+        write_line(
+            &mut self.teller,
+            self.number,
+            text,
+            reply.as_slice(),
+            writer,
+        )
     }
 }
 
@@ -238,11 +375,10 @@ impl Answerer for Explaining<'_> {
         self.number = self.number.saturating_add(1);
         let line = first_bytes(line);
         match self.debugger.names.said(line) {
-            Line::Does(step) => {
-                let _answered = self.tell_step(step, writer)?;
-                Ok(())
-            }
+            Line::Does(step) => self.tell_one(step, writer),
+            Line::Named(step) => self.tell_one(step, writer),
             Line::Again(actor, most) => self.tell_run(line, actor, most, writer),
+            Line::Put(addr, words) => self.tell_put(line, addr, words.as_slice(), writer),
             _ => self.tell_other(line, writer),
         }
     }

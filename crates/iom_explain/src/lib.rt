@@ -2,10 +2,12 @@
 #![tactic(auto)]
 
 pub use explaining::{Explaining, explain};
+pub use only::Only;
 
 mod accesses;
 mod asking;
 mod explaining;
+mod only;
 mod steps;
 mod summary;
 mod text;

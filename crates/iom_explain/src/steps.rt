@@ -1,25 +1,26 @@
 //! The output for a step: its answer, and the reasons of its access.
 
-ghost use Rattle.std.specs.Prelude.{◌≡◌, ◌++◌, ◌∷◌, [], ◌≤◌, List, Some, false, true, codes, is_some, length, IfSome, OnOk};
-ghost use Rattle.std.specs.Option.{option_map};
-ghost use Rattle.iom_core.specs.Looking.{is_cached, seen_in};
+ghost use Rattle.std.specs.Prelude.{◌≡◌, ◌++◌, ◌∷◌, [], ◌≤◌, List, false, true, codes, is_some, length, IfSome, OnOk};
+ghost use Rattle.iom_core.specs.Looking.{is_cached};
 ghost use Rattle.iom_core.specs.Table.{next, request_of_step};
 ghost use Rattle.iom_text.specs.Texts.{numeral};
 ghost use Rattle.iom_tool.specs.Console.{traced};
 ghost use Rattle.iom_debug.specs.Desks.{names_of};
+ghost use Rattle.iom_debug.specs.Stale.{led_by};
 ghost use Rattle.iom_debug.specs.Summary.{counts_of};
 ghost use Rattle.iom_debug.specs.declared.summary.AccessOutcome.{AccessOutcome};
-ghost use Rattle.iom_explain.specs.Accesses.{asks_text, caches_by, filler, stale_text, warrant_text};
+ghost use Rattle.iom_explain.specs.Accesses.{asks_text, caches_by, stale_text, warrant_text};
 ghost use Rattle.iom_explain.specs.Explaining.{StepTold, denied_for, explained};
 ghost use Rattle.iom_explain.specs.Walking.{walk_text};
 
 use crate::accesses::{put_caches, put_stale, put_warrant};
 use crate::asking::put_asks;
+use crate::only::{Only, keep_access, keep_line};
 use crate::text::put_decimal;
 use crate::walk::Walk;
-use iom_account::{History, NumberedWarrant};
-use iom_core::{Answer, Denial, Lookup, Platform, Request, Step};
-use iom_debug::{AccessOutcome, Debugger, OutputPage, Summary, put};
+use iom_account::NumberedWarrant;
+use iom_core::{Answer, Step};
+use iom_debug::{AccessOutcome, Debugger, Led, OutputPage, StaleAccess, Summary, led_by, put};
 use iom_tool::{ReplyDraft, TracedStep, put_traced_step};
 use std::alloc::{AllocError, Global};
 
@@ -38,22 +39,8 @@ pub struct Teller {
     pub summary: Summary,
     /// Whether memory was refused: then nothing more is written.
     pub is_short: bool,
-}
-
-// What is known of an access before its step.
-#[derive(Clone, Copy)]
-struct Known {
-    request: Request,
-    seen: Lookup,
-    // the line that filled its live context
-    line: u64,
-}
-
-// The line that filled the live context of a device.
-fn filler(history: &History, platform: &Platform, did: u32) -> u64
-    ensures { result ≡ filler history.now platform.now.machine did }
-{
-    history.context_of(platform, did).unwrap_or(0)
+    /// The accesses that are told; None if all that is said is told.
+    pub only: Option<Only>,
 }
 
 // The cause that an answer is a denial for, if it is one.
@@ -66,7 +53,7 @@ fn denied_for(answer: &Answer) -> Option<u16>
     }
 }
 
-// What is known of the access that a step is about to make, and puts what is told of that before it is made.
+// What leads the access that a step is about to make, and puts what is told of that before it is made.
 fn look(
     asks: &mut OutputPage,
     walk: &mut OutputPage,
@@ -74,26 +61,20 @@ fn look(
     draft: &mut ReplyDraft,
     debugger: &Debugger<'_>,
     step: &Step,
-) -> Option<Known>
-    ensures request { option_map (λ known. known.request) result ≡ request_of_step debugger.now.platform.now step.now }
-    ensures known { IfSome result (λ known. (known.seen ≡ seen_in debugger.now.platform.now.machine known.request)
-        × (known.line ≡ filler debugger.now.reasons.now.account.history debugger.now.platform.now.machine known.request.did)) }
-    ensures asks { IfSome result (λ known. asks.new.items ≡ asks_text debugger.now.platform.now step.now) }
-    ensures walk { IfSome result (λ known. walk.new.items ≡ walk_text known.seen debugger.now.platform.now.machine known.request) }
-    ensures room { IfSome result (λ known. (length asks.new.items ≤ 200) × (length walk.new.items ≤ 13900)) }
+) -> Option<Led>
+    ensures led { result ≡ led_by debugger.now.reasons.now.account.history debugger.now.platform.now
+        (request_of_step debugger.now.platform.now step.now) }
+    ensures asks { IfSome result (λ led. asks.new.items ≡ asks_text debugger.now.platform.now step.now) }
+    ensures walk { IfSome result (λ led. walk.new.items ≡ walk_text led.seen debugger.now.platform.now.machine led.request) }
+    ensures room { IfSome result (λ led. (length asks.new.items ≤ 200) × (length walk.new.items ≤ 13900)) }
 {
     let platform = &*debugger.platform;
-    let request = platform.request_of(step)?;
-    let seen = platform.lookup(&request);
+    let led = led_by(debugger.reasons.history(), platform, step)?;
     asks.clear();
     put_asks(asks, platform, step);
     walk.clear();
-    last_walk.put(walk, draft, platform, &request, &seen);
-    Some(Known {
-        request,
-        seen,
-        line: filler(debugger.reasons.history(), platform, request.did),
-    })
+    last_walk.put(walk, draft, platform, &led.request, &led.seen);
+    Some(led)
 }
 
 // Puts a step's line.
@@ -114,18 +95,18 @@ fn put_access(
     out: &mut OutputPage,
     asks: &[u8],
     walk: &[u8],
-    known: &Known,
+    led: &Led,
     used: Option<NumberedWarrant>,
-    stale: Option<Result<u64, Denial>>,
+    stale: Option<StaleAccess>,
 )
     requires room { length out.old.items ≤ 343 }
     requires asks { length asks.now ≤ 200 }
     requires walk { length walk.now ≤ 13900 }
-    ensures { out.new.items ≡ out.old.items ++ (asks.now ++ caches_by known.now.seen.context known.now.seen known.now.line known.now.request.iova used
+    ensures { out.new.items ≡ out.old.items ++ (asks.now ++ caches_by led.now.seen.context led.now.seen led.now.line led.now.request.iova used
         ++ walk.now ++ warrant_text used ++ stale_text stale) }
 {
     put(out, asks);
-    put_caches(out, &known.seen, known.line, known.request.iova, used);
+    put_caches(out, &led.seen, led.line, led.request.iova, used);
     put(out, walk);
     put_warrant(out, used);
     put_stale(out, stale);
@@ -136,9 +117,10 @@ impl Teller {
     ghost use Rattle.iom_debug.specs.Summary.{counts_of};
 
     /// No output yet. The fault is want of memory.
-    pub fn new(alloc: Global) -> Result<Teller, AllocError>
+    pub fn new(alloc: Global, only: Option<Only>) -> Result<Teller, AllocError>
         ensures counts { IfOk result (λ teller. teller.summary ≡ counts_of []) }
         ensures short { IfOk result (λ teller. teller.is_short ≡ false) }
+        ensures only { IfOk result (λ teller. teller.only ≡ only) }
     {
         Ok(Teller {
             page: OutputPage::new(),
@@ -148,66 +130,70 @@ impl Teller {
             draft: ReplyDraft::new(),
             summary: Summary::new(alloc),
             is_short: false,
+            only,
         })
     }
 }
 
-// Puts and counts what is told of the access that a step made, of which this is known. The fault is want of memory.
+// Puts and counts what is told of the access that a step made, which is led so. The fault is want of memory.
 fn tell_access(
     teller: &mut Teller,
     number: u64,
-    known: &Known,
+    led: &Led,
     denied: Option<u16>,
     used: Option<NumberedWarrant>,
-    stale: Option<Result<u64, Denial>>,
+    stale: Option<StaleAccess>,
 ) -> Result<(), AllocError>
     requires room { length teller.old.page.items ≤ 343 }
     requires asks { length teller.old.asks.items ≤ 200 }
     requires walk { length teller.old.walk.items ≤ 13900 }
     ensures text { teller.new.page.items ≡ teller.old.page.items
-        ++ (teller.old.asks.items ++ caches_by known.now.seen.context known.now.seen known.now.line known.now.request.iova used
+        ++ (teller.old.asks.items ++ caches_by led.now.seen.context led.now.seen led.now.line led.now.request.iova used
         ++ teller.old.walk.items ++ warrant_text used ++ stale_text stale) }
     ensures counts { OnOk result ((earlier : List AccessOutcome) → teller.old.summary ≡ counts_of earlier
         → teller.new.summary ≡ counts_of (earlier ++ record {
           number = number;
           denied = denied;
-          is_cached = is_cached known.now.seen;
+          is_cached = is_cached led.now.seen;
           is_stale = is_some stale;
         } ∷ [])) }
     ensures short { teller.new.is_short ≡ teller.old.is_short }
+    ensures only { teller.new.only ≡ teller.old.only }
 {
     put_access(
         &mut teller.page,
         teller.asks.as_slice(),
         teller.walk.as_slice(),
-        known,
+        led,
         used,
         stale,
     );
     teller.summary.count(&AccessOutcome {
         number,
         denied,
-        is_cached: known.seen.is_cached(),
+        is_cached: led.seen.is_cached(),
         is_stale: stale.is_some(),
     })
 }
 
-/// Carries out a step of the line of this number, writes its answer to its entry, and puts the output: the step, and the reasons of its
-/// access if it makes one. The trace doesn't have it yet.
+/// Carries out a step of the line of this number, writes its answer to its entry, and puts the output, if it is told: the step, and the
+/// reasons of its access if it makes one. The trace doesn't have it yet.
 pub fn take(debugger: &mut Debugger<'_>, teller: &mut Teller, number: u64, entry: &mut TracedStep)
     ensures step { entry.new.step ≡ entry.old.step }
     ensures answer { entry.new.answer ≡ (next debugger.old.platform.now entry.old.step).answer }
     ensures told { teller.new.is_short ≡ false → StepTold
-        (explained debugger.old.platform.now debugger.old.trace.now debugger.old.reasons.now debugger.old.names teller.old.summary)
+        (explained debugger.old.platform.now debugger.old.trace.now debugger.old.reasons.now debugger.old.names teller.old.summary teller.old.only)
         number entry.old.step teller.new.page.items
         (explained debugger.new.platform.now
         (traced debugger.old.trace.now entry.old.step (next debugger.old.platform.now entry.old.step).answer)
-        debugger.new.reasons.now debugger.new.names teller.new.summary) }
+        debugger.new.reasons.now debugger.new.names teller.new.summary teller.new.only) }
     ensures short { teller.old.is_short ≡ true → teller.new.is_short ≡ true }
+    ensures only { teller.new.only ≡ teller.old.only }
     ensures trace { debugger.new.trace.now ≡ debugger.old.trace.now }
     ensures same { names_of debugger.new ≡ names_of debugger.old }
 {
-    let known = look(
+    let only = teller.only;
+    let led = look(
         &mut teller.asks,
         &mut teller.walk,
         &mut teller.last_walk,
@@ -215,19 +201,20 @@ pub fn take(debugger: &mut Debugger<'_>, teller: &mut Teller, number: u64, entry
         debugger,
         &entry.step,
     );
-    debugger
+    let stale = debugger
         .reasons
         .step(debugger.platform, &entry.step, number, &mut entry.answer);
     put_traced_step(&mut teller.draft, entry);
     teller.page.clear();
     put_step(&mut teller.page, number, teller.draft.as_slice());
-    let Some(known) = known else {
+    let Some(led) = led else {
+        keep_line(&mut teller.page, only);
         return;
     };
     let denied = denied_for(&entry.answer);
     let used = debugger.reasons.newest_origin();
-    let stale = debugger.reasons.newest_stale();
-    if tell_access(teller, number, &known, denied, used, stale).is_err() {
+    if tell_access(teller, number, &led, denied, used, stale).is_err() {
         teller.is_short = true;
     }
+    keep_access(&mut teller.page, only, &denied, &stale);
 }

@@ -57,7 +57,7 @@ fn play<'a, R: Read, W: Write>(
     let debugger = Debugger::new(&mut platform, &mut trace, &mut reasons);
     match how {
         How::Explain => {
-            let mut explaining = Explaining::new(alloc, debugger)?;
+            let mut explaining = Explaining::new(alloc, debugger, None)?;
             if !explain(&mut explaining, &mut reader, &mut writer)? {
                 return Err(Fault::OutOfMemory);
             }

@@ -1,3 +1,4 @@
+use Rattle.iom_debug.proofs.Remaining.{one_kept}
 use Rattle.iom_debug.proofs.debugger.Debugger.carry_out.Goals as goal
 
 pub returns-in-Does-clause-along : goal.returns-in-Does-clause-along
@@ -12,3 +13,16 @@ returns-in-Again-clause-along c = rw c.in-Again.is (rw c.begin_line.ensures at c
 pub returns-in-Put-clause-along : goal.returns-in-Put-clause-along
 returns-in-Put-clause-along c =
     rw c.in-Put.is (rw (c.begin_line.ensures, c.as_slice.ensures.value) at c.store_all.ensures.took.along)
+
+pub returns-in-Does-clause-stale : goal.returns-in-Does-clause-stale
+returns-in-Does-clause-stale c = rw c.in-Does.is (rw c.begin_line.ensures at (one_kept _ _ _ _ c.take.ensures.took))
+
+pub returns-in-Named-clause-stale : goal.returns-in-Named-clause-stale
+returns-in-Named-clause-stale c = rw c.in-Named.is (rw c.begin_line.ensures at (one_kept _ _ _ _ c.take-in-Named.ensures.took))
+
+pub returns-in-Again-clause-stale : goal.returns-in-Again-clause-stale
+returns-in-Again-clause-stale c = rw c.in-Again.is (rw c.begin_line.ensures at c.take_again.ensures.took.stale)
+
+pub returns-in-Put-clause-stale : goal.returns-in-Put-clause-stale
+returns-in-Put-clause-stale c =
+    rw c.in-Put.is (rw (c.begin_line.ensures, c.as_slice.ensures.value) at c.store_all.ensures.took.stale)

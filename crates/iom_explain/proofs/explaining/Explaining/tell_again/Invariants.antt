@@ -11,6 +11,7 @@ invariant-loop-i g l = record {
   can : l.writer.failed ≡ false;
   memory : l.self.teller.is_short ≡ false;
   number : l.self.number ≡ l.initial.self.number;
+  only : l.self.teller.only ≡ l.initial.self.teller.only;
   same_writer : l.writer.inner.ghost_name ≡ l.initial.writer.inner.ghost_name;
   same : names_of l.self.debugger ≡ names_of l.initial.self.debugger;
   along : Along (g.W.Write.contents l.initial.writer.inner.now) (g.W.Write.contents l.writer.inner.now)

@@ -7,12 +7,15 @@ use Rattle.iom_explain.proofs.explaining.Explaining.tell_other.Goals as goal
 pub returns-clause-ok : goal.returns-clause-ok
 returns-clause-ok g c =
     let left = c.line-reply.ensures in
-    line_other c.write.result _ _ _ (told c.args.self.now)
-    (record { desk = desk_of c.line-reply.new.self; counts = c.args.self.now.teller.summary }) c.args.self.now.number c.args.text.now
-    c.put_line.new.out.items c.line-reply.result.items (record {
+    line_other c.write_line.result _ _ _ (told c.args.self.now)
+    (record {
+      desk = desk_of c.line-reply.new.self;
+      counts = c.args.self.now.teller.summary;
+      only = c.args.self.now.teller.only;
+    }) c.args.self.now.number c.args.text.now c.line-reply.result.items (record {
       state = left.state;
       trace = left.trace;
       stale = left.stale;
       along = left.along;
       names = left.names;
-    }) refl left.reply c.write.ensures.ok (rw c.as_slice.ensures.value at c.put_line.ensures)
+    }) refl refl left.reply (rw c.as_slice.ensures.value at c.write_line.ensures.ok)
