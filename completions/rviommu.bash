@@ -12,18 +12,28 @@ _rviommu() {
         mapfile -t COMPREPLY < <(compgen -W "asm run check debug explain list upgrade help --help --version" -- "$current")
         return
     fi
+    case ${COMP_WORDS[1]}:${COMP_WORDS[COMP_CWORD - 1]} in
+        explain:--only)
+            mapfile -t COMPREPLY < <(compgen -W "denied stale denied,stale" -- "$current")
+            return
+            ;;
+    esac
     case ${COMP_WORDS[1]}:$current in
         check:-*)
             mapfile -t COMPREPLY < <(compgen -W "--stale --strict --tap --junit --image --help" -- "$current")
             return
             ;;
-        asm:-* | run:-* | debug:-* | explain:-* | list:-* | upgrade:-*)
+        explain:-*)
+            mapfile -t COMPREPLY < <(compgen -W "--only --help" -- "$current")
+            return
+            ;;
+        asm:-* | run:-* | debug:-* | list:-* | upgrade:-*)
             mapfile -t COMPREPLY < <(compgen -W "--help" -- "$current")
             return
             ;;
     esac
     case ${COMP_WORDS[1]}:$COMP_CWORD in
-        check:* | asm:2 | asm:3 | run:2 | debug:2 | explain:2 | list:2 | upgrade:2 | upgrade:3) _rviommu_files ;;
+        check:* | explain:* | asm:2 | asm:3 | run:2 | debug:2 | list:2 | upgrade:2 | upgrade:3) _rviommu_files ;;
         list:3) mapfile -t COMPREPLY < <(compgen -W "cmd fault context dir pte u64" -- "$current") ;;
         help:2) mapfile -t COMPREPLY < <(compgen -W "asm run check debug explain list upgrade" -- "$current") ;;
     esac

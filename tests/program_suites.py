@@ -172,3 +172,17 @@ class Suites(Case):
         self.assertEqual((ended[0], len(suites)), (1, 2))
         passed, failed, _ = of_tap(self.check("--tap", name, "fresh.script")[1])
         self.assertEqual((passed + failed, failed), (suites[0][1] + 2, suites[0][2]))
+
+
+class Only(Case):
+    def test_only(self):
+        """explain --only: the accesses of one kind, or of both, and the counts of all"""
+        script = b"dma read 5 0 1\nreg write 16 8 1\ndma read 5 0x80000000 1\n"
+        whole = self.written(["explain"], script)
+        counts = whole[whole.index("accesses: ") :]
+        for what in ("denied", "denied,stale", "stale,denied"):
+            told = self.written(["explain", "--only", what], script)
+            self.assertEqual(told, whole[: whole.index("2: ")] + counts)
+        self.assertEqual(self.written(["explain", "--only", "stale"], script), counts)
+        none = self.written(["explain", "--only", "denied", self.image("ram 0x80000000 0x1000\n")])
+        self.assertEqual(none, "accesses: 0\ngranted: 0\nfrom the caches: 0\nstale: 0\n")

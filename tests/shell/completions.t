@@ -22,8 +22,10 @@ bash offers the words that may follow at the end of a line, and no other.
   $ offered check -; offered debug -; offered explain -; offered run -
   [--stale --strict --tap --junit --image --help]
   [--help]
+  [--only --help]
   [--help]
-  [--help]
+  $ offered explain --only ''
+  [denied stale denied,stale]
   $ offered help ''
   [asm run check debug explain list upgrade]
 

@@ -22,6 +22,10 @@ on standard error, and nothing on standard output.
   > check --jump
   > debug --stale
   > explain --stale
+  > explain --only
+  > explain --only jump
+  > explain --only denied,
+  > explain --only denied,jump
   > list image u64 0
   > list image word 0 1
   > list image u64 0X1 1
@@ -46,6 +50,10 @@ on standard error, and nothing on standard output.
   check --jump: 2 0 1
   debug --stale: 2 0 1
   explain --stale: 2 0 1
+  explain --only: 2 0 1
+  explain --only jump: 2 0 1
+  explain --only denied,: 2 0 1
+  explain --only denied,jump: 2 0 1
   list image u64 0: 2 0 1
   list image word 0 1: 2 0 1
   list image u64 0X1 1: 2 0 1

@@ -146,10 +146,11 @@ Below each access of a device come the reasons for its answer:
   caches: ..    the cached entries for it, and the lines that filled them
   walk: ..      the parts of its walk, if it was not fully cached
   warrant: ..   the lines that its translation comes from
-  stale: ..     the answer of the tables, if it is another one
+  stale: ..     if it was stale, what served it and what the tables say
 
 At the end it counts the accesses: granted, denied by cause, served from the
-caches, and stale, with their lines.
+caches, and stale, with their lines. With --only, the accesses of that kind
+alone are printed before.
 
 An example:
 

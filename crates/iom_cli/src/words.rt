@@ -23,6 +23,9 @@ const JUNIT: &str = "junit";
 /// The option of `check` for the file of the image.
 const IMAGE: &str = "image";
 
+/// The option of `explain` that names the accesses to tell.
+const ONLY: &str = "only";
+
 /// The operand of `check` for its scripts.
 const FILE: &str = "FILE";
 
@@ -32,6 +35,18 @@ const INPUT: &str = "-";
 /// The names of the items that can be listed.
 const KINDS: [&str; 6] = ["cmd", "fault", "context", "dir", "pte", "u64"];
 
+/// The accesses that `explain` can tell alone.
+const ONLY_THESE: [&str; 2] = ["denied", "stale"];
+
+/// The accesses that `explain` tells, where it doesn't tell all.
+#[derive(Clone, Copy)]
+pub struct Only {
+    /// Those that are denied.
+    pub denied: bool,
+    /// Those that are stale.
+    pub stale: bool,
+}
+
 /// How a script is played.
 #[derive(Clone, Copy)]
 pub enum How {
@@ -39,8 +54,8 @@ pub enum How {
     Run,
     /// Each line is answered, and may be one of `debug`.
     Debug,
-    /// Each line is printed with its answer and the reasons of its accesses.
-    Explain,
+    /// Each line is printed with its answer and the reasons of its accesses, or these accesses alone.
+    Explain { only: Option<Only> },
 }
 
 impl How {
@@ -49,7 +64,7 @@ impl How {
         match self {
             How::Run => "run",
             How::Debug => "debug",
-            How::Explain => "explain",
+            How::Explain { .. } => "explain",
         }
     }
 }
@@ -208,11 +223,18 @@ const VERBS: [Verb; 7] = [
         name: "explain",
         about: "Runs a script and prints why each access is answered so",
         after_help: help::EXPLAIN,
-        operands: &[Operand {
-            name: "IMAGE",
-            help: "The file of the image; without it, the built-in image",
-            need: Need::Optional,
-        }],
+        operands: &[
+            Operand {
+                name: ONLY,
+                help: "Print these accesses alone: denied, stale or denied,stale",
+                need: Need::Valued("WHAT"),
+            },
+            Operand {
+                name: "IMAGE",
+                help: "The file of the image; without it, the built-in image",
+                need: Need::Optional,
+            },
+        ],
     },
     Verb {
         name: "list",
@@ -260,6 +282,18 @@ const VERBS: [Verb; 7] = [
     },
 ];
 
+// An option with a value, for clap.
+fn valued<'a>(arg: Arg<'a>, name: &'static str, value: &'static str) -> Arg<'a> {
+    let arg = arg.long(name).value_name(value);
+    if name == ONLY {
+        arg.value_delimiter(',')
+            .value_parser(ONLY_THESE.as_slice())
+            .hide_possible_values(true)
+    } else {
+        arg
+    }
+}
+
 // An operand, for clap.
 fn arg<'a>(alloc: Global, operand: &Operand) -> Arg<'a> {
     let arg = Arg::new(alloc, operand.name).help(operand.help);
@@ -269,7 +303,7 @@ fn arg<'a>(alloc: Global, operand: &Operand) -> Arg<'a> {
         Need::Optional => arg,
         Need::Several => arg.num_args(1..).action(ArgAction::Append),
         Need::Flag => arg.long(operand.name).action(ArgAction::SetTrue),
-        Need::Valued(value) => arg.long(operand.name).value_name(value),
+        Need::Valued(value) => valued(arg, operand.name, value),
     }
 }
 
@@ -325,6 +359,15 @@ fn script<'a>(how: How, found: &ArgMatches<'a>) -> Task<'a> {
     }
 }
 
+// The accesses that `explain` is to tell, where its option names some.
+fn told_alone<'a>(found: &ArgMatches<'a>) -> Option<Only> {
+    let named = found.get_strs(ONLY)?;
+    Some(Only {
+        denied: named.iter().any(|it| *it == "denied"),
+        stale: named.iter().any(|it| *it == "stale"),
+    })
+}
+
 // The scripts that `check` names.
 fn scripts<'a>(
     alloc: Global,
@@ -365,7 +408,12 @@ fn task_in<'a>(alloc: Global, matches: &ArgMatches<'a>) -> Result<Task<'a>, Word
         }),
         Some(("run", found)) => Ok(script(How::Run, found)),
         Some(("debug", found)) => Ok(script(How::Debug, found)),
-        Some(("explain", found)) => Ok(script(How::Explain, found)),
+        Some(("explain", found)) => Ok(script(
+            How::Explain {
+                only: told_alone(found),
+            },
+            found,
+        )),
         Some(("check", found)) => judging(alloc, found),
         Some(("upgrade", found)) => Ok(Task::Upgrade {
             image: value(found, "IMAGE"),

@@ -5,7 +5,7 @@ use fault::Fault;
 use iom_asm::Item;
 use iom_cli::{Checks, How, Task, WordsFault, check_status, task_of};
 use iom_debug::{Debugger, Debugging, LineAccount, debug};
-use iom_explain::{Explaining, explain};
+use iom_explain::{Explaining, Only, explain};
 use iom_play::WRITE_BLOCK;
 use iom_reader::{RunFault, WatchedReader, WatchedWriter};
 use iom_tool::Trace;
@@ -56,8 +56,12 @@ fn play<'a, R: Read, W: Write>(
     let mut reasons = LineAccount::new(&platform);
     let debugger = Debugger::new(&mut platform, &mut trace, &mut reasons);
     match how {
-        How::Explain => {
-            let mut explaining = Explaining::new(alloc, debugger, None)?;
+        How::Explain { only } => {
+            let only = only.map(|it| Only {
+                denied: it.denied,
+                stale: it.stale,
+            });
+            let mut explaining = Explaining::new(alloc, debugger, only)?;
             if !explain(&mut explaining, &mut reader, &mut writer)? {
                 return Err(Fault::OutOfMemory);
             }
