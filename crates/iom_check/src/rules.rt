@@ -17,8 +17,6 @@ pub struct Rules {
     /// Whether what is noted fails: a comment that looks like a wish and is none, a wish on a line without an answer, a script without a
     /// wish.
     pub is_strict: bool,
-    /// Whether the places of both caches are looked at after each IOFENCE.C too. This has no effect yet: they are looked at when the script ends.
-    pub looks_at_fences: bool,
     /// How it is told.
     pub style: Style,
 }

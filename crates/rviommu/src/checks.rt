@@ -346,7 +346,6 @@ fn rules_of(checks: &Checks<'_>) -> Rules {
     Rules {
         fails_if_stale: checks.fails_if_stale,
         is_strict: checks.is_strict,
-        looks_at_fences: false,
         style: if checks.is_tap {
             Style::Tap
         } else {
