@@ -317,3 +317,16 @@ fn parts_are_copied(rt: HostRuntime) -> Result<(), Fail> {
     assert!(rt; are_parts_copied(rt.alloc())?);
     Ok(())
 }
+
+// A word of a memory that is made of 512 words.
+fn word_of_made(alloc: Global) -> Result<Option<u64>, Fail> {
+    spend(alloc, 12)?;
+    let ram = Ram::of_words(alloc, BASE, &[0x0807_0605_0403_0201; 512])?;
+    Ok(ram.word(BASE + 8))
+}
+
+#[test]
+fn memory_is_made_of_words(rt: HostRuntime) -> Result<(), Fail> {
+    assert_eq!(rt; word_of_made(rt.alloc())?, Some(0x0807_0605_0403_0201));
+    Ok(())
+}
