@@ -10,7 +10,7 @@ ghost use Rattle.iom_debug.specs.Stale.{led_by};
 ghost use Rattle.iom_debug.specs.Summary.{counts_of};
 ghost use Rattle.iom_debug.specs.declared.summary.AccessOutcome.{AccessOutcome};
 ghost use Rattle.iom_explain.specs.Accesses.{asks_text, caches_by, stale_text, warrant_text};
-ghost use Rattle.iom_explain.specs.Explaining.{StepTold, denied_for, explained};
+ghost use Rattle.iom_explain.specs.Explaining.{StepTold, denied_for, explained, if_told, is_told};
 ghost use Rattle.iom_explain.specs.Walking.{walk_text};
 
 use crate::accesses::{put_caches, put_stale, put_warrant};
@@ -135,7 +135,8 @@ impl Teller {
     }
 }
 
-// Puts and counts what is told of the access that a step made, which is led so. The fault is want of memory.
+// Puts and counts what is told of the access that a step made, which is led so, and empties the page if it isn't told. The fault is want of
+// memory.
 fn tell_access(
     teller: &mut Teller,
     number: u64,
@@ -147,9 +148,9 @@ fn tell_access(
     requires room { length teller.old.page.items ≤ 343 }
     requires asks { length teller.old.asks.items ≤ 200 }
     requires walk { length teller.old.walk.items ≤ 13900 }
-    ensures text { teller.new.page.items ≡ teller.old.page.items
+    ensures text { teller.new.page.items ≡ if_told (is_told teller.old.only (is_some denied) (is_some stale)) (teller.old.page.items
         ++ (teller.old.asks.items ++ caches_by led.now.seen.context led.now.seen led.now.line led.now.request.iova used
-        ++ teller.old.walk.items ++ warrant_text used ++ stale_text stale) }
+        ++ teller.old.walk.items ++ warrant_text used ++ stale_text stale)) }
     ensures counts { OnOk result ((earlier : List AccessOutcome) → teller.old.summary ≡ counts_of earlier
         → teller.new.summary ≡ counts_of (earlier ++ record {
           number = number;
@@ -168,6 +169,8 @@ fn tell_access(
         used,
         stale,
     );
+    let only = teller.only;
+    keep_access(&mut teller.page, only, &denied, &stale);
     teller.summary.count(&AccessOutcome {
         number,
         denied,
@@ -192,7 +195,6 @@ pub fn take(debugger: &mut Debugger<'_>, teller: &mut Teller, number: u64, entry
     ensures trace { debugger.new.trace.now ≡ debugger.old.trace.now }
     ensures same { names_of debugger.new ≡ names_of debugger.old }
 {
-    let only = teller.only;
     let led = look(
         &mut teller.asks,
         &mut teller.walk,
@@ -208,6 +210,7 @@ pub fn take(debugger: &mut Debugger<'_>, teller: &mut Teller, number: u64, entry
     teller.page.clear();
     put_step(&mut teller.page, number, teller.draft.as_slice());
     let Some(led) = led else {
+        let only = teller.only;
         keep_line(&mut teller.page, only);
         return;
     };
@@ -216,5 +219,4 @@ pub fn take(debugger: &mut Debugger<'_>, teller: &mut Teller, number: u64, entry
     if tell_access(teller, number, &led, denied, used, stale).is_err() {
         teller.is_short = true;
     }
-    keep_access(&mut teller.page, only, &denied, &stale);
 }

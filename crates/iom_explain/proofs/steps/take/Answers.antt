@@ -1,4 +1,4 @@
-use Rattle.std.proofs.Common.{◌∙◌, ap, false, is_some, refl, sym}
+use Rattle.std.proofs.Common.{◌∙◌, ap, false, refl, sym}
 use Rattle.iom_explain.specs.Explaining.{if_told, is_told}
 use Rattle.iom_explain.proofs.Telling.{accessed, unaccessed}
 use Rattle.iom_explain.proofs.steps.take.Goals as goal
@@ -19,6 +19,4 @@ returns-else-is_err-clause-told c = λ memory.
     c.in-Some.ensures.led c.step-stale.ensures.answer (c.as_slice.ensures ∙ c.put_traced_step.ensures.text) c.newest_origin-used.ensures
     c.in-Some.ensures.asks c.in-Some.ensures.walk c.step-stale.ensures.access c.denied_for-denied.ensures (sym c.if-is_err.ensures.value)
     c.tell_access.ensures.counts
-    (c.keep_access.ensures
-    ∙ ap (if_told (is_told c.args.teller.now.only (is_some c.denied_for-denied.result) (is_some c.step-stale.result)))
-    (rw (c.put_step.ensures.text, c.clear.ensures) at c.tell_access.ensures.text)) c.tell_access.ensures.only
+    (rw (c.put_step.ensures.text, c.clear.ensures) at c.tell_access.ensures.text) c.tell_access.ensures.only

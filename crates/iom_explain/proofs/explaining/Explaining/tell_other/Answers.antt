@@ -7,6 +7,7 @@ use Rattle.iom_explain.proofs.explaining.Explaining.tell_other.Goals as goal
 pub returns-clause-ok : goal.returns-clause-ok
 returns-clause-ok g c =
     let left = c.line-reply.ensures in
+    rw (c.write_line.ensures.short, c.write_line.ensures.counts, c.write_line.ensures.only) (
     line_other c.write_line.result _ _ _ (told c.args.self.now)
     (record {
       desk = desk_of c.line-reply.new.self;
@@ -18,4 +19,4 @@ returns-clause-ok g c =
       stale = left.stale;
       along = left.along;
       names = left.names;
-    }) refl refl left.reply (rw c.as_slice.ensures.value at c.write_line.ensures.ok)
+    }) refl refl left.reply (rw c.as_slice.ensures.value at c.write_line.ensures.ok))

@@ -5,6 +5,7 @@ use Rattle.iom_explain.proofs.explaining.Explaining.tell_put.Goals as goal
 
 pub returns-clause-ok : goal.returns-clause-ok
 returns-clause-ok g c =
+    rw (c.write_line.ensures.short, c.write_line.ensures.counts, c.write_line.ensures.only) (
     line_after c.write_line.result _ _ _ _ (told c.args.self.now) (told c.tell_stores.new.self) c.args.self.now.number c.args.line.now
     (stores_at c.args.addr c.args.words.now) _ c.in_ok-reply.reply.items c.in_ok-reply.ensures.ok
-    (rw (c.as_slice.ensures.value, c.tell_stores.ensures.number, c.tell_stores.ensures.only) at c.write_line.ensures.ok)
+    (rw (c.as_slice.ensures.value, c.tell_stores.ensures.number, c.tell_stores.ensures.only) at c.write_line.ensures.ok))
