@@ -119,7 +119,11 @@ outcome_is : (now : Desk) (number : ℕ) (step : Step) (request : Request) (seen
     ≡ outcomes_by now number step (Some request)
 outcome_is now number step request seen denied used stale denied_is seen_is stale_is =
     let some : is_some stale ≡ is_some (stale_way now.state.machine request) =
-    ap (λ (s : Option StaleAccess). is_some s) stale_is ∙ some_kept _ used (stale_way now.state.machine request) in
+    ap (λ (s : Option StaleAccess). is_some s) stale_is ∙ some_kept (record {
+      request = request;
+      seen = seen_in now.state.machine request;
+      line = filler now.reasons.account.history now.state.machine request.did;
+    }) used (stale_way now.state.machine request) in
     rw (denied_is, some, seen_is) refl
 
 on_ok : {A : Type 0} (result : Result (Unit {0}) AllocError) → is_err result ≡ false → OnOk result A → A
@@ -153,7 +157,7 @@ pub unaccessed : (before : Explained) (number : ℕ) (step : Step) (found : Opti
     page ≡ if_told (is_told before.only false false) (numeral 10 number ++ codes ": " ++ entry ++ 10 ∷ []) → counts ≡ before.counts →
     only ≡ before.only → StepTold before number step page (record { desk = after; counts = counts; only = only })
 unaccessed before number step found answer entry page after counts only took is other answered entry_is page_is counted same =
-    step_is before number step None answer entry [] page _ _ after counts only took (leads_none _ _ _ found is other) answered entry_is refl refl
+    step_is before number step None answer entry [] page _ _ after counts only took (leads_none before.desk.reasons.account.history before.desk.state (request_of_step before.desk.state step) found is other) answered entry_is refl refl
     refl (page_is ∙ ap (if_told (is_told before.only false false)) (sym (append-nil (numeral 10 number ++ codes ": " ++ entry ++ 10 ∷ []))))
     (λ earlier is. counted ∙ is ∙ ap counts_of (sym (append-nil earlier))) same
 
@@ -173,7 +177,7 @@ pub accessed : (before : Explained) (number : ℕ) (step : Step) (led : Led) (de
     only ≡ before.only → StepTold before number step page (record { desk = after; counts = counts; only = only })
 accessed before number step led denied used stale answer asks walk entry page after counts only result took led_is answered entry_is used_is asks_is
     walk_is stale_is denied_is well counted page_is same =
-    let leads = leads_it _ _ _ led led_is in
+    let leads = leads_it before.desk.reasons.account.history before.desk.state (request_of_step before.desk.state step) led led_is in
     let kept : stale ≡ stale_access before.desk.reasons.account.history before.desk.state (Some led.request) used =
     stale_is ∙ ap (λ (r : Option Request). stale_access before.desk.reasons.account.history before.desk.state r (newest_origin after.reasons.account))
     (sym leads.request)

@@ -53,4 +53,4 @@ pub returns-clause-ok : goal.returns-clause-ok
 returns-clause-ok g c =
     let none = all_stored c.args.addr c.args.words.now c.loop-i.i (omega arith) in
     let so_far = rw none at c.loop-i.invariant.along in
-    (so_far.said, so_far.wrote, λ m. (ends _ _ _ _ _ _ _ so_far, rw so_far.left.last_is c.answer_text.ensures))
+    (so_far.said, so_far.wrote, λ m. (ends _ _ _ _ _ _ _ so_far, rw so_far.left.last_is c.answer_text.ensures.text))
