@@ -36,6 +36,7 @@ image_is_upgraded OutOfMemory 13
 items_are_listed OutOfMemory
 parts_are_copied AllocError
 memory_is_made_of_words OutOfMemory 13
+memory_is_taken OutOfMemory 13
 END
 done
 echo "refused memory: ok"

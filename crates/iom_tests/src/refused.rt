@@ -12,6 +12,7 @@ use iom_blk::Blk;
 use iom_cache::{ContextCache, Place, TransCache};
 use iom_core::{Answer, Platform, Step};
 use iom_mem::Ram;
+use iom_saved::{SavedWords, take_memory};
 use iom_tool::Trace;
 use std::alloc::{AllocError, Global};
 use std::test::Fail;
@@ -328,5 +329,21 @@ fn word_of_made(alloc: Global) -> Result<Option<u64>, Fail> {
 #[test]
 fn memory_is_made_of_words(rt: HostRuntime) -> Result<(), Fail> {
     assert_eq!(rt; word_of_made(rt.alloc())?, Some(0x0807_0605_0403_0201));
+    Ok(())
+}
+
+// A word of a memory that is taken from its words: its base, their number, and these.
+fn word_of_taken(alloc: Global) -> Result<Option<u64>, Fail> {
+    spend(alloc, 12)?;
+    let mut words = [0x0807_0605_0403_0201; 514];
+    words[0] = BASE;
+    words[1] = 512;
+    let ram = take_memory(alloc, &mut SavedWords::of(&words))?;
+    Ok(ram.word(BASE + 8))
+}
+
+#[test]
+fn memory_is_taken(rt: HostRuntime) -> Result<(), Fail> {
+    assert_eq!(rt; word_of_taken(rt.alloc())?, Some(0x0807_0605_0403_0201));
     Ok(())
 }

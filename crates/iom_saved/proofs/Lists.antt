@@ -1,0 +1,14 @@
+-- Words that are read one after the other.
+use Rattle.std.proofs.Common.{◌≡◌, ◌++◌, ◌∙◌, ℕ, List, ◌∷◌, length, sym, ap, append_assoc}
+
+pub take_two : (start mid new a b : List ℕ) → start ≡ a ++ mid → mid ≡ b ++ new → start ≡ (a ++ b) ++ new
+take_two start mid new a b first second = first ∙ ap (λ (l : List ℕ). a ++ l) second ∙ sym (append_assoc a b new)
+
+pub take_three : (start one two new a b c : List ℕ) → start ≡ a ++ one → one ≡ b ++ two → two ≡ c ++ new → start ≡ (a ++ (b ++ c)) ++ new
+take_three start one two new a b c first second third = take_two start one new a (b ++ c) first (take_two one two new b c second third)
+
+-- a word, and a list behind its number
+pub next_list : (words list start mid new : List ℕ) (word : ℕ) → start ≡ word ∷ mid → mid ≡ length list ∷ (list ++ new) →
+    words ≡ word ∷ length list ∷ list → start ≡ words ++ new
+next_list words list start mid new word first second are =
+    first ∙ ap (λ (l : List ℕ). word ∷ l) second ∙ sym (ap (λ (ws : List ℕ). ws ++ new) are)

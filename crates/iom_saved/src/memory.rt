@@ -1,0 +1,53 @@
+//! Memory.
+
+ghost use Rattle.std.specs.Prelude.{◌≡◌, ◌++◌, ◌∷◌, length, OnOk, IfOk};
+ghost use Rattle.iom_mem.specs.Words.{bytes_of_words};
+ghost use Rattle.iom_saved.specs.Bytes.{memory_words, words_of_bytes};
+
+use crate::words::{SavedFault, SavedWords};
+use iom_mem::{MemFault, Ram};
+use std::alloc::{AllocError, Global};
+
+/// Appends the words of memory: its base, a physical address, how many words of eight bytes there are, and these. The fault is a refused
+/// allocation.
+pub fn put_memory(out: &mut Vec<u64>, ram: &Ram) -> Result<(), AllocError>
+    ensures { OnOk result (out.new.items ≡ out.old.items ++ memory_words ram.now) }
+{
+    out.push(ram.base())?;
+    put_words(out, ram.as_words())?;
+    Ok(())
+}
+
+// Appends how many words there are, and these.
+fn put_words(out: &mut Vec<u64>, words: &[u64]) -> Result<(), AllocError>
+    ensures { OnOk result (out.new.items ≡ out.old.items ++ words_of_bytes (bytes_of_words words.now)) }
+{
+    out.push(words.len() as u64)?;
+    out.extend_from_slice(words)?;
+    Ok(())
+}
+
+/// The memory that the next words are.
+pub fn take_memory(alloc: Global, words: &mut SavedWords<'_>) -> Result<Ram, SavedFault>
+    ensures { IfOk result (λ ram. words.old ≡ memory_words ram ++ words.new) }
+{
+    let Some(base) = words.next() else {
+        return Err(SavedFault::Bad);
+    };
+    let Some(list) = words.list() else {
+        return Err(SavedFault::Bad);
+    };
+    let ram = memory_of(alloc, base, list)?;
+    Ok(ram)
+}
+
+// The memory of these words from a base on.
+fn memory_of(alloc: Global, base: u64, words: &[u64]) -> Result<Ram, SavedFault>
+    ensures { IfOk result (λ ram. memory_words ram ≡ base ∷ length words.now ∷ words.now) }
+{
+    match Ram::of_words(alloc, base, words) {
+        Ok(ram) => Ok(ram),
+        Err(MemFault::OutOfMemory) => Err(SavedFault::OutOfMemory),
+        Err(_) => Err(SavedFault::Bad),
+    }
+}
