@@ -20,7 +20,8 @@ use Rattle.iom_ddt.specs.declared.context.Context.{Context}
 use Rattle.iom_ddt.specs.declared.listing.Met.{Met}
 use Rattle.iom_ddt.specs.declared.listing.Met.TheVariants as met
 use Rattle.iom_walk.specs.Outcome.{conclude, conclude_at, leaf_of, outcome_of, verdict_on_path}
-use Rattle.iom_walk.specs.Path.{MetEntry, entry_at, next_table, path_from, path_of as walk_path_of, verdict_on}
+use Rattle.iom_walk.specs.declared.met.MetEntry.{MetEntry}
+use Rattle.iom_walk.specs.Path.{entry_at, next_table, path_from, path_of as walk_path_of, verdict_on}
 use Rattle.iom_walk.specs.Shape.{is_in_width, levels}
 use Rattle.iom_walk.specs.Told.{path_told, path_entry}
 use Rattle.iom_walk.specs.Verdict.{consequence, is_pointer, ruling_of, verdict_of, word_of}
