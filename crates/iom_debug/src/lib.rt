@@ -10,8 +10,8 @@ pub use page::{OutputPage, first_bytes, put, put_escaped, put_number, write_told
 pub use parts::{is_told_alike, put_cached, put_part};
 pub use reason::origin_line;
 pub use reasons::LineAccount;
-pub use standings::{context_standing_line, page_standing_line};
 pub use stale::{Led, StaleAccess, led_by, stale_access_line};
+pub use standings::{context_standing_line, page_standing_line};
 pub use summary::{AccessOutcome, Summary, and_one};
 pub use taking::{StepAnswer, is_done, reply_with_count, step_by};
 pub use ways::address_of;
