@@ -17,6 +17,7 @@ pub enum SavedFault {
 }
 
 /// The words that are not yet read.
+#[derive(Drop)]
 pub struct SavedWords<'a> {
     left: &'a [u64],
 }
