@@ -1,5 +1,5 @@
 -- What is told of lines.
-use Rattle.std.proofs.Common.{◌≡◌, ◌+◌, ◌≤◌, min, inl, inr, arith, ℕ, List, length, take, Option, Result, Ok, Err, OnOk, OnErr, sym, ◌∙◌, ap, subst}
+use Rattle.std.proofs.Common.{◌≡◌, ◌+◌, ◌≤◌, min, inl, inr, arith, ℕ, List, length, take, Option, Result, Ok, Err, OnOk, OnErr, sym, ◌∙◌, ap, subst, refl}
 use Rattle.std.specs.Io.KnownBytes.{Appends}
 use Rattle.std.proofs.KnownBytes.{Appends-nil}
 use Rattle.std.proofs.lemmas.Bool.{cases_lt}

@@ -5,7 +5,7 @@ pub returns-clause-along : goal.returns-clause-along
 returns-clause-along c = rw c.read-line.ensures.line at c.carry_out.ensures.along
 
 pub returns-clause-stale : goal.returns-clause-stale
-returns-clause-stale c = rw c.line_of.ensures.line at c.carry_out.ensures.stale
+returns-clause-stale c = rw c.read-line.ensures.line at c.carry_out.ensures.stale
 
 pub returns-clause-as_run : goal.returns-clause-as_run
 returns-clause-as_run c = λ other.
