@@ -25,7 +25,7 @@ TO_MEET = {f"{stage} {it}" for stage in ("first", "second") for it in JUDGED} | 
 TO_MEET |= {"dir width, denied 260", *(f"first width, denied {cause}" for cause in (13, 15))}
 TO_MEET |= {f"second width, {it}" for it in (f"first {GUEST}", "denied 21", "denied 23")}
 # What explain is to have told.
-TO_MEET |= {"stale: read 0x", "stale: write 0x", "stale: another context", "walk: cached context"}
+TO_MEET |= {"stale: read 0x", "stale: write 0x", "walk: cached context"}
 # Pages of the hart's memory that its walks leave alone, and what is written to have directory and fault queue there.
 DIRECTORY, FAULTS, HARTS_SIZE = 0x800F8, 0x800FA, 1 << 20
 SET_UP = [("reg", DDTP, 8, DIRECTORY << 10 | 2), ("reg", FQB, 8, FAULTS << 10 | 6), ("reg", FQCSR, 4, 1)]
@@ -121,7 +121,6 @@ class Peer(Case):
         below = {said[at].partition(":")[0]: said[at + 1 : end] for at, end in zip(heads, heads[1:])}
         for it in (it for lines in told.explained.values() for it in lines):
             met.update([re.sub(r"0x\w+", "0x", " ".join(it.split()[:3]))])
-            met.update(["stale: another context"] if ", another context: " in it else [])
         wanted = {str(line): ["    " + it for it in lines] for line, lines in told.explained.items()}
         others = [(line, below[line], lines) for line, lines in wanted.items() if below[line] != lines]
         return script.played(program(), word="debug")[0] + others[:1]

@@ -7,6 +7,7 @@ allocation; `clap` may refuse the words. Of check the status is 3, once its word
   $ printf 'reg read 8 4' > ask
   $ run() { env "$@" < ask > out 2> errors; ended="$? $(cat out errors new | cksum)"; }
   $ refusal="$(printf 'rviommu: out of memory\nbefore\n' | cksum)"
+  $ named="$(printf '1 file: 0 passed, 0 failed, 1 not read\nrviommu: image: out of memory\nbefore\n' | cksum)"
   $ refused() {
   >   echo before > new; run "$RVIOMMU_PROGRAM" "$@"; ample=$ended
   >   number=0; seen=nothing
@@ -16,7 +17,7 @@ allocation; `clap` may refuse the words. Of check the status is 3, once its word
   >     test -e counted || break
   >     case $ended in
   >       "1 $refusal") seen='out of memory';;
-  >       "3 $refusal") test "$1" = check && seen='out of memory' || echo "allocation $number: $ended";;
+  >       "3 $refusal" | "3 $named") test "$1" = check && seen='out of memory' || echo "allocation $number: $ended";;
   >       "$ample") ;;
   >       *) test "${ended%% *}$(cat new)" = 2before || echo "allocation $number: $(cat errors)";;
   >     esac
