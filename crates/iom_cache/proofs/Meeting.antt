@@ -1,9 +1,9 @@
 -- Two ranges meet exactly if they have a page in common.
-use Rattle.std.proofs.Common.{◌≡◌, ℕ, ◌+◌, ◌-◌, ◌*◌, ◌/◌, ◌^◌, ◌≤◌, ◌<◌, ◌==◌, if◌then◌else◌, true, nat_le, refl, sym, ap, subst, ◌∙◌, arith}
+use Rattle.std.proofs.Common.{◌≡◌, ℕ, ◌+◌, ◌-◌, ◌/◌, ◌^◌, ◌≤◌, ◌==◌, true, nat_le, refl, sym, ap, ◌∙◌, arith}
 use Rattle.std.proofs.Math.Nat.{div-div-eq-div-mul}
 use Rattle.std.proofs.lemmas.Nat.{pow-add}
 use Rattle.std.proofs.lemmas.Bool.{cond_both, eqb-true, leb-true}
-use Rattle.iom_cache.specs.Drops.{larger, meets}
+use Rattle.iom_cache.specs.Drops.{meets}
 use Rattle.iom_cache.specs.Ranges.{HaveCommonPage}
 
 -- what is the same above some bits is the same above more

@@ -7,7 +7,7 @@ use Rattle.iom_bits.specs.declared.causes.Cause.TheVariants.{DirBad}
 use Rattle.iom_bits.specs.declared.features.Features.{Features}
 use Rattle.iom_ddt.specs.Contexts.{has_modes}
 use Rattle.iom_ddt.specs.Directory.{IsContextOf}
-use Rattle.iom_ddt.specs.Words.{IsEncoding, tc, words_of}
+use Rattle.iom_ddt.specs.Words.{IsEncoding, tc}
 use Rattle.iom_ddt.specs.declared.context.ContextFields.{ContextFields}
 
 valid : (c : ContextFields) → has_bit (tc c) 0 ≡ true
