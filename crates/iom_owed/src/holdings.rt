@@ -80,7 +80,8 @@ impl Holdings {
     {
         let request = board.request_of(ram, step);
         self.add(board, ram, request, number)?;
-        self.drop_by(executed(board, ram, step));
+        let command = executed(board, ram, step);
+        self.drop_by(command);
         Ok(())
     }
 
@@ -126,7 +127,7 @@ impl Holdings {
             ≡ read_by (bare (state_on (M.memory ram.now) board.now)) (entries_in self.now.entries) (Some request.now)) }
     {
         let alloc = *self.entries.allocator();
-        let held = entries_in(alloc, &self.entries)?;
+        let held = entries_in(alloc, self.entries())?;
         let mut ways = Ways {
             led: Vec::new(alloc),
             reads: Vec::new(alloc),

@@ -2,7 +2,8 @@
 
 ghost use Rattle.std.specs.Prelude.{◌≡◌, ◌≢◌, ◌↔◌, ℕ, List, ◌∷◌, [], IfNone, IfOk, IfSome, IsTrue};
 ghost use Rattle.iom_choices.specs.Systems.{IsAmong};
-ghost use Rattle.iom_core.specs.State.{State, state_on};
+ghost use Rattle.iom_core.specs.Looking.{by_tables};
+ghost use Rattle.iom_core.specs.State.{State, in_front_of, state_on};
 ghost use Rattle.iom_core.specs.declared.way.Way.{Way as Led};
 ghost use Rattle.iom_owed.specs.Holdings.{Keeps};
 ghost use Rattle.iom_owed.specs.Newest.{steps_of};
@@ -61,7 +62,7 @@ impl Holdings {
         ensures { (start : State) (taken : List (Step × ℕ)) → Keeps self.now (state_on (M.memory ram.now) board.now) start taken →
             IfOk result (IsJudged start (steps_of taken) request.now) }
     {
-        let tables = board.lookup_uncached(ram, request).way;
+        let tables = way_by_tables(board, ram, request);
         let ways = self.ways(board, ram, request)?;
         let Some(elsewhere) = first_other(&ways.led, &tables) else {
             return Ok(None);
@@ -85,6 +86,13 @@ impl Holdings {
         }
         Ok(owed)
     }
+}
+
+// Where the tables lead a request.
+fn way_by_tables<M: Region>(board: &Board, ram: &M, request: &Request) -> Way
+    ensures { result ≡ by_tables (in_front_of (M.memory ram.now) board.now.iommu) request.now }
+{
+    board.lookup_uncached(ram, request).way
 }
 
 // The first of these ways that differs from this one; None if none does.

@@ -9,5 +9,5 @@ pub returns-clause-keeps : goal.returns-clause-keeps
 returns-clause-keeps g c = λ start taken k.
     let state : State = state_on (g.M.Region.memory c.args.ram.now) c.args.board.now in
     subst (λ (held : HoldingsView). Keeps held (next state c.args.step.now).state start ((c.args.step.now, c.args.number) ∷ taken)) (sym c.drop_by.ensures)
-    (followed c.args.self.now c.add.new.self state start taken c.args.step.now c.args.number c.request_of-request.result c.executed.result
-    c.request_of-request.ensures.request c.executed.ensures c.in_ok-add.ensures.added k)
+    (followed c.args.self.now c.add.new.self state start taken c.args.step.now c.args.number c.request_of-request.result c.executed-command.result
+    c.request_of-request.ensures.request c.executed-command.ensures c.in_ok-add.ensures.added k)
