@@ -7,7 +7,7 @@ use Rattle.iom_reader.specs.Running.{IsWithinLimits}
 use Rattle.iom_reader.specs.Speaking.{Speaks, by_lines}
 use Rattle.iom_debug.specs.Summary.{up_to_64_bits}
 use Rattle.iom_debug.specs.Taking.{Desk}
-use Rattle.iom_debug.specs.Telling.{Leaves, answer_at, at_once}
+use Rattle.iom_debug.specs.Telling.{Leaves, answer_at, at_once, slip_with}
 use Rattle.iom_debug.specs.declared.stale.StaleAccess.{StaleAccess}
 use Rattle.iom_check.specs.Judging.{tables_told}
 use Rattle.iom_check.specs.Looking.{looked_by}
@@ -22,16 +22,17 @@ pub record Checked : Type 0 where
   pub score : Score
 
 -- a line's test point, and what would go unnoticed
-abbrev pub line_told : Score → ℕ → List ℕ → List ℕ → List ℕ → Told
-line_told s number line answer tables =
-    let first = judged s number line answer tables in
+abbrev pub line_told : Score → ℕ → List ℕ → List ℕ → List ℕ → List ℕ → Told
+line_told s number line answer slip tables =
+    let first = judged s number line answer slip tables in
     let second = remarked first.after number line answer in
     record { said = first.said ++ second.said; after = with_wish second.after line }
 
--- by the line's last access that was stale
+-- by the names before the line, and its last access that was stale
 abbrev pub told_at : Checked → ℕ → List ℕ → Option StaleAccess → Told
 told_at before number line stale =
-    line_told before.score number line (answer_at before.desk line) (tables_told before.score.rules.fails_if_stale stale)
+    line_told before.score number line (answer_at before.desk line) (slip_with before.desk.names line)
+    (tables_told before.score.rules.fails_if_stale stale)
 
 -- `check` tells the lines one after the other
 pub record CheckSays (before : Checked) (line said : List ℕ) (after : Checked) : Type 0 where

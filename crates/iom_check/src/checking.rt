@@ -172,11 +172,17 @@ impl Answerer for Checking<'_> {
     ) -> Result<(), RunFault> {
         let line = first_bytes(line);
         self.number = self.number.saturating_add(1);
+        let slip = self.debugger.slip(line);
         let answer = self.debugger.line(self.number, line);
         let tables = self.tables();
         self.scoring.page.clear();
-        self.scoring
-            .judge(self.number, line, answer.as_slice(), tables.as_slice());
+        self.scoring.judge(
+            self.number,
+            line,
+            answer.as_slice(),
+            slip.as_slice(),
+            tables.as_slice(),
+        );
         self.scoring.remark(self.number, line, answer.as_slice());
         write_told(writer, self.scoring.page.as_slice())
     }

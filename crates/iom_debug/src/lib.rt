@@ -6,7 +6,7 @@ pub use debugger::Debugger;
 pub use debugging::{Debugging, debug};
 pub use iom_account::Reason;
 pub use iom_tool::{Actor, Reply};
-pub use page::{OutputPage, first_bytes, put, put_escaped, put_number, write_told};
+pub use page::{OutputPage, first_bytes, put, put_escaped, put_number, put_slip, write_told};
 pub use parts::{is_told_alike, put_cached, put_part};
 pub use reason::origin_line;
 pub use reasons::LineAccount;
