@@ -20,6 +20,7 @@ mod answers;
 mod comments;
 mod debugger;
 mod debugging;
+mod fences;
 mod page;
 mod parts;
 mod reason;
