@@ -90,7 +90,7 @@ impl Checking<'_> {
     ghost use Rattle.iom_check.specs.Scores.{score_of};
 
     // Carries out a line, and puts what is told of it on the page. Answers whether the caches are looked at behind it.
-    fn judge(&mut self, line: &[u8]) -> bool
+    fn judge_line(&mut self, line: &[u8]) -> bool
         requires { length line.now ≤ 513 }
         ensures said { LineSays (checked_by self.old) line.now self.new.scoring.page.items (checked_by self.new) }
         ensures looks { result ≡ looks_behind (checked_by self.old) line.now }
@@ -233,7 +233,7 @@ impl Answerer for Checking<'_> {
         writer: &mut WatchedWriter<'_, W>,
     ) -> Result<(), RunFault> {
         let line = first_bytes(line);
-        let looks = self.judge(line);
+        let looks = self.judge_line(line);
         write_told(writer, self.scoring.page.as_slice())?;
         self.look_if(looks, writer)
     }

@@ -6,12 +6,12 @@ use Rattle.iom_check.proofs.checking.CheckingAnswerer.answer.Goals as goal
 
 pub returns-in_err-write_told-clause-next : goal.returns-in_err-write_told-clause-next
 returns-in_err-write_told-clause-next g c =
-    breaks_alone c.args.line.now c.first_bytes-line.result.now _ _ _ _ c.first_bytes-line.ensures.bytes c.judge-looks.ensures.said
+    breaks_alone c.args.line.now c.first_bytes-line.result.now _ _ _ _ c.first_bytes-line.ensures.bytes c.judge_line-looks.ensures.said
     (rw c.as_slice.ensures.value at c.in_err-write_told.ensures.front)
 
 pub returns-in_ok-write_told-clause-next : goal.returns-in_ok-write_told-clause-next
 returns-in_ok-write_told-clause-next g c =
-    told_behind c.args.line.now c.first_bytes-line.result.now _ c.judge-looks.result _ _ (checked_by c.judge-looks.new.self) _ c.look_if.result
-    c.first_bytes-line.ensures.bytes c.judge-looks.ensures.said c.judge-looks.ensures.looks
+    told_behind c.args.line.now c.first_bytes-line.result.now _ c.judge_line-looks.result _ _ (checked_by c.judge_line-looks.new.self) _ c.look_if.result
+    c.first_bytes-line.ensures.bytes c.judge_line-looks.ensures.said c.judge_line-looks.ensures.looks
     (rw c.as_slice.ensures.value at c.in_ok-write_told.ensures.ok) c.look_if.ensures.ok c.look_if.ensures.front c.look_if.ensures.score
     c.look_if.ensures.same (ap (λ d. desk_of d) c.look_if.ensures.debugger) c.look_if.ensures.number

@@ -1,6 +1,6 @@
 use Rattle.iom_check.specs.Scores.{score_of}
 use Rattle.iom_check.proofs.Telling.{line_says, told_line}
-use Rattle.iom_check.proofs.checking.Checking.judge.Goals as goal
+use Rattle.iom_check.proofs.checking.Checking.judge_line.Goals as goal
 
 pub returns-clause-said : goal.returns-clause-said
 returns-clause-said c =
