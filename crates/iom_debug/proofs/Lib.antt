@@ -1,6 +1,6 @@
 pub mod Blanks
 pub mod Bounds
-pub mod Fences
+pub mod Fenced
 pub mod Lines
 pub mod Newest
 pub mod Remaining
