@@ -99,7 +99,7 @@ impl Checking<'_> {
         self.number = self.number.saturating_add(1);
         let slip = self.debugger.slip(line);
         let answer = self.debugger.line(self.number, line);
-        let looks = self.scoring.rules.looks_at_fences && self.debugger.reasons.has_fence();
+        let looks = self.scoring.rules.looks_at_fences && self.debugger.has_fence();
         let tables = self.tables();
         self.scoring.page.clear();
         self.scoring.judge(

@@ -144,6 +144,13 @@ impl<'a> Debugger<'a> {
         }
     }
 
+    /// Whether a step of the last line carried out an IOFENCE.C ("IOFENCE.C").
+    pub fn has_fence(&self) -> bool
+        ensures { result ≡ self.now.reasons.now.has_fence }
+    {
+        self.reasons.has_fence()
+    }
+
     /// The last access of the last line that was stale, as `read 0x40202abc served by line 12, the tables now say denied 13`. Empty if none
     /// of its accesses was.
     pub fn stale_told(&self) -> Reply
