@@ -21,14 +21,12 @@ use Rattle.iom_reader.specs.Answering.{Progress, AnswersNext, IsAnswering}
 use Rattle.iom_reader.specs.declared.fault.RunFault.{RunFault}
 use Rattle.iom_reader.specs.Running.{Ends}
 use Rattle.iom_reader.proofs.Chains.{spoken, lawful as by_lines_lawful}
-use Rattle.iom_tool.specs.Console.{traced}
 use Rattle.iom_tool.specs.Script.{DebugLine}
 use Rattle.iom_names.specs.Reading.{line_with}
 use Rattle.iom_tool.specs.Parsed.{line_as}
 use Rattle.iom_tool.specs.declared.language.Actor.{Actor}
 use Rattle.iom_tool.specs.declared.language.Line.{Line}
 use Rattle.iom_tool.specs.declared.language.Line.TheVariants as own
-use Rattle.iom_tool.specs.declared.trace.TracedStep.{TracedStep}
 use Rattle.iom_debug.specs.Telling.{Leaves, answer_at, slip_with}
 use Rattle.iom_tool.specs.Texts.{entry_text}
 use Rattle.iom_debug.specs.Reasons.{newest_origin, stale_in}

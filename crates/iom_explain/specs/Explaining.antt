@@ -2,9 +2,7 @@
 -- the reasons of that, and at the end how the accesses went. If it is to tell some accesses only, no other step is told, and no line.
 use Rattle.std.specs.Prelude.{ℕ, ◌≡◌, ◌+◌, ◌==◌, ◌++◌, ◌&&◌, ◌||◌, Bool, false, true, nat_lt, List, [], ◌∷◌, length, replicate, codes, Option, Some, None, is_some, if◌then◌else◌}
 use Rattle.std.specs.List.{flat_map}
-use Rattle.std.specs.Option.{option_and_then}
 use Rattle.std.specs.Io.KnownBytes.{Appends, Consumes, IsAtEnd}
-use Rattle.circular_buffer.specs.Buffer.{last_item}
 use Rattle.iom_text.specs.Texts.{numeral}
 use Rattle.iom_core.specs.Looking.{is_cached, seen_in}
 use Rattle.iom_core.specs.State.{State}
@@ -14,9 +12,7 @@ use Rattle.iom_core.specs.declared.looking.Lookup.{Lookup}
 use Rattle.iom_core.specs.declared.step.Step.{Step}
 use Rattle.iom_core.specs.declared.step.Answer.{Answer}
 use Rattle.iom_core.specs.declared.step.Answer.TheVariants as answer
-use Rattle.iom_account.specs.Account.{AccountView}
 use Rattle.iom_account.specs.declared.origin.NumberedWarrant.{NumberedWarrant}
-use Rattle.iom_account.specs.declared.reason.Reason.{Reason}
 use Rattle.iom_reader.specs.Answering.{Answering}
 use Rattle.iom_reader.specs.Lines.{lines_of}
 use Rattle.iom_reader.specs.Running.{IsWithinLimits}
