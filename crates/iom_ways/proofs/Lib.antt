@@ -3,3 +3,4 @@ pub mod Ends
 pub mod Paths
 pub mod Stages
 pub mod Trees
+pub mod Firsts

@@ -1,5 +1,5 @@
 -- The ways that held entries allow a request, as a list that grows: RISC-V IOMMU Architecture 1.0, "Caching in-memory data structures".
-use Rattle.std.specs.Prelude.{◌≡◌, ◌++◌, List, map}
+use Rattle.std.specs.Prelude.{◌≡◌, ◌++◌, List, ◌∷◌, map}
 use Rattle.iom_core.specs.declared.way.Way.{Way as Led}
 use Rattle.iom_choices.specs.Systems.{ModelWalk}
 use Rattle.iom_choices.specs.Trees.{reads_in}
@@ -14,3 +14,8 @@ leads ways = map (λ (way : ModelWalk Entry Led). way.led) ways
 pub record Gathers (ways : List (ModelWalk Entry Led)) (before after : Ways) : Type 0 where
   pub led : after.led.items ≡ before.led.items ++ leads ways
   pub reads : after.reads.items ≡ before.reads.items ++ reads_in ways
+
+-- this way is the first
+pub record BeginsWith (way : ModelWalk Entry Led) (ways : List (ModelWalk Entry Led)) : Type 0 where
+  pub others : List (ModelWalk Entry Led)
+  pub is : ways ≡ way ∷ others

@@ -2,11 +2,13 @@
 //! `iom_choices` lists them over the walks of `iom_every`.
 #![tactic(auto)]
 
+pub use laws::memory_leads_first;
 pub use ways::{Ways, put_ways};
 
 mod access;
 mod first;
 mod found;
+mod laws;
 mod path;
 mod under;
 mod ways;
