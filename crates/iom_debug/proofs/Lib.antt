@@ -1,5 +1,6 @@
 pub mod Blanks
 pub mod Bounds
+pub mod Fenced
 pub mod Lines
 pub mod Newest
 pub mod Remaining

@@ -1,11 +1,11 @@
 -- What is told of the steps of lines while they are carried out: where each access's translation came from, and where the tables led it
--- then, if it was stale.
-use Rattle.std.specs.Prelude.{ℕ, ◌≡◌, ◌++◌, List, [], ◌∷◌, codes, Option, Some, None, Result, slice_get}
+-- then, if it was stale; and whether a fence was carried out.
+use Rattle.std.specs.Prelude.{ℕ, ◌≡◌, ◌++◌, ◌||◌, Bool, false, List, [], ◌∷◌, codes, Option, Some, None, Result, slice_get}
 use Rattle.std.specs.Option.{option_and_then, option_map}
 use Rattle.circular_buffer.specs.Buffer.{last_item}
 use Rattle.iom_text.specs.Texts.{numeral}
 use Rattle.iom_core.specs.State.{State}
-use Rattle.iom_core.specs.Table.{next, request_of_step}
+use Rattle.iom_core.specs.Table.{executed, next, request_of_step}
 use Rattle.iom_core.specs.declared.access.Denial.{Denial}
 use Rattle.iom_core.specs.declared.access.Request.{Request}
 use Rattle.iom_core.specs.declared.step.Step.{Step}
@@ -16,6 +16,7 @@ use Rattle.iom_account.specs.Account.{AccountView, GoesAlong as AccountGoesAlong
 use Rattle.iom_account.specs.Following.{HistoryView, numbers_of}
 use Rattle.iom_account.specs.declared.history.FilledBy.{FilledBy}
 use Rattle.iom_account.specs.declared.reason.Reason.{Reason}
+use Rattle.iom_debug.specs.Fences.{is_fence}
 use Rattle.iom_debug.specs.Stale.{stale_access}
 use Rattle.iom_debug.specs.Ways.{address_of, address_text}
 use Rattle.iom_debug.specs.declared.stale.StaleAccess.{StaleAccess}
@@ -43,10 +44,12 @@ tables_of reason = reason.stale
 abbrev pub newest_tables : AccountView → Option Way
 newest_tables account = option_and_then tables_of (last_item account.reasons)
 
--- what is kept beside a platform: the account of its steps, and the last access of a line that was stale
+-- what is kept beside a platform: the account of its steps, the last access of a line that was stale, and whether a step of the line carried
+-- out a fence
 pub record LineAccountView : Type 0 where
   pub account : AccountView
   pub stale : Option StaleAccess
+  pub has_fence : Bool
 
 -- It went along with these steps of one number.
 abbrev pub GoesAlong : LineAccountView → State → List Step → ℕ → LineAccountView → State → Type 0
@@ -54,7 +57,7 @@ GoesAlong before state more number after left = AccountGoesAlong before.account 
 
 -- a line begins
 abbrev pub begun : LineAccountView → LineAccountView
-begun reasons = record reasons { stale = None }
+begun reasons = record reasons { stale = None; has_fence = false }
 
 -- the last of two, where there is one
 abbrev pub later : Option StaleAccess → Option StaleAccess → Option StaleAccess
@@ -70,12 +73,16 @@ stale_in before state step after =
 abbrev pub KeepsStale : LineAccountView → State → Step → LineAccountView → Type 0
 KeepsStale before state step after = after.stale ≡ later before.stale (stale_in before state step after)
 
--- the same of steps of one number, one after the other: of the last of their accesses that was stale
+-- and whether it or a step before it carried out a fence
+abbrev pub KeepsFence : LineAccountView → State → Step → LineAccountView → Type 0
+KeepsFence before state step after = after.has_fence ≡ (before.has_fence || is_fence (executed state step))
+
+-- the same of steps of one number, one after the other: of the last of their accesses that was stale, and of fences
 abbrev pub KeepsLastStale : LineAccountView → State → List Step → ℕ → LineAccountView → Type 0
 KeepsLastStale before state [] number after = after ≡ before
 KeepsLastStale before state (step ∷ steps) number after =
     (mid : LineAccountView) × GoesAlong before state (step ∷ []) number mid (next state step).state × KeepsStale before state step mid
-    × KeepsLastStale mid (next state step).state steps number after
+    × KeepsFence before state step mid × KeepsLastStale mid (next state step).state steps number after
 
 -- the numbers of the steps that filled what an access used
 abbrev pub origin_text : NumberedWarrant → List ℕ

@@ -51,9 +51,12 @@ slip_with names line =
 abbrev pub slip_told : Bool → List Binding → List ℕ → List ℕ
 slip_told tells names line = if tells then slip_with names line else []
 
--- an answer with that behind it
+-- the same behind an answer
+abbrev pub slip_text : List ℕ → List ℕ
+slip_text slip = if nat_lt 0 (length slip) then codes ": " ++ slip else []
+
 abbrev pub with_slip : List ℕ → List ℕ → List ℕ
-with_slip answer slip = if nat_lt 0 (length slip) then answer ++ codes ": " ++ slip else answer
+with_slip answer slip = answer ++ slip_text slip
 
 -- an answer with its line end; nothing where there is none
 abbrev pub line_told : List ℕ → List ℕ

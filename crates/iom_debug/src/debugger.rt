@@ -40,6 +40,7 @@ impl<'a> Debugger<'a> {
     ghost use Rattle.iom_names.specs.Reading.{line_with, names_after};
     ghost use Rattle.iom_tool.specs.Script.{Bad, line_of};
     ghost use Rattle.iom_debug.specs.Desks.{desk_of, names_of};
+    ghost use Rattle.iom_debug.specs.Fences.{have_fence};
     ghost use Rattle.iom_debug.specs.Output.{IsAsRun, debug_reply, debug_steps, debug_steps_of};
     ghost use Rattle.iom_debug.specs.Reasons.{GoesAlong, KeepsLastStale, begun};
     ghost use Rattle.iom_debug.specs.Stale.{stale_told};
@@ -81,11 +82,13 @@ impl<'a> Debugger<'a> {
             IsAsRun (console self.old.platform.now self.old.trace.now) text.now
             result.items (console self.new.platform.now self.new.trace.now) }
 
-        // What is told goes along with the steps, and of this line its last access that was stale is kept.
+        // What is told goes along with the steps, and of this line its last access that was stale is kept, and whether it carried out a fence.
         ensures along { GoesAlong self.old.reasons.now self.old.platform.now (debug_steps_of self.old.names self.old.platform.now text.now) number
             self.new.reasons.now self.new.platform.now }
         ensures stale { KeepsLastStale (begun self.old.reasons.now) self.old.platform.now
             (debug_steps_of self.old.names self.old.platform.now text.now) number self.new.reasons.now }
+        ensures fence { self.new.reasons.now.has_fence
+            ≡ have_fence self.old.platform.now (debug_steps_of self.old.names self.old.platform.now text.now) }
         ensures names { self.new.names ≡ names_after self.old.names text.now }
         ensures same { names_of self.new ≡ names_of self.old }
     {
@@ -139,6 +142,13 @@ impl<'a> Debugger<'a> {
             Some(line) => slip(line.as_slice()),
             None => reply_of(b"a line has at most 512 bytes"),
         }
+    }
+
+    /// Whether a step of the last line carried out an IOFENCE.C ("IOFENCE.C").
+    pub fn has_fence(&self) -> bool
+        ensures { result ≡ self.now.reasons.now.has_fence }
+    {
+        self.reasons.has_fence()
     }
 
     /// The last access of the last line that was stale, as `read 0x40202abc served by line 12, the tables now say denied 13`. Empty if none

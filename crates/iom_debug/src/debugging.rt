@@ -8,7 +8,7 @@ ghost use Rattle.iom_debug.specs.Desks.{desk_of};
 ghost use Rattle.iom_debug.specs.Telling.{by_debug, line_told, slip_told, with_slip};
 
 use crate::debugger::Debugger;
-use crate::page::{OutputPage, first_bytes, put, write_told};
+use crate::page::{OutputPage, first_bytes, put, put_slip, write_told};
 use iom_reader::{Answerer, RunFault, WatchedReader, WatchedWriter, answer_all};
 use iom_tool::Reply;
 use std::io::{Read, Write};
@@ -93,10 +93,7 @@ fn put_answer(out: &mut OutputPage, answer: &[u8], slip: &[u8])
     ensures room { length out.new.items ≤ 642 }
 {
     put(out, answer);
-    if !slip.is_empty() {
-        put(out, b": ");
-        put(out, slip);
-    }
+    put_slip(out, slip);
 }
 
 // Puts an answer, and why its line is bad, with its line end, where there is an answer.

@@ -6,7 +6,7 @@ ghost use Rattle.hex.specs.Hex.{encode_lower};
 ghost use Rattle.iom_text.specs.Texts.{numeral};
 ghost use Rattle.iom_reader.specs.Running.{WritesFront, is_write};
 ghost use Rattle.iom_reader.specs.Watching.{write_failed};
-ghost use Rattle.iom_debug.specs.Telling.{escaped, shown};
+ghost use Rattle.iom_debug.specs.Telling.{escaped, shown, slip_text};
 
 use arrayvec::ArrayVec;
 use hex::encode_to_slice;
@@ -76,6 +76,18 @@ pub fn put_escaped(out: &mut OutputPage, text: &[u8])
 {
     for byte in text {
         put_shown(out, *byte);
+    }
+}
+
+/// Appends the reason of a bad line behind its answer, as `: VALUE is missing`; nothing if it is empty.
+pub fn put_slip(out: &mut OutputPage, slip: &[u8])
+    requires { length out.old.items + length slip.now + 2 ≤ 16384 }
+    ensures text { out.new.items ≡ out.old.items ++ slip_text slip.now }
+    ensures room { length out.new.items ≤ length out.old.items + length slip.now + 2 }
+{
+    if !slip.is_empty() {
+        put(out, b": ");
+        put(out, slip);
     }
 }
 

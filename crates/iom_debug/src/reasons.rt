@@ -2,17 +2,19 @@
 
 ghost use Rattle.std.specs.Prelude.{◌≡◌};
 
+use crate::fences::is_fence;
 use crate::stale::{StaleAccess, kept_by, led_by};
 use iom_account::{Account, History, NumberedWarrant, Reason};
 use iom_core::{Answer, Platform, Step, Way};
 use std::marker::Model;
 
 /// The reasons of the last 32 steps of a script, beside a platform and a trace: the warrant of each access, and the way that the tables gave
-/// it then if it was stale; and the last access of a line that was stale.
+/// it then if it was stale; the last access of a line that was stale, and whether a step of the line carried out an IOFENCE.C.
 #[derive(Drop)]
 pub struct LineAccount {
     account: Account,
     stale: Option<StaleAccess>,
+    has_fence: bool,
 }
 
 impl Model for LineAccount {
@@ -20,26 +22,28 @@ impl Model for LineAccount {
 
     ghost Value = { LineAccountView };
 
-    ghost view = { λ r. record { account = r.account; stale = r.stale } };
+    ghost view = { λ r. record { account = r.account; stale = r.stale; has_fence = r.has_fence } };
 }
 
 impl LineAccount {
-    ghost use Rattle.std.specs.Prelude.{◌≡◌, [], ◌∷◌, None, slice_get};
+    ghost use Rattle.std.specs.Prelude.{◌≡◌, [], ◌∷◌, false, None, slice_get};
     ghost use Rattle.std.specs.Option.{option_copied};
     ghost use Rattle.circular_buffer.specs.Buffer.{last_item};
     ghost use Rattle.iom_account.specs.Account.{Accounts};
     ghost use Rattle.iom_core.specs.Table.{next};
-    ghost use Rattle.iom_debug.specs.Reasons.{GoesAlong, KeepsStale, begun, newest_origin, newest_tables, stale_in};
+    ghost use Rattle.iom_debug.specs.Reasons.{GoesAlong, KeepsFence, KeepsStale, begun, newest_origin, newest_tables, stale_in};
 
     /// Empty reasons of this platform. No call of theirs takes memory. Origins are known only if both caches are empty now.
     pub fn new(platform: &Platform) -> LineAccount
         ensures begins { Accounts result.account platform.now platform.now [] [] }
         ensures empty { result.account.reasons ≡ [] }
         ensures current { result.stale ≡ None }
+        ensures fence { result.has_fence ≡ false }
     {
         LineAccount {
             account: Account::new(platform),
             stale: None,
+            has_fence: false,
         }
     }
 
@@ -86,11 +90,19 @@ impl LineAccount {
         self.stale
     }
 
-    /// A line begins: none of its accesses was stale yet.
+    /// Whether a step of the last line carried out an IOFENCE.C.
+    pub fn has_fence(&self) -> bool
+        ensures { result ≡ self.now.has_fence }
+    {
+        self.has_fence
+    }
+
+    /// A line begins: none of its accesses was stale yet, and it carried out no IOFENCE.C.
     pub fn begin_line(&mut self)
         ensures { self.new ≡ begun self.old }
     {
         self.stale = None;
+        self.has_fence = false;
     }
 
     /// Carries out the next step on the platform, a step of the line of this number, writes its answer to `answer`, and keeps its reason.
@@ -107,10 +119,13 @@ impl LineAccount {
         ensures state { platform.new ≡ (next platform.old step.now).state }
         ensures access { result ≡ stale_in self.old platform.old step.now self.new }
         ensures stale { KeepsStale self.old platform.old step.now self.new }
+        ensures fence { KeepsFence self.old platform.old step.now self.new }
         ensures along { GoesAlong self.old platform.old (step.now ∷ []) number self.new platform.new }
     {
         let led = led_by(self.account.history(), platform, step);
+        let is_fence = is_fence(platform, step);
         self.account.step(platform, step, number, answer);
+        self.has_fence = self.has_fence || is_fence;
         let stale = kept_by(led, self.newest_origin(), self.newest_tables());
         if stale.is_some() {
             self.stale = stale;

@@ -1,3 +1,4 @@
+use Rattle.iom_debug.proofs.Fenced.{noted}
 use Rattle.iom_debug.proofs.Lines.{as_run}
 use Rattle.iom_debug.proofs.debugger.Debugger.line.Goals as goal
 
@@ -6,6 +7,9 @@ returns-clause-along c = rw c.read-line.ensures.line at c.carry_out.ensures.alon
 
 pub returns-clause-stale : goal.returns-clause-stale
 returns-clause-stale c = rw c.read-line.ensures.line at c.carry_out.ensures.stale
+
+pub returns-clause-fence : goal.returns-clause-fence
+returns-clause-fence c = noted c.args.self.now.reasons.now _ _ _ _ (rw c.read-line.ensures.line at c.carry_out.ensures.stale)
 
 pub returns-clause-as_run : goal.returns-clause-as_run
 returns-clause-as_run c = λ other.
