@@ -1,12 +1,34 @@
 -- Places that are looked at one after the other.
-use Rattle.std.proofs.Common.{◌≡◌, ◌+◌, ◌-◌, ◌<◌, ◌≤◌, ◌++◌, ◌∙◌, ℕ, zero, suc, true, List, [], Option, sym, ap, subst, refl, append_assoc, append-nil, arith}
+use Rattle.std.proofs.Common.{◌≡◌, ◌+◌, ◌-◌, ◌<◌, ◌≤◌, ◌++◌, ◌∙◌, ℕ, suc, true, List, [], Option, sym, ap, subst, refl, append_assoc, append-nil, length-append, arith}
 use Rattle.std.specs.Io.KnownBytes.{Appends}
 use Rattle.std.proofs.KnownBytes.{Appends-nil, Appends-trans}
+use Rattle.iom_reader.specs.Running.{WritesFront}
 use Rattle.iom_core.specs.State.{Machine}
 use Rattle.iom_check.specs.Looking.{all_looked, looked, looked_at, looked_by, standing_at}
 use Rattle.iom_check.specs.Scoring.{Score, Told}
 use Rattle.iom_check.specs.declared.looking.Cache.{Cache}
 use Rattle.iom_check.specs.declared.looking.Cache.TheVariants as cache
+
+-- some front of a text is one of a longer text, at its beginning or behind what was written whole
+pub front_more : (a b : Option (List ℕ)) (text more : List ℕ) → WritesFront a b text → WritesFront a b (text ++ more)
+front_more a b text more w =
+    let some = w.missing in
+    record {
+      front = w.front;
+      rest = w.rest ++ more;
+      whole = sym (append_assoc w.front w.rest more) ∙ ap (λ t. t ++ more) w.whole;
+      missing = omega (arith, length-append w.rest more, some);
+      written = w.written;
+    }
+
+pub front_after : (a b c : Option (List ℕ)) (text more : List ℕ) → Appends a b text → WritesFront b c more → WritesFront a c (text ++ more)
+front_after a b c text more wrote w = record {
+  front = text ++ w.front;
+  rest = w.rest;
+  whole = append_assoc text w.front w.rest ∙ ap (λ t. text ++ t) w.whole;
+  missing = w.missing;
+  written = Appends-trans _ _ _ _ _ wrote w.written;
+}
 
 -- something was said before
 abbrev pub behind : List ℕ → Told → Told
@@ -50,6 +72,17 @@ module _ (m : Machine) (one : Cache) (line : ℕ) where
             ∙ ap (λ s. behind (so_far.said ++ first.said) (looked m one line s (i + 1) (count - (i + 1)))) (sym is);
       }
 
+  -- a write failed within the next place
+  pub breaks_off : (start now : Score) (count i : ℕ) (a b c : Option (List ℕ)) → LooksOn m one line start now count i a b → i < count →
+      WritesFront b c (looked_at now line one i (standing_at m one i)).said → WritesFront a c (looked m one line start 0 count).said
+  breaks_off start now count i a b c so_far lt w =
+      let first = looked_at now line one i (standing_at m one i) in
+      let rest = looked m one line first.after (i + 1) (count - (i + 1)) in
+      let is : (looked m one line start 0 count).said ≡ so_far.said ++ (first.said ++ rest.said) =
+      ap (λ (t : Told). t.said) (so_far.left ∙ ap (behind so_far.said) (one_less now count i lt)) in
+      subst (WritesFront a c) (sym is)
+      (front_after a b c so_far.said (first.said ++ rest.said) so_far.wrote (front_more b c first.said rest.said w))
+
   pub finishes : (start now : Score) (count i : ℕ) (a b : Option (List ℕ)) → LooksOn m one line start now count i a b → count ≤ i →
       Appends a b (looked m one line start 0 count).said × (now ≡ (looked m one line start 0 count).after)
   unfolding looked
@@ -74,3 +107,24 @@ all_of m line s mid after a b c first moved second ended judged =
           (Appends-trans _ _ _ _ _ first (subst (λ (t : Score). Appends b c (looked m cache.Pages line t 0 64).said) moved second)),
       ended ∙ ap (λ (t : Score). (looked m cache.Pages line t 0 64).after) moved ∙ ap (λ (t : Told). t.after) (sym is),
     )
+
+-- a write failed within one of them
+pub first_breaks : (m : Machine) (line : ℕ) (s : Score) (a b : Option (List ℕ)) → WritesFront a b (looked m cache.Contexts line s 0 16).said →
+    s.rules.fails_if_stale ≡ true → WritesFront a b (looked_by m line s).said
+unfolding all_looked
+first_breaks m line s a b w judged =
+    let contexts = looked m cache.Contexts line s 0 16 in
+    let is : looked_by m line s ≡ all_looked m line s = rw judged refl in
+    subst (λ (t : Told). WritesFront a b t.said) (sym is)
+    (front_more a b contexts.said (looked m cache.Pages line contexts.after 0 64).said w)
+
+pub second_breaks : (m : Machine) (line : ℕ) (s mid : Score) (a b c : Option (List ℕ)) → Appends a b (looked m cache.Contexts line s 0 16).said →
+    mid ≡ (looked m cache.Contexts line s 0 16).after → WritesFront b c (looked m cache.Pages line mid 0 64).said →
+    s.rules.fails_if_stale ≡ true → WritesFront a c (looked_by m line s).said
+unfolding all_looked
+second_breaks m line s mid a b c wrote moved w judged =
+    let contexts = looked m cache.Contexts line s 0 16 in
+    let is : looked_by m line s ≡ all_looked m line s = rw judged refl in
+    subst (λ (t : Told). WritesFront a c t.said) (sym is)
+    (front_after a b c contexts.said (looked m cache.Pages line contexts.after 0 64).said wrote
+    (subst (λ (t : Score). WritesFront b c (looked m cache.Pages line t 0 64).said) moved w))

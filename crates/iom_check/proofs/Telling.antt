@@ -1,16 +1,21 @@
 -- What is told of lines.
-use Rattle.std.proofs.Common.{◌≡◌, ◌+◌, ◌++◌, ℕ, false, List, [], take, codes, Option, Ok, ◌∙◌, ap, subst, refl}
+use Rattle.std.proofs.Common.{◌≡◌, ◌+◌, ◌++◌, ℕ, Bool, false, List, [], take, codes, Option, Result, Ok, Err, OnOk, OnErr, ◌∙◌, ap, subst, sym, refl, append_assoc}
 use Rattle.std.specs.Io.KnownBytes.{Appends}
 use Rattle.std.proofs.KnownBytes.{Appends-trans}
-use Rattle.iom_reader.specs.Answering.{Progress}
-use Rattle.iom_reader.specs.Running.{Ends}
+use Rattle.iom_reader.specs.Answering.{Progress, AnswersNext, IsAnswering}
+use Rattle.iom_reader.specs.Running.{Ends, WritesFront}
+use Rattle.iom_reader.specs.declared.fault.RunFault.{RunFault}
+use Rattle.iom_reader.proofs.Chains.{spoken, broken, lawful as by_lines_lawful}
 use Rattle.iom_debug.specs.Summary.{up_to_64_bits}
 use Rattle.iom_debug.specs.Taking.{Desk}
-use Rattle.iom_debug.specs.Telling.{Leaves, answer_at}
-use Rattle.iom_check.specs.Checking.{Checked, CheckSays, IsChecked, by_check, closing, line_told, places_told}
+use Rattle.iom_debug.specs.Telling.{Leaves, answer_at, slip_with}
+use Rattle.iom_check.specs.Checking.{Checked, CheckBreaks, CheckSays, IsChecked, LineSays, by_check, checking, closing, line_told, looks_behind, places_if, places_told}
 use Rattle.iom_check.specs.Judging.{tables_told}
 use Rattle.iom_check.specs.Scoring.{Score, Told, ended, judged, noted, remarked, with_wish}
 use Rattle.iom_check.specs.declared.rules.Tally.{Tally}
+
+pub lawful : IsAnswering by_check
+lawful = by_lines_lawful checking
 
 pub checked : (unread left : Option (List ℕ)) (old new : Progress Checked) (holds : Option (List ℕ)) (tally : Tally) →
     Ends by_check unread left old new (Ok tt) → Appends new.written holds ((places_told new.console).said ++ closing (ended (places_told new.console).after new.console.number)) →
@@ -27,31 +32,96 @@ checked unread left old new holds tally h wrote is = record {
   counts = is;
 }
 
-pub check_says : (before : Checked) (after : Desk) (line kept said answer tables : List ℕ) (number : ℕ) (score : Score) → kept ≡ take 513 line →
-    number ≡ up_to_64_bits (before.number + 1) → Leaves before.desk kept number after → answer ≡ answer_at before.desk kept →
-    tables ≡ tables_told before.score.rules.fails_if_stale after.reasons.stale →
-    said ≡ (line_told before.score number kept answer tables).said → score ≡ (line_told before.score number kept answer tables).after →
-    CheckSays before (take 513 line) said (record { desk = after; number = number; score = score })
-check_says before after line kept said answer tables number score cut count left is stale told scored =
+pub line_says : (before : Checked) (after : Desk) (line said answer slip tables : List ℕ) (number : ℕ) (score : Score) →
+    number ≡ up_to_64_bits (before.number + 1) → Leaves before.desk line number after → answer ≡ answer_at before.desk line →
+    slip ≡ slip_with before.desk.names line → tables ≡ tables_told before.score.rules.fails_if_stale after.reasons.stale →
+    said ≡ (line_told before.score number line answer slip tables).said →
+    score ≡ (line_told before.score number line answer slip tables).after →
+    LineSays before line said (record { desk = after; number = number; score = score })
+line_says before after line said answer slip tables number score count left is why stale told scored =
     let judged = before.score.rules.fails_if_stale in
-    let all : line_told before.score number kept answer tables
-    ≡ line_told before.score number kept (answer_at before.desk kept) (tables_told judged after.reasons.stale) =
-    ap (λ a. line_told before.score number kept a tables) is ∙ ap (λ t. line_told before.score number kept (answer_at before.desk kept) t) stale in
-    subst (λ l. CheckSays before l said (record { desk = after; number = number; score = score })) cut
-    (record {
+    let all : line_told before.score number line answer slip tables
+    ≡ line_told before.score number line (answer_at before.desk line) (slip_with before.desk.names line) (tables_told judged after.reasons.stale) =
+    ap (λ a. line_told before.score number line a slip tables) is
+    ∙ ap (λ w. line_told before.score number line (answer_at before.desk line) w tables) why
+    ∙ ap (λ t. line_told before.score number line (answer_at before.desk line) (slip_with before.desk.names line) t) stale in
+    record {
       number = count;
       left = left;
       text = told ∙ ap (λ (t : Told). t.said) all;
       score = scored ∙ ap (λ (t : Told). t.after) all;
-    })
+    }
+
+with_score : (a b : Checked) (score : Score) → a.desk ≡ b.desk → a.number ≡ b.number → record a { score = score } ≡ record b { score = score }
+with_score a b score desk number =
+    ap (λ (d : Desk). record { desk = d; number = a.number; score = score }) desk
+    ∙ ap (λ n. record { desk = b.desk; number = n; score = score }) number
+
+-- a line is told, and the places behind it
+both_say : (before mid after : Checked) (line first : List ℕ) (looks : Bool) → LineSays before line first mid → looks ≡ looks_behind before line →
+    after.desk ≡ mid.desk → after.number ≡ mid.number →
+    CheckSays before line (first ++ (places_if looks mid).said) (record after { score = (places_if looks mid).after })
+both_say before mid after line first looks alone is desk number = record {
+  first = first;
+  mid = mid;
+  alone = alone;
+  text = ap (λ b. first ++ (places_if b mid).said) is;
+  left = with_score after mid (places_if looks mid).after desk number ∙ ap (λ b. record mid { score = (places_if b mid).after }) is;
+}
+
+-- without places the score is that of the line
+none_added : (before mid : Checked) (line : List ℕ) (looks : Bool) → looks ≡ looks_behind before line → looks_behind before line ≡ false →
+    mid.score ≡ (places_if looks mid).after
+none_added before mid line looks is none = ap (λ b. (places_if b mid).after) (sym (is ∙ none))
+
+-- the line's own text is written, and the places are told or a write failed within them
+pub told_behind : (line kept first : List ℕ) (looks : Bool) (old new : Progress Checked) (mid : Checked) (b : Option (List ℕ))
+    (result : Result (Unit {0}) RunFault) → kept ≡ take 513 line → LineSays old.console kept first mid → looks ≡ looks_behind old.console kept →
+    Appends old.written b first → OnOk result (Appends b new.written (places_if looks mid).said) →
+    OnErr result (WritesFront b new.written (places_if looks mid).said) → OnOk result (new.console.score ≡ (places_if looks mid).after) →
+    (looks ≡ false → new.console.score ≡ mid.score) → new.console.desk ≡ mid.desk → new.console.number ≡ mid.number →
+    AnswersNext by_check line old new result
+told_behind line kept first looks old new mid b (Ok done) cut alone is wrote more front score same desk number =
+    let text = first ++ (places_if looks mid).said in
+    let says : CheckSays old.console kept text new.console =
+    subst (λ (s : Score). CheckSays old.console kept text (record new.console { score = s })) (sym score)
+    (both_say old.console mid new.console kept first looks alone is desk number) in
+    spoken checking line text old new (subst (λ l. CheckSays old.console l text new.console) cut says) (Appends-trans _ _ _ _ _ wrote more)
+told_behind line kept first looks old new mid b (Err f) cut alone is wrote more front score same desk number =
+    let breaks : CheckBreaks old.console kept (first ++ front.front) new.console = record {
+      text = first ++ (places_if looks mid).said;
+      rest = front.rest;
+      score = (places_if looks mid).after;
+      whole = append_assoc first front.front front.rest ∙ ap (λ t. first ++ t) front.whole;
+      said = both_say old.console mid new.console kept first looks alone is desk number;
+      same = λ none. same (is ∙ none) ∙ none_added old.console mid kept looks is none;
+    } in
+    broken checking line (first ++ front.front) f old new (subst (λ l. CheckBreaks old.console l (first ++ front.front) new.console) cut breaks)
+    (Appends-trans _ _ _ _ _ wrote front.written)
+
+-- a write failed within the line's own text
+pub breaks_alone : (line kept first : List ℕ) (old new : Progress Checked) (f : RunFault) → kept ≡ take 513 line →
+    LineSays old.console kept first new.console → WritesFront old.written new.written first → AnswersNext by_check line old new (Err f)
+breaks_alone line kept first old new f cut alone front =
+    let looks = looks_behind old.console kept in
+    let places = (places_if looks new.console).said in
+    let breaks : CheckBreaks old.console kept front.front new.console = record {
+      text = first ++ places;
+      rest = front.rest ++ places;
+      score = (places_if looks new.console).after;
+      whole = sym (append_assoc front.front front.rest places) ∙ ap (λ t. t ++ places) front.whole;
+      said = both_say old.console new.console new.console kept first looks alone refl refl refl;
+      same = none_added old.console new.console kept looks refl;
+    } in
+    broken checking line front.front f old new (subst (λ l. CheckBreaks old.console l front.front new.console) cut breaks) front.written
 
 -- a line is judged, and then its remark is told
-pub told_line : (s mid after : Score) (number : ℕ) (line answer tables empty first all : List ℕ) → empty ≡ [] →
-    first ≡ empty ++ (judged s number line answer tables).said → mid ≡ (judged s number line answer tables).after →
+pub told_line : (s mid after : Score) (number : ℕ) (line answer slip tables empty first all : List ℕ) → empty ≡ [] →
+    first ≡ empty ++ (judged s number line answer slip tables).said → mid ≡ (judged s number line answer slip tables).after →
     all ≡ first ++ (remarked mid number line answer).said → after ≡ with_wish (remarked mid number line answer).after line →
-    (all ≡ (line_told s number line answer tables).said) × (after ≡ (line_told s number line answer tables).after)
-told_line s mid after number line answer tables empty first all none one moved two ended =
-    let begun = judged s number line answer tables in (
+    (all ≡ (line_told s number line answer slip tables).said) × (after ≡ (line_told s number line answer slip tables).after)
+told_line s mid after number line answer slip tables empty first all none one moved two ended =
+    let begun = judged s number line answer slip tables in (
       two ∙ ap (λ m. first ++ (remarked m number line answer).said) moved
           ∙ ap (λ p. p ++ (remarked begun.after number line answer).said) (one ∙ ap (λ p. p ++ begun.said) none),
       ended ∙ ap (λ m. with_wish (remarked m number line answer).after line) moved,

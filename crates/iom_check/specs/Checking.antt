@@ -1,18 +1,20 @@
 -- What the word `check` writes for the lines of a script, and counts.
-use Rattle.std.specs.Prelude.{ℕ, ◌≡◌, ◌+◌, ◌++◌, List, Option}
+use Rattle.std.specs.Prelude.{ℕ, ◌≡◌, ◌+◌, ◌++◌, ◌&&◌, Bool, false, List, Option, if◌then◌else◌}
 use Rattle.std.specs.Io.KnownBytes.{Appends, Consumes, IsAtEnd}
 use Rattle.iom_reader.specs.Answering.{Answering}
 use Rattle.iom_reader.specs.Lines.{lines_of}
 use Rattle.iom_reader.specs.Running.{IsWithinLimits}
-use Rattle.iom_reader.specs.Speaking.{Speaks, by_lines}
+use Rattle.iom_reader.specs.Speaking.{Speaking, Speaks, by_lines}
+use Rattle.iom_debug.specs.Fences.{have_fence}
+use Rattle.iom_debug.specs.Output.{debug_steps_of}
 use Rattle.iom_debug.specs.Summary.{up_to_64_bits}
 use Rattle.iom_debug.specs.Taking.{Desk}
-use Rattle.iom_debug.specs.Telling.{Leaves, answer_at, at_once}
+use Rattle.iom_debug.specs.Telling.{Leaves, answer_at, slip_with}
 use Rattle.iom_debug.specs.declared.stale.StaleAccess.{StaleAccess}
 use Rattle.iom_check.specs.Judging.{tables_told}
 use Rattle.iom_check.specs.Looking.{looked_by}
 use Rattle.iom_check.specs.Reporting.{tally_told}
-use Rattle.iom_check.specs.Scoring.{Score, Told, ended, judged, remarked, with_wish}
+use Rattle.iom_check.specs.Scoring.{Score, Told, ended, judged, quiet, remarked, with_wish}
 use Rattle.iom_check.specs.declared.rules.Tally.{Tally}
 
 -- a desk, how many lines were read, and the score
@@ -22,30 +24,62 @@ pub record Checked : Type 0 where
   pub score : Score
 
 -- a line's test point, and what would go unnoticed
-abbrev pub line_told : Score → ℕ → List ℕ → List ℕ → List ℕ → Told
-line_told s number line answer tables =
-    let first = judged s number line answer tables in
+abbrev pub line_told : Score → ℕ → List ℕ → List ℕ → List ℕ → List ℕ → Told
+line_told s number line answer slip tables =
+    let first = judged s number line answer slip tables in
     let second = remarked first.after number line answer in
     record { said = first.said ++ second.said; after = with_wish second.after line }
 
--- by the line's last access that was stale
+-- by the names before the line, and its last access that was stale
 abbrev pub told_at : Checked → ℕ → List ℕ → Option StaleAccess → Told
 told_at before number line stale =
-    line_told before.score number line (answer_at before.desk line) (tables_told before.score.rules.fails_if_stale stale)
+    line_told before.score number line (answer_at before.desk line) (slip_with before.desk.names line)
+    (tables_told before.score.rules.fails_if_stale stale)
 
--- `check` tells the lines one after the other
-pub record CheckSays (before : Checked) (line said : List ℕ) (after : Checked) : Type 0 where
+-- a line by itself is told
+pub record LineSays (before : Checked) (line said : List ℕ) (after : Checked) : Type 0 where
   pub number : after.number ≡ up_to_64_bits (before.number + 1)
   pub left : Leaves before.desk line after.number after.desk
   pub text : said ≡ (told_at before after.number line after.desk.reasons.stale).said
   pub score : after.score ≡ (told_at before after.number line after.desk.reasons.stale).after
 
-abbrev pub by_check : Answering
-by_check = by_lines (at_once Checked CheckSays)
-
--- the places of the caches, behind the last line
+-- the places of the caches, behind a line
 abbrev pub places_told : Checked → Told
 places_told end = looked_by end.desk.state.machine end.number end.score
+
+-- the same, where they are looked at
+abbrev pub places_if : Bool → Checked → Told
+places_if looks after = if looks then places_told after else quiet after.score
+
+-- they are looked at behind a line of which a step carries out a fence, where the rules say so
+abbrev pub looks_behind : Checked → List ℕ → Bool
+looks_behind before line =
+    before.score.rules.looks_at_fences && have_fence before.desk.state (debug_steps_of before.desk.names before.desk.state line)
+
+-- `check` tells a line, and behind it the places of the caches, where they are looked at
+pub record CheckSays (before : Checked) (line said : List ℕ) (after : Checked) : Type 0 where
+  pub first : List ℕ
+  pub mid : Checked
+  pub alone : LineSays before line first mid
+  pub text : said ≡ first ++ (places_if (looks_behind before line) mid).said
+  pub left : after ≡ record mid { score = (places_if (looks_behind before line) mid).after }
+
+-- Where a write fails, the line is carried out, and some front of what is told is written. The score may lack places only where they are
+-- looked at.
+pub record CheckBreaks (before : Checked) (line front : List ℕ) (after : Checked) : Type 0 where
+  pub text : List ℕ
+  pub rest : List ℕ
+  pub score : Score
+  pub whole : front ++ rest ≡ text
+  pub said : CheckSays before line text (record after { score = score })
+  pub same : looks_behind before line ≡ false → after.score ≡ score
+
+-- lines are told one after the other
+abbrev pub checking : Speaking
+checking = record { State = Checked; says = CheckSays; breaks = CheckBreaks }
+
+abbrev pub by_check : Answering
+by_check = by_lines checking
 
 -- what is told at the end of a script
 abbrev pub closing : Told → List ℕ
@@ -59,6 +93,6 @@ pub record IsChecked (start : Checked) (unread left held holds : Option (List �
   pub within : IsWithinLimits script
   pub text : List ℕ
   pub end : Checked
-  pub said : Speaks (at_once Checked CheckSays) start (lines_of script) text end
+  pub said : Speaks checking start (lines_of script) text end
   pub written : Appends held holds (text ++ ((places_told end).said ++ closing (ended (places_told end).after end.number)))
   pub counts : tally ≡ (ended (places_told end).after end.number).after.tally

@@ -2,7 +2,7 @@
 use Rattle.std.specs.Prelude.{ℕ, ◌++◌, ◌&&◌, ◌||◌, Bool, false, not, nat_lt, List, [], length, codes, bytes_eq, Option, Some, None, is_some, if◌then◌else◌}
 use Rattle.iom_debug.specs.Stale.{stale_told}
 use Rattle.iom_debug.specs.declared.stale.StaleAccess.{StaleAccess}
-use Rattle.iom_debug.specs.Telling.{before_comment, escaped}
+use Rattle.iom_debug.specs.Telling.{before_comment, escaped, slip_text}
 use Rattle.iom_check.specs.Wanted.{answer_of, has_arrow, wanted, wants_stale}
 
 -- a line's last access that was stale, as it is told, where stale accesses are judged
@@ -43,10 +43,11 @@ tables_text tables = if nat_lt 0 (length tables) then codes ", stale: " ++ escap
 abbrev pub title : List ℕ → List ℕ
 title line = escaped (before_comment line)
 
--- what is said of a line that fails
-unfoldable pub message : Bool → List ℕ → List ℕ → List ℕ → List ℕ
-message is_judged line answer tables =
-    title line ++ codes " -> " ++ escaped answer ++ wish_text is_judged (wanted line) answer tables ++ tables_text tables
+-- what is said of a line that fails; the slip is why it is bad, and empty where it isn't
+unfoldable pub message : Bool → List ℕ → List ℕ → List ℕ → List ℕ → List ℕ
+message is_judged line answer slip tables =
+    title line ++ codes " -> " ++ escaped answer ++ slip_text slip ++ wish_text is_judged (wanted line) answer tables
+    ++ tables_text tables
 
 -- what would go unnoticed: a wish on a line that has no answer, and a comment that looks like a wish and is none
 abbrev pub remark_by : Option (List ℕ) → List ℕ → List ℕ → List ℕ

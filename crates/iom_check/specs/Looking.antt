@@ -1,4 +1,4 @@
--- The places of both caches at a script's end: each that is stale is a test point that fails.
+-- The places of both caches, at a script's end and behind fences: each that is stale is a test point that fails.
 use Rattle.std.specs.Prelude.{ℕ, zero, suc, ◌+◌, ◌||◌, ◌++◌, Bool, List, codes, bytes_eq, if◌then◌else◌}
 use Rattle.iom_text.specs.Texts.{numeral}
 use Rattle.iom_core.specs.State.{Machine}

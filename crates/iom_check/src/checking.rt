@@ -79,12 +79,39 @@ impl<'a> Checking<'a> {
 }
 
 impl Checking<'_> {
-    ghost use Rattle.std.specs.Prelude.{◌≡◌, ◌≤◌, false, OnOk};
+    ghost use Rattle.std.specs.Prelude.{◌≡◌, ◌≤◌, false, length, IfErr, OnErr, OnOk};
     ghost use Rattle.std.specs.Io.KnownBytes.{Appends};
-    ghost use Rattle.iom_reader.specs.Running.{is_write};
+    ghost use Rattle.iom_reader.specs.Running.{WritesFront, is_write};
     ghost use Rattle.iom_reader.specs.Watching.{write_failed};
+    ghost use Rattle.iom_debug.specs.Desks.{names_of};
+    ghost use Rattle.iom_check.specs.Checking.{LineSays, looks_behind, places_if};
+    ghost use Rattle.iom_check.specs.Drives.{checked_by};
     ghost use Rattle.iom_check.specs.Looking.{all_looked, looked, looked_at, looked_by, standing_at};
     ghost use Rattle.iom_check.specs.Scores.{score_of};
+
+    // Carries out a line, and puts what is told of it on the page. Answers whether the caches are looked at behind it.
+    fn judge_line(&mut self, line: &[u8]) -> bool
+        requires { length line.now ≤ 513 }
+        ensures said { LineSays (checked_by self.old) line.now self.new.scoring.page.items (checked_by self.new) }
+        ensures looks { result ≡ looks_behind (checked_by self.old) line.now }
+        ensures same { names_of self.new.debugger ≡ names_of self.old.debugger }
+    {
+        self.number = self.number.saturating_add(1);
+        let slip = self.debugger.slip(line);
+        let answer = self.debugger.line(self.number, line);
+        let looks = self.scoring.rules.looks_at_fences && self.debugger.has_fence();
+        let tables = self.tables();
+        self.scoring.page.clear();
+        self.scoring.judge(
+            self.number,
+            line,
+            answer.as_slice(),
+            slip.as_slice(),
+            tables.as_slice(),
+        );
+        self.scoring.remark(self.number, line, answer.as_slice());
+        looks
+    }
 
     // Tells of place `i` of a cache if it is stale.
     fn look_at<W: Write>(
@@ -96,12 +123,15 @@ impl Checking<'_> {
         requires { write_failed writer.old ≡ false }
         ensures ok { OnOk result (Appends (W.contents writer.old.inner.now) (W.contents writer.new.inner.now)
             (looked_at (score_of self.old.scoring) self.old.number cache i (standing_at self.old.debugger.platform.now.machine cache i)).said) }
+        ensures front { OnErr result (WritesFront (W.contents writer.old.inner.now) (W.contents writer.new.inner.now)
+            (looked_at (score_of self.old.scoring) self.old.number cache i (standing_at self.old.debugger.platform.now.machine cache i)).said) }
         ensures score { score_of self.new.scoring
             ≡ (looked_at (score_of self.old.scoring) self.old.number cache i (standing_at self.old.debugger.platform.now.machine cache i)).after }
+        ensures fault { IfErr result (λ fault. fault ≡ RunFault.Write) }
         ensures told { write_failed writer.new ≡ is_write result }
         ensures same_writer { writer.new.inner.ghost_name ≡ writer.old.inner.ghost_name }
         ensures number { self.new.number ≡ self.old.number }
-        ensures machine { self.new.debugger.platform.now ≡ self.old.debugger.platform.now }
+        ensures debugger { self.new.debugger ≡ self.old.debugger }
     {
         let answer = standing_at(&self.debugger, cache, i);
         self.scoring.page.clear();
@@ -119,12 +149,15 @@ impl Checking<'_> {
         requires { write_failed writer.old ≡ false }
         ensures ok { OnOk result (Appends (W.contents writer.old.inner.now) (W.contents writer.new.inner.now)
             (looked self.old.debugger.platform.now.machine cache self.old.number (score_of self.old.scoring) 0 count).said) }
+        ensures front { OnErr result (WritesFront (W.contents writer.old.inner.now) (W.contents writer.new.inner.now)
+            (looked self.old.debugger.platform.now.machine cache self.old.number (score_of self.old.scoring) 0 count).said) }
         ensures score { OnOk result (score_of self.new.scoring
             ≡ (looked self.old.debugger.platform.now.machine cache self.old.number (score_of self.old.scoring) 0 count).after) }
+        ensures fault { IfErr result (λ fault. fault ≡ RunFault.Write) }
         ensures told { write_failed writer.new ≡ is_write result }
         ensures same_writer { writer.new.inner.ghost_name ≡ writer.old.inner.ghost_name }
         ensures number { self.new.number ≡ self.old.number }
-        ensures machine { self.new.debugger.platform.now ≡ self.old.debugger.platform.now }
+        ensures debugger { self.new.debugger ≡ self.old.debugger }
     {
         for i in 0..count {
             self.look_at(cache, i, writer)?;
@@ -140,15 +173,44 @@ impl Checking<'_> {
         requires { write_failed writer.old ≡ false }
         ensures ok { OnOk result (Appends (W.contents writer.old.inner.now) (W.contents writer.new.inner.now)
             (looked_by self.old.debugger.platform.now.machine self.old.number (score_of self.old.scoring)).said) }
+        ensures front { OnErr result (WritesFront (W.contents writer.old.inner.now) (W.contents writer.new.inner.now)
+            (looked_by self.old.debugger.platform.now.machine self.old.number (score_of self.old.scoring)).said) }
         ensures score { OnOk result (score_of self.new.scoring
             ≡ (looked_by self.old.debugger.platform.now.machine self.old.number (score_of self.old.scoring)).after) }
+        ensures fault { IfErr result (λ fault. fault ≡ RunFault.Write) }
         ensures told { write_failed writer.new ≡ is_write result }
         ensures same_writer { writer.new.inner.ghost_name ≡ writer.old.inner.ghost_name }
         ensures number { self.new.number ≡ self.old.number }
+        ensures debugger { self.new.debugger ≡ self.old.debugger }
     {
         if self.scoring.rules.fails_if_stale {
             self.look_at_places(Cache::Contexts, 16, writer)?;
             self.look_at_places(Cache::Pages, 64, writer)?;
+        }
+        Ok(())
+    }
+
+    // The same, if they are looked at.
+    fn look_if<W: Write>(
+        &mut self,
+        looks: bool,
+        writer: &mut WatchedWriter<'_, W>,
+    ) -> Result<(), RunFault>
+        requires { write_failed writer.old ≡ false }
+        ensures ok { OnOk result (Appends (W.contents writer.old.inner.now) (W.contents writer.new.inner.now)
+            (places_if looks (checked_by self.old)).said) }
+        ensures front { OnErr result (WritesFront (W.contents writer.old.inner.now) (W.contents writer.new.inner.now)
+            (places_if looks (checked_by self.old)).said) }
+        ensures score { OnOk result (score_of self.new.scoring ≡ (places_if looks (checked_by self.old)).after) }
+        ensures same { looks ≡ false → score_of self.new.scoring ≡ score_of self.old.scoring }
+        ensures fault { IfErr result (λ fault. fault ≡ RunFault.Write) }
+        ensures told { write_failed writer.new ≡ is_write result }
+        ensures same_writer { writer.new.inner.ghost_name ≡ writer.old.inner.ghost_name }
+        ensures number { self.new.number ≡ self.old.number }
+        ensures debugger { self.new.debugger ≡ self.old.debugger }
+    {
+        if looks {
+            self.look_at_caches(writer)?;
         }
         Ok(())
     }
@@ -171,20 +233,15 @@ impl Answerer for Checking<'_> {
         writer: &mut WatchedWriter<'_, W>,
     ) -> Result<(), RunFault> {
         let line = first_bytes(line);
-        self.number = self.number.saturating_add(1);
-        let answer = self.debugger.line(self.number, line);
-        let tables = self.tables();
-        self.scoring.page.clear();
-        self.scoring
-            .judge(self.number, line, answer.as_slice(), tables.as_slice());
-        self.scoring.remark(self.number, line, answer.as_slice());
-        write_told(writer, self.scoring.page.as_slice())
+        let looks = self.judge_line(line);
+        write_told(writer, self.scoring.page.as_slice())?;
+        self.look_if(looks, writer)
     }
 }
 
 /// Checks the script that `reader` gives, and tells each line that fails, in the style of its rules, and at the end how many passed and how
 /// many failed, which it answers. The faults are those of `run`.
-#[tactic(auto, using(iom_debug::proofs::Telling::lawful, crate::proofs::Telling::checked))]
+#[tactic(auto, using(crate::proofs::Telling::lawful, crate::proofs::Telling::checked))]
 pub fn check<R: Read, W: Write>(
     checking: &mut Checking<'_>,
     reader: &mut WatchedReader<'_, R>,

@@ -6,7 +6,7 @@ ghost use Rattle.iom_debug.specs.Telling.{escaped};
 ghost use Rattle.iom_check.specs.Judging.{allows_stale, fails, meets, message, passes, remark, remark_by, tables_text, title, wish_text};
 
 use crate::wanting::{answer_of, has_arrow, wants_stale, wish_of};
-use iom_debug::{OutputPage, before_comment, put, put_escaped};
+use iom_debug::{OutputPage, before_comment, put, put_escaped, put_slip};
 
 // Whether an answer is the wanted one, with a stale access where that is wanted and stale accesses are judged, or isn't `bad` where nothing
 // is wanted.
@@ -111,18 +111,26 @@ pub fn title(line: &[u8]) -> OutputPage
     out
 }
 
-/// What is said of a line that fails.
+/// What is said of a line that fails. `slip` is why it is bad, and empty if it isn't.
 #[tactic(auto, unfolding(crate::specs::Judging::message))]
-pub fn message(is_judged: bool, line: &[u8], answer: &[u8], tables: &[u8]) -> OutputPage
+pub fn message(
+    is_judged: bool,
+    line: &[u8],
+    answer: &[u8],
+    slip: &[u8],
+    tables: &[u8],
+) -> OutputPage
     requires line { length line.now ≤ 513 }
     requires answer { length answer.now ≤ 320 }
+    requires slip { length slip.now ≤ 320 }
     requires tables { length tables.now ≤ 320 }
-    ensures text { result.items ≡ message is_judged line.now answer.now tables.now }
+    ensures text { result.items ≡ message is_judged line.now answer.now slip.now tables.now }
     ensures room { length result.items ≤ 8192 }
 {
     let mut out = title(line);
     put(&mut out, b" -> ");
     put_escaped(&mut out, answer);
+    put_slip(&mut out, slip);
     put_wish(&mut out, is_judged, wish_of(line), answer, tables);
     put_tables(&mut out, tables);
     out

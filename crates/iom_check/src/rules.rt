@@ -14,6 +14,9 @@ pub enum Style {
 pub struct Rules {
     /// Whether a line fails also where an access of it is stale and its wish doesn't end with `stale`, or it ends so and none is.
     pub fails_if_stale: bool,
+    /// Whether, where that fails, each place of both caches that is stale fails behind a line that carried out an IOFENCE.C too, and not only
+    /// at the script's end.
+    pub looks_at_fences: bool,
     /// Whether what is noted fails: a comment that looks like a wish and is none, a wish on a line without an answer, a script without a
     /// wish.
     pub is_strict: bool,

@@ -89,22 +89,24 @@ impl<'a> Scoring<'a> {
         }
     }
 
-    /// Judges a line of this number by its answer. `tables` is empty where no stale access is to be told.
-    pub fn judge(&mut self, number: u64, line: &[u8], answer: &[u8], tables: &[u8])
+    /// Judges a line of this number by its answer. `slip` is why it is bad, and empty if it isn't; `tables` is empty where no stale access is
+    /// to be told.
+    pub fn judge(&mut self, number: u64, line: &[u8], answer: &[u8], slip: &[u8], tables: &[u8])
         requires line { length line.now ≤ 513 }
         requires answer { length answer.now ≤ 320 }
+        requires slip { length slip.now ≤ 320 }
         requires tables { length tables.now ≤ 320 }
         requires empty { length self.old.page.items ≡ 0 }
-        ensures text { self.new.page.items ≡ self.old.page.items ++ (judged (score_of self.old) number line.now answer.now tables.now).said }
+        ensures text { self.new.page.items ≡ self.old.page.items ++ (judged (score_of self.old) number line.now answer.now slip.now tables.now).said }
         ensures room { length self.new.page.items ≤ 90000 }
-        ensures score { score_of self.new ≡ (judged (score_of self.old) number line.now answer.now tables.now).after }
+        ensures score { score_of self.new ≡ (judged (score_of self.old) number line.now answer.now slip.now tables.now).after }
     {
         let is_judged = self.rules.fails_if_stale;
         if fails(is_judged, wish_of(line), answer, tables) {
             self.fail(
                 number,
                 title(line).as_slice(),
-                message(is_judged, line, answer, tables).as_slice(),
+                message(is_judged, line, answer, slip, tables).as_slice(),
             );
         } else if passes(is_judged, wish_of(line), answer, tables) {
             self.pass(number, title(line).as_slice());

@@ -9,7 +9,7 @@ invariant-loop-i g l = record {
   can : l.writer.failed ≡ false;
   same_writer : l.writer.inner.ghost_name ≡ l.initial.writer.inner.ghost_name;
   number : l.self.number ≡ l.initial.self.number;
-  machine : l.self.debugger.platform.now ≡ l.initial.self.debugger.platform.now;
+  debugger : l.self.debugger ≡ l.initial.self.debugger;
   on : LooksOn l.initial.self.debugger.platform.now.machine l.cache l.initial.self.number (score_of l.initial.self.scoring)
       (score_of l.self.scoring) l.count l.i (g.W.Write.contents l.initial.writer.inner.now) (g.W.Write.contents l.writer.inner.now);
 }

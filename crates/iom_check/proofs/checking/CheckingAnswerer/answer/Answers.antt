@@ -1,21 +1,19 @@
-use Rattle.std.proofs.Common.{◌∙◌}
-use Rattle.iom_debug.proofs.Telling.{told_at_once}
-use Rattle.iom_check.specs.Checking.{Checked, CheckSays}
-use Rattle.iom_check.specs.Scores.{score_of}
-use Rattle.iom_check.proofs.Telling.{check_says, told_line}
+use Rattle.std.proofs.Common.{ap}
+use Rattle.std.proofs.lemmas.Result.{err_from_is_err_and}
+use Rattle.iom_debug.specs.Desks.{desk_of}
+use Rattle.iom_check.proofs.Telling.{breaks_alone, told_behind}
+use Rattle.iom_check.specs.Drives.{checked_by}
 use Rattle.iom_check.proofs.checking.CheckingAnswerer.answer.Goals as goal
+
+pub returns-in_err-write_told-clause-next : goal.returns-in_err-write_told-clause-next
+returns-in_err-write_told-clause-next g c =
+    let p = err_from_is_err_and c.from_residual.result c.from_residual.ensures.1 in
+    rw p.1 (breaks_alone c.args.line.now c.first_bytes-line.result.now _ _ _ p.0 c.first_bytes-line.ensures.bytes c.judge_line-looks.ensures.said
+    (rw c.as_slice.ensures.value at c.in_err-write_told.ensures.front))
 
 pub returns-clause-next : goal.returns-clause-next
 returns-clause-next g c =
-    let both = told_line (score_of c.args.self.now.scoring) (score_of c.judge.new.self) (score_of c.remark.new.self) c.saturating_add-self.result
-    c.first_bytes-line.result.now c.line-answer.result.items c.tables-tables.result.items _ _ _ c.clear.ensures
-    (rw (c.as_slice.ensures.value, c.as_slice-2.ensures.value) at c.judge.ensures.text)
-    (rw (c.as_slice.ensures.value, c.as_slice-2.ensures.value) at c.judge.ensures.score)
-    (rw c.as_slice-3.ensures.value at c.remark.ensures.text)
-    (rw c.as_slice-3.ensures.value at c.remark.ensures.score) in
-    told_at_once Checked CheckSays c.args.line.now c.as_slice-4.result.now _ _ c.write_told.result
-    (check_says _ _ c.args.line.now c.first_bytes-line.result.now c.as_slice-4.result.now c.line-answer.result.items c.tables-tables.result.items
-    c.saturating_add-self.result (score_of c.remark.new.self) c.first_bytes-line.ensures.bytes c.saturating_add-self.ensures
-    (record { state = c.line-answer.ensures.state; trace = c.line-answer.ensures.trace; stale = c.line-answer.ensures.stale; along = c.line-answer.ensures.along; names = c.line-answer.ensures.names })
-    c.line-answer.ensures.reply c.tables-tables.ensures (c.as_slice-4.ensures.value ∙ both.0) both.1)
-    c.write_told.ensures.ok c.write_told.ensures.front
+    told_behind c.args.line.now c.first_bytes-line.result.now _ c.judge_line-looks.result _ _ (checked_by c.judge_line-looks.new.self) _ c.look_if.result
+    c.first_bytes-line.ensures.bytes c.judge_line-looks.ensures.said c.judge_line-looks.ensures.looks
+    (rw c.as_slice.ensures.value at c.in_ok-write_told.ensures.ok) c.look_if.ensures.ok c.look_if.ensures.front c.look_if.ensures.score
+    c.look_if.ensures.same (ap (λ d. desk_of d) c.look_if.ensures.debugger) c.look_if.ensures.number
