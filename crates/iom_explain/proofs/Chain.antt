@@ -1,11 +1,11 @@
 -- Steps that are told one after the other, seen by those that are left.
-use Rattle.std.proofs.Common.{◌≡◌, ◌∙◌, ◌+◌, ◌-◌, ◌++◌, ℕ, List, [], ◌∷◌, Option, Bool, true, false, length, refl, sym, ap, subst, append-nil, append_assoc}
+use Rattle.std.proofs.Common.{◌≡◌, ◌+◌, ◌++◌, ℕ, List, [], ◌∷◌, Option, true, false, refl, sym, subst, append-nil, append_assoc}
 use Rattle.std.specs.Io.KnownBytes.{Appends}
 use Rattle.std.proofs.KnownBytes.{Appends-nil, Appends-trans}
 use Rattle.iom_core.specs.State.{State}
 use Rattle.iom_core.specs.Table.{next}
 use Rattle.iom_core.specs.declared.step.Step.{Step}
-use Rattle.iom_debug.specs.Taking.{Desk, Took, is_done, taken}
+use Rattle.iom_debug.specs.Taking.{is_done, taken}
 use Rattle.iom_debug.proofs.Remaining.{Left, Stopped, begins as left_begins, goes_on as left_goes_on, stops as left_stops}
 use Rattle.iom_explain.specs.Explaining.{Explained, StepTold, StepsTold}
 

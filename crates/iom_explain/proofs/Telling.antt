@@ -21,15 +21,13 @@ use Rattle.iom_reader.specs.Answering.{Progress, AnswersNext, IsAnswering}
 use Rattle.iom_reader.specs.declared.fault.RunFault.{RunFault}
 use Rattle.iom_reader.specs.Running.{Ends}
 use Rattle.iom_reader.proofs.Chains.{spoken, lawful as by_lines_lawful}
-use Rattle.iom_tool.specs.Console.{traced}
 use Rattle.iom_tool.specs.Script.{DebugLine}
 use Rattle.iom_names.specs.Reading.{line_with}
 use Rattle.iom_tool.specs.Parsed.{line_as}
 use Rattle.iom_tool.specs.declared.language.Actor.{Actor}
 use Rattle.iom_tool.specs.declared.language.Line.{Line}
 use Rattle.iom_tool.specs.declared.language.Line.TheVariants as own
-use Rattle.iom_tool.specs.declared.trace.TracedStep.{TracedStep}
-use Rattle.iom_debug.specs.Telling.{Leaves, answer_at}
+use Rattle.iom_debug.specs.Telling.{Leaves, answer_at, slip_with}
 use Rattle.iom_tool.specs.Texts.{entry_text}
 use Rattle.iom_debug.specs.Reasons.{newest_origin, stale_in}
 use Rattle.iom_debug.specs.Stale.{filler, kept_by, led_by, stale_access}
@@ -195,23 +193,33 @@ Wrote result held holds short Told = OnOk result ((said : List ℕ) × Appends h
 pub line_after : (result : Result (Unit {0}) RunFault) (a b c : Option (List ℕ)) (short : Bool) (before after : Explained) (number : ℕ)
     (line : List ℕ) (steps : List Step) (answer reply : List ℕ) →
     ((said : List ℕ) × Appends a b said × (short ≡ false → StepsTold before number (taken before.desk.state steps) said after × (reply ≡ answer))) →
-    Wrote result b c short (λ said. said ≡ line_told before.only number line reply) →
+    Wrote result b c short (λ said. said ≡ line_told before.only number line reply []) →
     Wrote result a c short (λ said. RunTold before number line steps answer said after)
 line_after (Ok done) a b c short before after number line steps answer reply s w = (
   s.0 ++ w.0,
   Appends-trans _ _ _ _ _ s.1 w.1,
   λ m.
-      (s.0, (s.2 m).0, ap (λ l. s.0 ++ l) (w.2 m ∙ ap (line_told before.only number line) (s.2 m).1)),
+      (s.0, (s.2 m).0, ap (λ l. s.0 ++ l) (w.2 m ∙ ap (λ a. line_told before.only number line a []) (s.2 m).1)),
 )
 line_after (Err f) a b c short before after number line steps answer reply s w = tt
 
 pub line_other : (result : Result (Unit {0}) RunFault) (b c : Option (List ℕ)) (short : Bool) (before after : Explained) (number : ℕ)
-    (line : List ℕ) (reply : List ℕ) → Leaves before.desk line number after.desk → after.counts ≡ before.counts → after.only ≡ before.only →
-    reply ≡ answer_at before.desk line → Wrote result b c short (λ said. said ≡ line_told before.only number line reply) →
+    (line reply slip : List ℕ) → Leaves before.desk line number after.desk → after.counts ≡ before.counts → after.only ≡ before.only →
+    reply ≡ answer_at before.desk line → slip ≡ slip_with before.desk.names line →
+    Wrote result b c short (λ said. said ≡ line_told before.only number line reply slip) →
     Wrote result b c short (λ said. OtherTold before number line said after)
-line_other (Ok done) b c short before after number line reply leaves same alike reply_is w =
-    (w.0, w.1, λ m. (leaves, same, alike, w.2 m ∙ ap (line_told before.only number line) reply_is))
-line_other (Err f) b c short before after number line reply leaves same alike reply_is w = tt
+line_other (Ok done) b c short before after number line reply slip leaves same alike reply_is slip_is w = (
+  w.0,
+  w.1,
+  λ m. (
+    leaves,
+    same,
+    alike,
+    w.2 m ∙ ap (λ a. line_told before.only number line a slip) reply_is
+        ∙ ap (line_told before.only number line (answer_at before.desk line)) slip_is,
+  ),
+)
+line_other (Err f) b c short before after number line reply slip leaves same alike reply_is slip_is w = tt
 
 -- nothing is told of a line after memory was refused
 pub unheard : (line : List ℕ) (now : Progress Progressed) → now.console.is_short ≡ true → AnswersNext by_explain line now now (Ok tt)

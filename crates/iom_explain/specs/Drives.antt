@@ -1,7 +1,5 @@
 -- What an explanation drives, and its counts.
 use Rattle.iom_debug.specs.Desks.{desk_of}
-use Rattle.iom_debug.specs.Summary.{Counts}
-use Rattle.iom_debug.specs.declared.debugger.Debugger.{Debugger}
 use Rattle.iom_explain.specs.Explaining.{Explained, Progressed}
 use Rattle.iom_explain.specs.declared.explaining.Explaining.{Explaining}
 

@@ -2,9 +2,7 @@
 -- the reasons of that, and at the end how the accesses went. If it is to tell some accesses only, no other step is told, and no line.
 use Rattle.std.specs.Prelude.{ℕ, ◌≡◌, ◌+◌, ◌==◌, ◌++◌, ◌&&◌, ◌||◌, Bool, false, true, nat_lt, List, [], ◌∷◌, length, replicate, codes, Option, Some, None, is_some, if◌then◌else◌}
 use Rattle.std.specs.List.{flat_map}
-use Rattle.std.specs.Option.{option_and_then}
 use Rattle.std.specs.Io.KnownBytes.{Appends, Consumes, IsAtEnd}
-use Rattle.circular_buffer.specs.Buffer.{last_item}
 use Rattle.iom_text.specs.Texts.{numeral}
 use Rattle.iom_core.specs.Looking.{is_cached, seen_in}
 use Rattle.iom_core.specs.State.{State}
@@ -14,9 +12,7 @@ use Rattle.iom_core.specs.declared.looking.Lookup.{Lookup}
 use Rattle.iom_core.specs.declared.step.Step.{Step}
 use Rattle.iom_core.specs.declared.step.Answer.{Answer}
 use Rattle.iom_core.specs.declared.step.Answer.TheVariants as answer
-use Rattle.iom_account.specs.Account.{AccountView}
 use Rattle.iom_account.specs.declared.origin.NumberedWarrant.{NumberedWarrant}
-use Rattle.iom_account.specs.declared.reason.Reason.{Reason}
 use Rattle.iom_reader.specs.Answering.{Answering}
 use Rattle.iom_reader.specs.Lines.{lines_of}
 use Rattle.iom_reader.specs.Running.{IsWithinLimits}
@@ -30,7 +26,7 @@ use Rattle.iom_debug.specs.Reasons.{LineAccountView, newest_origin}
 use Rattle.iom_debug.specs.Stale.{filler, stale_access}
 use Rattle.iom_debug.specs.Summary.{Counts, counts_of, up_to_64_bits}
 use Rattle.iom_debug.specs.Taking.{Desk, Took, desk, last_answer, run_text, taken}
-use Rattle.iom_debug.specs.Telling.{Leaves, answer_at, before_comment, escaped}
+use Rattle.iom_debug.specs.Telling.{Leaves, answer_at, before_comment, escaped, slip_text, slip_with}
 use Rattle.iom_debug.specs.declared.summary.AccessOutcome.{AccessOutcome}
 use Rattle.iom_explain.specs.Accesses.{asks_text, caches_by, stale_text, warrant_text}
 use Rattle.iom_explain.specs.Walking.{walk_text}
@@ -110,25 +106,26 @@ StepsTold now number (step ∷ steps) text later =
     (said : List ℕ) × (rest : List ℕ) × (mid : Explained) × (text ≡ said ++ rest) × StepTold now number step said mid
     × StepsTold mid number steps rest later
 
--- a line that is no step by itself, with its answer; nothing where it has none, or where some accesses only are told
-abbrev pub line_told : Option Only → ℕ → List ℕ → List ℕ → List ℕ
-line_told None number line answer =
+-- a line that is no step by itself, with its answer, and why it is bad; nothing where it has no answer, or where some accesses only are
+-- told
+abbrev pub line_told : Option Only → ℕ → List ℕ → List ℕ → List ℕ → List ℕ
+line_told None number line answer slip =
     if nat_lt 0 (length answer)
-    then numeral 10 number ++ codes ": " ++ escaped (before_comment line) ++ codes " -> " ++ escaped answer ++ 10 ∷ []
+    then numeral 10 number ++ codes ": " ++ escaped (before_comment line) ++ codes " -> " ++ escaped answer ++ slip_text slip ++ 10 ∷ []
     else []
-line_told (Some only) number line answer = []
+line_told (Some only) number line answer slip = []
 
 -- a line that takes several steps: each that is taken, and after them the line with its answer
 abbrev pub RunTold : Explained → ℕ → List ℕ → List Step → List ℕ → List ℕ → Explained → Type 0
 RunTold before number line steps answer said after =
     (text : List ℕ) × StepsTold before number (taken before.desk.state steps) text after
-    × (said ≡ text ++ line_told before.only number line answer)
+    × (said ≡ text ++ line_told before.only number line answer [])
 
 -- any other line
 abbrev pub OtherTold : Explained → ℕ → List ℕ → List ℕ → Explained → Type 0
 OtherTold before number line said after =
     Leaves before.desk line number after.desk × (after.counts ≡ before.counts) × (after.only ≡ before.only)
-    × (said ≡ line_told before.only number line (answer_at before.desk line))
+    × (said ≡ line_told before.only number line (answer_at before.desk line) (slip_with before.desk.names line))
 
 -- a line of this number, by what it says
 abbrev pub LineTold : Explained → ℕ → List ℕ → DebugLine → List ℕ → Explained → Type 0

@@ -13,7 +13,7 @@ use crate::summary::write_summary;
 use iom_core::{Answer, Step};
 use iom_debug::{
     Debugger, OutputPage, StepAnswer, before_comment, first_bytes, is_done, put, put_escaped,
-    put_number, reply_with_count, step_by, write_told,
+    put_number, put_slip, reply_with_count, step_by, write_told,
 };
 use iom_reader::{Answerer, RunFault, WatchedReader, WatchedWriter, answer_all};
 use iom_tool::{Actor, Line, Reply, TracedStep, answer_text};
@@ -74,11 +74,19 @@ fn write<W: Write>(
     write_told(writer, page.as_slice())
 }
 
-// Puts a line that is no step by itself, and its answer, if it has one and lines are told.
-fn put_line(out: &mut OutputPage, only: Option<Only>, number: u64, line: &[u8], answer: &[u8])
+// Puts a line that is no step by itself, its answer, and why it is bad, if it has an answer and lines are told.
+fn put_line(
+    out: &mut OutputPage,
+    only: Option<Only>,
+    number: u64,
+    line: &[u8],
+    answer: &[u8],
+    slip: &[u8],
+)
     requires line { length line.now ≤ 513 }
     requires answer { length answer.now ≤ 320 }
-    ensures { out.new.items ≡ line_told only number line.now answer.now }
+    requires slip { length slip.now ≤ 320 }
+    ensures { out.new.items ≡ line_told only number line.now answer.now slip.now }
 {
     out.clear();
     if only.is_none() && !answer.is_empty() {
@@ -87,23 +95,26 @@ fn put_line(out: &mut OutputPage, only: Option<Only>, number: u64, line: &[u8], 
         put_escaped(out, before_comment(line));
         put(out, b" -> ");
         put_escaped(out, answer);
+        put_slip(out, slip);
         put(out, b"\n");
     }
 }
 
-// Writes a line that is no step by itself, and its answer, as `put_line` puts them, unless memory was refused.
+// Writes a line that is no step by itself, its answer, and why it is bad, as `put_line` puts them, unless memory was refused.
 fn write_line<W: Write>(
     teller: &mut Teller,
     number: u64,
     line: &[u8],
     answer: &[u8],
+    slip: &[u8],
     writer: &mut WatchedWriter<'_, W>,
 ) -> Result<(), RunFault>
     requires can { write_failed writer.old ≡ false }
     requires line { length line.now ≤ 513 }
     requires answer { length answer.now ≤ 320 }
+    requires slip { length slip.now ≤ 320 }
     ensures ok { OnOk result ((said : List ℕ) × Appends (W.contents writer.old.inner.now) (W.contents writer.new.inner.now) said
-        × (teller.old.is_short ≡ false → said ≡ line_told teller.old.only number line.now answer.now)) }
+        × (teller.old.is_short ≡ false → said ≡ line_told teller.old.only number line.now answer.now slip.now)) }
     ensures fault { IfErr result (λ fault. fault ≡ RunFault.Write) }
     ensures told { write_failed writer.new ≡ is_write result }
     ensures same_writer { writer.new.inner.ghost_name ≡ writer.old.inner.ghost_name }
@@ -112,7 +123,7 @@ fn write_line<W: Write>(
     ensures only { teller.new.only ≡ teller.old.only }
 {
     let only = teller.only;
-    put_line(&mut teller.page, only, number, line, answer);
+    put_line(&mut teller.page, only, number, line, answer, slip);
     write(&teller.page, teller.is_short, writer)
 }
 
@@ -288,6 +299,7 @@ impl Explaining<'_> {
             self.number,
             line,
             reply.as_slice(),
+            b"",
             writer,
         )
     }
@@ -321,6 +333,7 @@ impl Explaining<'_> {
             self.number,
             line,
             reply.as_slice(),
+            b"",
             writer,
         )
     }
@@ -342,12 +355,14 @@ impl Explaining<'_> {
         ensures same { names_of self.new.debugger ≡ names_of self.old.debugger }
         ensures number { self.new.number ≡ self.old.number }
     {
+        let slip = self.debugger.slip(text);
         let reply = self.debugger.line(self.number, text);
         write_line(
             &mut self.teller,
             self.number,
             text,
             reply.as_slice(),
+            slip.as_slice(),
             writer,
         )
     }

@@ -1,4 +1,4 @@
-use Rattle.std.proofs.Common.{◌++◌, get_or, rules, refl, arith}
+use Rattle.std.proofs.Common.{◌++◌, get_or, rules, arith}
 use Rattle.std.proofs.KnownBytes.{Appends-trans}
 use Rattle.iom_explain.specs.Explaining.{denied_text}
 use Rattle.iom_explain.proofs.Pieces.{one_done}

@@ -1,4 +1,3 @@
-use Rattle.std.proofs.Common.{ap}
 use Rattle.iom_explain.proofs.Telling.{four_written}
 use Rattle.iom_explain.proofs.summary.write_summary.Goals as goal
 

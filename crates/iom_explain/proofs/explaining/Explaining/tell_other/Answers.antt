@@ -13,10 +13,10 @@ returns-clause-ok g c =
       desk = desk_of c.line-reply.new.self;
       counts = c.args.self.now.teller.summary;
       only = c.args.self.now.teller.only;
-    }) c.args.self.now.number c.args.text.now c.line-reply.result.items (record {
+    }) c.args.self.now.number c.args.text.now c.line-reply.result.items c.slip-slip.result.items (record {
       state = left.state;
       trace = left.trace;
       stale = left.stale;
       along = left.along;
       names = left.names;
-    }) refl refl left.reply (rw c.as_slice.ensures.value at c.write_line.ensures.ok))
+    }) refl refl left.reply c.slip-slip.ensures (rw (c.as_slice.ensures.value, c.as_slice-2.ensures.value) at c.write_line.ensures.ok))

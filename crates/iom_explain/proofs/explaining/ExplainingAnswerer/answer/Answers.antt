@@ -1,4 +1,3 @@
-use Rattle.std.proofs.Common.{replicate}
 use Rattle.iom_tool.specs.Script.{Again, Does, Named, Plain, Stores, stores_at}
 use Rattle.iom_tool.specs.Parsed.{line_as, step_of}
 use Rattle.iom_explain.proofs.Telling.{heard, others, unheard}
