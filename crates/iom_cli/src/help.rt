@@ -84,6 +84,8 @@ failed; after files that were named, also their sum. A script has the lines of
 With --stale, a line also fails if an access of a device, by dma, dev step or
 dev run, used a cached translation or context that no longer matches the
 tables in memory: an invalidation is missing. '# => ANSWER stale' wants this.
+At the end of the script each entry of the caches fails that no longer matches;
+with --at-fences also behind each line that carried out an IOFENCE.C.
 
 A comment that looks like an expected answer and is none, an expected answer
 on a line that has no answer, and a script that expects none are noted, and

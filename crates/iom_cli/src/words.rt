@@ -11,6 +11,9 @@ const KIND: &str = "KIND";
 /// The option of `check` by which stale accesses fail.
 const STALE: &str = "stale";
 
+/// The option of `check` by which the caches are looked at behind each fence too.
+const AT_FENCES: &str = "at-fences";
+
 /// The option of `check` by which what is noted fails.
 const STRICT: &str = "strict";
 
@@ -74,6 +77,8 @@ impl How {
 pub struct Checks<'a> {
     /// Whether a line fails also where an access of it is stale.
     pub fails_if_stale: bool,
+    /// Whether each stale place of the caches fails behind each fence too, and not only at the end of a script.
+    pub looks_at_fences: bool,
     /// Whether what is only noted fails.
     pub is_strict: bool,
     /// Whether standard output is TAP, and not text.
@@ -180,6 +185,11 @@ const VERBS: [Verb; 7] = [
             Operand {
                 name: STALE,
                 help: "Also report each access that no longer matches the tables",
+                need: Need::Flag,
+            },
+            Operand {
+                name: AT_FENCES,
+                help: "As --stale, and look at the caches behind each fence too",
                 need: Need::Flag,
             },
             Operand {
@@ -389,8 +399,10 @@ fn scripts<'a>(
 
 // The task of `check`.
 fn judging<'a>(alloc: Global, found: &ArgMatches<'a>) -> Result<Task<'a>, WordsFault<'a>> {
+    let looks_at_fences = found.get_flag(AT_FENCES);
     Ok(Task::Check(Checks {
-        fails_if_stale: found.get_flag(STALE),
+        fails_if_stale: looks_at_fences || found.get_flag(STALE),
+        looks_at_fences,
         is_strict: found.get_flag(STRICT),
         is_tap: found.get_flag(TAP),
         junit: found.get_str(JUNIT),

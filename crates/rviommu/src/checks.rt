@@ -345,6 +345,7 @@ impl<R: Clock + Eprint + Files, W: Write> Round<'_, R, W> {
 fn rules_of(checks: &Checks<'_>) -> Rules {
     Rules {
         fails_if_stale: checks.fails_if_stale,
+        looks_at_fences: checks.looks_at_fences,
         is_strict: checks.is_strict,
         style: if checks.is_tap {
             Style::Tap
