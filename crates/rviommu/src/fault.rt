@@ -1,8 +1,25 @@
 use iom_asm::{AsmFault, ListFault, LoadFault};
 use iom_cli::{Escaped, WordsFault};
-use iom_tool::RunFault;
+use iom_slips::statement_slip;
+use iom_text::is_over;
+use iom_tool::{Reply, RunFault};
 use std::alloc::AllocError;
+use std::fmt::{self, Display, Formatter, Write};
+use std::str;
 use thiserror::Error;
+
+/// The reason of a bad line, behind its fault; nothing if it is empty.
+#[derive(Clone, Copy)]
+struct Reason<'a>(&'a [u8]);
+
+impl Display for Reason<'_> {
+    fn fmt<W: Write>(&self, f: &mut Formatter<W>) -> fmt::Result {
+        match str::from_utf8(self.0) {
+            Ok(text) if !text.is_empty() => write!(f, ": {text}"),
+            _ => Ok(()),
+        }
+    }
+}
 
 /// Why the program ends, if not well.
 #[derive(Debug, Drop, Error)]
@@ -22,9 +39,9 @@ pub enum Fault<'a> {
     /// The file of this name can't be written.
     #[error("cannot write {}", Escaped(*.0))]
     CannotWrite(&'a str),
-    /// A text is refused by the assembler.
-    #[error("{0}")]
-    Assemble(AsmFault),
+    /// A text is refused by the assembler. The reason is empty if no line of it is bad.
+    #[error("{fault}{}", Reason(.reason.as_slice()))]
+    Assemble { fault: AsmFault, reason: Reply },
     /// Bytes are refused as an image.
     #[error("{0}")]
     Load(LoadFault),
@@ -39,7 +56,28 @@ pub enum Fault<'a> {
     OutOfMemory,
 }
 
+// Why a line of a text, counted from 1, is no statement that may stand there; empty if there is no such line.
+fn reason_of(text: &[u8], line: u64) -> Reply {
+    let mut is_first = true;
+    for (before, own) in text.split(|byte| *byte == b'\n').enumerate() {
+        if (before as u64).saturating_add(1) == line {
+            return statement_slip(is_first, own);
+        }
+        is_first = is_first && is_over(own);
+    }
+    Reply::new()
+}
+
 impl Fault<'_> {
+    /// The fault of a text that the assembler refused.
+    pub fn of_text(fault: AsmFault, text: &[u8]) -> Self {
+        let reason = match fault {
+            AsmFault::BadLine(line) => reason_of(text, line),
+            _ => Reply::new(),
+        };
+        Fault::Assemble { fault, reason }
+    }
+
     /// The status to end with: 2 for bad words, else 1.
     pub fn status(&self) -> u8 {
         match self {
@@ -59,12 +97,6 @@ impl From<AllocError> for Fault<'_> {
 impl<'a> From<WordsFault<'a>> for Fault<'a> {
     fn from(fault: WordsFault<'a>) -> Self {
         Fault::Words(fault)
-    }
-}
-
-impl From<AsmFault> for Fault<'_> {
-    fn from(fault: AsmFault) -> Self {
-        Fault::Assemble(fault)
     }
 }
 

@@ -111,8 +111,10 @@ fn assemble<'a>(
     image: &'a str,
 ) -> Result<(), Fault<'a>> {
     let text = files::read(rt, alloc, source)?;
-    let bytes = iom_asm::assemble(alloc, text.as_slice())?;
-    files::write(rt, image, bytes.as_slice())
+    match iom_asm::assemble(alloc, text.as_slice()) {
+        Ok(bytes) => files::write(rt, image, bytes.as_slice()),
+        Err(fault) => Err(Fault::of_text(fault, text.as_slice())),
+    }
 }
 
 // The new image is written only where the whole image is accepted.
