@@ -181,7 +181,7 @@ def between_words(program, image, script, word="run"):
         return f"debug: {found}"
     explained = run(program, ["explain", image], script)
     # A line of many steps is printed last.
-    told = dict(re.findall(rb"(?m)^(\d+): .*? -> (.*)$", explained[1]))
+    told = dict(re.findall(rb"(?m)^(\d+): .*? -> (bad(?=: )|.*$)", explained[1]))
     if found := difference(played, (explained[0], b"".join(it + b"\n" for it in told.values()), explained[2])):
         return f"explain: {found}"
     lines = wanting(script, played[1])

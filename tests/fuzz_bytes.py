@@ -54,6 +54,11 @@ def wishes(script, answers):
     return b"\n".join(lines), count
 
 
+def tells(line, answer):
+    """Whether a line of explain has this answer; behind bad stands why."""
+    return b" -> bad: " in line if answer == b"bad" else line.endswith(b" -> " + answer)
+
+
 def between_words(program, image, script):
     """What differs between the words on a script, and how many answers it has."""
     played, debugged, explained = (run(program, [word, image], script) for word in ("run", "debug", "explain"))
@@ -61,7 +66,7 @@ def between_words(program, image, script):
     if found := difference(played, debugged):
         return f"debug: {found}", 0
     told = [line for line in explained[1].split(b"\n") if line[:1].isdigit()]
-    if len(told) != len(answers) or not all(line.endswith(b" -> " + it) for line, it in zip(told, answers)):
+    if len(told) != len(answers) or not all(map(tells, told, answers)):
         return f"explain: {explained}", 0
     given, count = wishes(script, answers)
     found = difference((0, b"%d passed, 0 failed\n" % count, b""), run(program, ["check", image], given))

@@ -32,7 +32,7 @@ TALKS = {
     "debug": ([(b"reg write ddtp 1\n", b"done\n"), (b"dump 0x80000000 2\njump\n", b"0000\nbad\n"), (b"\n", b"")], b""),
     "explain": ([(ASK + b"\ncm", b"1: reg read 0x8 0x4 -> " + ANSWER), (b"d\n", b"2: cmd -> idle\n")],
                 b"accesses: 0\ngranted: 0\nfrom the caches: 0\nstale: 0\n"),
-    "check": ([(ASK + b" # => 0x2\n", b""), (b"jump\ncmd # => don", b"line 2: jump -> bad\n"), (b"", b""),
+    "check": ([(ASK + b" # => 0x2\n", b""), (b"jump\ncmd # => don", b'line 2: jump -> bad: no line begins with "jump"\n'), (b"", b""),
                (b"e\n", b"line 3: cmd -> idle, wanted done\n")], b"1 passed, 2 failed\n"),
 }
 SHORT, LONG = b"cmd\n" + ASK + b"\n", (ASK + b"\n") * 100_000

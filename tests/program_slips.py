@@ -1,4 +1,4 @@
-"""Why a line of a script can't be read, as debug tells it on a terminal."""
+"""Why a line of a script can't be read, as check, explain and, on a terminal, debug tell it."""
 import os
 import subprocess
 import tty
@@ -34,6 +34,9 @@ LINES = {
 }
 
 
+SCRIPT = "".join(f"{line}\n" for line in LINES).encode()
+
+
 class Slips(Case):
     def answers(self, line):
         """What debug writes on a terminal for a line."""
@@ -53,5 +56,22 @@ class Slips(Case):
         for line, reason in LINES.items():
             self.assertEqual(self.answers(line), f"bad: {reason}\n", line)
         self.assertEqual(self.answers("cmd"), "idle\n")
-        script = "".join(f"{line}\n" for line in LINES)
-        self.assertEqual(run(["debug"], script.encode())[1], b"bad\n" * len(LINES))
+        self.assertEqual(run(["debug"], SCRIPT)[1], b"bad\n" * len(LINES))
+
+    def test_told(self):
+        """check and explain: behind each bad line stands why it is bad"""
+        for word in ("check", "explain"):
+            told = run([word], SCRIPT)[1].decode().splitlines()
+            seen = [it.partition(" -> ")[2] for it in told if " -> " in it]
+            self.assertEqual(seen, [f"bad: {reason}" for reason in LINES.values()])
+
+    def test_names(self):
+        """check and explain: a reason is by the names that stood before its line"""
+        script, unlike = "let a 0x80000000\nload a 8 9 # => 0x0\nlet a\nlet a 1\nload b 8\n", 'ADDR "b" isn\'t a number'
+        taken = "let: no such NAME or NUMBER, or 64 names already"
+        self.assertEqual(run(["check"], script.encode())[1].decode().splitlines(), [
+            'line 2: load a 8 9 -> bad: "9" is one word too many, wanted 0x0', f"line 3: let a -> bad: {taken}",
+            f"line 5: load b 8 -> bad: {unlike}", "0 passed, 3 failed"])
+        told = run(["explain"], script.encode())[1].decode().splitlines()
+        self.assertEqual(told[1:3] + told[4:5], [
+            '2: load a 8 9 -> bad: "9" is one word too many', f"3: let a -> bad: {taken}", f"5: load b 8 -> bad: {unlike}"])

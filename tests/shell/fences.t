@@ -1,0 +1,61 @@
+With --at-fences the places of the caches are looked at behind each line that carried out an IOFENCE.C, too. Here a driver
+unmaps a page and forgets the invalidation. It maps the page again before the end, so that the place is right there.
+
+  $ rviommu asm "$TESTDIR/../mapped.asm" image
+  $ begin="reg write ddtp 0x20000402
+  > reg write cqb 0x20024001
+  > reg write cqcsr 1
+  > dma read 5 0x40201abc 4 # => 11223344"
+  $ again="store 0x80004008 8 0x200040d7
+  > dma read 5 0x40201abc 4 # => 11223344"
+  $ at_fences() { rviommu check --at-fences "$@" image; }
+  $ forgotten="$begin
+  > store 0x80004008 8 0
+  > put 0x80090000 cmd fence
+  > reg write cqt 1
+  > cmd # => done
+  > $again"
+  $ echo "$forgotten" | rviommu check --stale image
+  $ echo "$forgotten" | at_fences
+  $ echo "$forgotten" | at_fences --stale --tap
+
+A driver that invalidates in time passes, also where one line carries out both commands.
+
+  $ echo "$begin
+  > store 0x80004008 8 0
+  > put 0x80090010 cmd fence
+  > reg write cqt 2
+  > cmd # => done
+  > cmd # => done
+  > $again" | at_fences
+  $ echo "$begin
+  > store 0x80004008 8 0
+  > put 0x80090010 cmd fence
+  > reg write cqt 2
+  > cmd run 9 # => 0x3 idle
+  > $again" | at_fences
+
+Nothing is looked at behind other commands, nor behind a fence that can't be carried out, since its store is outside memory.
+
+  $ echo "$begin
+  > store 0x80004008 8 0
+  > put 0x80090000 cmd iodir dv=1 did=6
+  > reg write cqt 1
+  > cmd # => done
+  > put 0x80090010 cmd fence av=1 addr=0x90000000
+  > reg write cqt 2
+  > cmd # => done
+  > reg read cqcsr # => 0x10101
+  > $again" | at_fences
+
+It implies --stale; a place that stays stale fails at each fence and at the end.
+
+  $ echo "$begin
+  > store 0x80004008 8 0
+  > put 0x80090000 cmd fence
+  > put 0x80090010 cmd fence
+  > reg write cqt 1
+  > cmd # => done
+  > dma read 5 0x40201abc 4 # => 11223344
+  > reg write cqt 2
+  > cmd # => done" | at_fences
