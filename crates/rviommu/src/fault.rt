@@ -9,6 +9,7 @@ use std::str;
 use thiserror::Error;
 
 /// The reason of a bad line, behind its fault; nothing if it is empty.
+#[derive(Clone, Copy)]
 struct Reason<'a>(&'a [u8]);
 
 impl Display for Reason<'_> {
