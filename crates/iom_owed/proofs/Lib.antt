@@ -4,3 +4,4 @@ pub mod Reading
 pub mod Left
 pub mod Followed
 pub mod Judged
+pub mod Settled

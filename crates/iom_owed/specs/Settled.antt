@@ -1,10 +1,11 @@
 -- Whether it makes a difference to a request what an IOMMU holds: RISC-V IOMMU Architecture 1.0, "Caching in-memory data structures".
-use Rattle.std.specs.Prelude.{◌≡◌, ◌≢◌, ◌⊎◌, false, List, map, Option, Some, None}
+use Rattle.std.specs.Prelude.{◌≡◌, ◌≢◌, ◌⊎◌, false, List, ◌∷◌, [], map, Option, Some, None}
 use Rattle.iom_choices.specs.Models.{end_of}
 use Rattle.iom_choices.specs.Settled.{EachUse, IsSettled}
 use Rattle.iom_choices.specs.Systems.{IsAmong}
 use Rattle.iom_core.specs.Looking.{by_tables}
 use Rattle.iom_core.specs.State.{State}
+use Rattle.iom_core.specs.Table.{request_of_step}
 use Rattle.iom_core.specs.declared.access.Request.{Request}
 use Rattle.iom_core.specs.declared.step.Step.{Step}
 use Rattle.iom_every.specs.declared.entry.Entry.{Entry}
@@ -37,3 +38,13 @@ IsJudged start steps request (Some found) = LeadsElsewhere start steps request f
 pub record AreOwed (start : State) (steps : List Step) (made : List Made) (owed : List Owed) : Type 0 where
   pub told : (each : Owed) → IsAmong owed each → IsAmong made each.made × LeadsElsewhere start steps each.made.request each.unsettled
   pub settled : (each : Made) → IsAmong made each → IsAmong (map (λ (told : Owed). told.made) owed) each ⊎ IsSettledNow start steps each.request
+
+-- what a step requests, if it makes an access, is settled before the step
+abbrev pub IsSettledBefore : State → List Step → Option Request → Type 0
+IsSettledBefore start steps None = Unit {0}
+IsSettledBefore start steps (Some request) = IsSettledNow start steps request
+
+-- that of each step, newest first
+abbrev pub IsEachSettled : State → List Step → Type 0
+IsEachSettled start [] = Unit {0}
+IsEachSettled start (last ∷ steps) = IsSettledBefore start steps (request_of_step (end_of platform start steps) last) × IsEachSettled start steps

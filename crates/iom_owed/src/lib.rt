@@ -4,10 +4,12 @@
 #![tactic(auto)]
 
 pub use holdings::Holdings;
+pub use law::settled_steps_are_answered_alike;
 pub use noting::{Kept, Made};
 pub use settling::{Owed, Unsettled};
 
 mod executed;
 mod holdings;
+mod law;
 mod noting;
 mod settling;
