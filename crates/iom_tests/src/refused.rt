@@ -13,7 +13,9 @@ use iom_blk::Blk;
 use iom_cache::{ContextCache, Place, TransCache};
 use iom_core::{Answer, Platform, Step};
 use iom_mem::Ram;
-use iom_saved::{SavedWords, bytes_of, put_board, put_history, put_memory, take_board, take_memory, words_of};
+use iom_saved::{
+    SavedWords, bytes_of, put_board, put_history, put_memory, take_board, take_memory, words_of,
+};
 use iom_tool::Trace;
 use std::alloc::{AllocError, Global};
 use std::test::Fail;
@@ -395,6 +397,6 @@ fn words_are_written_as_bytes(rt: HostRuntime) -> Result<(), Fail> {
     spend(rt.alloc(), 12)?;
     let bytes = bytes_of(rt.alloc(), &[0x0807_0605_0403_0201; 9])?;
     assert_eq!(rt; bytes.len(), 72);
-    assert_eq!(rt; bytes[71], 8);
+    assert!(rt; matches!(bytes.as_slice(), [1, 2, 3, 4, 5, 6, 7, 8, 1, ..]));
     Ok(())
 }
