@@ -29,6 +29,7 @@ static uint64_t no_words[1];
 #define LENT uint64_t *words, size_t count
 
 void iom_c_close(rviommu_t *);
+STATUS iom_c_save(rviommu_t *, uint8_t *, size_t, size_t *);
 STATUS iom_c_line(rviommu_t *, const char *, size_t, char *, size_t, size_t *);
 ANSWER iom_c_load(rviommu_t *, LENT, uint64_t, uint64_t, uint64_t *);
 ANSWER iom_c_store(rviommu_t *, LENT, uint64_t, uint64_t, uint64_t);
@@ -65,6 +66,13 @@ void rviommu_close(rviommu_t *handle) {
     if (handle != NULL && handle->own != NULL) {
         iom_c_close(handle);
     }
+}
+
+STATUS rviommu_save(const rviommu_t *handle, uint8_t *bytes, size_t room, size_t *length) {
+    uint8_t none[1];
+    LOOK(handle)
+    WANTED(size_t, length)
+    return iom_c_save(&look, bytes != NULL ? bytes : none, bytes != NULL ? room : 0, length);
 }
 
 STATUS rviommu_line(rviommu_t *handle, const char *line, size_t line_length, char *answer, size_t room, size_t *length) {

@@ -15,12 +15,12 @@
  * - No pointer is NULL, except one to an output that isn't wanted: a number, a length, a struct, or the bytes that a device reads. A
  *   buffer has as many bytes as the length beside it says, and isn't NULL even if that is 0.
  * - Two pointers of one call don't overlap, unless both are const.
- * - "The handle is open" means: one of the functions rviommu_open*, or rviommu_copy, returned RVIOMMU_OK for it, and rviommu_close has not
- *   been called for it since. A handle may be moved, but only one copy of it may be used.
+ * - "The handle is open" means: one of the functions rviommu_open*, or rviommu_copy or rviommu_restore, returned RVIOMMU_OK for it, and
+ *   rviommu_close has not been called for it since. A handle may be moved, but only one copy of it may be used.
  * - One thread at a time uses a handle, but for the functions under "Looking": any number of them may run at once on one handle while no
  *   other function uses it. Two handles share nothing.
  * - No function is called from a signal handler, nor in the forked child of a process with threads.
- * Only rviommu_open*, rviommu_copy, rviommu_keep_reasons, rviommu_close and rviommu_assemble call malloc and free.
+ * Only rviommu_open*, rviommu_copy, rviommu_save, rviommu_restore, rviommu_keep_reasons, rviommu_close and rviommu_assemble call malloc and free.
  *
  * Addresses and lengths are in bytes, and numbers in memory are little-endian. The length of a buffer is a size_t; the number of a device,
  * a place or a step is a uint64_t. Functions of different kinds return different enums, each with numbers from 0 on.
@@ -77,7 +77,9 @@ enum rviommu_status {
     RVIOMMU_NO_DISK = 12,      /* there is no such block device */
     RVIOMMU_NOT_THERE = 13,    /* there are fewer parts, steps or places, or the device id isn't below 2^24 */
     RVIOMMU_BAD_CAPABILITIES = 14, /* image of version 3: an unknown capability, or a bad number of vectors */
-    RVIOMMU_STATUS_OTHER_MEMORY = 15 /* the memory isn't the handle's own, or the words aren't what it is lent; nothing was done */
+    RVIOMMU_STATUS_OTHER_MEMORY = 15, /* the memory isn't the handle's own, or the words aren't what it is lent; nothing was done */
+    RVIOMMU_BAD_SAVE = 16,     /* the bytes aren't those of a saved handle */
+    RVIOMMU_OTHER_VERSION = 17 /* the bytes were saved by a library that writes another form */
 };
 
 /* What is at a place of a cache. */
@@ -247,8 +249,8 @@ struct rviommu_why {
 uint32_t rviommu_version(void);
 
 /*
- * Opening and closing. The handle of a function rviommu_open*, and `copy` of rviommu_copy, must be closed or never used before; the memory
- * of an open one would be lost.
+ * Opening and closing. The handle of a function rviommu_open* or of rviommu_restore, and `copy` of rviommu_copy, must be closed or never used
+ * before; the memory of an open one would be lost.
  */
 
 /* Opens the platform that an image describes: its memory and block devices, with the registers at reset and nothing cached. Returns
@@ -279,6 +281,18 @@ enum rviommu_status rviommu_copy(const rviommu_t *handle, rviommu_t *copy);
  * that make an access of a device. A newly opened handle keeps those of the last 32 steps. If `most` is 0, accesses are faster, since the
  * tables aren't walked to see whether they are stale. The reasons kept so far are dropped. The handle is open. Returns RVIOMMU_OK; or RVIOMMU_OUT_OF_MEMORY, and nothing changes. */
 enum rviommu_status rviommu_keep_reasons(rviommu_t *handle, size_t most, bool accesses_only);
+
+/* Saves an open handle as bytes: its memory, registers, caches, block devices with their disks and requests, the count of its steps, and which
+ * steps filled the caches. Writes them to `bytes`, and their number to `length`. The bytes are the same on every machine. They have no trace and no
+ * reasons, and no memory that is lent: its owner saves that. The handle does not change; looks may run at once. Returns RVIOMMU_OK;
+ * RVIOMMU_LITTLE_ROOM, and `length` is the room that is needed (`bytes` may be NULL if `room` is 0); or RVIOMMU_OUT_OF_MEMORY. `bytes` is
+ * unchanged unless RVIOMMU_OK is returned. */
+enum rviommu_status rviommu_save(const rviommu_t *handle, uint8_t *bytes, size_t room, size_t *length);
+
+/* Opens a handle that continues where the saved one stood: each later step has the same answer. The count of steps continues, the trace is
+ * empty, and it has no reasons yet; it keeps as many as the saved one. If the saved one was lent its memory, this one is lent a memory of the
+ * same place. Returns RVIOMMU_OK; or RVIOMMU_BAD_SAVE, RVIOMMU_OTHER_VERSION or RVIOMMU_OUT_OF_MEMORY, and the handle is closed. */
+enum rviommu_status rviommu_restore(const uint8_t *bytes, size_t length, rviommu_t *handle);
 
 /* Closes an open handle and frees its memory. Does nothing to a handle whose member is NULL, as that of a closed handle is. */
 void rviommu_close(rviommu_t *handle);

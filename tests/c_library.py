@@ -135,6 +135,14 @@ class OfC(Library):
                 self.needs(*checker[:1])
                 self.passes(*checker, changes)
 
+    def test_saved(self):
+        """a run that is saved in the middle goes on alike in the restored handle; refused bytes and refused memory; nothing is found by the
+        sanitizer or valgrind"""
+        wrapped = "-Wl,--wrap=malloc,--wrap=realloc"
+        self.passes(self.compiled("gcc", "saved-sanitized", ["tests/c/saved.c"], wrapped, *SANITIZER))
+        self.needs("valgrind")
+        self.passes(*VALGRIND, self.compiled("gcc", "saved", ["tests/c/saved.c"], wrapped))
+
     def test_readme(self):
         """the program in c/README.md"""
         code = text_of("c/README.md").split("```c\n")[1].split("```")[0]

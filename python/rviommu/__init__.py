@@ -6,7 +6,7 @@ register accesses, the devices' accesses, and the commands that the IOMMU takes.
 Addresses and lengths are in bytes; a number that doesn't fit its place raises `ValueError`. `rviommu.forms` builds what is stored in
 memory, as contexts and commands. Any threads may use one platform: each method runs as a whole.
 """
-from .errors import AssemblyError, BadAccess, BusError, Denied, ImageError, Misuse, NoDevice, Outside, QueueStopped, Refusal
+from .errors import AssemblyError, BadAccess, BusError, Denied, ImageError, Misuse, NoDevice, Outside, QueueStopped, Refusal, SaveError
 from . import forms
 from .forms import Context, FaultRecord, Fence, Gvma, Iodir, Pte, Vma
 from .platform import Platform, assemble
@@ -16,5 +16,5 @@ from .values import Located, Page, Part, Way, Why
 
 __all__ = ["AssemblyError", "BadAccess", "BusError", "CachedContext", "Context", "Denied", "FaultRecord", "Fence", "Gvma", "ImageError",
            "Iodir", "Located", "LocatedKind", "Misuse", "NoDevice", "Outside", "Page", "Part", "PartKind", "Platform", "Pte", "QueueStopped",
-           "Refusal", "Ruling", "Vma", "Way", "WayKind", "Why", "WhyKind", "assemble", "forms"]
+           "Refusal", "Ruling", "SaveError", "Vma", "Way", "WayKind", "Why", "WhyKind", "assemble", "forms"]
 __version__ = "0.4.0"

@@ -26,6 +26,8 @@ FUNCTIONS = {
     "open_lent": (c_uint64, c_uint64, HANDLE),
     "open_lent_image": (c_char_p, c_size_t, c_uint64, c_uint64, HANDLE),
     "copy": (HANDLE, HANDLE),
+    "save": (HANDLE, BYTES, c_size_t, SIZE),
+    "restore": (c_char_p, c_size_t, HANDLE),
     "keep_reasons": (HANDLE, c_size_t, c_bool),
     "reset": (HANDLE,),
     "close": (HANDLE,),

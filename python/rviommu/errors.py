@@ -67,6 +67,10 @@ class ImageError(Exception):
     """The bytes are no image."""
 
 
+class SaveError(Exception):
+    """The bytes are no saved platform, or one of another version."""
+
+
 class AssemblyError(Exception):
     """The text can't be assembled; `line` is its first faulty line, counted from 1."""
 

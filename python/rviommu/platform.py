@@ -11,7 +11,7 @@ from typing import Any, Optional, SupportsIndex, TextIO, TypeVar, Union
 
 from . import forms
 from ._library import LENT, LIBRARY, Handle
-from .errors import AssemblyError, BadAccess, BusError, Denied, ImageError, Misuse, NoDevice, Outside, QueueStopped, Refusal
+from .errors import AssemblyError, BadAccess, BusError, Denied, ImageError, Misuse, NoDevice, Outside, QueueStopped, Refusal, SaveError
 from .reasons import WayKind
 from .values import Context, Located, Page, Part, Value, Way, Why
 
@@ -20,7 +20,7 @@ Bytes = Union[bytes, Memory]
 Entry = TypeVar("Entry", bound=Value)
 
 _VALUE, _DONE, _BYTES, _IDLE, _DENIED, _BUS_ERROR, _BAD_ACCESS, _NO_DEVICE, _MISUSE = range(9)
-_OK, _OUT_OF_MEMORY, _OUTSIDE, _LITTLE_ROOM, _NO_DISK = 0, 7, 10, 11, 12
+_OK, _OUT_OF_MEMORY, _OUTSIDE, _LITTLE_ROOM, _NO_DISK, _OTHER_MEMORY = 0, 7, 10, 11, 12, 15
 _LIVE, _EMPTY = 0, 1
 _STALE = 3
 _MOST_STEPS = 32
@@ -96,7 +96,6 @@ class Platform:
     # What is lent, if memory is: the buffer, and the type of its words.
     _memory: Optional[Memory] = None
     _words: Any = ctypes.c_uint64 * 0
-    _most = _MOST_STEPS
     _record: Optional[TextIO] = None
     _recorded = 0
 
@@ -208,9 +207,7 @@ class Platform:
         made = Platform.__new__(Platform)
         made._begin()
         made._memory, made._words = self._memory, self._words
-        with self._lock:
-            _started(self._call("copy", made._handle))
-            made._most = self._most
+        _started(self._call("copy", made._handle))
         return made
 
     def __copy__(self) -> Platform:
@@ -220,6 +217,53 @@ class Platform:
         made = self.copy()
         made._memory = copy.deepcopy(self._memory, memo)
         return made
+
+    def save(self) -> bytes:
+        """The platform as bytes, for `restore`: all but its trace, its reasons, its record, and a memory that is lent to it."""
+        length = ctypes.c_size_t()
+        with self._lock:
+            self._call("save", None, 0, length)
+            data = _room(length.value)
+            if self._call("save", data, length.value, length) != _OK:
+                raise MemoryError
+        return bytes(data)
+
+    @classmethod
+    def restore(cls, saved: Bytes, memory: Optional[Memory] = None) -> Platform:
+        """A platform that goes on where the one that was saved stood: each later step has the same answer. The count of steps goes on, and
+        `trace` and `why` are about its own steps. If the saved one stood over a buffer, `memory` is a buffer of the same size, else None.
+        Raises `SaveError` if the bytes are no saved platform."""
+        made = cls.__new__(cls)
+        made._begin()
+        given = _bytes(saved)
+        status = LIBRARY.rviommu_restore(given, len(given), made._handle)
+        if status == _OUT_OF_MEMORY:
+            raise MemoryError
+        if status != _OK:
+            raise SaveError(_words(status))
+        made._stand_over(memory)
+        return made
+
+    def _stand_over(self, memory: Optional[Memory]) -> None:
+        """Takes the buffer that a restored platform is lent, if it is lent one."""
+        base, size = self.memory_place
+        is_lent = LIBRARY.rviommu_memory(self._handle, base, _room(0), 0) == _OTHER_MEMORY
+        if memory is None:
+            given = None
+        else:
+            with memoryview(memory) as view:
+                given = view.nbytes
+        if given != (size if is_lent else None):
+            raise ValueError(f"the platform is lent {size:#x} bytes" if is_lent else "the platform has its own memory")
+        if memory is not None:
+            self._memory, self._words = memory, ctypes.c_uint64 * (size // 8)
+            self._lend()
+
+    def __reduce__(self) -> tuple[Any, ...]:
+        """A pickle has what `save` returns and, of a platform over a buffer, the bytes of that."""
+        with self._lock:
+            memory = None if self._memory is None else bytearray(memoryview(self._memory).tobytes())
+            return type(self).restore, (self.save(), memory)
 
     def reset(self) -> None:
         """Resets the IOMMU: its registers are as at reset, and both caches are empty. Memory and disks stay, and the count of steps goes on.
@@ -239,7 +283,6 @@ class Platform:
         with self._lock:
             if self._call("keep_reasons", count, accesses_only) != _OK:
                 raise MemoryError
-            self._most = count
 
     def line(self, text: Union[str, Bytes]) -> str:
         """Carries out a line of the script, and returns its answer, which is empty for a blank line."""
@@ -527,7 +570,9 @@ class Platform:
 
     def _count_reasons(self, why: Why) -> int:
         """The number of kept reasons, found by bisection."""
-        low, high = 0, self._most
+        low, high = 0, 1
+        while self._call("why", high - 1, why) == _OK:
+            low, high = high, 2 * high
         while low < high:
             middle = (low + high) // 2
             low, high = (middle + 1, high) if self._call("why", middle, why) == _OK else (low, middle)

@@ -15,7 +15,7 @@ import unittest
 
 import rviommu
 from rviommu import (AssemblyError, BadAccess, BusError, Context, Denied, FaultRecord, Fence, Gvma, ImageError, Iodir, LocatedKind, Misuse, NoDevice, Outside,
-                     PartKind, Platform, Pte, QueueStopped, Ruling, Vma, WayKind, WhyKind, assemble, forms)
+                     PartKind, Platform, Pte, QueueStopped, Ruling, SaveError, Vma, WayKind, WhyKind, assemble, forms)
 
 RAM, SIZE = 0x80000000, 0x100000
 ROOT, DATA, IOVA, DID = 0x80002000, 0x80010000, 0x40201000, 5
@@ -760,6 +760,64 @@ class Starts(unittest.TestCase):
             platform.store(DATA, 0)
             made.close()
         self.assertEqual(platform.load(DATA), 0)
+
+    def test_saved(self):
+        platform = with_queues(mapped(Platform(assemble("ram 0x80000000 0x100000\ndisk 5 1 aabb\n")), pscid=9))
+        platform.dma_read(DID, IOVA, 1)
+        saved = platform.save()
+        again = Platform.restore(saved)
+        self.assertEqual((again.save(), again.steps, again.why()), (saved, platform.steps, None))
+        numbers = random.Random(7)
+        for step in range(500):
+            kind, at, value = numbers.randrange(5), numbers.randrange(0x40), numbers.randrange(256)
+            told = []
+            for it in (platform, again):
+                try:
+                    told.append((it.line(f"load {RAM + 8 * at:#x} 8"), it.store(0x80004000, (0x80010 + value) << 10 | 0xD7), it.dma_write(DID, IOVA + at, bytes([value])),
+                                 it.send(Vma(pscid=9)), it.dev_step(0))[kind:])
+                except (Denied, BusError) as error:
+                    told.append(str(error))
+            self.assertEqual(told[0], told[1], step)
+        self.assertEqual(again.save(), platform.save())
+        self.assertEqual((again.why(), again.line("trace 0")), (platform.why(), platform.line("trace 0")))
+        self.assertEqual((again.page_origin(0), again.context_origin(0)), (platform.page_origin(0), platform.context_origin(0)))
+
+    def test_pickled(self):
+        platform = mapped()
+        platform.dma_read(DID, IOVA, 1)
+        again, other = pickle.loads(pickle.dumps([platform, platform.copy()]))
+        self.assertEqual((again.save(), again.pages(), other.save()), (platform.save(), platform.pages(), platform.save()))
+        again.store(DATA, 5)
+        self.assertEqual((again.load(DATA), platform.load(DATA)), (5, 0))
+
+    def test_saved_over_a_buffer(self):
+        memory = bytearray(SIZE)
+        platform = mapped(Platform.over(memory))
+        platform.dma_write(DID, IOVA, b"abc")
+        saved = platform.save()
+        again = Platform.restore(saved, memory)
+        self.assertLess(len(saved), 4096)
+        self.assertEqual((again.dma_read(DID, IOVA, 3), again.steps), (b"abc", platform.steps + 1))
+        other = pickle.loads(pickle.dumps(platform))
+        other.dma_write(DID, IOVA, b"x")
+        self.assertEqual((other.memory(DATA, 3), bytes(memory[DATA - RAM : DATA - RAM + 3])), (b"xbc", b"abc"))
+        for wrong in (None, bytearray(SIZE // 2)):
+            with self.assertRaises(ValueError):
+                Platform.restore(saved, wrong)
+        with self.assertRaises(ValueError):
+            Platform.restore(Platform().save(), memory)
+
+    def test_refused_saves(self):
+        saved = Platform().save()
+        for bytes_, why in ((b"", "not a saved platform"), (saved[:-8], "not a saved platform"), (saved + bytes(8), "not a saved platform"),
+                            (saved[:8] + b"\2" + saved[9:], "other version")):
+            with self.assertRaisesRegex(SaveError, why) as raised:
+                Platform.restore(bytes_)
+            self.assertEqual(str(pickle.loads(pickle.dumps(raised.exception))), why)
+        platform = Platform()
+        platform.close()
+        with self.assertRaises(ValueError):
+            platform.save()
 
     def test_line_of_bytes(self):
         platform = Platform()

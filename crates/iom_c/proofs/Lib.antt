@@ -1,3 +1,4 @@
 pub mod AsBox
 pub mod Lengths
+pub mod Saves
 pub mod Telling

@@ -38,6 +38,14 @@ no_disk = 12
 abbrev pub not_there : ℕ
 not_there = 13
 
+-- the bytes are no saved platform
+abbrev pub bad_save : ℕ
+bad_save = 16
+
+-- they were saved in another form
+abbrev pub other_version : ℕ
+other_version = 17
+
 -- why an image is refused
 abbrev pub load_number : LoadFault → ℕ
 load_number load.BadMagic = 1
@@ -68,7 +76,8 @@ abbrev pub all_words : List (List ℕ)
 all_words =
     codes "ok" ∷ codes "bad magic" ∷ codes "truncated" ∷ codes "trailing bytes" ∷ codes "bad memory" ∷ codes "bad chunk"
     ∷ codes "bad device" ∷ codes "out of memory" ∷ codes "bad line" ∷ codes "overlap" ∷ codes "outside memory"
-    ∷ codes "too little room" ∷ codes "no such disk" ∷ codes "not there" ∷ codes "bad capabilities" ∷ codes "other memory" ∷ []
+    ∷ codes "too little room" ∷ codes "no such disk" ∷ codes "not there" ∷ codes "bad capabilities" ∷ codes "other memory"
+    ∷ codes "not a saved platform" ∷ codes "other version" ∷ []
 
 abbrev pub words_for : ℕ → List ℕ
 words_for number = unwrap_or (slice_get all_words number) (codes "no such number")

@@ -9,3 +9,4 @@ pub mod Looks
 pub mod Reasons
 pub mod Version
 pub mod Why
+pub mod Saves

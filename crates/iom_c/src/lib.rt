@@ -14,6 +14,8 @@ mod owned;
 mod parts;
 mod places;
 mod reasons;
+mod restoring;
+mod saving;
 mod steps;
 mod texts;
 mod told;

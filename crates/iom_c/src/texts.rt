@@ -136,6 +136,8 @@ fn words_for(number: u32) -> &'static [u8]
         13 => b"not there",
         14 => b"bad capabilities",
         15 => b"other memory",
+        16 => b"not a saved platform",
+        17 => b"other version",
         _ => b"no such number",
     }
 }

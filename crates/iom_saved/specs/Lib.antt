@@ -1,2 +1,10 @@
 pub mod Bytes
 pub mod Histories
+pub mod Registers
+pub mod Caches
+pub mod Requests
+pub mod Devices
+pub mod Boards
+pub mod Seen
+pub mod Laws
+pub mod Whole

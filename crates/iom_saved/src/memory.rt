@@ -3,6 +3,7 @@
 ghost use Rattle.std.specs.Prelude.{◌≡◌, ◌++◌, ◌∷◌, length, OnOk, IfOk};
 ghost use Rattle.iom_mem.specs.Words.{bytes_of_words};
 ghost use Rattle.iom_saved.specs.Bytes.{memory_words, words_of_bytes};
+ghost use Rattle.iom_saved.specs.Whole.{IsWhole};
 
 use crate::words::{SavedFault, SavedWords};
 use iom_mem::{MemFault, Ram};
@@ -11,7 +12,8 @@ use std::alloc::{AllocError, Global};
 /// Appends the words of memory: its base, a physical address, how many words of eight bytes there are, and these. The fault is a refused
 /// allocation.
 pub fn put_memory(out: &mut Vec<u64>, ram: &Ram) -> Result<(), AllocError>
-    ensures { OnOk result (out.new.items ≡ out.old.items ++ memory_words ram.now) }
+    ensures words { OnOk result (out.new.items ≡ out.old.items ++ memory_words ram.now) }
+    ensures whole { OnOk result (IsWhole ram.now.bytes) }
 {
     out.push(ram.base())?;
     put_words(out, ram.as_words())?;
@@ -29,7 +31,8 @@ fn put_words(out: &mut Vec<u64>, words: &[u64]) -> Result<(), AllocError>
 
 /// The memory that the next words are.
 pub fn take_memory(alloc: Global, words: &mut SavedWords<'_>) -> Result<Ram, SavedFault>
-    ensures { IfOk result (λ ram. words.old ≡ memory_words ram ++ words.new) }
+    ensures words { IfOk result (λ ram. words.old ≡ memory_words ram ++ words.new) }
+    ensures whole { IfOk result (λ ram. IsWhole ram.bytes) }
 {
     let Some(base) = words.next() else {
         return Err(SavedFault::Bad);
@@ -43,7 +46,8 @@ pub fn take_memory(alloc: Global, words: &mut SavedWords<'_>) -> Result<Ram, Sav
 
 // The memory of these words from a base on.
 fn memory_of(alloc: Global, base: u64, words: &[u64]) -> Result<Ram, SavedFault>
-    ensures { IfOk result (λ ram. memory_words ram ≡ base ∷ length words.now ∷ words.now) }
+    ensures words { IfOk result (λ ram. memory_words ram ≡ base ∷ length words.now ∷ words.now) }
+    ensures whole { IfOk result (λ ram. IsWhole ram.bytes) }
 {
     match Ram::of_words(alloc, base, words) {
         Ok(ram) => Ok(ram),

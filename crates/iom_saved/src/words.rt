@@ -1,7 +1,9 @@
 //! Words, read from the front.
 
 ghost use Rattle.std.specs.Prelude.{◌≡◌, ◌++◌, ◌∷◌, length, IfSome};
+ghost use Rattle.iom_bits.specs.Bits.{flag};
 
+use std::alloc::{AllocError, AllocFailed};
 use std::marker::Model;
 use thiserror::Error;
 
@@ -14,6 +16,20 @@ pub enum SavedFault {
     /// An allocation was refused.
     #[error("out of memory")]
     OutOfMemory,
+}
+
+impl From<AllocError> for SavedFault {
+    /// `OutOfMemory`.
+    fn from(_error: AllocError) -> SavedFault {
+        SavedFault::OutOfMemory
+    }
+}
+
+impl<T: Drop> From<AllocFailed<T>> for SavedFault {
+    /// `OutOfMemory`.
+    fn from(_error: AllocFailed<T>) -> SavedFault {
+        SavedFault::OutOfMemory
+    }
 }
 
 /// The words that are not yet read.
@@ -52,6 +68,77 @@ impl<'a> SavedWords<'a> {
         let (first, rest) = self.left.split_first()?;
         self.left = rest;
         Some(*first)
+    }
+
+    /// The next two words; None if there are fewer.
+    pub fn two(&mut self) -> Option<(u64, u64)>
+        ensures { IfSome result (λ two. self.old ≡ two.0 ∷ two.1 ∷ self.new) }
+    {
+        let first = self.next()?;
+        let second = self.next()?;
+        Some((first, second))
+    }
+
+    /// The next four words; None if there are fewer.
+    pub fn four(&mut self) -> Option<(u64, u64, u64, u64)>
+        ensures { IfSome result (λ four. self.old ≡ four.0 ∷ four.1 ∷ four.2 ∷ four.3 ∷ self.new) }
+    {
+        let (first, second) = self.two()?;
+        let (third, fourth) = self.two()?;
+        Some((first, second, third, fourth))
+    }
+
+    /// The next word, which has 32 bits; None if there is none, or it has more.
+    pub fn next_u32(&mut self) -> Option<u32>
+        ensures { IfSome result (λ word. self.old ≡ word ∷ self.new) }
+    {
+        let word = self.next()?;
+        if word > 0xffff_ffff {
+            return None;
+        }
+        Some(word as u32)
+    }
+
+    /// The next word, which has 16 bits; None if there is none, or it has more.
+    pub fn next_u16(&mut self) -> Option<u16>
+        ensures { IfSome result (λ word. self.old ≡ word ∷ self.new) }
+    {
+        let word = self.next()?;
+        if word > 0xffff {
+            return None;
+        }
+        Some(word as u16)
+    }
+
+    /// The next word, which has eight bits; None if there is none, or it has more.
+    pub fn next_u8(&mut self) -> Option<u8>
+        ensures { IfSome result (λ word. self.old ≡ word ∷ self.new) }
+    {
+        let word = self.next()?;
+        if word > 0xff {
+            return None;
+        }
+        Some(word as u8)
+    }
+
+    /// The flag that the next word is, 0 or 1; None if it is none.
+    pub fn flag(&mut self) -> Option<bool>
+        ensures { IfSome result (λ set. self.old ≡ flag set ∷ self.new) }
+    {
+        match self.next()? {
+            0 => Some(false),
+            1 => Some(true),
+            _ => None,
+        }
+    }
+
+    /// The flags that the next two words are.
+    pub fn flags(&mut self) -> Option<(bool, bool)>
+        ensures { IfSome result (λ two. self.old ≡ flag two.0 ∷ flag two.1 ∷ self.new) }
+    {
+        let first = self.flag()?;
+        let second = self.flag()?;
+        Some((first, second))
     }
 
     /// The next `count` words; None if there are fewer.

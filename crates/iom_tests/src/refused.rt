@@ -6,13 +6,16 @@ use crate::blk_requests::with_disk;
 use crate::devices::devices;
 use crate::warrants::{MAPPED, otherwise, read, started, stored, take, walked, written};
 use crate::{first_wrong, playing};
+use iom_account::History;
 use iom_asm::{Item, assemble, list, load, upgrade};
 use iom_bits::Features;
 use iom_blk::Blk;
 use iom_cache::{ContextCache, Place, TransCache};
 use iom_core::{Answer, Platform, Step};
 use iom_mem::Ram;
-use iom_saved::{SavedWords, take_memory};
+use iom_saved::{
+    SavedWords, bytes_of, put_board, put_history, put_memory, take_board, take_memory, words_of,
+};
 use iom_tool::Trace;
 use std::alloc::{AllocError, Global};
 use std::test::Fail;
@@ -345,5 +348,55 @@ fn word_of_taken(alloc: Global) -> Result<Option<u64>, Fail> {
 #[test]
 fn memory_is_taken(rt: HostRuntime) -> Result<(), Fail> {
     assert_eq!(rt; word_of_taken(rt.alloc())?, Some(0x0807_0605_0403_0201));
+    Ok(())
+}
+
+// How many words a platform with a device has. What makes it takes seven allocations.
+fn words_put(alloc: Global) -> Result<usize, Fail> {
+    spend(alloc, 5)?;
+    let platform = with_device(alloc)?;
+    let mut words = Vec::new(alloc);
+    put_history(&mut words, &History::new(&platform))?;
+    put_memory(&mut words, &platform.ram)?;
+    put_board(&mut words, &platform.board)?;
+    Ok(words.len())
+}
+
+// Three of the history, 514 of the memory, and 112 of the board, of which 64 are its disk's.
+#[test]
+fn words_are_put(rt: HostRuntime) -> Result<(), Fail> {
+    assert_eq!(rt; words_put(rt.alloc())?, 3 + 514 + 112);
+    Ok(())
+}
+
+// The words of a board at reset, with nothing cached and no device: all are 0 but the number of its vectors.
+fn mode_of_taken(alloc: Global) -> Result<u64, Fail> {
+    spend(alloc, 12)?;
+    let mut words = [0; 21];
+    words[6] = 1;
+    let board = take_board(alloc, &mut SavedWords::of(&words))?;
+    Ok(board.registers().values().ddtp)
+}
+
+#[test]
+fn board_is_taken(rt: HostRuntime) -> Result<(), Fail> {
+    assert_eq!(rt; mode_of_taken(rt.alloc())?, 0);
+    Ok(())
+}
+
+#[test]
+fn words_are_read_from_bytes(rt: HostRuntime) -> Result<(), Fail> {
+    spend(rt.alloc(), 12)?;
+    let words = words_of(rt.alloc(), &[1, 2, 0, 0, 0, 0, 0, 3])?;
+    assert_eq!(rt; words.as_slice(), [0x0300_0000_0000_0201].as_slice());
+    Ok(())
+}
+
+#[test]
+fn words_are_written_as_bytes(rt: HostRuntime) -> Result<(), Fail> {
+    spend(rt.alloc(), 12)?;
+    let bytes = bytes_of(rt.alloc(), &[0x0807_0605_0403_0201; 9])?;
+    assert_eq!(rt; bytes.len(), 72);
+    assert!(rt; matches!(bytes.as_slice(), [1, 2, 3, 4, 5, 6, 7, 8, 1, ..]));
     Ok(())
 }

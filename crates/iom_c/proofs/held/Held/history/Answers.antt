@@ -1,5 +1,4 @@
 use Rattle.std.proofs.Common.{subst}
-use Rattle.iom_core.specs.declared.board.Board.{Board}
 use Rattle.iom_c.specs.Handles.{BeginsAt}
 use Rattle.iom_c.proofs.held.Held.history.Goals as goal
 

@@ -1,0 +1,72 @@
+-- A handle as bytes.
+use Rattle.std.specs.Prelude.{ℕ, ◌≡◌, ◌<◌, ◌^◌, List, [], ◌∷◌, ◌++◌, codes, get_or, length}
+use Rattle.iom_bits.specs.Bits.{flag}
+use Rattle.iom_bits.specs.Bytes.{number_of_bytes}
+use Rattle.iom_mem.specs.Words.{bytes_of_words}
+use Rattle.iom_saved.specs.Boards.{board_words}
+use Rattle.iom_saved.specs.Bytes.{memory_words}
+use Rattle.iom_saved.specs.Histories.{history_words}
+use Rattle.iom_saved.specs.Whole.{EachWhole, IsWhole}
+use Rattle.iom_c.specs.Buffers.{begun_by}
+use Rattle.iom_c.specs.Handles.{board_of}
+use Rattle.iom_c.specs.Keeping.{copied}
+use Rattle.iom_c.specs.declared.held.Held.{Held}
+use Rattle.iom_c.specs.declared.held.Held.TheVariants as held
+use Rattle.iom_c.specs.declared.owned.Owned.{Owned}
+use Rattle.iom_c.specs.declared.told.Told.{Told}
+
+-- the first word: its bytes are these letters
+abbrev pub save_magic : ℕ
+save_magic = number_of_bytes (codes "RVIOMMUS")
+
+-- the second word: which form the others have
+abbrev pub save_version : ℕ
+save_version = 1
+
+-- the memory that is a platform's own, or the place of that which is lent
+abbrev pub place_words : Held → List ℕ
+place_words (held.Own platform) = 0 ∷ memory_words platform.machine.memory
+place_words (held.Lent lent) = 1 ∷ lent.base ∷ lent.count ∷ []
+
+-- and the board
+abbrev pub held_words : Held → List ℕ
+held_words held = place_words held ++ board_words (board_of held)
+
+-- how many reasons are kept and of which steps, and the history
+abbrev pub told_words : Told → List ℕ
+told_words told = told.kept.ring.capacity ∷ flag told.kept.accesses_only ∷ history_words told.history
+
+-- the number of the last step, what is told of the steps, and the platform
+abbrev pub owned_words : Owned → List ℕ
+owned_words own = own.count ∷ (told_words own.told ++ held_words own.held)
+
+abbrev pub saved : Owned → List ℕ
+saved own = bytes_of_words (save_magic ∷ save_version ∷ owned_words own)
+
+-- memory of its own is whole words
+abbrev pub HasWholeMemory : Held → Type 0
+HasWholeMemory (held.Own platform) = IsWhole platform.machine.memory.bytes
+HasWholeMemory (held.Lent lent) = Unit {0}
+
+-- and so is the disk of each device
+abbrev pub HasWholeParts : Held → Type 0
+HasWholeParts held = HasWholeMemory held × EachWhole (board_of held).devices
+
+-- it is saved as these bytes: each of its words has 64 bits
+pub record IsSavedAs (own : Owned) (bytes : List ℕ) : Type 0 where
+  pub are : bytes ≡ saved own
+  pub whole : HasWholeParts own.held
+  pub fit : (i : ℕ) → get_or (owned_words own) i 0 < 2 ^ 64
+
+-- the bytes as which it is saved stand in the caller's buffer, with their number
+abbrev pub Saves : Owned → List ℕ → List ℕ → ℕ → Type 0
+Saves own old new count = (bytes : List ℕ) × IsSavedAs own bytes × (new ≡ begun_by bytes old) × (count ≡ length bytes)
+
+-- or the buffer is too short for them
+abbrev pub NeedsRoom : Owned → List ℕ → ℕ → Type 0
+NeedsRoom own old count = (bytes : List ℕ) × IsSavedAs own bytes × (length old < length bytes) × (count ≡ length bytes)
+
+-- the trace has no step, and no reason is kept yet
+pub record IsFresh (own : Owned) : Type 0 where
+  pub trace : own.trace ≡ []
+  pub told : own.told ≡ copied own.told

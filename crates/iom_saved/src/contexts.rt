@@ -1,0 +1,121 @@
+//! The context cache.
+
+ghost use Rattle.std.specs.Prelude.{◌≡◌, ◌++◌, ◌∷◌, [], length, OnOk, IfOk, IfSome};
+ghost use Rattle.iom_saved.specs.Caches.{context_place_words, context_words, contexts_words};
+ghost use Rattle.iom_saved.specs.Seen.{context_seen_words};
+
+use crate::words::{SavedFault, SavedWords};
+use iom_bits::flag;
+use iom_cache::{ContextCache, Place};
+use iom_ddt::{Context, ContextFields};
+use std::alloc::{AllocError, Global};
+
+/// Appends the words of a context cache: each place, live or empty. The fault is a refused allocation.
+pub fn put_contexts(out: &mut Vec<u64>, cache: &ContextCache) -> Result<(), AllocError>
+    ensures { OnOk result (out.new.items ≡ out.old.items ++ contexts_words cache.now) }
+{
+    out.push(cache.len() as u64)?;
+    for i in 0..cache.len() {
+        put_place(out, &cache.place(i as u64))?;
+    }
+    Ok(())
+}
+
+/// The context cache that the next words are.
+pub fn take_contexts(alloc: Global, words: &mut SavedWords<'_>) -> Result<ContextCache, SavedFault>
+    ensures { IfOk result (λ cache. words.old ≡ contexts_words cache ++ words.new) }
+{
+    let Some(count) = words.next() else {
+        return Err(SavedFault::Bad);
+    };
+    let mut cache = ContextCache::new(alloc)?;
+    for _ in 0..count {
+        let Some(place) = take_place(words) else {
+            return Err(SavedFault::Bad);
+        };
+        if !cache.append(place) {
+            return Err(SavedFault::Bad);
+        }
+    }
+    Ok(cache)
+}
+
+fn put_place(out: &mut Vec<u64>, place: &Place<u32, Context>) -> Result<(), AllocError>
+    ensures { OnOk result (out.new.items ≡ out.old.items ++ context_seen_words place.now) }
+{
+    match place {
+        Place::Live(did, context) => {
+            out.extend_from_slice(&[1, u64::from(*did)])?;
+            put_context(out, &context.fields)
+        }
+        Place::Empty => out.extend_from_slice(&[0]),
+        Place::Beyond => Ok(()),
+    }
+}
+
+fn take_place(words: &mut SavedWords<'_>) -> Option<Option<(u32, Context)>>
+    ensures { IfSome result (λ place. words.old ≡ context_place_words place ++ words.new) }
+{
+    if !words.flag()? {
+        return Some(None);
+    }
+    let did = words.next_u32()?;
+    let context = take_context(words)?;
+    Some(Some((did, context)))
+}
+
+fn put_context(out: &mut Vec<u64>, fields: &ContextFields) -> Result<(), AllocError>
+    ensures { OnOk result (out.new.items ≡ out.old.items ++ context_words fields.now) }
+{
+    out.extend_from_slice(&[
+        fields.gppn,
+        fields.ppn,
+        u64::from(fields.pscid),
+        u64::from(fields.gscid),
+        u64::from(fields.gmode),
+        u64::from(fields.mode),
+        u64::from(fields.custom),
+        flag(fields.dtf),
+        flag(fields.tav),
+    ])
+}
+
+fn take_context(words: &mut SavedWords<'_>) -> Option<Context>
+    ensures { IfSome result (λ context. words.old ≡ context_words context ++ words.new) }
+{
+    let (gppn, ppn) = words.two()?;
+    let (pscid, gscid) = take_ids(words)?;
+    let (gmode, mode, custom) = take_modes(words)?;
+    let (dtf, tav) = words.flags()?;
+    let context = Context::new(ContextFields {
+        gppn,
+        ppn,
+        pscid,
+        gscid,
+        gmode,
+        mode,
+        custom,
+        dtf,
+        tav,
+    })?;
+    Some(context)
+}
+
+// PSCID and GSCID.
+fn take_ids(words: &mut SavedWords<'_>) -> Option<(u32, u16)>
+    ensures { IfSome result (λ ids. words.old ≡ ids.0 ∷ ids.1 ∷ words.new) }
+{
+    let pscid = words.next_u32()?;
+    let gscid = words.next_u16()?;
+    Some((pscid, gscid))
+}
+
+// The modes of both stages, and the bits for custom use.
+fn take_modes(words: &mut SavedWords<'_>) -> Option<(u8, u8, u8)>
+    ensures { IfSome result (λ modes. words.old ≡ modes.0 ∷ modes.1 ∷ modes.2 ∷ words.new) }
+{
+    let gmode = words.next_u8()?;
+    let mode = words.next_u8()?;
+    let custom = words.next_u8()?;
+    Some((gmode, mode, custom))
+}
