@@ -41,6 +41,7 @@ words_are_put AllocError
 board_is_taken OutOfMemory 14
 words_are_read_from_bytes OutOfMemory 13
 words_are_written_as_bytes AllocError
+steps_are_followed AllocError
 END
 done
 echo "refused memory: ok"

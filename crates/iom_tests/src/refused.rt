@@ -8,11 +8,12 @@ use crate::warrants::{MAPPED, otherwise, read, started, stored, take, walked, wr
 use crate::{first_wrong, playing};
 use iom_account::History;
 use iom_asm::{Item, assemble, list, load, upgrade};
-use iom_bits::Features;
+use iom_bits::{Features, Kind};
 use iom_blk::Blk;
 use iom_cache::{ContextCache, Place, TransCache};
-use iom_core::{Answer, Platform, Step};
+use iom_core::{Answer, Platform, Request, Step};
 use iom_mem::Ram;
+use iom_owed::Holdings;
 use iom_saved::{
     SavedWords, bytes_of, put_board, put_history, put_memory, take_board, take_memory, words_of,
 };
@@ -398,5 +399,53 @@ fn words_are_written_as_bytes(rt: HostRuntime) -> Result<(), Fail> {
     let bytes = bytes_of(rt.alloc(), &[0x0807_0605_0403_0201; 9])?;
     assert_eq!(rt; bytes.len(), 72);
     assert!(rt; matches!(bytes.as_slice(), [1, 2, 3, 4, 5, 6, 7, 8, 1, ..]));
+    Ok(())
+}
+
+// Follows steps that read a page, and then unmap it without an invalidation.
+fn followed(alloc: Global, platform: &mut Platform) -> Result<Holdings, AllocError> {
+    let mut holdings = Holdings::new(alloc);
+    let steps = [
+        written(16, 8, 0x2000_0402),
+        read(0x4020_1abc),
+        stored(0x8000_4008, 0),
+    ];
+    for (k, step) in steps.iter().enumerate() {
+        holdings.follow(&platform.board, &platform.ram, step, k as u64)?;
+        platform.step(step);
+    }
+    Ok(holdings)
+}
+
+// The context, two pointers, a leaf and the whole translation; the unmapped page is owed, and another isn't.
+fn are_followed(holdings: &Holdings, platform: &Platform) -> Result<Option<usize>, AllocError> {
+    let Platform { board, ram } = platform;
+    let other = Request {
+        did: 5,
+        iova: 0x5020_1abc,
+        kind: Kind::Read,
+    };
+    let owed = holdings.owed(board, ram)?;
+    let numbers = match owed.as_slice() {
+        [one] => Some((one.made.number, one.made.request.iova)),
+        _ => None,
+    };
+    let facts = [
+        holdings.entries().len() == 5,
+        holdings.entries().iter().all(|kept| kept.number == 1),
+        holdings.requests().len() == 1,
+        numbers == Some((1, 0x4020_1000)),
+        holdings.is_settled(board, ram, &other)?,
+    ];
+    Ok(first_wrong(&facts))
+}
+
+// A platform takes three allocations; to follow the read takes more than three.
+#[test]
+fn steps_are_followed(rt: HostRuntime) -> Result<(), Fail> {
+    spend(rt.alloc(), 9)?;
+    let mut platform = started(rt.alloc(), &MAPPED)?;
+    let holdings = followed(rt.alloc(), &mut platform)?;
+    assert_eq!(rt; are_followed(&holdings, &platform)?, None);
     Ok(())
 }
