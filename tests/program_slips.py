@@ -66,12 +66,9 @@ class Slips(Case):
             self.assertEqual(seen, [f"bad: {reason}" for reason in LINES.values()])
 
     def test_names(self):
-        """check and explain: a reason is by the names that stood before its line"""
+        """check: a reason is by the names that stood before its line"""
         script, unlike = "let a 0x80000000\nload a 8 9 # => 0x0\nlet a\nlet a 1\nload b 8\n", 'ADDR "b" isn\'t a number'
         taken = "let: no such NAME or NUMBER, or 64 names already"
         self.assertEqual(run(["check"], script.encode())[1].decode().splitlines(), [
             'line 2: load a 8 9 -> bad: "9" is one word too many, wanted 0x0', f"line 3: let a -> bad: {taken}",
             f"line 5: load b 8 -> bad: {unlike}", "0 passed, 3 failed"])
-        told = run(["explain"], script.encode())[1].decode().splitlines()
-        self.assertEqual(told[1:3] + told[4:5], [
-            '2: load a 8 9 -> bad: "9" is one word too many', f"3: let a -> bad: {taken}", f"5: load b 8 -> bad: {unlike}"])

@@ -34,8 +34,8 @@ A bad line fails, unless bad is wanted.
   > frobnicate now # => done
   > cmd # => bad
   > end
-  line 1: frobnicate -> bad
-  line 3: frobnicate now -> bad, wanted done
+  line 1: frobnicate -> bad: no line begins with "frobnicate"
+  line 3: frobnicate now -> bad: no line begins with "frobnicate", wanted done
   line 4: cmd -> idle, wanted bad
   1 passed, 3 failed
   [1]
@@ -73,7 +73,7 @@ A last line without a line end is judged.
   $ printf 'reg read 8 4 # => 0x2' | rviommu check
   1 passed, 0 failed
   $ printf jump | rviommu check
-  line 1: jump -> bad
+  line 1: jump -> bad: no line begins with "jump"
   line 1: note: no line has a wish
   0 passed, 1 failed
   [1]
@@ -83,7 +83,7 @@ A last line without a line end is judged.
 A report is one line of printable characters.
 
   $ printf '\t a\tb\000\033\377  \r# x\ncmd # => a\007b\n' | rviommu check
-  line 1: a\tb\x00\x1b\xff -> bad
+  line 1: a\tb\x00\x1b\xff -> bad: no line begins with "a"
   line 2: cmd -> idle, wanted a\x07b
   0 passed, 2 failed
   [1]
@@ -91,7 +91,7 @@ A report is one line of printable characters.
 A form feed is no blank: words part at spaces, tabs and CRs.
 
   $ printf '\fcmd # => bad\ncmd\f # => idle\n\r cmd\t # => idle\n' | rviommu check
-  line 2: cmd\x0c -> bad, wanted idle
+  line 2: cmd\x0c -> bad: no line begins with "cmd\x0c", wanted idle
   2 passed, 1 failed
   [1]
 
@@ -105,7 +105,7 @@ Without --stale a last word stale of a wish is left out of account. It is one if
 A line of 512 bytes is judged, and a longer one is bad.
 
   $ printf '%-512s\n%-513s\n%s' 'reg read 8 4 # => 0x2' 'reg read 8 4 # => 0x2' 'reg read 8 4 # => 0x2' | rviommu check
-  line 2: reg read 8 4 -> bad, wanted 0x2
+  line 2: reg read 8 4 -> bad: a line has at most 512 bytes, wanted 0x2
   2 passed, 1 failed
   [1]
   $ printf '%-513s\n' 'reg read 8 4 # => bad' | rviommu check
@@ -115,22 +115,22 @@ A line of 512 bytes is judged, and a longer one is bad.
   >   printf 'cmd # => idle\n%s' "$line" | rviommu check; echo $?
   >   printf 'cmd # => idle\n%s\n\ncmd # => idle\n' "$line" | rviommu check; echo $?
   > done
-  line 2: reg read 8 4 -> bad
+  line 2: reg read 8 4 -> bad: a line has at most 512 bytes
   1 passed, 1 failed
   1
-  line 2: reg read 8 4 -> bad
+  line 2: reg read 8 4 -> bad: a line has at most 512 bytes
   2 passed, 1 failed
   1
-  line 2: reg read 8 4 -> bad
+  line 2: reg read 8 4 -> bad: a line has at most 512 bytes
   1 passed, 1 failed
   1
-  line 2: reg read 8 4 -> bad
+  line 2: reg read 8 4 -> bad: a line has at most 512 bytes
   2 passed, 1 failed
   1
-  line 2: reg read 8 4 -> bad
+  line 2: reg read 8 4 -> bad: a line has at most 512 bytes
   1 passed, 1 failed
   1
-  line 2: reg read 8 4 -> bad
+  line 2: reg read 8 4 -> bad: a line has at most 512 bytes
   2 passed, 1 failed
   1
 
@@ -138,24 +138,24 @@ The limits of a script are those of a run: 2^20 lines and 2^26 bytes. What was j
 
   $ many() { printf 'jump\n'; yes '' | head -n 1048574; echo 'cmd # => idle'; }
   $ many | rviommu check
-  line 1: jump -> bad
+  line 1: jump -> bad: no line begins with "jump"
   1 passed, 1 failed
   [1]
   $ for more in 'cmd # => idle' '' ' ' jump; do { many; printf '%s\n' "$more"; } | rviommu check; echo $?; done
-  line 1: jump -> bad
+  line 1: jump -> bad: no line begins with "jump"
   rviommu: script too long
   3
-  line 1: jump -> bad
+  line 1: jump -> bad: no line begins with "jump"
   rviommu: script too long
   3
-  line 1: jump -> bad
+  line 1: jump -> bad: no line begins with "jump"
   rviommu: script too long
   3
-  line 1: jump -> bad
+  line 1: jump -> bad: no line begins with "jump"
   rviommu: script too long
   3
   $ { many; printf ' '; } | rviommu check
-  line 1: jump -> bad
+  line 1: jump -> bad: no line begins with "jump"
   rviommu: script too long
   [3]
   $ full() { yes "#$(printf '%510s')" | head -c 67108864; }
@@ -166,7 +166,7 @@ The limits of a script are those of a run: 2^20 lines and 2^26 bytes. What was j
   rviommu: script too long
   [3]
   $ head -c 67108864 /dev/zero | tr '\0' ' ' | rviommu check
-  line 1:  -> bad
+  line 1:  -> bad: a line has at most 512 bytes
   line 1: note: no line has a wish
   0 passed, 1 failed
   [1]

@@ -16,8 +16,22 @@ unmaps a page and forgets the invalidation. It maps the page again before the en
   > cmd # => done
   > $again"
   $ echo "$forgotten" | rviommu check --stale image
+  3 passed, 0 failed
   $ echo "$forgotten" | at_fences
+  line 8: place page 0 is stale: the tables now say denied 13
+  3 passed, 1 failed
+  [1]
   $ echo "$forgotten" | at_fences --stale --tap
+  TAP version 14
+  ok 1 - line 4: dma read 5 0x40201abc 4
+  ok 2 - line 8: cmd
+  not ok 3 - line 8: place page 0
+    ---
+    message: "line 8: place page 0 is stale: the tables now say denied 13"
+    ...
+  ok 4 - line 10: dma read 5 0x40201abc 4
+  1..4
+  [1]
 
 A driver that invalidates in time passes, also where one line carries out both commands.
 
@@ -28,12 +42,14 @@ A driver that invalidates in time passes, also where one line carries out both c
   > cmd # => done
   > cmd # => done
   > $again" | at_fences
+  4 passed, 0 failed
   $ echo "$begin
   > store 0x80004008 8 0
   > put 0x80090010 cmd fence
   > reg write cqt 2
   > cmd run 9 # => 0x3 idle
   > $again" | at_fences
+  3 passed, 0 failed
 
 Nothing is looked at behind other commands, nor behind a fence that can't be carried out, since its store is outside memory.
 
@@ -47,6 +63,7 @@ Nothing is looked at behind other commands, nor behind a fence that can't be car
   > cmd # => done
   > reg read cqcsr # => 0x10101
   > $again" | at_fences
+  5 passed, 0 failed
 
 It implies --stale; a place that stays stale fails at each fence and at the end.
 
@@ -59,3 +76,9 @@ It implies --stale; a place that stays stale fails at each fence and at the end.
   > dma read 5 0x40201abc 4 # => 11223344
   > reg write cqt 2
   > cmd # => done" | at_fences
+  line 9: place page 0 is stale: the tables now say denied 13
+  line 10: dma read 5 0x40201abc 4 -> 11223344, stale: read 0x40201abc served by line 4, the tables now say denied 13
+  line 12: place page 0 is stale: the tables now say denied 13
+  line 12: place page 0 is stale: the tables now say denied 13
+  3 passed, 4 failed
+  [1]

@@ -53,9 +53,9 @@ A text that is refused leaves the image's file as it was.
   before
   no new
   $ refused 'ram 0x80000000 0x1000\n\njump\n'
-  rviommu: line 3: bad line
+  rviommu: line 3: bad line: "jump" is no statement
   1
-  rviommu: line 3: bad line
+  rviommu: line 3: bad line: "jump" is no statement
   1
   before
   no new
@@ -95,15 +95,15 @@ The limits of memory: base and size are multiples of 4096, the size at most 64 M
   > u64 1\nram 0x80000000 0x1000
   > end
   ram 0x80000000 0x1000: taken
-  ram 0x80000000 0: rviommu: line 1: bad line
-  ram 0x80000800 0x1000: rviommu: line 1: bad line
-  ram 0x80000000 0x1800: rviommu: line 1: bad line
+  ram 0x80000000 0: rviommu: line 1: bad line: BASE and SIZE are multiples of 4096, SIZE at most 2^26
+  ram 0x80000800 0x1000: rviommu: line 1: bad line: BASE and SIZE are multiples of 4096, SIZE at most 2^26
+  ram 0x80000000 0x1800: rviommu: line 1: bad line: BASE and SIZE are multiples of 4096, SIZE at most 2^26
   ram 0x80000000 0x4000000: taken
-  ram 0x80000000 0x4001000: rviommu: line 1: bad line
+  ram 0x80000000 0x4001000: rviommu: line 1: bad line: BASE and SIZE are multiples of 4096, SIZE at most 2^26
   ram 0xfffffffffff000 0x1000: taken
-  ram 0xfffffffffff000 0x2000: rviommu: line 1: bad line
-  ram 0x100000000000000 0x1000: rviommu: line 1: bad line
-  u64 1\nram 0x80000000 0x1000: rviommu: line 1: bad line
+  ram 0xfffffffffff000 0x2000: rviommu: line 1: bad line: BASE and SIZE are multiples of 4096, SIZE at most 2^26
+  ram 0x100000000000000 0x1000: rviommu: line 1: bad line: BASE and SIZE are multiples of 4096, SIZE at most 2^26
+  u64 1\nram 0x80000000 0x1000: rviommu: line 1: bad line: the first statement is ram, not "u64"
 
 Which statements are taken after it.
 
@@ -132,59 +132,59 @@ Which statements are taken after it.
   > ram 0x90000000 0x1000
   > end
   disk 0xffffff 1: taken
-  disk 0x1000000 1: rviommu: line 2: bad line
-  disk 5 0: rviommu: line 2: bad line
+  disk 0x1000000 1: rviommu: line 2: bad line: no disk of this DID and this size can stand here
+  disk 5 0: rviommu: line 2: bad line: no disk of this DID and this size can stand here
   disk 5 65536: taken
-  disk 5 65537: rviommu: line 2: bad line
+  disk 5 65537: rviommu: line 2: bad line: no disk of this DID and this size can stand here
   disk 0 1\ndisk 1 1\ndisk 2 1\ndisk 3 1\ndisk 4 1\ndisk 5 1\ndisk 6 1\ndisk 7 1: taken
-  disk 0 1\ndisk 1 1\ndisk 2 1\ndisk 3 1\ndisk 4 1\ndisk 5 1\ndisk 6 1\ndisk 7 1\ndisk 8 1: rviommu: line 10: bad line
-  context jump=0: rviommu: line 2: bad line
-  fault jump=0: rviommu: line 2: bad line
+  disk 0 1\ndisk 1 1\ndisk 2 1\ndisk 3 1\ndisk 4 1\ndisk 5 1\ndisk 6 1\ndisk 7 1\ndisk 8 1: rviommu: line 10: bad line: no disk of this DID and this size can stand here
+  context jump=0: rviommu: line 2: bad line: "jump=0" has an unknown key
+  fault jump=0: rviommu: line 2: bad line: "jump=0" has an unknown key
   dir ppn=1: taken
-  dir flags=1: rviommu: line 2: bad line
+  dir flags=1: rviommu: line 2: bad line: "flags=1" has an unknown key
   pte ppn=1 flags=1: taken
   u64 1 2 3 4 5 6 7 8: taken
-  u64 1 2 3 4 5 6 7 8 9: rviommu: line 2: bad line
-  u64: rviommu: line 2: bad line
+  u64 1 2 3 4 5 6 7 8 9: rviommu: line 2: bad line: u64 wants 1 to 8 numbers
+  u64: rviommu: line 2: bad line: u64 wants 1 to 8 numbers
   bytes aabb: taken
-  bytes abc: rviommu: line 2: bad line
+  bytes abc: rviommu: line 2: bad line: HEX has an odd number of digits
   disk 5 1 aabb: taken
-  disk 5 1 abc: rviommu: line 2: bad line
+  disk 5 1 abc: rviommu: line 2: bad line: HEX has an odd number of digits
   rodisk 5 1 aabb: taken
-  ram 0x90000000 0x1000: rviommu: line 2: bad line
+  ram 0x90000000 0x1000: rviommu: line 2: bad line: ram stands once
   $ for key in mode gmode; do for mode in 0 1 2 3 4 5 6 7 8 9 10 11 12 13 14 15; do echo "context $key=$mode"; done; done | after
   context mode=0: taken
-  context mode=1: rviommu: line 2: bad line
-  context mode=2: rviommu: line 2: bad line
-  context mode=3: rviommu: line 2: bad line
-  context mode=4: rviommu: line 2: bad line
-  context mode=5: rviommu: line 2: bad line
-  context mode=6: rviommu: line 2: bad line
-  context mode=7: rviommu: line 2: bad line
+  context mode=1: rviommu: line 2: bad line: a context has no such fields together
+  context mode=2: rviommu: line 2: bad line: a context has no such fields together
+  context mode=3: rviommu: line 2: bad line: a context has no such fields together
+  context mode=4: rviommu: line 2: bad line: a context has no such fields together
+  context mode=5: rviommu: line 2: bad line: a context has no such fields together
+  context mode=6: rviommu: line 2: bad line: a context has no such fields together
+  context mode=7: rviommu: line 2: bad line: a context has no such fields together
   context mode=8: taken
   context mode=9: taken
-  context mode=10: rviommu: line 2: bad line
-  context mode=11: rviommu: line 2: bad line
-  context mode=12: rviommu: line 2: bad line
-  context mode=13: rviommu: line 2: bad line
-  context mode=14: rviommu: line 2: bad line
-  context mode=15: rviommu: line 2: bad line
+  context mode=10: rviommu: line 2: bad line: the machine lacks a capability that this names
+  context mode=11: rviommu: line 2: bad line: a context has no such fields together
+  context mode=12: rviommu: line 2: bad line: a context has no such fields together
+  context mode=13: rviommu: line 2: bad line: a context has no such fields together
+  context mode=14: rviommu: line 2: bad line: a context has no such fields together
+  context mode=15: rviommu: line 2: bad line: a context has no such fields together
   context gmode=0: taken
-  context gmode=1: rviommu: line 2: bad line
-  context gmode=2: rviommu: line 2: bad line
-  context gmode=3: rviommu: line 2: bad line
-  context gmode=4: rviommu: line 2: bad line
-  context gmode=5: rviommu: line 2: bad line
-  context gmode=6: rviommu: line 2: bad line
-  context gmode=7: rviommu: line 2: bad line
+  context gmode=1: rviommu: line 2: bad line: a context has no such fields together
+  context gmode=2: rviommu: line 2: bad line: a context has no such fields together
+  context gmode=3: rviommu: line 2: bad line: a context has no such fields together
+  context gmode=4: rviommu: line 2: bad line: a context has no such fields together
+  context gmode=5: rviommu: line 2: bad line: a context has no such fields together
+  context gmode=6: rviommu: line 2: bad line: a context has no such fields together
+  context gmode=7: rviommu: line 2: bad line: a context has no such fields together
   context gmode=8: taken
   context gmode=9: taken
-  context gmode=10: rviommu: line 2: bad line
-  context gmode=11: rviommu: line 2: bad line
-  context gmode=12: rviommu: line 2: bad line
-  context gmode=13: rviommu: line 2: bad line
-  context gmode=14: rviommu: line 2: bad line
-  context gmode=15: rviommu: line 2: bad line
+  context gmode=10: rviommu: line 2: bad line: the machine lacks a capability that this names
+  context gmode=11: rviommu: line 2: bad line: a context has no such fields together
+  context gmode=12: rviommu: line 2: bad line: a context has no such fields together
+  context gmode=13: rviommu: line 2: bad line: a context has no such fields together
+  context gmode=14: rviommu: line 2: bad line: a context has no such fields together
+  context gmode=15: rviommu: line 2: bad line: a context has no such fields together
 
 Some can be named only after a line that offers them.
 
@@ -197,30 +197,30 @@ Some can be named only after a line that offers them.
   capabilities vectors=1: taken
   $ printf '%s\n' capabilities 'capabilities nl=1 vectors=3' | after
   capabilities: taken
-  capabilities nl=1 vectors=3: rviommu: line 2: bad line
+  capabilities nl=1 vectors=3: rviommu: line 2: bad line: capabilities stand once, with vectors 1, 2 or 4
   $ for line in 'context mode=10' 'context gmode=10' 'cmd vma nl=1' 'cmd gvma s=1'; do
   >   printf '%s\n' "$line"
   >   for key in sv57 sv57x4 nl s; do printf '%s\n' "capabilities $key=1\\n$line"; done
   > done | after
-  context mode=10: rviommu: line 2: bad line
+  context mode=10: rviommu: line 2: bad line: the machine lacks a capability that this names
   capabilities sv57=1\ncontext mode=10: taken
-  capabilities sv57x4=1\ncontext mode=10: rviommu: line 3: bad line
-  capabilities nl=1\ncontext mode=10: rviommu: line 3: bad line
-  capabilities s=1\ncontext mode=10: rviommu: line 3: bad line
-  context gmode=10: rviommu: line 2: bad line
-  capabilities sv57=1\ncontext gmode=10: rviommu: line 3: bad line
+  capabilities sv57x4=1\ncontext mode=10: rviommu: line 3: bad line: the machine lacks a capability that this names
+  capabilities nl=1\ncontext mode=10: rviommu: line 3: bad line: the machine lacks a capability that this names
+  capabilities s=1\ncontext mode=10: rviommu: line 3: bad line: the machine lacks a capability that this names
+  context gmode=10: rviommu: line 2: bad line: the machine lacks a capability that this names
+  capabilities sv57=1\ncontext gmode=10: rviommu: line 3: bad line: the machine lacks a capability that this names
   capabilities sv57x4=1\ncontext gmode=10: taken
-  capabilities nl=1\ncontext gmode=10: rviommu: line 3: bad line
-  capabilities s=1\ncontext gmode=10: rviommu: line 3: bad line
-  cmd vma nl=1: rviommu: line 2: bad line
-  capabilities sv57=1\ncmd vma nl=1: rviommu: line 3: bad line
-  capabilities sv57x4=1\ncmd vma nl=1: rviommu: line 3: bad line
+  capabilities nl=1\ncontext gmode=10: rviommu: line 3: bad line: the machine lacks a capability that this names
+  capabilities s=1\ncontext gmode=10: rviommu: line 3: bad line: the machine lacks a capability that this names
+  cmd vma nl=1: rviommu: line 2: bad line: the machine lacks a capability that this names
+  capabilities sv57=1\ncmd vma nl=1: rviommu: line 3: bad line: the machine lacks a capability that this names
+  capabilities sv57x4=1\ncmd vma nl=1: rviommu: line 3: bad line: the machine lacks a capability that this names
   capabilities nl=1\ncmd vma nl=1: taken
-  capabilities s=1\ncmd vma nl=1: rviommu: line 3: bad line
-  cmd gvma s=1: rviommu: line 2: bad line
-  capabilities sv57=1\ncmd gvma s=1: rviommu: line 3: bad line
-  capabilities sv57x4=1\ncmd gvma s=1: rviommu: line 3: bad line
-  capabilities nl=1\ncmd gvma s=1: rviommu: line 3: bad line
+  capabilities s=1\ncmd vma nl=1: rviommu: line 3: bad line: the machine lacks a capability that this names
+  cmd gvma s=1: rviommu: line 2: bad line: the machine lacks a capability that this names
+  capabilities sv57=1\ncmd gvma s=1: rviommu: line 3: bad line: the machine lacks a capability that this names
+  capabilities sv57x4=1\ncmd gvma s=1: rviommu: line 3: bad line: the machine lacks a capability that this names
+  capabilities nl=1\ncmd gvma s=1: rviommu: line 3: bad line: the machine lacks a capability that this names
   capabilities s=1\ncmd gvma s=1: taken
 
 An image that is refused: each word that reads one says why, and upgrade writes nothing.

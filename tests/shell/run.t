@@ -197,7 +197,7 @@ So has explain, which writes blank and bad lines as it writes others.
   $ printf '\n \t\n# a comment\nreg read 8 4\n  load 0x80000000 1 # as it says\njump\tnow\007\ntrace 0\ncmd' | rviommu explain
   4: reg read 0x8 0x4 -> 0x2
   5: load 0x80000000 0x1 -> 0x0
-  6: jump\tnow\x07 -> bad
+  6: jump\tnow\x07 -> bad: no line begins with "jump"
   7: trace 0 -> reg read 0x8 0x4 -> 0x2
   8: cmd -> idle
   accesses: 0
@@ -205,7 +205,7 @@ So has explain, which writes blank and bad lines as it writes others.
   from the caches: 0
   stale: 0
   $ printf '%-513s\ncmd\n' 'reg read 8 4' | rviommu explain
-  1: reg read 8 4 -> bad
+  1: reg read 8 4 -> bad: a line has at most 512 bytes
   2: cmd -> idle
   accesses: 0
   granted: 0
