@@ -47,7 +47,7 @@ $(player): crates.txt $(sources)
 	@packaging/build.py iom_player
 	@touch $@
 
-$(library): crates.txt $(sources) c/build.py c/guard.c c/rviommu.pc.in include/rviommu.h include/rviommu_record.h
+$(library): crates.txt $(sources) c/build.py c/guard.c c/rviommu.pc.in include/rviommu.h include/rviommu_record.h include/rviommu_events.h
 	@$(has_rt)
 	@$(has_python)
 	@c/build.py >/dev/null
@@ -121,7 +121,7 @@ install: $(program) $(library)
 	install -d $(DESTDIR)$(PREFIX)/share/zsh/site-functions
 	install -m 644 completions/_rviommu $(DESTDIR)$(PREFIX)/share/zsh/site-functions/_rviommu
 	install -d $(DESTDIR)$(PREFIX)/include
-	install -m 644 include/rviommu.h include/rviommu_record.h $(DESTDIR)$(PREFIX)/include
+	install -m 644 include/rviommu.h include/rviommu_record.h include/rviommu_events.h $(DESTDIR)$(PREFIX)/include
 	install -d $(DESTDIR)$(PREFIX)/lib/pkgconfig
 	install -m 644 c/out/lib/librviommu.a $(DESTDIR)$(PREFIX)/lib
 	cp -P c/out/lib/librviommu.so c/out/lib/librviommu.so.* $(DESTDIR)$(PREFIX)/lib

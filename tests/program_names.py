@@ -65,7 +65,7 @@ def stem(path):
 @functools.cache
 def names_of(crate):
     """The names that a crate defines, those of its files among them, and what C has beside the functions of iom_c."""
-    more = text_of("c/guard.c") + text_of("include/rviommu_record.h") if crate == "iom_c" else ""
+    more = "".join(map(text_of, ("c/guard.c", "include/rviommu_record.h", "include/rviommu_events.h"))) if crate == "iom_c" else ""
     return {*map(stem, files_of(crate)), *re.findall(r"rviommu_\w+", more)}.union(*map(defined, files_of(crate)))
 
 

@@ -7,7 +7,7 @@ import mmap
 import operator
 import os
 import threading
-from typing import Any, Optional, SupportsIndex, TextIO, TypeVar, Union
+from typing import Any, Callable, Optional, SupportsIndex, TextIO, TypeVar, Union
 
 from . import forms
 from ._library import LENT, LIBRARY, Handle
@@ -97,6 +97,10 @@ class Platform:
     _memory: Optional[Memory] = None
     _words: Any = ctypes.c_uint64 * 0
     _record: Optional[TextIO] = None
+    #: If it is set, it is called after each step that raises an interrupt, with the bits of `interrupt` that weren't pending before. A copy
+    #: has none.
+    on_interrupt: Optional[Callable[[int], object]] = None
+    _pending = 0
     _recorded = 0
 
     def __init__(self, image: Optional[Bytes] = None, record: Optional[Union[str, os.PathLike[str]]] = None) -> None:
@@ -289,11 +293,22 @@ class Platform:
         given = _bytes(text)
         answer, length = ctypes.create_string_buffer(_ROOM), ctypes.c_size_t()
         self._call("line", given, len(given), answer, _ROOM, length)
+        self._tell_interrupt()
         return answer.raw[: length.value].decode()
+
+    def _tell_interrupt(self) -> None:
+        if self.on_interrupt is None:
+            return
+        with self._lock:
+            before, self._pending = self._pending, self.interrupt
+            raised = self._pending & ~before
+        if raised:
+            self.on_interrupt(raised)
 
     def _step(self, name: str, *operands: Any, number: Optional[ctypes.c_uint64] = None) -> int:
         """Carries out a step, and returns the kind of its answer. A refusal is raised."""
         answer: int = self._call(name, *operands, *([] if number is None else [number]))
+        self._tell_interrupt()
         if answer == _DENIED and number is not None:
             raise Denied(number.value)
         if answer in _REFUSALS:

@@ -709,6 +709,20 @@ class Accounts(unittest.TestCase):
         with self.assertRaises(BadAccess):
             platform.reg_look(1, 4)
 
+    def test_raised(self):
+        platform, raised = with_queues(mapped()), []
+        platform.reg_write(FQCSR, 3, 4)
+        platform.on_interrupt = raised.append
+        platform.dma_read(5, IOVA, 1)
+        self.assertEqual(raised, [])
+        for _ in range(2):
+            with self.assertRaises(Denied):
+                platform.dma_read(6, IOVA, 1)
+        self.assertEqual(raised, [2])
+        platform.reg_write(0x54, 2, 4)
+        self.assertTrue(platform.line("dma read 6 0x40201abc 1").startswith("denied "))
+        self.assertEqual((raised, platform.copy().on_interrupt), ([2, 2], None))
+
 
 class Starts(unittest.TestCase):
     def test_image(self):

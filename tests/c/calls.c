@@ -8,6 +8,7 @@
 #include <string.h>
 
 #include "rviommu.h"
+#include "rviommu_events.h"
 
 #define RAM 0x80000000u
 
@@ -400,7 +401,19 @@ static void test_kept_reasons(void) {
     rviommu_close(&platform);
 }
 
-/* A denial's record raises an interrupt, which is looked at without a step. */
+/* What the function of rviommu_events was called with, and how often. */
+struct raised {
+    uint64_t bits;
+    int calls;
+};
+
+static void note_raised(void *user, uint64_t bits) {
+    struct raised *raised = user;
+    raised->bits = bits;
+    raised->calls++;
+}
+
+/* A denial's record raises an interrupt, which is looked at without a step, and told once. */
 static void test_interrupt(void) {
     rviommu_t platform = {NULL};
     const rviommu_t *view = &platform;
@@ -414,8 +427,14 @@ static void test_interrupt(void) {
     want("fqcsr: fqen and fie", rviommu_reg_write(&platform, 0x4c, 4, 3), RVIOMMU_DONE);
     want("ddtp", rviommu_reg_write(&platform, 0x10, 8, 0x20000402), RVIOMMU_DONE);
     want("none yet", rviommu_interrupt(view), 0);
+    struct raised raised = {0, 0};
+    struct rviommu_events events = rviommu_events_begin(view, note_raised, &raised);
+    want("nothing to tell", rviommu_events_look(&events, view), false);
     want("a denial", rviommu_dma_read(&platform, 5, 0x40201abc, &byte, 1, &cause), RVIOMMU_DENIED);
     want("the fault queue's", rviommu_interrupt(view), 2);
+    want("is told", rviommu_events_look(&events, view), true);
+    want("by its bit", raised.bits, 2);
+    want("and no more", rviommu_events_look(&events, view), false);
     want("ipsr", rviommu_reg_look(view, 0x54, 4, &value), RVIOMMU_OK);
     want("which is", value, 2);
     want("ddtp", rviommu_reg_look(view, 0x10, 8, &value), RVIOMMU_OK);
@@ -426,6 +445,10 @@ static void test_interrupt(void) {
     want("which was the denial", why.number, 4);
     want("the fault's interrupt is taken", rviommu_reg_write(&platform, 0x54, 4, 2), RVIOMMU_DONE);
     want("none is left", rviommu_interrupt(view), 0);
+    want("which isn't told", rviommu_events_look(&events, view), false);
+    want("another denial", rviommu_dma_read(&platform, 5, 0x40201abc, &byte, 1, &cause), RVIOMMU_DENIED);
+    want("is told anew", rviommu_events_look(&events, view), true);
+    want("twice in all", (uint64_t)raised.calls, 2);
     rviommu_close(&platform);
 }
 
