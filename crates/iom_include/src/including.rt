@@ -150,9 +150,9 @@ fn read_on<R: Read>(reader: &mut R, script: &mut Vec<u8>) -> io::Result<bool>
 
 /// A script, read with the texts that its lines include in their place. After a fault of a line it reads no further.
 #[derive(Drop)]
-pub struct Including<'t, T, R> {
+pub struct Including<'t, 'n, T, R> {
     source: Source<'t, T>,
-    name: &'t str,
+    name: &'n str,
     reader: R,
     // what was read, and stands for nothing yet
     script: Vec<u8>,
@@ -164,14 +164,14 @@ pub struct Including<'t, T, R> {
     fault: Option<IncludeFault>,
 }
 
-impl<'t, T: Texts, R: Read> Including<'t, T, R> {
+impl<'t, 'n, T: Texts, R: Read> Including<'t, 'n, T, R> {
     ghost use Rattle.std.specs.Prelude.{◌≡◌, ◌≤◌, [], drop, length, false, true, IfOk, OnOk};
     ghost use Rattle.std.specs.Io.KnownBytes.{IsAtEnd, Keeps};
     ghost use Rattle.iom_include.specs.Including.{left_by};
     ghost use Rattle.iom_include.specs.Reading.{remaining_of};
 
     /// The script that `reader` gives, with these texts. Its lines name them from the folder of `name`; without a name it is empty.
-    pub fn new(alloc: Global, texts: &'t T, name: &'t str, reader: R) -> Including<'t, T, R>
+    pub fn new(alloc: Global, texts: &'t T, name: &'n str, reader: R) -> Including<'t, 'n, T, R>
         ensures { remaining_of T.known R.remaining result ≡ left_by (T.known texts.now) (R.remaining reader) [] name.now [] }
     {
         Including {
@@ -263,7 +263,7 @@ impl<'t, T: Texts, R: Read> Including<'t, T, R> {
     }
 }
 
-impl<T: Texts, R: Read> Read for Including<'_, T, R> {
+impl<T: Texts, R: Read> Read for Including<'_, '_, T, R> {
     ghost use Rattle.iom_include.specs.Reading.{remaining_of};
 
     ghost remaining = { remaining_of T.known R.remaining };
