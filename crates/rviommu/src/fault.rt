@@ -1,7 +1,9 @@
 use iom_asm::{AsmFault, ListFault, LoadFault};
 use iom_cli::{Escaped, WordsFault};
+use iom_include::{IncludeFault, Reason};
 use iom_tool::RunFault;
 use std::alloc::AllocError;
+use std::fmt::{self, Display, Formatter, Write};
 use thiserror::Error;
 
 /// Why the program ends, if not well.
@@ -34,12 +36,56 @@ pub enum Fault<'a> {
     /// A run of a script ended before its end, or an output can't be written.
     #[error("{0}")]
     Run(RunFault),
+    /// A line of a script can't include what it names.
+    #[error("{}", IncludeTold(.0))]
+    Include(IncludeFault),
     /// An allocation was refused.
     #[error("out of memory")]
     OutOfMemory,
 }
 
+/// Why a line of a script can't include what it names, as it is told: with its file and number.
+#[derive(Clone, Copy)]
+struct IncludeTold<'a>(&'a IncludeFault);
+
+impl Display for IncludeTold<'_> {
+    fn fmt<W: Write>(&self, f: &mut Formatter<W>) -> fmt::Result {
+        match self.0 {
+            IncludeFault::Refused {
+                reason,
+                name,
+                from,
+                line,
+            } => {
+                let name = Escaped(name.as_str());
+                if from.as_str().is_empty() {
+                    write!(f, "line {line}: ")?;
+                } else {
+                    write!(f, "{}:{line}: ", Escaped(from.as_str()))?;
+                }
+                match reason {
+                    Reason::Unreadable => write!(f, "cannot read {name}"),
+                    Reason::TooLong => write!(f, "{name}: {}", RunFault::TooLong),
+                    Reason::TooDeep => write!(f, "{name} is included more than 8 files deep"),
+                }
+            }
+            IncludeFault::LongLine => write!(f, "{}", RunFault::TooLong),
+            IncludeFault::OutOfMemory => f.write_str("out of memory"),
+        }
+    }
+}
+
 impl Fault<'_> {
+    /// Why a run ended, by the fault that the run tells and that of a line of its script, if there is one.
+    pub fn of_run(fault: RunFault, line: Option<IncludeFault>) -> Self {
+        match (fault, line) {
+            (RunFault::Read, Some(IncludeFault::OutOfMemory)) => Fault::OutOfMemory,
+            (RunFault::Read, Some(IncludeFault::LongLine)) => Fault::Run(RunFault::TooLong),
+            (RunFault::Read, Some(fault)) => Fault::Include(fault),
+            _ => Fault::Run(fault),
+        }
+    }
+
     /// The status to end with: 2 for bad words, else 1.
     pub fn status(&self) -> u8 {
         match self {
