@@ -71,7 +71,9 @@ fn judge<'f, R: Read, W: Write>(
     let ended = check(&mut checking, &mut reader, &mut writer);
     Ok(Judged {
         tally: checking.tally(),
-        fault: ended.err().map(|fault| Fault::of_run(fault, script.take_fault())),
+        fault: ended
+            .err()
+            .map(|fault| Fault::of_run(fault, script.take_fault())),
     })
 }
 
@@ -90,7 +92,9 @@ impl<R: Clock + Eprint + Files, W: Write> Round<'_, R, W> {
     // What is told of a fault: with the name of its file, where that isn't in it.
     fn told<'f>(&self, name: Option<&str>, fault: &Fault<'_>) -> Result<String, Fault<'f>> {
         Ok(match (name, fault) {
-            (None, _) | (_, Fault::CannotRead(_) | Fault::Include(_)) => format!(in self.alloc; "{fault}")?,
+            (None, _) | (_, Fault::CannotRead(_) | Fault::Include(_)) => format!(in self.alloc;
+                "{fault}"
+            )?,
             (Some(name), _) => format!(in self.alloc; "{}: {fault}", Escaped(name))?,
         })
     }

@@ -56,13 +56,13 @@ impl<'r, R: Files> Library<'r, R> {
         let Ok(marks) = self.marks.try_borrow() else {
             return Ok(None);
         };
-        let count = marks.as_slice().partition_point(|mark| mark.first <= number);
+        let count = marks
+            .as_slice()
+            .partition_point(|mark| mark.first <= number);
         match marks.as_slice()[..count].last() {
             Some(mark) => Ok(Some(FileLine {
                 name: mark.name.clone()?,
-                line: mark
-                    .line
-                    .saturating_add(number.saturating_sub(mark.first)),
+                line: mark.line.saturating_add(number.saturating_sub(mark.first)),
             })),
             None => Ok(None),
         }

@@ -95,12 +95,7 @@ impl<'p, 'r, 'n, 'w, R: Files, W: Write> Placing<'p, 'r, 'n, 'w, R, W> {
     }
 
     // Appends a file's name, or what stands in place of it, before the number of a line.
-    fn put_head(
-        &self,
-        out: &mut Vec<u8>,
-        name: &str,
-        quoting: Quoting,
-    ) -> Result<(), AllocError> {
+    fn put_head(&self, out: &mut Vec<u8>, name: &str, quoting: Quoting) -> Result<(), AllocError> {
         if name.is_empty() || (name == self.name && matches!(self.style, Style::Junit)) {
             return out.extend_from_slice(b"line ");
         }
