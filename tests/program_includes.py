@@ -1,5 +1,6 @@
 """Lines `include FILE` of the scripts of check, debug and explain."""
 import os
+import re
 from xml.etree import ElementTree
 
 from frame import Case, run
@@ -73,14 +74,17 @@ class Includes(Case):
     def test_odd_names(self):
         """names with bytes that TAP, YAML and XML quote"""
         name = "common/a\"b\\c&'<d>.script"
+        shown = re.sub(r"([\"\\'])", r"\\\1", name)
         self.put(name, b"cmd # => done\n")
         self.put("odd.script", f"include {name}\n".encode())
-        self.assertEqual(self.check("odd.script")[1].decode().splitlines()[0], f"{name}:1: cmd -> idle, wanted done")
+        self.assertEqual(self.check("odd.script")[1].decode().splitlines()[0], f"{shown}:1: cmd -> idle, wanted done")
         lines = self.check("--tap", "--junit", "out.xml", "odd.script")[1].decode().splitlines()
-        self.assertIn("not ok 1 - " + name.replace("\\", "\\\\") + ":1: cmd", lines)
-        self.assertIn('  message: "' + name.replace("\\", "\\\\").replace('"', '\\"') + ':1: cmd -> idle, wanted done"', lines)
+        quoted = shown.replace("\\", "\\\\")
+        self.assertIn(f"not ok 1 - {quoted}:1: cmd", lines)
+        told = quoted.replace('"', '\\"')
+        self.assertIn(f'  message: "{told}:1: cmd -> idle, wanted done"', lines)
         case = ElementTree.parse(self.path("out.xml")).getroot()[0][0]
-        self.assertEqual(case.get("name"), f"{name}:1: cmd")
+        self.assertEqual(case.get("name"), f"{shown}:1: cmd")
 
     def test_folders(self):
         """a file is named from the folder of the file that names it, and may lack its last line end or be empty"""
