@@ -69,12 +69,13 @@ fn judge<'f, R: Read, W: Write>(
     let debugger = Debugger::new(&mut platform, &mut trace, &mut reasons);
     let mut checking = Checking::new(debugger, rules, name, points);
     let ended = check(&mut checking, &mut reader, &mut writer);
-    Ok(Judged {
-        tally: checking.tally(),
-        fault: ended
-            .err()
-            .map(|fault| Fault::of_run(fault, script.take_fault())),
-    })
+    let tally = checking.tally();
+    let fault = match ended {
+        Ok(_) => None,
+        Err(_) if placing.is_short() => Some(Fault::OutOfMemory),
+        Err(fault) => Some(Fault::of_run(fault, script.take_fault())),
+    };
+    Ok(Judged { tally, fault })
 }
 
 impl<R: Clock + Eprint + Files, W: Write> Round<'_, R, W> {

@@ -5,7 +5,7 @@ use iom_check::Style;
 use iom_debug::{OutputPage, first_bytes, put_escaped};
 use std::alloc::{AllocError, Global};
 use std::fs::Files;
-use std::io::{self, Write};
+use std::io::{self, ErrorKind, Write};
 
 /// How a text is written where it stands.
 #[derive(Clone, Copy)]
@@ -26,6 +26,8 @@ pub struct Placing<'p, 'r, 'n, 'w, R, W> {
     // of the script; if it has none, empty
     name: &'n str,
     output: &'w mut W,
+    // whether memory was refused
+    is_short: bool,
 }
 
 // Appends a text as it is quoted.
@@ -91,6 +93,7 @@ impl<'p, 'r, 'n, 'w, R: Files, W: Write> Placing<'p, 'r, 'n, 'w, R, W> {
             style,
             name: name.unwrap_or(""),
             output,
+            is_short: false,
         }
     }
 
@@ -132,6 +135,23 @@ impl<'p, 'r, 'n, 'w, R: Files, W: Write> Placing<'p, 'r, 'n, 'w, R, W> {
         out.extend_from_slice(&behind[digits..])?;
         Ok(Some(out))
     }
+
+    // All that `check` tells at once, with the files in place.
+    fn all_placed(&self, text: &[u8]) -> Result<Vec<u8>, AllocError> {
+        let mut out = Vec::new(self.alloc);
+        for told in text.split_inclusive(|byte| *byte == b'\n') {
+            match self.placed(told)? {
+                Some(placed) => out.extend_from_slice(placed.as_slice())?,
+                None => out.extend_from_slice(told)?,
+            }
+        }
+        Ok(out)
+    }
+
+    /// Whether memory was refused.
+    pub fn is_short(&self) -> bool {
+        self.is_short
+    }
 }
 
 impl<R: Files, W: Write> Write for Placing<'_, '_, '_, '_, R, W> {
@@ -140,12 +160,11 @@ impl<R: Files, W: Write> Write for Placing<'_, '_, '_, '_, R, W> {
         if self.library.is_empty() {
             return self.output.write(text);
         }
-        for told in text.split_inclusive(|byte| *byte == b'\n') {
-            match self.placed(told)? {
-                Some(placed) => self.output.write_all(placed.as_slice())?,
-                None => self.output.write_all(told)?,
-            }
-        }
+        let Ok(placed) = self.all_placed(text) else {
+            self.is_short = true;
+            return Err(io::Error::from(ErrorKind::OutOfMemory));
+        };
+        self.output.write_all(placed.as_slice())?;
         Ok(text.len())
     }
 
