@@ -29,7 +29,7 @@ NAMING = {
 # These take none themselves. What `Summary::new` makes takes memory for a line that is stale, in `explain` alone.
 KEEP_AN_ALLOCATOR = {"Summary::new"}
 # Tests, and crates that only the program uses, whose allocations tests/shell refuses.
-NO_LIBRARY = {"iom_tests", "iom_cli", "iom_explain"}
+NO_LIBRARY = {"iom_tests", "iom_cli", "iom_explain", "iom_include"}
 NAME = r"[A-Za-z_]\w*(?:::\w+)*"
 # A public item or field below a line that is no comment; attributes are left out.
 UNDOCUMENTED = (

@@ -165,12 +165,12 @@ The limits of a script are those of a run: 2^20 lines and 2^26 bytes. What was j
   $ { full; echo; } | rviommu check
   rviommu: script too long
   [3]
-  $ head -c 67108864 /dev/zero | tr '\0' ' ' | rviommu check
+  $ head -c 67108863 /dev/zero | tr '\0' ' ' | rviommu check
   line 1:  -> bad: a line has at most 512 bytes
   line 1: note: no line has a wish
   0 passed, 1 failed
   [1]
-  $ head -c 67108865 /dev/zero | tr '\0' ' ' | rviommu check
+  $ head -c 67108864 /dev/zero | tr '\0' ' ' | rviommu check
   rviommu: script too long
   [3]
 

@@ -38,6 +38,12 @@ allocation; `clap` may refuse the words. Of check the status is 3, once its word
   debug image: out of memory
   $ refused explain image
   explain image: out of memory
+  $ cp ask prelude; printf 'include prelude\n' > ask
+  $ refused check
+  check: out of memory
+  $ refused debug image
+  debug image: out of memory
+  $ cp prelude ask
   $ refused list image u64 0x80000000 100
   list image u64 0x80000000 100: out of memory
   $ refused upgrade image new

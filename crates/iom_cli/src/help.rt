@@ -131,7 +131,9 @@ The script has the lines of `rviommu --help` and these:
   why I                         the lines that cached what step I of the trace
                                 used, and whether it was stale
 
-If standard output is a terminal, bad is followed by its reason.
+The line `include FILE` stands for the text of FILE, which is named from the
+folder of the script. If standard output is a terminal, bad is followed by its
+reason.
 
 An example:
 

@@ -2,6 +2,8 @@
 
 use crate::fault::Fault;
 use crate::files;
+use crate::library::Library;
+use crate::placing::Placing;
 use crate::progress::{Progress, size_of_input};
 use iom_check::{Checking, Rules, Style, Tally, check};
 use iom_cli::{
@@ -9,6 +11,7 @@ use iom_cli::{
     put_fault_point, put_plan, put_suite, put_sum,
 };
 use iom_debug::{Debugger, LineAccount, OutputPage, first_bytes, put_escaped};
+use iom_include::Including;
 use iom_reader::{RunFault, WatchedReader, WatchedWriter};
 use iom_tool::Trace;
 use std::alloc::Global;
@@ -23,10 +26,10 @@ const INPUT: &str = "-";
 const UNNAMED: &str = "script";
 
 /// What a script came to, and the fault that ended it before its end.
-#[derive(Clone, Copy)]
-struct Judged {
+#[derive(Drop)]
+struct Judged<'f> {
     tally: Tally,
-    fault: Option<RunFault>,
+    fault: Option<Fault<'f>>,
 }
 
 /// Scripts that are judged one after the other, and what is written of them.
@@ -46,6 +49,7 @@ struct Round<'r, R, W> {
 
 // Judges a script on an image. The faults are those before its first line.
 fn judge<'f, R: Read, W: Write>(
+    rt: &impl Files,
     alloc: Global,
     image: &[u8],
     rules: Rules,
@@ -53,19 +57,25 @@ fn judge<'f, R: Read, W: Write>(
     points: u64,
     input: &mut R,
     output: &mut W,
-) -> Result<Judged, Fault<'f>> {
-    let mut reader = WatchedReader::new(input);
-    let mut writer = WatchedWriter::new(output);
+) -> Result<Judged<'f>, Fault<'f>> {
+    let library = Library::new(rt, alloc);
+    let mut script = Including::new(alloc, &library, name.unwrap_or(""), &mut *input);
+    let mut placing = Placing::new(alloc, &library, rules.style, name, &mut *output);
+    let mut reader = WatchedReader::new(&mut script);
+    let mut writer = WatchedWriter::new(&mut placing);
     let mut platform = iom_asm::load(alloc, image)?;
     let mut trace = Trace::new(alloc)?;
     let mut reasons = LineAccount::new(&platform);
     let debugger = Debugger::new(&mut platform, &mut trace, &mut reasons);
     let mut checking = Checking::new(debugger, rules, name, points);
     let ended = check(&mut checking, &mut reader, &mut writer);
-    Ok(Judged {
-        tally: checking.tally(),
-        fault: ended.err(),
-    })
+    let tally = checking.tally();
+    let fault = match ended {
+        Ok(_) => None,
+        Err(_) if placing.is_short() => Some(Fault::OutOfMemory),
+        Err(fault) => Some(Fault::of_run(fault, script.take_fault())),
+    };
+    Ok(Judged { tally, fault })
 }
 
 impl<R: Clock + Eprint + Files, W: Write> Round<'_, R, W> {
@@ -83,7 +93,9 @@ impl<R: Clock + Eprint + Files, W: Write> Round<'_, R, W> {
     // What is told of a fault: with the name of its file, where that isn't in it.
     fn told<'f>(&self, name: Option<&str>, fault: &Fault<'_>) -> Result<String, Fault<'f>> {
         Ok(match (name, fault) {
-            (None, _) | (_, Fault::CannotRead(_)) => format!(in self.alloc; "{fault}")?,
+            (None, _) | (_, Fault::CannotRead(_) | Fault::Include(_)) => format!(in self.alloc;
+                "{fault}"
+            )?,
             (Some(name), _) => format!(in self.alloc; "{}: {fault}", Escaped(name))?,
         })
     }
@@ -148,6 +160,7 @@ impl<R: Clock + Eprint + Files, W: Write> Round<'_, R, W> {
     ) -> Result<Option<String>, Fault<'f>> {
         let points = self.points();
         let ended = judge(
+            self.rt,
             self.alloc,
             image,
             self.rules,
@@ -162,8 +175,10 @@ impl<R: Clock + Eprint + Files, W: Write> Round<'_, R, W> {
                 self.sum.failed = self.sum.failed.saturating_add(judged.tally.failed);
                 match judged.fault {
                     None => return Ok(None),
-                    Some(RunFault::Write) => return Err(Fault::Run(RunFault::Write)),
-                    Some(fault) => Fault::Run(fault),
+                    Some(Fault::Run(RunFault::Write)) => {
+                        return Err(Fault::Run(RunFault::Write));
+                    }
+                    Some(fault) => fault,
                 }
             }
             Err(fault) => fault,
@@ -186,9 +201,18 @@ impl<R: Clock + Eprint + Files, W: Write> Round<'_, R, W> {
             style: Style::Junit,
             ..self.rules
         };
-        let judged = judge(self.alloc, image, rules, name, 0, &mut script, &mut cases)?;
+        let judged = judge(
+            self.rt,
+            self.alloc,
+            image,
+            rules,
+            name,
+            0,
+            &mut script,
+            &mut cases,
+        )?;
         // A vector can't be written where memory is refused.
-        if let Some(RunFault::Write) = judged.fault {
+        if let Some(Fault::Run(RunFault::Write)) = judged.fault {
             return Err(Fault::OutOfMemory);
         }
         self.add_suite(name, judged.tally, cases, fault)

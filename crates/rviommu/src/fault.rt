@@ -1,5 +1,6 @@
 use iom_asm::{AsmFault, ListFault, LoadFault};
 use iom_cli::{Escaped, WordsFault};
+use iom_include::{IncludeFault, Reason};
 use iom_slips::statement_slip;
 use iom_text::is_over;
 use iom_tool::{Reply, RunFault};
@@ -10,9 +11,9 @@ use thiserror::Error;
 
 /// The reason of a bad line, behind its fault; nothing if it is empty.
 #[derive(Clone, Copy)]
-struct Reason<'a>(&'a [u8]);
+struct SlipTold<'a>(&'a [u8]);
 
-impl Display for Reason<'_> {
+impl Display for SlipTold<'_> {
     fn fmt<W: Write>(&self, f: &mut Formatter<W>) -> fmt::Result {
         match str::from_utf8(self.0) {
             Ok(text) if !text.is_empty() => write!(f, ": {text}"),
@@ -40,7 +41,7 @@ pub enum Fault<'a> {
     #[error("cannot write {}", Escaped(*.0))]
     CannotWrite(&'a str),
     /// A text is refused by the assembler. The reason is empty if no line of it is bad.
-    #[error("{fault}{}", Reason(.reason.as_slice()))]
+    #[error("{fault}{}", SlipTold(.reason.as_slice()))]
     Assemble { fault: AsmFault, reason: Reply },
     /// Bytes are refused as an image.
     #[error("{0}")]
@@ -51,6 +52,9 @@ pub enum Fault<'a> {
     /// A run of a script ended before its end, or an output can't be written.
     #[error("{0}")]
     Run(RunFault),
+    /// A line of a script can't include what it names.
+    #[error("{}", IncludeTold(.0))]
+    Include(IncludeFault),
     /// An allocation was refused.
     #[error("out of memory")]
     OutOfMemory,
@@ -68,6 +72,37 @@ fn reason_of(text: &[u8], line: u64) -> Reply {
     Reply::new()
 }
 
+/// Why a line of a script can't include what it names, as it is told: with its file and number.
+#[derive(Clone, Copy)]
+struct IncludeTold<'a>(&'a IncludeFault);
+
+impl Display for IncludeTold<'_> {
+    fn fmt<W: Write>(&self, f: &mut Formatter<W>) -> fmt::Result {
+        match self.0 {
+            IncludeFault::Refused {
+                reason,
+                name,
+                from,
+                line,
+            } => {
+                let name = Escaped(name.as_str());
+                if from.as_str().is_empty() {
+                    write!(f, "line {line}: ")?;
+                } else {
+                    write!(f, "{}:{line}: ", Escaped(from.as_str()))?;
+                }
+                match reason {
+                    Reason::Unreadable => write!(f, "cannot read {name}"),
+                    Reason::TooLong => write!(f, "{name}: {}", RunFault::TooLong),
+                    Reason::TooDeep => write!(f, "{name} is included more than 8 files deep"),
+                }
+            }
+            IncludeFault::LongLine => write!(f, "{}", RunFault::TooLong),
+            IncludeFault::OutOfMemory => f.write_str("out of memory"),
+        }
+    }
+}
+
 impl Fault<'_> {
     /// The fault of a text that the assembler refused.
     pub fn of_text(fault: AsmFault, text: &[u8]) -> Self {
@@ -76,6 +111,16 @@ impl Fault<'_> {
             _ => Reply::new(),
         };
         Fault::Assemble { fault, reason }
+    }
+
+    /// Why a run ended, by the fault that the run tells and that of a line of its script, if there is one.
+    pub fn of_run(fault: RunFault, line: Option<IncludeFault>) -> Self {
+        match (fault, line) {
+            (RunFault::Read, Some(IncludeFault::OutOfMemory)) => Fault::OutOfMemory,
+            (RunFault::Read, Some(IncludeFault::LongLine)) => Fault::Run(RunFault::TooLong),
+            (RunFault::Read, Some(fault)) => Fault::Include(fault),
+            _ => Fault::Run(fault),
+        }
     }
 
     /// The status to end with: 2 for bad words, else 1.

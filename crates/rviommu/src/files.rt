@@ -1,6 +1,7 @@
 //! Files, each as a whole.
 
 use crate::fault::Fault;
+use iom_include::TextFault;
 use iom_reader::RunFault;
 use std::alloc::Global;
 use std::fs::{self, File, Files};
@@ -20,6 +21,18 @@ pub fn read<'a>(rt: &impl Files, alloc: Global, name: &'a str) -> Result<Vec<u8>
         Ok(_) if bytes.len() as u64 <= MOST_BYTES => Ok(bytes),
         Err(error) if error.kind() == ErrorKind::OutOfMemory => Err(Fault::OutOfMemory),
         _ => Err(Fault::CannotRead(name)),
+    }
+}
+
+/// The bytes of a file that a script includes: at most as many as a script may have.
+pub fn read_text(rt: &impl Files, alloc: Global, name: &str) -> Result<Vec<u8>, TextFault> {
+    let file = File::open(rt, name).map_err(|_| TextFault::Unreadable)?;
+    let mut bytes = Vec::new(alloc);
+    match file.take(SCRIPT_BYTES).read_to_end(&mut bytes) {
+        Ok(_) if (bytes.len() as u64) < SCRIPT_BYTES => Ok(bytes),
+        Ok(_) => Err(TextFault::TooLong),
+        Err(error) if error.kind() == ErrorKind::OutOfMemory => Err(TextFault::OutOfMemory),
+        Err(_) => Err(TextFault::Unreadable),
     }
 }
 

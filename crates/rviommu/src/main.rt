@@ -6,9 +6,11 @@ use iom_asm::Item;
 use iom_cli::{Checks, How, Task, WordsFault, check_status, task_of};
 use iom_debug::{Debugger, Debugging, LineAccount, debug};
 use iom_explain::{Explaining, Only, explain};
+use iom_include::Including;
 use iom_play::WRITE_BLOCK;
 use iom_reader::{RunFault, WatchedReader, WatchedWriter};
 use iom_tool::Trace;
+use library::Library;
 use progress::{Progress, size_of_input};
 use std::alloc::Global;
 use std::env;
@@ -21,6 +23,8 @@ use std::time::Clock;
 mod checks;
 mod fault;
 mod files;
+mod library;
+mod placing;
 mod progress;
 
 /// The status of `check` where something couldn't be read, judged or written.
@@ -37,8 +41,56 @@ struct Streams<I, O> {
     output_is_terminal: bool,
 }
 
+// Debugs or explains the script that an input gives. Tells whether there was memory for what is told.
+fn tell<'a, R: Read, W: Write>(
+    alloc: Global,
+    image: &[u8],
+    only: Option<Option<Only>>,
+    tells_slips: bool,
+    input: &mut R,
+    output: &mut W,
+) -> Result<bool, Fault<'a>> {
+    let mut reader = WatchedReader::new(input);
+    let mut writer = WatchedWriter::new(output);
+    let mut platform = iom_asm::load(alloc, image)?;
+    let mut trace = Trace::new(alloc)?;
+    let mut reasons = LineAccount::new(&platform);
+    let debugger = Debugger::new(&mut platform, &mut trace, &mut reasons);
+    if let Some(only) = only {
+        let mut explaining = Explaining::new(alloc, debugger, only)?;
+        return Ok(explain(&mut explaining, &mut reader, &mut writer)?);
+    }
+    debug(
+        &mut Debugging::new(debugger, tells_slips),
+        &mut reader,
+        &mut writer,
+    )?;
+    Ok(true)
+}
+
+// Debugs or explains a script whose lines may include files.
+fn tell_all<'a, R: Read, W: Write>(
+    rt: &impl Files,
+    alloc: Global,
+    image: &[u8],
+    only: Option<Option<Only>>,
+    tells_slips: bool,
+    input: &mut R,
+    output: &mut W,
+) -> Result<(), Fault<'a>> {
+    let library = Library::new(rt, alloc);
+    let mut script = Including::new(alloc, &library, "", &mut *input);
+    match tell(alloc, image, only, tells_slips, &mut script, output) {
+        Ok(true) => Ok(()),
+        Ok(false) => Err(Fault::OutOfMemory),
+        Err(Fault::Run(fault)) => Err(Fault::of_run(fault, script.take_fault())),
+        Err(fault) => Err(fault),
+    }
+}
+
 // Runs, debugs or explains the script that an input gives.
 fn play<'a, R: Read, W: Write>(
+    rt: &impl Files,
     alloc: Global,
     image: &[u8],
     how: How,
@@ -46,33 +98,19 @@ fn play<'a, R: Read, W: Write>(
     input: &mut R,
     output: &mut W,
 ) -> Result<(), Fault<'a>> {
-    let mut reader = WatchedReader::new(input);
-    let mut writer = WatchedWriter::new(output);
-    if let How::Run = how {
-        return Ok(iom_play::play(alloc, image, &mut reader, &mut writer)?.ended?);
-    }
-    let mut platform = iom_asm::load(alloc, image)?;
-    let mut trace = Trace::new(alloc)?;
-    let mut reasons = LineAccount::new(&platform);
-    let debugger = Debugger::new(&mut platform, &mut trace, &mut reasons);
-    match how {
-        How::Explain { only } => {
-            let only = only.map(|it| Only {
-                denied: it.denied,
-                stale: it.stale,
-            });
-            let mut explaining = Explaining::new(alloc, debugger, only)?;
-            if !explain(&mut explaining, &mut reader, &mut writer)? {
-                return Err(Fault::OutOfMemory);
-            }
-            Ok(())
+    let only = match how {
+        How::Run => {
+            let mut reader = WatchedReader::new(input);
+            let mut writer = WatchedWriter::new(output);
+            return Ok(iom_play::play(alloc, image, &mut reader, &mut writer)?.ended?);
         }
-        _ => Ok(debug(
-            &mut Debugging::new(debugger, tells_slips),
-            &mut reader,
-            &mut writer,
-        )?),
-    }
+        How::Debug => None,
+        How::Explain { only } => Some(only.map(|it| Only {
+            denied: it.denied,
+            stale: it.stale,
+        })),
+    };
+    tell_all(rt, alloc, image, only, tells_slips, input, output)
 }
 
 // Plays a script on an image. Its answers are written by blocks, but before it waits for input.
@@ -90,6 +128,7 @@ fn play_image<'a>(
         |_| Fault::OutOfMemory,
     )?;
     let ended = play(
+        rt,
         alloc,
         image,
         how,

@@ -1,0 +1,4 @@
+pub mod Depths
+pub mod Cuts
+pub mod Lefts
+pub mod Naming

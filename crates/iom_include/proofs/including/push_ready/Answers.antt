@@ -1,0 +1,8 @@
+use Rattle.iom_include.proofs.Lefts.{if_done, plain_ready}
+use Rattle.iom_include.proofs.including.push_ready.Goals as goal
+
+pub returns-in-None-clause-ok : goal.returns-in-None-clause-ok
+returns-in-None-clause-ok g c =
+    if_done c.push_whole.result c.push_whole.ensures.ok
+    (plain_ready (g.T.Texts.known c.args.source.now.texts.now) c.args.at.name.now c.args.line.now c.args.whole.now c.args.out.now.text.items
+    c.push_whole.new.out.text.items c.in-None.ensures c.requires)

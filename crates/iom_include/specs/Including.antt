@@ -1,0 +1,42 @@
+-- Lines `include FILE`: the text of a file stands in place of such a line's text.
+use Rattle.std.specs.Prelude.{ℕ, zero, suc, ◌++◌, List, [], ◌∷◌, codes, bytes_eq, length, nat_le, unwrap_or, Option, Some, None, if◌then◌else◌}
+use Rattle.std.specs.List.{flat_map}
+use Rattle.std.specs.Path.{path_join, path_parent}
+use Rattle.iom_text.specs.Words.{words_of}
+use Rattle.iom_reader.specs.Lines.{ended_lines, lines_of}
+
+-- `include FILE`: two words, in a line of at most 512 bytes
+abbrev pub file_in : List (List ℕ) → Option (List ℕ)
+file_in [] = None
+file_in (word ∷ []) = None
+file_in (word ∷ file ∷ []) = if bytes_eq word (codes "include") then Some file else None
+file_in (word ∷ file ∷ more ∷ words) = None
+
+unfoldable pub file_of : List ℕ → Option (List ℕ)
+file_of line = if nat_le (length line) 512 then file_in (words_of line) else None
+
+-- a file is named from the folder of the text that names it
+unfoldable pub name_at : List ℕ → List ℕ → List ℕ
+name_at from file = path_join (unwrap_or (path_parent from) []) file
+
+-- what stands for a line of a text: itself; or the lines of the text that it includes, whose last may lack its end
+abbrev pub in_place : (List ℕ → List ℕ) → (List ℕ → List ℕ → List ℕ) → List ℕ → List ℕ → Option (List ℕ) → List ℕ
+in_place texts inner from line None = line ++ 10 ∷ []
+in_place texts inner from line (Some file) =
+    flat_map (inner (name_at from file)) (ended_lines (texts (name_at from file) ++ 10 ∷ []))
+
+-- as deep as that
+unfoldable pub said : (List ℕ → List ℕ) → ℕ → List ℕ → List ℕ → List ℕ
+said texts zero from line = line ++ 10 ∷ []
+said texts (suc depth) from line = in_place texts (said texts depth) from line (file_of line)
+
+-- what stands for a script of this name: its lines may include texts that include texts, and so on, eight in all
+abbrev pub expanded : (List ℕ → List ℕ) → List ℕ → List ℕ → List ℕ
+expanded texts name script = flat_map (said texts 8 name) (lines_of script)
+
+-- what is left to read: some bytes that are ready, and what stands for the rest of the script. It is known where the texts are, and the
+-- script
+abbrev pub left_by : Option (List ℕ → List ℕ) → Option (List ℕ) → List ℕ → List ℕ → List ℕ → Option (List ℕ)
+left_by None unread ready name rest = None
+left_by (Some texts) None ready name rest = None
+left_by (Some texts) (Some unread) ready name rest = Some (ready ++ expanded texts name (rest ++ unread))

@@ -1,0 +1,2 @@
+pub mod Including
+pub mod Reading

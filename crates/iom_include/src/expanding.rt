@@ -1,0 +1,178 @@
+//! What stands for lines.
+
+ghost use Rattle.std.specs.Prelude.{◌≡◌, ◌<◌, ◌-◌, ◌++◌, ◌∷◌, [], IfOk, IfSome, OnOk};
+ghost use Rattle.std.specs.List.{flat_map};
+ghost use Rattle.std.specs.Path.{path_buf_bytes};
+ghost use Rattle.iom_include.specs.Including.{in_place, name_at, said};
+ghost use Rattle.iom_reader.specs.Lines.{ended_lines};
+
+use crate::fault::{IncludeFault, Reason, TextFault};
+use crate::lines::{cut, file_of};
+use crate::texts::Texts;
+use std::alloc::{AllocError, Global};
+use std::path::{Path, PathBuf};
+use std::str;
+
+/// The most bytes that stand for a line.
+const MOST_BYTES: usize = 1 << 26;
+
+/// What stands for lines, each with its line end.
+#[derive(Drop)]
+pub struct Expansion {
+    /// Its bytes.
+    pub text: Vec<u8>,
+    /// How many lines stood before them or are of them.
+    pub lines: u64,
+}
+
+/// Where texts come from.
+#[derive(Drop)]
+pub struct Source<'t, T> {
+    /// What memory is allocated from.
+    pub alloc: Global,
+    /// The texts.
+    pub texts: &'t T,
+}
+
+/// A line of a text.
+#[derive(Clone, Copy)]
+pub struct Place<'a> {
+    /// The text's name.
+    pub name: &'a str,
+    /// The line, counted from 1.
+    pub line: u64,
+}
+
+// The name of a file that a text names.
+#[tactic(auto, unfolding(crate::specs::Including::name_at))]
+fn name_at(alloc: Global, from: &str, file: &str) -> Result<PathBuf, AllocError>
+    ensures { IfOk result (λ name. path_buf_bytes name ≡ name_at from.now file.now) }
+{
+    match Path::new(from).parent() {
+        Some(folder) => folder.join(alloc, file),
+        None => Path::new("").join(alloc, file),
+    }
+}
+
+// The fault of a line.
+fn refused(alloc: Global, at: Place<'_>, name: &str, reason: Reason) -> IncludeFault {
+    match (
+        String::from_str(alloc, name),
+        String::from_str(alloc, at.name),
+    ) {
+        (Ok(name), Ok(from)) => IncludeFault::Refused {
+            reason,
+            name,
+            from,
+            line: at.line,
+        },
+        _ => IncludeFault::OutOfMemory,
+    }
+}
+
+// The text of a name, with a line end behind it.
+fn text_of<T: Texts>(
+    source: &Source<'_, T>,
+    at: Place<'_>,
+    name: &str,
+) -> Result<Vec<u8>, IncludeFault>
+    ensures { IfSome (T.known source.now.texts.now) (λ texts. IfOk result (λ text. text.items ≡ texts name.now ++ 10 ∷ [])) }
+{
+    let reason = match source.texts.text(source.alloc, name) {
+        Ok(mut text) => {
+            text.push(b'\n').map_err(AllocError::from)?;
+            return Ok(text);
+        }
+        Err(TextFault::OutOfMemory) => return Err(IncludeFault::OutOfMemory),
+        Err(TextFault::Unreadable) => Reason::Unreadable,
+        Err(TextFault::TooLong) => Reason::TooLong,
+    };
+    Err(refused(source.alloc, at, name, reason))
+}
+
+// Appends a line as it stands.
+fn push_plain(line: &[u8], out: &mut Expansion) -> Result<(), IncludeFault>
+    ensures { OnOk result (out.new.text.items ≡ out.old.text.items ++ (line.now ++ 10 ∷ [])) }
+{
+    out.text.extend_from_slice(line)?;
+    out.text.push(b'\n').map_err(AllocError::from)?;
+    out.lines = out.lines.saturating_add(1);
+    Ok(())
+}
+
+// Appends what stands for a line that includes a file.
+#[cycle(push)]
+fn push_text<T: Texts>(
+    source: &Source<'_, T>,
+    depth: u64,
+    at: Place<'_>,
+    file: &[u8],
+    out: &mut Expansion,
+) -> Result<(), IncludeFault>
+    ensures deep { OnOk result (0 < depth) }
+    ensures said { OnOk result (IfSome (T.known source.now.texts.now) (λ texts. out.new.text.items ≡ out.old.text.items
+        ++ flat_map (said texts (depth - 1) (name_at at.entry.name.now file.now)) (ended_lines (texts (name_at at.entry.name.now file.now) ++ 10 ∷ [])))) }
+{
+    let Ok(file) = str::from_utf8(file) else {
+        return Err(refused(source.alloc, at, "?", Reason::Unreadable));
+    };
+    let name = name_at(source.alloc, at.name, file)?;
+    if depth == 0 {
+        return Err(refused(source.alloc, at, name.as_str(), Reason::TooDeep));
+    }
+    let text = text_of(source, at, name.as_str())?;
+    source
+        .texts
+        .stands(out.lines.saturating_add(1), name.as_str(), 1)?;
+    push_lines(source, depth - 1, name.as_str(), text.as_slice(), out)?;
+    if out.text.len() > MOST_BYTES {
+        return Err(refused(source.alloc, at, name.as_str(), Reason::TooLong));
+    }
+    source.texts.stands(
+        out.lines.saturating_add(1),
+        at.name,
+        at.line.saturating_add(1),
+    )?;
+    Ok(())
+}
+
+/// Appends what stands for a line of a text, at most `depth` texts deep.
+#[tactic(auto, using(crate::proofs::Depths::plain_said, crate::proofs::Depths::text_said))]
+#[cycle(push)]
+pub fn push_line<T: Texts>(
+    source: &Source<'_, T>,
+    depth: u64,
+    at: Place<'_>,
+    line: &[u8],
+    out: &mut Expansion,
+) -> Result<(), IncludeFault>
+    ensures { OnOk result (IfSome (T.known source.now.texts.now) (λ texts. out.new.text.items ≡ out.old.text.items
+        ++ said texts depth at.entry.name.now line.now)) }
+{
+    match file_of(line) {
+        Some(file) => push_text(source, depth, at, file, out),
+        None => push_plain(line, out),
+    }
+}
+
+// Appends what stands for the lines of a text.
+#[cycle(push)]
+fn push_lines<T: Texts>(
+    source: &Source<'_, T>,
+    depth: u64,
+    name: &str,
+    text: &[u8],
+    out: &mut Expansion,
+) -> Result<(), IncludeFault>
+    ensures { OnOk result (IfSome (T.known source.now.texts.now) (λ texts. out.new.text.items ≡ out.old.text.items
+        ++ flat_map (said texts depth name.now) (ended_lines text.now))) }
+{
+    let mut rest = text;
+    let mut line = 0u64;
+    while let Some((first, others)) = cut(rest) {
+        line = line.saturating_add(1);
+        push_line(source, depth, Place { name, line }, first, out)?;
+        rest = others;
+    }
+    Ok(())
+}

@@ -1,0 +1,45 @@
+use std::alloc::AllocError;
+
+/// Why there is no text of a name.
+#[derive(Clone, Copy, Debug, PartialEq)]
+pub enum TextFault {
+    /// It can't be read.
+    Unreadable,
+    /// It is longer than a script may be.
+    TooLong,
+    /// An allocation was refused.
+    OutOfMemory,
+}
+
+/// Why a line can't stand for the lines of a text.
+#[derive(Clone, Copy, Debug, PartialEq)]
+pub enum Reason {
+    /// The text can't be read.
+    Unreadable,
+    /// The text, or what stands for its lines, is longer than a script may be.
+    TooLong,
+    /// Eight texts include each other so, and this is a further one; as where a text includes itself.
+    TooDeep,
+}
+
+/// Why a script can't be read on.
+#[derive(Debug, Drop)]
+pub enum IncludeFault {
+    /// A line, counted from 1 in the text that is called `from`, names a text that can't stand for it, by the name `name`.
+    Refused {
+        reason: Reason,
+        name: String,
+        from: String,
+        line: u64,
+    },
+    /// The script has a line that is longer than a script may be.
+    LongLine,
+    /// An allocation was refused.
+    OutOfMemory,
+}
+
+impl From<AllocError> for IncludeFault {
+    fn from(_error: AllocError) -> Self {
+        IncludeFault::OutOfMemory
+    }
+}

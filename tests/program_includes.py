@@ -1,0 +1,162 @@
+"""Lines `include FILE` of the scripts of check, debug and explain."""
+import os
+import re
+from xml.etree import ElementTree
+
+from frame import Case, run
+
+# Three lines that pass, and the number that the others use.
+PRELUDE = b"# what each script begins with\nlet spot 0x80000000\nreg write ddtp 1 # => done\nstore spot 8 7 # => done\nload spot 8 # => 0x7\n"
+FIRST = b"include common/prelude.script\nload spot 8 # => 0x7\n"
+SECOND = b"# another\ninclude common/prelude.script # and a comment\nload spot 8 # => 0x8\ndma read 5 spot 1 # => 07\n"
+
+
+class Includes(Case):
+    def setUp(self):
+        for folder in ("common", "common/deep", "suite"):
+            os.mkdir(self.path(folder))
+        self.put("common/prelude.script", PRELUDE)
+        self.put("first.script", FIRST)
+        self.put("second.script", SECOND)
+
+    def check(self, *words, given=b""):
+        """The status, standard output and standard error of a check in the test's folder."""
+        return run(["check", *words], given, cwd=self.folder)
+
+    def faults(self, script, text):
+        """Each word ends at a line of a script on standard input that can't include its file, and says so."""
+        told = f"rviommu: {text}\n".encode()
+        self.assertEqual(self.check(given=script), (3, b"", told))
+        for word in ("debug", "explain"):
+            status, out, errors = run([word], script, cwd=self.folder)
+            self.assertEqual((status, errors), (1, told), word)
+            self.assertNotIn(b"accesses:", out)
+
+    def test_prelude(self):
+        """a prelude of two scripts of a suite: its lines count in each, and each report has the file and line in which
+        its line stands"""
+        status, out, errors = self.check("first.script", "second.script")
+        wanted = [
+            "first.script: 4 passed, 0 failed", "second.script:3: load spot 8 -> 0x7, wanted 0x8",
+            "second.script: 4 passed, 1 failed", "2 files: 8 passed, 1 failed"]
+        self.assertEqual((status, out.decode().splitlines(), errors), (1, wanted, b""))
+        self.put("common/prelude.script", PRELUDE.replace(b"=> 0x7", b"=> 0x9"))
+        status, out, _ = self.check("first.script", "second.script")
+        lines = out.decode().splitlines()
+        told = "common/prelude.script:5: load spot 8 -> 0x7, wanted 0x9"
+        self.assertEqual((status, lines[0], lines[2], lines[3]), (1, told, told, wanted[1]))
+        self.assertEqual(lines[-1], "2 files: 6 passed, 3 failed")
+        # On standard input a line of the script itself has no file.
+        status, out, _ = self.check(given=SECOND)
+        wanted = [told, "line 3: load spot 8 -> 0x7, wanted 0x8", "3 passed, 2 failed"]
+        self.assertEqual((status, out.decode().splitlines()), (1, wanted))
+
+    def test_styles(self):
+        """TAP and JUnit's XML have the counts of text, and the same places"""
+        self.put("common/prelude.script", PRELUDE.replace(b"=> 0x7", b"=> 0x9"))
+        status, out, _ = self.check("--tap", "--junit", "out.xml", "first.script", "second.script")
+        lines = out.decode().splitlines()
+        self.assertEqual((status, lines[-1]), (1, "1..9"))
+        points = [it for it in lines if it.startswith(("ok", "not ok"))]
+        self.assertEqual(len(points), 9)
+        self.assertEqual(points[2], "not ok 3 - common/prelude.script:5: load spot 8")
+        self.assertEqual(points[3], "ok 4 - first.script:2: load spot 8")
+        self.assertEqual(points[7], "not ok 8 - second.script:3: load spot 8")
+        told = '  message: "common/prelude.script:5: load spot 8 -> 0x7, wanted 0x9"'
+        self.assertEqual(lines.count(told), 2)
+        suites = ElementTree.parse(self.path("out.xml")).getroot()
+        counts = [tuple(it.get(name) for name in ("name", "tests", "failures", "errors")) for it in suites]
+        self.assertEqual(counts, [("first.script", "4", "1", "0"), ("second.script", "5", "2", "0")])
+        names = [it.get("name") for it in suites[1]]
+        self.assertEqual(names[2:4], ["common/prelude.script:5: load spot 8", "line 3: load spot 8"])
+        self.assertEqual({it.get("classname") for it in suites[1]}, {"second.script"})
+
+    def test_odd_names(self):
+        """names with bytes that TAP, YAML and XML quote"""
+        name = "common/a\"b\\c&'<d>.script"
+        shown = re.sub(r"([\"\\'])", r"\\\1", name)
+        self.put(name, b"cmd # => done\n")
+        self.put("odd.script", f"include {name}\n".encode())
+        self.assertEqual(self.check("odd.script")[1].decode().splitlines()[0], f"{shown}:1: cmd -> idle, wanted done")
+        lines = self.check("--tap", "--junit", "out.xml", "odd.script")[1].decode().splitlines()
+        quoted = shown.replace("\\", "\\\\")
+        self.assertIn(f"not ok 1 - {quoted}:1: cmd", lines)
+        told = quoted.replace('"', '\\"')
+        self.assertIn(f'  message: "{told}:1: cmd -> idle, wanted done"', lines)
+        case = ElementTree.parse(self.path("out.xml")).getroot()[0][0]
+        self.assertEqual(case.get("name"), f"{shown}:1: cmd")
+
+    def test_folders(self):
+        """a file is named from the folder of the file that names it, and may lack its last line end or be empty"""
+        self.put("common/deep/end.script", b"cmd # => done")
+        self.put("common/empty.script", b"")
+        self.put("common/middle.script", b"include deep/end.script\ninclude ../common/empty.script\ncmd # => bad\n")
+        self.put("suite/outer.script", b"cmd # => idle\ninclude ../common/middle.script\ncmd # => misuse")
+        status, out, errors = self.check("suite/outer.script")
+        wanted = [
+            "suite/../common/deep/end.script:1: cmd -> idle, wanted done",
+            "suite/../common/middle.script:3: cmd -> idle, wanted bad",
+            "suite/outer.script:3: cmd -> idle, wanted misuse", "suite/outer.script: 1 passed, 3 failed",
+            "1 file: 1 passed, 3 failed"]
+        self.assertEqual((status, out.decode().splitlines(), errors), (1, wanted, b""))
+        self.put("absolute.script", f"include {self.path('common/middle.script')}\n".encode())
+        self.assertIn(b"1 file: 0 passed, 2 failed", self.check("absolute.script")[1])
+
+    def test_faults(self):
+        """a file that is missing, a folder, too long, or includes itself: one fault, with the place"""
+        self.put("common/broken.script", b"cmd\n\ninclude none.script\n")
+        self.faults(b"include none.script\n", "line 1: cannot read none.script")
+        self.faults(b"\ninclude common\n", "line 2: cannot read common")
+        self.faults(b"include common/broken.script", "common/broken.script:3: cannot read common/none.script")
+        self.put("itself.script", b"# a cycle\ninclude itself.script\n")
+        told = "itself.script:2: itself.script is included more than 8 files deep"
+        self.faults(b"include itself.script\n", told)
+        self.put("long.script", b"#" * (2**26 + 1))
+        self.faults(b"include long.script\n", "line 1: long.script: script too long")
+        self.put("half.script", (b"#" * 511 + b"\n") * 2**16 + b"\n")
+        self.put("halves.script", b"include half.script\n" * 3)
+        self.faults(b"include halves.script\n", "halves.script:2: half.script: script too long")
+        self.faults(b"include \xff\n", "line 1: cannot read ?")
+
+    def test_unjudged(self):
+        """a script of a suite whose file can't be included: what stands before is judged, and the other scripts are"""
+        self.put("lacking.script", b"cmd # => idle\ncmd # => done\ninclude none.script\ncmd # => idle\n")
+        status, out, errors = self.check("lacking.script", "first.script")
+        wanted = [
+            "lacking.script:2: cmd -> idle, wanted done", "first.script: 4 passed, 0 failed",
+            "2 files: 5 passed, 1 failed, 1 not read"]
+        self.assertEqual((status, out.decode().splitlines()), (3, wanted))
+        self.assertEqual(errors, b"rviommu: lacking.script:3: cannot read none.script\n")
+        status, out, _ = self.check("--tap", "--junit", "out.xml", "lacking.script", "first.script")
+        lines = out.decode().splitlines()
+        self.assertEqual((status, lines[-1]), (3, "1..7"))
+        self.assertIn("not ok 3 - lacking.script:3: cannot read none.script", lines)
+        suites = ElementTree.parse(self.path("out.xml")).getroot()
+        self.assertEqual([it.get("errors") for it in suites], ["1", "0"])
+
+    def test_debug(self):
+        """debug and explain: the file's lines are answered in place; explain counts them"""
+        self.assertEqual(run(["debug"], FIRST, cwd=self.folder), (0, b"done\ndone\ndone\n0x7\n0x7\n", b""))
+        self.put("common/stores.script", b"# a comment\n\nreg write ddtp 1\nstore 0x80000000 8 7\nload 0x80000000 8\n")
+        script = b"include common/stores.script\nload 0x80000000 8\ndma read 5 0x80000000 1\n"
+        status, out, _ = run(["explain"], script, cwd=self.folder)
+        self.assertEqual(status, 0)
+        self.assertIn(b"\n4: store 0x80000000 0x8 0x7 -> done\n", out)
+        # Behind the file's five lines the end of the line that names it is a sixth.
+        self.assertIn(b"\n7: load 0x80000000 0x8 -> 0x7\n8: dma read 0x5 0x80000000 0x1 -> 07\n", out)
+        self.assertIn(b"\ngranted: 1\n", out)
+
+    def test_other_lines(self):
+        """with another number of words the line is bad, and for run always; in a long line it is too"""
+        long = b"include common/prelude.script" + b" " * 500
+        for line in (b"include", b"include a b", b"includes common/prelude.script", long):
+            self.assertEqual(run(["debug"], line, cwd=self.folder), (0, b"bad\n", b""))
+        self.assertEqual(run([], FIRST, cwd=self.folder), (0, b"bad\nbad\n", b""))
+        self.assertEqual(run(["debug"], b"# include none.script\n", cwd=self.folder), (0, b"", b""))
+
+    def test_typed(self):
+        """each line is answered before the next one is read, also behind an included file"""
+        long = b"".join(b"load 0x80000000 8 # %d\n" % it for it in range(4000))
+        self.put("long.script", long)
+        status, out, _ = run(["debug"], b"include long.script\ncmd\n" * 3, cwd=self.folder)
+        self.assertEqual((status, out), (0, (b"0x0\n" * 4000 + b"idle\n") * 3))
