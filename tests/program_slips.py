@@ -66,9 +66,20 @@ class Slips(Case):
             self.assertEqual(seen, [f"bad: {reason}" for reason in LINES.values()])
 
     def test_names(self):
-        """check: a reason is by the names that stood before its line"""
+        """check and explain: a reason is by the names that stood before its line"""
         script, unlike = "let a 0x80000000\nload a 8 9 # => 0x0\nlet a\nlet a 1\nload b 8\n", 'ADDR "b" isn\'t a number'
         taken = "let: no such NAME or NUMBER, or 64 names already"
         self.assertEqual(run(["check"], script.encode())[1].decode().splitlines(), [
             'line 2: load a 8 9 -> bad: "9" is one word too many, wanted 0x0', f"line 3: let a -> bad: {taken}",
             f"line 5: load b 8 -> bad: {unlike}", "0 passed, 3 failed"])
+        told = run(["explain"], script.encode())[1].decode().splitlines()
+        self.assertEqual(told[1:3] + told[4:5], [
+            '2: load a 8 9 -> bad: "9" is one word too many', f"3: let a -> bad: {taken}", f"5: load b 8 -> bad: {unlike}"])
+
+    def test_let(self):
+        """explain: a name stands for its number on the lines behind its let, also behind one that gives it another number"""
+        script = b"let a 0x80000000\nload a 8\nlet a 0x80000008\nput a cmd iodir\nload a 8\n"
+        self.assertEqual(run(["explain"], script)[1].decode().splitlines()[:7], [
+            "1: let a 0x80000000 -> done", "2: load 0x80000000 8 -> 0x0", "3: let a 0x80000008 -> done",
+            "4: store 0x80000008 8 0x3 -> done", "4: store 0x80000010 8 0x0 -> done", "4: put a cmd iodir -> done",
+            "5: load 0x80000008 8 -> 0x3"])

@@ -1,5 +1,6 @@
 -- What is told of lines.
-use Rattle.std.proofs.Common.{◌≡◌, ◌∙◌, ◌++◌, ◌∷◌, [], ℕ, Bool, List, Option, Some, None, true, false, Result, Ok, Err, OnOk, ◌+◌, take, is_some, refl, sym, subst, ap, append-nil, codes}
+use Rattle.std.proofs.Common.{◌≡◌, ◌∙◌, ◌++◌, ◌∷◌, [], ℕ, Bool, List, Option, Some, None, true, false, Result, Ok, Err, OnOk, ◌+◌, ◌==◌, length, take, is_some, refl, sym, subst, ap, append-nil, codes}
+use Rattle.std.proofs.lemmas.Bool.{false≢true}
 use Rattle.std.specs.Result.{is_err}
 use Rattle.arrayvec.specs.ArrayVec.{ArrayVec}
 use Rattle.std.specs.declared.alloc.AllocError.{AllocError}
@@ -20,15 +21,16 @@ use Rattle.iom_account.specs.declared.origin.NumberedWarrant.{NumberedWarrant}
 use Rattle.iom_reader.specs.Answering.{Progress, AnswersNext, IsAnswering}
 use Rattle.iom_reader.specs.declared.fault.RunFault.{RunFault}
 use Rattle.iom_reader.specs.Running.{Ends}
+use Rattle.iom_reader.proofs.Feeding.{none_kept}
 use Rattle.iom_reader.proofs.Chains.{spoken, lawful as by_lines_lawful}
-use Rattle.iom_tool.specs.Script.{DebugLine}
+use Rattle.iom_tool.specs.Script.{DebugLine, Stores, stores_at}
 use Rattle.iom_names.specs.Reading.{line_with}
 use Rattle.iom_tool.specs.Parsed.{line_as}
 use Rattle.iom_tool.specs.declared.language.Actor.{Actor}
 use Rattle.iom_tool.specs.declared.language.Line.{Line}
 use Rattle.iom_tool.specs.declared.language.Line.TheVariants as own
 use Rattle.iom_debug.specs.Telling.{Leaves, answer_at, slip_with}
-use Rattle.iom_tool.specs.Texts.{entry_text}
+use Rattle.iom_tool.specs.Texts.{entry_text, text_of}
 use Rattle.iom_debug.specs.Reasons.{newest_origin, stale_in}
 use Rattle.iom_debug.specs.Stale.{filler, kept_by, led_by, stale_access}
 use Rattle.iom_debug.specs.declared.stale.Led.{Led}
@@ -36,7 +38,7 @@ use Rattle.iom_debug.specs.declared.stale.StaleAccess.{StaleAccess}
 use Rattle.iom_explain.specs.Accesses.{asks_text, caches_by, stale_text, warrant_text}
 use Rattle.iom_explain.specs.Walking.{walk_text}
 use Rattle.iom_debug.specs.Summary.{Counts, counts_of, up_to_64_bits}
-use Rattle.iom_debug.specs.Taking.{Desk, Took, taken}
+use Rattle.iom_debug.specs.Taking.{Desk, Took, last_answer, taken}
 use Rattle.iom_debug.specs.declared.summary.AccessOutcome.{AccessOutcome}
 use Rattle.iom_explain.specs.Explaining.{Explained, ExplainSays, IsExplained, LineTold, OtherTold, Progressed, RunTold, StepTold, StepsTold, access_by, access_text, by_explain, denied_for, explaining, if_told, is_step_told, is_told, line_told, outcomes_by, step_told, summary_text}
 use Rattle.iom_explain.specs.declared.only.Only.{Only}
@@ -266,6 +268,22 @@ pub others : (result : Result (Unit {0}) RunFault) (a b : Option (List ℕ)) (sh
 others (Ok done) a b short line before after number cut no_step no_name no_run no_put w =
     (w.0, w.1, λ m. other_told line before after number cut w.0 no_step no_name no_run no_put (w.2 m))
 others (Err f) a b short line before after number cut no_step no_name no_run no_put w = tt
+
+-- a line that stores nothing, and one that stores some words
+pub no_store : (result : Result (Unit {0}) RunFault) (a b : Option (List ℕ)) (short : Bool) (addr : ℕ) (words : List ℕ) (before after : Explained)
+    (number : ℕ) (cut : List ℕ) → true ≡ (length words == 0) → Wrote result a b short (λ said. OtherTold before number cut said after) →
+    Wrote result a b short (λ said. LineTold before number cut (Stores (stores_at addr words)) said after)
+no_store result a b short addr words before after number cut none w =
+    subst (λ (ws : List ℕ). Wrote result a b short (λ said. LineTold before number cut (Stores (stores_at addr ws)) said after))
+    (sym (none_kept words none).1) w
+
+pub some_stores : (result : Result (Unit {0}) RunFault) (a b : Option (List ℕ)) (short : Bool) (addr : ℕ) (words : List ℕ)
+    (before after : Explained) (number : ℕ) (cut : List ℕ) → false ≡ (length words == 0) →
+    Wrote result a b short (λ said. RunTold before number cut (stores_at addr words)
+    (text_of (last_answer before.desk.state (stores_at addr words))) said after) →
+    Wrote result a b short (λ said. LineTold before number cut (Stores (stores_at addr words)) said after)
+some_stores result a b short addr [] before after number cut some w = absurd (false≢true some)
+some_stores result a b short addr (word ∷ words) before after number cut some w = w
 
 pub four_written : (result : Result (Unit {0}) RunFault) (a b c d e : Option (List ℕ)) (s t u v : List ℕ) → Appends a b s → Appends b c t →
     Appends c d u → OnOk result (Appends d e v) → OnOk result (Appends a e (s ++ t ++ u ++ v))

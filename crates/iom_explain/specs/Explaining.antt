@@ -127,14 +127,14 @@ OtherTold before number line said after =
     Leaves before.desk line number after.desk × (after.counts ≡ before.counts) × (after.only ≡ before.only)
     × (said ≡ line_told before.only number line (answer_at before.desk line) (slip_with before.desk.names line))
 
--- a line of this number, by what it says
+-- A line of this number, by what it says. One that stores nothing is any other line: `let`, which gives a name its number.
 abbrev pub LineTold : Explained → ℕ → List ℕ → DebugLine → List ℕ → Explained → Type 0
 LineTold before number line (Plain (Does step)) said after = StepTold before number step said after
 LineTold before number line (Named step) said after = StepTold before number step said after
 LineTold before number line (Again step most) said after =
     RunTold before number line (replicate most step) (run_text before.desk.state (replicate most step)) said after
-LineTold before number line (Stores steps) said after =
-    RunTold before number line steps (text_of (last_answer before.desk.state steps)) said after
+LineTold before number line (Stores (step ∷ steps)) said after =
+    RunTold before number line (step ∷ steps) (text_of (last_answer before.desk.state (step ∷ steps))) said after
 LineTold before number line other said after = OtherTold before number line said after
 
 -- the same, how many lines were read, and whether memory was refused

@@ -134,12 +134,12 @@ impl Explaining<'_> {
     ghost use Rattle.iom_reader.specs.Running.{is_write};
     ghost use Rattle.iom_reader.specs.Watching.{write_failed};
     ghost use Rattle.iom_tool.specs.Parsed.{step_of};
-    ghost use Rattle.iom_tool.specs.Script.{stores_at};
+    ghost use Rattle.iom_tool.specs.Script.{Stores, stores_at};
     ghost use Rattle.iom_tool.specs.Texts.{text_of};
     ghost use Rattle.iom_debug.specs.Desks.{names_of};
     ghost use Rattle.iom_debug.specs.Taking.{is_done, last_answer, run_text, taken};
     ghost use Rattle.iom_explain.specs.Drives.{told};
-    ghost use Rattle.iom_explain.specs.Explaining.{OtherTold, RunTold, StepTold, StepsTold};
+    ghost use Rattle.iom_explain.specs.Explaining.{LineTold, OtherTold, RunTold, StepTold, StepsTold};
 
     // Takes a step of the line that was read last, and tells it.
     fn tell_step<W: Write>(
@@ -304,7 +304,7 @@ impl Explaining<'_> {
         )
     }
 
-    // Tells a line that stores words: each store, and after them the line.
+    // Tells a line that stores words: each store, and after them the line. One that stores none is any other line: `let`.
     #[inline(never)]
     fn tell_put<W: Write>(
         &mut self,
@@ -319,14 +319,16 @@ impl Explaining<'_> {
         requires fits { addr + 8 * length words.now ≤ 2 ^ 64 }
         ensures ok { OnOk result ((said : List ℕ) × Appends (W.contents writer.old.inner.now) (W.contents writer.new.inner.now) said
             × (self.new.teller.is_short ≡ false
-            → RunTold (told self.old) self.old.number line.now (stores_at addr words.now)
-            (text_of (last_answer self.old.debugger.platform.now (stores_at addr words.now))) said (told self.new))) }
+            → LineTold (told self.old) self.old.number line.now (Stores (stores_at addr words.now)) said (told self.new))) }
         ensures fault { IfErr result (λ fault. fault ≡ RunFault.Write) }
         ensures told { write_failed writer.new ≡ is_write result }
         ensures same_writer { writer.new.inner.ghost_name ≡ writer.old.inner.ghost_name }
         ensures same { names_of self.new.debugger ≡ names_of self.old.debugger }
         ensures number { self.new.number ≡ self.old.number }
     {
+        if words.is_empty() {
+            return self.tell_other(line, writer);
+        }
         let reply = self.tell_stores(addr, words, writer)?;
         write_line(
             &mut self.teller,
