@@ -13,9 +13,9 @@ pub use laws::{
 };
 pub use located::{depth_of, directory_reads, located_by};
 pub use reads::{met_entries_are_read, requests_read, valid_entries_alone};
-pub use stages::{ReadEntries, second_outcome, second_reads};
+pub use stages::{ReadEntries, is_global_use, second_outcome, second_reads};
 pub use uses::{Entered, device_use, first_use, page_use, second_use};
-pub use walks::{met, outcome_by};
+pub use walks::{MetBy, entry_of, global_by, met, outcome_by};
 
 mod dropping;
 mod drops;

@@ -1,0 +1,163 @@
+-- What is kept goes along with a step.
+use Rattle.std.proofs.Common.{◌≡◌, ◌∙◌, ◌⊎◌, ℕ, false, List, [], ◌∷◌, map, Option, Some, None, ◌↔◌, refl, sym, ap, subst, inl, inr}
+use Rattle.std.specs.Option.{option_map}
+use Rattle.iom_choices.specs.Models.{end_of}
+use Rattle.iom_choices.specs.Settled.{IsRead}
+use Rattle.iom_choices.specs.Systems.{IsAmong}
+use Rattle.iom_core.specs.State.{State}
+use Rattle.iom_core.specs.Table.{executed, next, request_of_step}
+use Rattle.iom_core.specs.declared.access.Request.{Request}
+use Rattle.iom_core.specs.declared.step.Step.{Step}
+use Rattle.iom_every.specs.Drops.{drops_by}
+use Rattle.iom_every.specs.declared.entry.Entry.{Entry}
+use Rattle.iom_every.specs.Every.{May, iommu, platform}
+use Rattle.iom_every.specs.Rows.{bare}
+use Rattle.iom_every.proofs.Kept.{asks_bare, executes_bare}
+use Rattle.iom_queue.specs.declared.command.Command.{Command}
+use Rattle.iom_owed.specs.Holdings.{HoldingsView, Keeps, at_page, entries_in, entry_of, request_of, requests_in}
+use Rattle.iom_owed.specs.Newest.{HasNoneTwice, steps_of}
+use Rattle.iom_owed.specs.Notes.{Adds, Renews, kept_of, left_by, made_by, read_by, without_dropped}
+use Rattle.iom_owed.specs.declared.noting.Kept.{Kept}
+use Rattle.iom_owed.specs.declared.noting.Made.{Made}
+use Rattle.iom_owed.proofs.Left.{entries_left, left_entries, left_kept, left_once}
+use Rattle.iom_owed.proofs.Lists.{IsFrom, among_of, from_among, one_of}
+use Rattle.iom_owed.proofs.Reading.{could_read, read_could}
+
+-- the entries that are put in are those that were read, each under the number
+news_are : (number : ℕ) (reads : List Entry) → entries_in (map (kept_of number) reads) ≡ reads
+news_are number [] = refl
+news_are number (entry ∷ reads) = ap (λ (rest : List Entry). entry ∷ rest) (news_are number reads)
+
+news_is : (number : ℕ) (reads : List Entry) (kept : Kept) → IsAmong (map (kept_of number) reads) kept → IsAmong reads kept.entry × (kept.number ≡ number)
+news_is number [] kept h = absurd h
+news_is number (entry ∷ reads) kept (inl same) = (inl (ap (λ (kept : Kept). kept.entry) same), sym (ap (λ (kept : Kept). kept.number) same))
+news_is number (entry ∷ reads) kept (inr h) = let k : IsAmong reads kept.entry × (kept.number ≡ number) = news_is number reads kept h in (inr k.0, k.1)
+
+-- the request that is put in is the one that is made
+made_is : (number : ℕ) (request : Option Request) (made : Made) → IsAmong (made_by number request) made → (option_map at_page request ≡ Some made.request) × (made.number ≡ number)
+made_is number None made h = absurd h
+made_is number (Some request) made (inl same) = (ap (λ (made : Made). Some made.request) same, sym (ap (λ (made : Made). made.number) same))
+made_is number (Some request) made (inr none) = absurd none
+
+is_made : (number : ℕ) (request : Option Request) (own : Request) → option_map at_page request ≡ Some own → IsAmong (requests_in (made_by number request)) own
+is_made number None own is = absurd (cc)
+is_made number (Some request) own is = inl (search is)
+
+-- the entries that may be held then
+entries_follow : (May : Entry → Type 0) (s : State) (step : Step) (request : Option Request) (command : Option Command) (number : ℕ) (before mid : List Kept) →
+    request_of_step s step ≡ request → executed s step ≡ command →
+    Renews entry_of (map (kept_of number) (read_by s (entries_in before) request)) before mid →
+    ((entry : Entry) → IsAmong (entries_in before) entry ↔ May entry) → (entry : Entry) →
+    IsAmong (entries_in (left_by command mid)) entry ↔ ((drops_by (executed s step) entry ≡ false) × (May entry ⊎ IsRead (iommu false) May s step entry))
+entries_follow May s step request command number before mid asks executes adds may entry =
+    let reads : List Entry = read_by s (entries_in before) request in
+    let news : entries_in (map (kept_of number) reads) ≡ reads = news_are number reads in (
+      λ h. let k : (drops_by command entry ≡ false) × IsAmong (entries_in mid) entry = left_entries command mid entry h in (
+        subst (λ (command : Option Command). drops_by command entry ≡ false) (sym executes) k.0,
+        elim (adds.all entry k.1) [
+          | inl old ↦ inl ((may entry).0 old)
+          | inr read ↦ inr (could_read May (entries_in before) (λ entry h. (may entry).0 h) s step request asks entry (subst (λ (xs : List Entry). IsAmong xs entry) news read))
+        ],
+      ),
+      λ h. entries_left command mid entry (subst (λ (command : Option Command). drops_by command entry ≡ false) executes h.0) (adds.kept entry (elim h.1 [
+        | inl held ↦ inl ((may entry).1 held)
+        | inr read ↦ inr (subst (λ (xs : List Entry). IsAmong xs entry) (sym news) (read_could May (entries_in before) (λ entry h. (may entry).1 h) s step request asks entry read))
+      ])),
+    )
+
+-- a kept one was read in this step, or is kept since
+reads_follow : (May : Entry → Type 0) (s : State) (step : Step) (request : Option Request) (command : Option Command) (number : ℕ) (before mid : List Kept) →
+    request_of_step s step ≡ request →
+    Renews entry_of (map (kept_of number) (read_by s (entries_in before) request)) before mid → HasNoneTwice (entries_in before) →
+    ((entry : Entry) → IsAmong (entries_in before) entry ↔ May entry) → (kept : Kept) → IsAmong (left_by command mid) kept →
+    (IsRead (iommu false) May s step kept.entry × (kept.number ≡ number)) ⊎ ((IsRead (iommu false) May s step kept.entry → ⊥) × IsAmong before kept)
+reads_follow May s step request command number before mid asks adds once may kept h =
+    let reads : List Entry = read_by s (entries_in before) request in
+    let news : entries_in (map (kept_of number) reads) ≡ reads = news_are number reads in
+    elim (adds.each once kept (left_kept command mid kept h).1) [
+      | inl new ↦
+          let k : IsAmong reads kept.entry × (kept.number ≡ number) = news_is number reads kept new in
+          inl (could_read May (entries_in before) (λ entry h. (may entry).0 h) s step request asks kept.entry k.0, k.1)
+      | inr old ↦ inr (
+        λ read. old.1 (subst (λ (xs : List Entry). IsAmong xs kept.entry) (sym news) (read_could May (entries_in before) (λ entry h. (may entry).1 h) s step request asks kept.entry read)),
+        old.0,
+      )
+    ]
+
+-- the requests that were made then
+made_before : (request : Option Request) (number : ℕ) (before mid : List Made) → Renews request_of (made_by number request) before mid →
+    HasNoneTwice (requests_in before) → (made : Made) → IsAmong mid made →
+    ((option_map at_page request ≡ Some made.request) × (made.number ≡ number)) ⊎ ((option_map at_page request ≡ Some made.request → ⊥) × IsAmong before made)
+made_before request number before mid adds once made h = elim (adds.each once made h) [
+  | inl new ↦ inl (made_is number request made new)
+  | inr old ↦ inr (λ makes. old.1 (is_made number request made.request makes), old.0)
+]
+
+made_now : (request : Option Request) (number : ℕ) (before mid : List Made) → Renews request_of (made_by number request) before mid →
+    HasNoneTwice (requests_in before) → (made : Made) → option_map at_page request ≡ Some made.request → made.number ≡ number → IsAmong mid made
+made_now request number before mid adds once made makes is =
+    let f : IsFrom request_of mid made.request = from_among request_of mid made.request (adds.kept made.request (inr (is_made number request made.request makes))) in
+    elim (adds.each once f.thing f.among) [
+      | inl new ↦
+          let same : f.thing ≡ made = λ i. record { request = f.is i; number = ((made_is number request f.thing new).1 ∙ sym is) i } in
+          subst (IsAmong mid) same f.among
+      | inr old ↦ absurd (old.1 (is_made number request f.thing.request (makes ∙ ap (λ (own : Request). Some own) (sym f.is))))
+    ]
+
+made_still : (request : Option Request) (number : ℕ) (before mid : List Made) → Renews request_of (made_by number request) before mid →
+    HasNoneTwice (requests_in before) → (made : Made) → (option_map at_page request ≡ Some made.request → ⊥) → IsAmong before made → IsAmong mid made
+made_still request number before mid adds once made other h =
+    let f : IsFrom request_of mid made.request = from_among request_of mid made.request (adds.kept made.request (inl (among_of request_of before made h))) in
+    elim (adds.each once f.thing f.among) [
+      | inl new ↦ absurd (other ((made_is number request f.thing new).0 ∙ ap (λ (own : Request). Some own) f.is))
+      | inr old ↦ subst (IsAmong mid) (one_of request_of before f.thing made once old.0 h f.is) f.among
+    ]
+
+-- where the state is that of the steps
+followed_there : (before mid : HoldingsView) (start : State) (taken : List (Step × ℕ)) (step : Step) (number : ℕ) (request : Option Request) (command : Option Command) →
+    request ≡ request_of_step (end_of platform start (steps_of taken)) step → command ≡ executed (end_of platform start (steps_of taken)) step →
+    Adds (bare (end_of platform start (steps_of taken))) request number before mid → Keeps before (end_of platform start (steps_of taken)) start taken →
+    Keeps (without_dropped command mid) (next (end_of platform start (steps_of taken)) step).state start ((step, number) ∷ taken)
+followed_there before mid start taken step number request command asks executes adds k =
+    let at : State = end_of platform start (steps_of taken) in
+    let held : Entry → Type 0 = May false start (steps_of taken) in
+    let asked : request_of_step (bare at) step ≡ request = asks_bare at step ∙ sym asks in
+    let done : executed (bare at) step ≡ command = executes_bare at step ∙ sym executes in record {
+      reached = refl;
+      entries = entries_follow held (bare at) step request command number before.entries mid.entries asked done adds.entries k.entries;
+      reads = λ kept h. elim (reads_follow held (bare at) step request command number before.entries mid.entries asked adds.entries k.entries_once k.entries kept h) [
+        | inl new ↦ inl new
+        | inr old ↦ inr (old.0, k.reads kept old.1)
+      ];
+      entries_once = left_once command mid.entries (adds.entries.once k.entries_once);
+      requests = λ made. (
+        λ h. elim (made_before request number before.requests mid.requests adds.requests k.requests_once made h) [
+          | inl new ↦ inl (subst (λ (asked : Option Request). option_map at_page asked ≡ Some made.request) asks new.0, new.1)
+          | inr old ↦ inr (λ makes. old.0 (subst (λ (asked : Option Request). option_map at_page asked ≡ Some made.request) (sym asks) makes), (k.requests made).0 old.1)
+        ],
+        λ newest. elim newest [
+          | inl new ↦ made_now request number before.requests mid.requests adds.requests k.requests_once made (subst (λ (asked : Option Request). option_map at_page asked ≡ Some made.request) (sym asks) new.0) new.1
+          | inr old ↦ made_still request number before.requests mid.requests adds.requests k.requests_once made
+              (λ makes. old.0 (subst (λ (asked : Option Request). option_map at_page asked ≡ Some made.request) asks makes)) ((k.requests made).1 old.1)
+        ],
+      );
+      requests_once = adds.requests.once k.requests_once;
+    }
+
+pub followed : (before mid : HoldingsView) (state start : State) (taken : List (Step × ℕ)) (step : Step) (number : ℕ) (request : Option Request) (command : Option Command) →
+    request ≡ request_of_step state step → command ≡ executed state step → Adds (bare state) request number before mid → Keeps before state start taken →
+    Keeps (without_dropped command mid) (next state step).state start ((step, number) ∷ taken)
+followed before mid state start taken step number request command asks executes adds k =
+    let P : State → Type 0 = λ state. request ≡ request_of_step state step → command ≡ executed state step → Adds (bare state) request number before mid → Keeps before state start taken →
+    Keeps (without_dropped command mid) (next state step).state start ((step, number) ∷ taken) in
+    subst P (sym k.reached) (followed_there before mid start taken step number request command) asks executes adds k
+
+pub begun : (state : State) → Keeps (record { entries = []; requests = [] }) state state []
+begun state = record {
+  reached = refl;
+  entries = λ entry. (λ h. h, λ h. h);
+  reads = λ kept h. absurd h;
+  entries_once = tt;
+  requests = λ made. (λ h. h, λ h. h);
+  requests_once = tt;
+}

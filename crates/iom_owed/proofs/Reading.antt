@@ -1,0 +1,95 @@
+-- What a request can read over entries that may be held is what the definitions of every IOMMU say.
+use Rattle.std.proofs.Common.{◌≡◌, ◌∙◌, false, List, [], ◌∷◌, Option, Some, None, refl, sym, subst, inl, inr}
+use Rattle.std.specs.Prelude.{flat_map}
+use Rattle.iom_choices.specs.Settled.{EachUse, IsRead}
+use Rattle.iom_choices.specs.Systems.{ModelWalk, IsAmong, aimed, reads_of}
+use Rattle.iom_choices.specs.Trees.{AreTrees, way_over, ways_over}
+use Rattle.iom_choices.proofs.Lists.{among_either, each_weaker}
+use Rattle.iom_choices.proofs.Trees.{IsAllowed, allowed, among_map, way_among}
+use Rattle.iom_core.specs.State.{State}
+use Rattle.iom_core.specs.Table.{request_of_step}
+use Rattle.iom_core.specs.declared.access.Request.{Request}
+use Rattle.iom_core.specs.declared.step.Step.{Step}
+use Rattle.iom_core.specs.declared.way.Way.{Way as Led}
+use Rattle.iom_every.specs.declared.entry.Entry.{Entry}
+use Rattle.iom_every.specs.Every.{iommu}
+use Rattle.iom_every.specs.Trees.{tree_of}
+use Rattle.iom_every.specs.Uses.{Look}
+use Rattle.iom_every.specs.Ways.{way_of}
+use Rattle.iom_every.proofs.Trees.{tree_apart, tree_is}
+use Rattle.iom_owed.specs.Notes.{read_by}
+
+pub trees : AreTrees (iommu false) tree_of
+trees = record { way = tree_is; apart = tree_apart }
+
+-- the way that read an entry
+record IsReadBy (ways : List (ModelWalk Entry Led)) (entry : Entry) : Type 0 where
+  way : ModelWalk Entry Led
+  at : IsAmong ways way
+  among : IsAmong way.reads entry
+
+read_of : (ways : List (ModelWalk Entry Led)) (entry : Entry) → IsAmong (flat_map (λ (way : ModelWalk Entry Led). way.reads) ways) entry → IsReadBy ways entry
+read_of [] entry h = absurd h
+read_of (way ∷ ways) entry h = elim (among_either way.reads (flat_map (λ (way : ModelWalk Entry Led). way.reads) ways) entry h) [
+  | inl here ↦ record { way = way; at = inl refl; among = here }
+  | inr later ↦ let k : IsReadBy ways entry = read_of ways entry later in record { way = k.way; at = inr k.at; among = k.among }
+]
+
+-- a source that has one of these ways
+pub record HasSource (May : Entry → Type 0) (state : State) (request : Request) (way : ModelWalk Entry Led) : Type 0 where
+  pub source : List (Look × Entry)
+  pub may : EachUse May source
+  pub is : way_of state source request ≡ way
+
+module _ (May : Entry → Type 0) (held : List Entry) where
+  pub source_of : ((entry : Entry) → IsAmong held entry → May entry) → (state : State) (request : Request) (way : ModelWalk Entry Led) →
+      IsAmong (ways_over held (tree_of state request)) way → HasSource May state request way
+  source_of may state request way among =
+      let a : IsAllowed held [] (tree_of state request) way = allowed held [] (tree_of state request) (tree_apart state request) way among in record {
+        source = a.source;
+        may = each_weaker (λ (used : Look × Entry). IsAmong held used.1) (λ (used : Look × Entry). May used.1) a.source (λ used among. may used.1 among) a.each;
+        is = sym (tree_is state a.source request) ∙ a.leads [] tt;
+      }
+
+  read_may : ((entry : Entry) → IsAmong held entry → May entry) → (state : State) (step : Step) (entry : Entry) (request : Option Request) →
+      request_of_step state step ≡ request → IsAmong (read_by state held request) entry → IsRead (iommu false) May state step entry
+  read_may may state step entry None is h = absurd h
+  read_may may state step entry (Some request) is h =
+      let f : IsReadBy (ways_over held (tree_of state request)) entry = read_of (ways_over held (tree_of state request)) entry h in
+      let s : HasSource May state request f.way = source_of may state request f.way f.at in
+      let reads : IsAmong (reads_of (iommu false) state s.source (Some request)) entry = subst (λ (way : ModelWalk Entry Led). IsAmong way.reads entry) (sym s.is) f.among in
+      record {
+        target = None;
+        source = s.source;
+        may = s.may;
+        among = subst (λ (asked : Option Request). IsAmong (reads_of (iommu false) state s.source asked) entry) (sym is) reads;
+      }
+
+  listed : (state : State) (source : List (Look × Entry)) → EachUse (IsAmong held) source → (entry : Entry) (request : Option Request) →
+      IsAmong (reads_of (iommu false) state source request) entry → IsAmong (read_by state held request) entry
+  listed state source each entry None h = absurd h
+  listed state source each entry (Some request) h =
+      among_map (λ (way : ModelWalk Entry Led). way.reads) (ways_over held (tree_of state request)) (way_over source (tree_of state request)) entry
+      (way_among held [] (tree_of state request) (tree_apart state request) source each)
+      (subst (λ (way : ModelWalk Entry Led). IsAmong way.reads entry) (sym (tree_is state source request)) h)
+
+  own : (state : State) (step : Step) (source : List (Look × Entry)) (entry : Entry) (target : Option Request) →
+      IsAmong (reads_of (iommu false) state source (aimed (iommu false) state step target)) entry → IsAmong (reads_of (iommu false) state source (request_of_step state step)) entry
+  own state step source entry None h = h
+  own state step source entry (Some request) h = absurd h
+
+  may_read : ((entry : Entry) → May entry → IsAmong held entry) → (state : State) (step : Step) (entry : Entry) →
+      IsRead (iommu false) May state step entry → IsAmong (read_by state held (request_of_step state step)) entry
+  may_read among state step entry read =
+      listed state read.source
+      (each_weaker (λ (used : Look × Entry). May used.1) (λ (used : Look × Entry). IsAmong held used.1) read.source (λ used may. among used.1 may) read.may)
+      entry (request_of_step state step) (own state step read.source entry read.target read.among)
+
+  pub could_read : ((entry : Entry) → IsAmong held entry → May entry) → (state : State) (step : Step) (request : Option Request) → request_of_step state step ≡ request →
+      (entry : Entry) → IsAmong (read_by state held request) entry → IsRead (iommu false) May state step entry
+  could_read may state step request is entry h = read_may may state step entry request is h
+
+  pub read_could : ((entry : Entry) → May entry → IsAmong held entry) → (state : State) (step : Step) (request : Option Request) → request_of_step state step ≡ request →
+      (entry : Entry) → IsRead (iommu false) May state step entry → IsAmong (read_by state held request) entry
+  read_could among state step request is entry read =
+      subst (λ (asked : Option Request). IsAmong (read_by state held asked) entry) is (may_read among state step entry read)

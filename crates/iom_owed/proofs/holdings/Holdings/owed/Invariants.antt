@@ -1,0 +1,12 @@
+use Rattle.std.proofs.Common.{ℕ, List, drop}
+use Rattle.iom_core.specs.State.{State, state_on}
+use Rattle.iom_core.specs.declared.step.Step.{Step}
+use Rattle.iom_owed.specs.Holdings.{Keeps}
+use Rattle.iom_owed.specs.Newest.{steps_of}
+use Rattle.iom_owed.proofs.Judged.{IsOwedBut}
+use Rattle.iom_owed.proofs.holdings.Holdings.owed.Given as goal
+
+-- the requests that remain are yet to be looked at
+abbrev pub invariant-loop-made : goal.invariant-loop-made
+invariant-loop-made g l = (start : State) (taken : List (Step × ℕ)) → Keeps l.self (state_on (g.M.Region.memory l.ram) l.board) start taken →
+    IsOwedBut start (steps_of taken) l.self.requests (drop l.made-index l.self.requests) l.owed.items

@@ -1,0 +1,4 @@
+pub mod Newest
+pub mod Holdings
+pub mod Notes
+pub mod Settled

@@ -1,0 +1,5 @@
+pub mod Gathering
+pub mod Ends
+pub mod Paths
+pub mod Stages
+pub mod Trees

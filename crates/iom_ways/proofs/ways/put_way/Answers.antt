@@ -1,0 +1,5 @@
+use Rattle.iom_ways.proofs.Gathering.{one}
+use Rattle.iom_ways.proofs.ways.put_way.Goals as goal
+
+pub returns : goal.returns
+returns c = one _ _ _ _ c.in_ok-push.ensures.items c.in_ok-extend_from_slice.ensures.items

@@ -1,0 +1,164 @@
+//! The second stage for the access itself, and the end of a way.
+
+ghost use Rattle.std.specs.Prelude.{◌≡◌, ◌++◌, ◌<◌, ◌^◌, None, Ok, Some, Result, IfOk, IfSome, OnOk};
+ghost use Rattle.iom_walk.specs.Shape.{levels};
+ghost use Rattle.iom_nested.specs.Faults.{Failure};
+ghost use Rattle.iom_nested.specs.Nested.{told_of};
+ghost use Rattle.iom_nested.specs.Stages.{second_shape_of};
+ghost use Rattle.iom_nested.specs.declared.translation.Hit.{Hit};
+ghost use Rattle.iom_nested.specs.declared.translation.Reached.{Reached};
+ghost use Rattle.iom_choices.specs.Trees.{ways_over};
+ghost use Rattle.iom_core.specs.Access.{way_to};
+ghost use Rattle.iom_every.specs.Trees.{access_tree, looking, staged};
+ghost use Rattle.iom_every.specs.Uses.{ForAccess, access_use};
+ghost use Rattle.iom_every.specs.Ways.{whole_of};
+ghost use Rattle.iom_ways.specs.Branches.{behind_access, behind_reached};
+ghost use Rattle.iom_ways.specs.Ways.{Gathers};
+
+use crate::under::Under;
+use crate::ways::Ways;
+use iom_bits::Cause;
+use iom_cache::key_of;
+use iom_core::{Denial, Request, Way};
+use iom_ddt::Context;
+use iom_every::{Entry, Held, second_outcome, second_reads, second_use};
+use iom_mem::Region;
+use iom_nested::{Fault, Hit, Reached, hit_by, second_shape, second_stage};
+use iom_walk::Shape;
+use std::alloc::AllocError;
+
+/// Appends the ways behind a first stage that leads there and reads these entries.
+pub(crate) fn put_access<M: Region>(
+    out: &mut Ways,
+    under: &Under<'_, M>,
+    first: &[Entry],
+    reached: Result<Reached, Fault>,
+) -> Result<(), AllocError>
+    requires level { IfOk reached (λ reached. reached.level < 5) }
+    requires inside { second_shape_of under.now.context ≡ None → IfOk reached (λ reached. reached.addr < 2 ^ 56) }
+    ensures { (found : Result Reached Failure) → reached ≡ told_of under.now.request.kind found →
+        OnOk result (Gathers (ways_over under.now.held.now
+        (behind_reached (M.memory under.now.ram.now) under.now.features under.now.request under.now.context under.now.located.now first.now found))
+        out.old out.new) }
+{
+    match reached {
+        Ok(reached) => put_reached(out, under, first, reached),
+        Err(fault) => put_staged(out, under, first, &[], Err(fault)),
+    }
+}
+
+// The same of a first stage that leads to this address.
+fn put_reached<M: Region>(
+    out: &mut Ways,
+    under: &Under<'_, M>,
+    first: &[Entry],
+    reached: Reached,
+) -> Result<(), AllocError>
+    requires level { reached.level < 5 }
+    requires inside { second_shape_of under.now.context ≡ None → reached.addr < 2 ^ 56 }
+    ensures { OnOk result (Gathers (ways_over under.now.held.now
+        (behind_reached (M.memory under.now.ram.now) under.now.features under.now.request under.now.context under.now.located.now first.now (Ok reached)))
+        out.old out.new) }
+{
+    let (context, kind) = (&under.context, under.request.kind);
+    match second_shape(context) {
+        Some(shape) => put_second(out, under, first, reached, shape),
+        None => {
+            let hit = second_stage(under.ram, under.features, context, reached, kind);
+            put_staged(out, under, first, &[], hit)
+        }
+    }
+}
+
+// Appends the ways by a second stage of this shape: from its root, and from each entry that is held for the address.
+fn put_second<M: Region>(
+    out: &mut Ways,
+    under: &Under<'_, M>,
+    first: &[Entry],
+    reached: Reached,
+    shape: Shape,
+) -> Result<(), AllocError>
+    requires level { reached.level < 5 }
+    ensures { OnOk result (Gathers (ways_over under.now.held.now
+        (looking ForAccess (access_use under.now.context shape reached.addr)
+        (behind_access (M.memory under.now.ram.now) under.now.features under.now.request under.now.context under.now.located.now first.now shape reached)))
+        out.old out.new) }
+{
+    put_used(out, under, first, reached, shape, None)?;
+    for entry in under.held.iter() {
+        let Some(used) = second_use(&under.context, shape, reached.addr, entry) else {
+            continue;
+        };
+        put_used(out, under, first, reached, shape, Some(used))?;
+    }
+    Ok(())
+}
+
+// Appends the way by a second stage that is entered at this entry, or at its root.
+fn put_used<M: Region>(
+    out: &mut Ways,
+    under: &Under<'_, M>,
+    first: &[Entry],
+    reached: Reached,
+    shape: Shape,
+    used: Option<Held>,
+) -> Result<(), AllocError>
+    requires level { reached.level < 5 }
+    requires used { IfSome used (λ held. held.level < levels shape) }
+    ensures { OnOk result (Gathers (ways_over under.now.held.now
+        (behind_access (M.memory under.now.ram.now) under.now.features under.now.request under.now.context under.now.located.now first.now shape reached used))
+        out.old out.new) }
+{
+    let (ram, features, context) = (under.ram, under.features, &under.context);
+    let kind = under.request.kind;
+    let end = second_outcome(ram, features, context, shape, reached.addr, kind, used);
+    let second = second_reads(ram, features, context, shape, reached.addr, used);
+    put_staged(out, under, first, &second, hit_by(reached, end, kind))
+}
+
+// Appends the way by both stages, which read these entries and end so.
+fn put_staged<M: Region>(
+    out: &mut Ways,
+    under: &Under<'_, M>,
+    first: &[Entry],
+    second: &[Entry],
+    found: Result<Hit, Fault>,
+) -> Result<(), AllocError>
+    ensures { (end : Result Hit Failure) → found ≡ told_of under.now.request.kind end →
+        OnOk result (Gathers (ways_over under.now.held.now (staged under.now.request under.now.context under.now.located.now first.now end second.now))
+        out.old out.new) }
+{
+    out.led.push(way_to(&under.context, &found))?;
+    out.reads.extend_from_slice(under.located)?;
+    out.reads.extend_from_slice(first)?;
+    out.reads.extend_from_slice(second)?;
+    put_whole(&mut out.reads, &under.request, &under.context, &found)?;
+    Ok(())
+}
+
+// Where both stages of a context lead.
+fn way_to(context: &Context, found: &Result<Hit, Fault>) -> Way
+    ensures { result ≡ way_to context.now found.now }
+{
+    match found {
+        Ok(hit) => Way::Walked(*context, *hit),
+        Err(fault) => Way::Denied(Denial::translating(context, *fault)),
+    }
+}
+
+// Appends the whole translation, if there is a hit.
+fn put_whole(
+    out: &mut Vec<Entry>,
+    request: &Request,
+    context: &Context,
+    found: &Result<Hit, Fault>,
+) -> Result<(), AllocError>
+    ensures { OnOk result (out.new.items ≡ out.old.items ++ whole_of request.now context.now found.now) }
+{
+    let _: Option<Result<Context, Cause>> = None;
+    if let Ok(hit) = found {
+        let key = key_of(context, request.did, request.iova, request.kind);
+        out.push(Entry::Page { key, hit: *hit })?;
+    }
+    Ok(())
+}

@@ -1,0 +1,204 @@
+//! The path of the first stage, whose entries are each read through the second.
+
+ghost use Rattle.std.specs.Prelude.{◌≡◌, ◌++◌, ◌∷◌, [], ◌+◌, ◌*◌, ◌<◌, ◌≤◌, ◌^◌, length, All, None, Some, OnOk, IfSome};
+ghost use Rattle.arrayvec.specs.ArrayVec.{array_vec_len};
+ghost use Rattle.iom_walk.specs.Shape.{index_of, levels};
+ghost use Rattle.iom_nested.specs.Stages.{second_shape_of};
+ghost use Rattle.iom_choices.specs.Trees.{ways_over};
+ghost use Rattle.iom_every.specs.Trees.{got_by, looking};
+ghost use Rattle.iom_every.specs.Uses.{ForEntry, entry_use};
+ghost use Rattle.iom_ways.specs.Branches.{MetFits, UsedFits, behind_entry, behind_met, rest_of_path};
+ghost use Rattle.iom_ways.specs.Ways.{Gathers};
+
+use crate::found::{PathBy, put_found};
+use crate::under::Under;
+use crate::ways::Ways;
+use iom_bits::Kind;
+use iom_every::{Held, MetBy, second_outcome, second_use};
+use iom_mem::Region;
+use iom_nested::{Physical, got_behind, second_shape};
+use iom_walk::{Format, Got, MetEntry, Shape, Words, place_in};
+use std::alloc::AllocError;
+
+/// Appends the ways by a first stage whose walk has met these entries, from a table on, of which `count` levels are left; `table` is its PPN,
+/// below 2^44.
+#[cycle(walking)]
+pub(crate) fn put_path<M: Region>(
+    out: &mut Ways,
+    under: &Under<'_, M>,
+    format: Format,
+    used: Option<Held>,
+    path: &[MetBy],
+    table: u64,
+    count: u8,
+) -> Result<(), AllocError>
+    requires table { table < 2 ^ 44 }
+    requires count { count ≤ levels format.shape }
+    requires room { length path.now + count ≤ 5 }
+    requires used { IfSome used (λ held. held.level < 5) }
+    requires levels { All (MetFits (second_shape_of under.now.context)) path.now }
+    ensures { OnOk result (Gathers (ways_over under.now.held.now
+        (rest_of_path (M.memory under.now.ram.now) under.now.features under.now.request under.now.context under.now.located.now format used path.now table count))
+        out.old out.new) }
+{
+    if count == 0 {
+        return put_found(out, under, format, used, path);
+    }
+    let level = count - 1;
+    let place = place_in(format, under.request.iova, table, level);
+    match second_shape(&under.context) {
+        Some(shape) => put_behind(out, under, format, used, path, shape, place, level),
+        None => {
+            let got = Physical { ram: under.ram }.word(place);
+            let entry = MetEntry { level, place, got };
+            put_met(out, under, format, used, path, MetBy { entry, used: None })
+        }
+    }
+}
+
+// The same behind the second stage's look-up for the entry at this place, of this level.
+#[cycle(walking)]
+fn put_behind<M: Region>(
+    out: &mut Ways,
+    under: &Under<'_, M>,
+    format: Format,
+    used: Option<Held>,
+    path: &[MetBy],
+    shape: Shape,
+    place: u64,
+    level: u8,
+) -> Result<(), AllocError>
+    requires shape { second_shape_of under.now.context ≡ Some shape }
+    requires level { level < levels format.shape }
+    requires room { length path.now + level < 5 }
+    requires used { IfSome used (λ held. held.level < 5) }
+    requires levels { All (MetFits (second_shape_of under.now.context)) path.now }
+    ensures { OnOk result (Gathers (ways_over under.now.held.now
+        (looking (ForEntry level) (entry_use under.now.context shape level place)
+        (behind_entry (M.memory under.now.ram.now) under.now.features under.now.request under.now.context under.now.located.now format used path.now shape place level)))
+        out.old out.new) }
+{
+    put_read(out, under, format, used, path, shape, place, level, None)?;
+    for entry in under.held.iter() {
+        let Some(behind) = second_use(&under.context, shape, place, entry) else {
+            continue;
+        };
+        put_read(
+            out,
+            under,
+            format,
+            used,
+            path,
+            shape,
+            place,
+            level,
+            Some(behind),
+        )?;
+    }
+    Ok(())
+}
+
+// The same, if this entry of the second stage or none is used for it.
+#[cycle(walking)]
+fn put_read<M: Region>(
+    out: &mut Ways,
+    under: &Under<'_, M>,
+    format: Format,
+    used: Option<Held>,
+    path: &[MetBy],
+    shape: Shape,
+    place: u64,
+    level: u8,
+    behind: Option<Held>,
+) -> Result<(), AllocError>
+    requires shape { second_shape_of under.now.context ≡ Some shape }
+    requires level { level < levels format.shape }
+    requires room { length path.now + level < 5 }
+    requires used { IfSome used (λ held. held.level < 5) }
+    requires levels { All (MetFits (second_shape_of under.now.context)) path.now }
+    requires behind { IfSome behind (λ held. held.level < levels shape) }
+    ensures { OnOk result (Gathers (ways_over under.now.held.now
+        (behind_entry (M.memory under.now.ram.now) under.now.features under.now.request under.now.context under.now.located.now format used path.now shape place level behind))
+        out.old out.new) }
+{
+    let got = got_by(under, shape, place, behind);
+    let entry = MetEntry { level, place, got };
+    put_met(
+        out,
+        under,
+        format,
+        used,
+        path,
+        MetBy {
+            entry,
+            used: behind,
+        },
+    )
+}
+
+// What the guest has at an address of its own, if this entry of the second stage or none is used for it.
+fn got_by<M: Region>(under: &Under<'_, M>, shape: Shape, place: u64, used: Option<Held>) -> Got
+    requires used { IfSome used (λ held. held.level < levels shape) }
+    ensures { result ≡ got_by (M.memory under.now.ram.now) under.now.features under.now.context (Some shape) used place }
+{
+    let end = second_outcome(
+        under.ram,
+        under.features,
+        &under.context,
+        shape,
+        place,
+        Kind::Read,
+        used,
+    );
+    got_behind(under.ram, place, end)
+}
+
+// The same behind this entry, which the path meets next.
+#[cycle(walking)]
+fn put_met<M: Region>(
+    out: &mut Ways,
+    under: &Under<'_, M>,
+    format: Format,
+    used: Option<Held>,
+    path: &[MetBy],
+    met: MetBy,
+) -> Result<(), AllocError>
+    requires level { met.entry.level < levels format.shape }
+    requires room { length path.now + met.entry.level < 5 }
+    requires used { IfSome used (λ held. held.level < 5) }
+    requires levels { All (MetFits (second_shape_of under.now.context)) path.now }
+    requires fits { UsedFits (second_shape_of under.now.context) met.used }
+    ensures { OnOk result (Gathers (ways_over under.now.held.now
+        (behind_met (M.memory under.now.ram.now) under.now.features under.now.request under.now.context under.now.located.now format used path.now met))
+        out.old out.new) }
+{
+    let longer = path_with(path, met);
+    let entry = met.entry;
+    if entry.is_pointer(format.features) {
+        put_path(
+            out,
+            under,
+            format,
+            used,
+            &longer,
+            entry.next_table(),
+            entry.level,
+        )
+    } else {
+        put_found(out, under, format, used, &longer)
+    }
+}
+
+// A path with one more entry.
+fn path_with(path: &[MetBy], met: MetBy) -> PathBy
+    requires room { length path.now < 5 }
+    ensures path { result.items ≡ path.now ++ met ∷ [] }
+    ensures len { array_vec_len result ≡ length path.now + 1 }
+{
+    let mut longer = PathBy::new();
+    for before in path.iter() {
+        longer.push(*before);
+    }
+    longer.push(met);
+    longer
+}

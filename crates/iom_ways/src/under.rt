@@ -1,0 +1,69 @@
+//! The ways below a context.
+
+ghost use Rattle.std.specs.Prelude.{◌≡◌, false, Some, OnOk};
+ghost use Rattle.iom_ddt.specs.Contexts.{is_bare};
+ghost use Rattle.iom_choices.specs.Trees.{ways_over};
+ghost use Rattle.iom_core.specs.Access.{request_key};
+ghost use Rattle.iom_every.specs.Trees.{looking, page_tree};
+ghost use Rattle.iom_every.specs.Uses.{ForPage, page_use};
+ghost use Rattle.iom_ways.specs.Ways.{Gathers};
+
+use crate::first::put_stages;
+use crate::ways::{Ways, put_way};
+use iom_bits::Features;
+use iom_cache::{Key, key_of};
+use iom_core::{Request, Way};
+use iom_ddt::Context;
+use iom_every::{Entry, page_use};
+use iom_mem::Region;
+use iom_nested::Hit;
+use std::alloc::AllocError;
+
+/// What all ways of a request below one context share.
+#[derive(Clone, Copy)]
+pub(crate) struct Under<'a, M: Region> {
+    /// The memory.
+    pub ram: &'a M,
+    /// The features of the IOMMU.
+    pub features: Features,
+    /// The entries that may be held.
+    pub held: &'a [Entry],
+    /// The request.
+    pub request: Request,
+    /// The context that leads it.
+    pub context: Context,
+    /// The entries of the directory that were read to find the context.
+    pub located: &'a [Entry],
+}
+
+/// Appends the ways below a context with a stage.
+pub(crate) fn put_translated<M: Region>(
+    out: &mut Ways,
+    under: &Under<'_, M>,
+) -> Result<(), AllocError>
+    requires translated { is_bare under.now.context ≡ false }
+    ensures { OnOk result (Gathers (ways_over under.now.held.now
+        (looking ForPage (page_use (request_key under.now.request under.now.context))
+        (page_tree (M.memory under.now.ram.now) under.now.features under.now.request under.now.context under.now.located.now)))
+        out.old out.new) }
+{
+    let request = &under.request;
+    let key = key_of(&under.context, request.did, request.iova, request.kind);
+    put_stages(out, under)?;
+    for entry in under.held.iter() {
+        let Some(hit) = page_use(&key, entry) else {
+            continue;
+        };
+        put_page(out, under, hit)?;
+    }
+    Ok(())
+}
+
+// Appends the way by a whole translation that is held.
+fn put_page<M: Region>(out: &mut Ways, under: &Under<'_, M>, hit: Hit) -> Result<(), AllocError>
+    ensures { OnOk result (Gathers (ways_over under.now.held.now
+        (page_tree (M.memory under.now.ram.now) under.now.features under.now.request under.now.context under.now.located.now (Some hit)))
+        out.old out.new) }
+{
+    put_way(out, Way::Walked(under.context, hit), under.located)
+}

@@ -1,0 +1,148 @@
+//! The ways of a request.
+
+ghost use Rattle.std.specs.Prelude.{◌≡◌, ◌++◌, ◌≤◌, ◌∷◌, [], None, OnOk, IfSome};
+ghost use Rattle.iom_regs.specs.Views.{mode_of};
+ghost use Rattle.iom_ddt.specs.Directory.{levels_of};
+ghost use Rattle.iom_choices.specs.Trees.{ways_over};
+ghost use Rattle.iom_core.specs.Access.{machine_of};
+ghost use Rattle.iom_core.specs.State.{State};
+ghost use Rattle.iom_every.specs.Trees.{entered_tree, looking, tree_of};
+ghost use Rattle.iom_every.specs.Uses.{ForDevice, IsEntrance, device_use};
+ghost use Rattle.iom_ways.specs.Branches.{directory_tree, under_tree};
+ghost use Rattle.iom_ways.specs.Ways.{Gathers};
+
+use crate::under::{Under, put_translated};
+use iom_bits::{Cause, Features};
+use iom_core::{Denial, Request, Way};
+use iom_ddt::{Context, is_too_wide};
+use iom_every::{Entered, Entry, depth_of, device_use, directory_reads, located_by};
+use iom_mem::Region;
+use iom_regs::{Mode, Regs};
+use std::alloc::AllocError;
+
+/// Where ways lead, and what they read in memory.
+#[derive(Drop)]
+pub struct Ways {
+    /// Where each way leads.
+    pub led: Vec<Way>,
+    /// The entries that they read, as they may be kept, one way's behind the other's.
+    pub reads: Vec<Entry>,
+}
+
+/// Appends the ways of a request, of a device id of 24 bits, that the entries in `held` allow: at each look-up of its walk memory answers, or
+/// an entry that fits ("Caching in-memory data structures").
+///
+/// The first way is that of memory alone, whatever is held. The same way may come more than once. The fault is a refused allocation; then some
+/// of them are appended, and nothing else has changed.
+pub fn put_ways<M: Region>(
+    out: &mut Ways,
+    ram: &M,
+    registers: &Regs,
+    held: &[Entry],
+    request: &Request,
+) -> Result<(), AllocError>
+    ensures { (state : State) → state.machine.memory ≡ M.memory ram.now → state.machine.registers ≡ registers.now →
+        OnOk result (Gathers (ways_over held.now (tree_of state request.now)) out.old out.new) }
+{
+    match registers.mode() {
+        Mode::Off => put_way(out, Way::Denied(Denial::plain(Cause::Off)), &[]),
+        Mode::Bare => put_way(out, Way::Register, &[]),
+        Mode::Levels(_) => put_directory(out, ram, registers, held, request),
+    }
+}
+
+/// Appends a way that leads there and reads these entries.
+pub(crate) fn put_way(out: &mut Ways, led: Way, reads: &[Entry]) -> Result<(), AllocError>
+    ensures { OnOk result (Gathers (record { led = led; reads = reads.now } ∷ []) out.old out.new) }
+{
+    out.led.push(led)?;
+    out.reads.extend_from_slice(reads)?;
+    Ok(())
+}
+
+// Appends the ways under a directory.
+fn put_directory<M: Region>(
+    out: &mut Ways,
+    ram: &M,
+    registers: &Regs,
+    held: &[Entry],
+    request: &Request,
+) -> Result<(), AllocError>
+    requires directory { 1 ≤ levels_of (mode_of registers.now) }
+    ensures { OnOk result (Gathers (ways_over held.now
+        (directory_tree (machine_of (M.memory ram.now) registers.now [] []) request.now)) out.old out.new) }
+{
+    if is_too_wide(registers, request.did) {
+        put_entered(out, ram, registers, held, request, &None)
+    } else {
+        put_devices(out, ram, registers, held, request)
+    }
+}
+
+// The same of a device id that isn't too wide for it: from the root, and from each entry that is held for the device.
+fn put_devices<M: Region>(
+    out: &mut Ways,
+    ram: &M,
+    registers: &Regs,
+    held: &[Entry],
+    request: &Request,
+) -> Result<(), AllocError>
+    requires directory { 1 ≤ levels_of (mode_of registers.now) }
+    ensures { OnOk result (Gathers (ways_over held.now
+        (looking ForDevice (device_use (levels_of (mode_of registers.now)) request.now.did)
+        (entered_tree (machine_of (M.memory ram.now) registers.now [] []) request.now))) out.old out.new) }
+{
+    let depth = depth_of(registers);
+    put_entered(out, ram, registers, held, request, &None)?;
+    for entry in held.iter() {
+        let Some(at) = device_use(depth, request.did, entry) else {
+            continue;
+        };
+        put_entered(out, ram, registers, held, request, &Some(at))?;
+    }
+    Ok(())
+}
+
+// Appends the ways by the context that a search of the directory finds, if it begins at this entry or at the root.
+fn put_entered<'a, M: Region>(
+    out: &mut Ways,
+    ram: &'a M,
+    registers: &Regs,
+    held: &'a [Entry],
+    request: &Request,
+    at: &Option<Entered>,
+) -> Result<(), AllocError>
+    requires directory { 1 ≤ levels_of (mode_of registers.now) }
+    requires entrance { IfSome at.now IsEntrance }
+    ensures { OnOk result (Gathers (ways_over held.now
+        (entered_tree (machine_of (M.memory ram.now) registers.now [] []) request.now at.now)) out.old out.new) }
+{
+    let located = directory_reads(ram, registers, request.did, *at);
+    match located_by(ram, registers, request.did, *at) {
+        Ok(context) => {
+            let under = Under {
+                ram,
+                features: registers.features(),
+                held,
+                request: *request,
+                context,
+                located: &located,
+            };
+            put_under(out, &under)
+        }
+        Err(why) => { put_way(out, Way::Denied(Denial::plain(why)), &located) }
+    }
+}
+
+// Appends the ways by a context.
+fn put_under<M: Region>(out: &mut Ways, under: &Under<'_, M>) -> Result<(), AllocError>
+    ensures { OnOk result (Gathers (ways_over under.now.held.now
+        (under_tree (M.memory under.now.ram.now) under.now.features under.now.request under.now.context under.now.located.now))
+        out.old out.new) }
+{
+    if under.context.is_bare() {
+        put_way(out, Way::Context(under.context), under.located)
+    } else {
+        put_translated(out, under)
+    }
+}
