@@ -23,10 +23,10 @@ const INPUT: &str = "-";
 const UNNAMED: &str = "script";
 
 /// What a script came to, and the fault that ended it before its end.
-#[derive(Clone, Copy)]
-struct Judged {
+#[derive(Drop)]
+struct Judged<'f> {
     tally: Tally,
-    fault: Option<RunFault>,
+    fault: Option<Fault<'f>>,
 }
 
 /// Scripts that are judged one after the other, and what is written of them.
@@ -53,18 +53,27 @@ fn judge<'f, R: Read, W: Write>(
     points: u64,
     input: &mut R,
     output: &mut W,
-) -> Result<Judged, Fault<'f>> {
+) -> Result<Judged<'f>, Fault<'f>> {
     let mut reader = WatchedReader::new(input);
     let mut writer = WatchedWriter::new(output);
     let mut platform = iom_asm::load(alloc, image)?;
     let mut trace = Trace::new(alloc)?;
-    let mut reasons = LineAccount::new(&platform);
+    let mut reasons = if rules.fails_if_unsettled {
+        LineAccount::with_holdings(&platform, alloc)
+    } else {
+        LineAccount::new(&platform)
+    };
     let debugger = Debugger::new(&mut platform, &mut trace, &mut reasons);
     let mut checking = Checking::new(debugger, rules, name, points);
     let ended = check(&mut checking, &mut reader, &mut writer);
+    let fault = match ended {
+        Err(fault) => Some(Fault::Run(fault)),
+        Ok(_) if checking.is_lost() => Some(Fault::OutOfMemory),
+        Ok(_) => None,
+    };
     Ok(Judged {
         tally: checking.tally(),
-        fault: ended.err(),
+        fault,
     })
 }
 
@@ -162,8 +171,8 @@ impl<R: Clock + Eprint + Files, W: Write> Round<'_, R, W> {
                 self.sum.failed = self.sum.failed.saturating_add(judged.tally.failed);
                 match judged.fault {
                     None => return Ok(None),
-                    Some(RunFault::Write) => return Err(Fault::Run(RunFault::Write)),
-                    Some(fault) => Fault::Run(fault),
+                    Some(Fault::Run(RunFault::Write)) => return Err(Fault::Run(RunFault::Write)),
+                    Some(fault) => fault,
                 }
             }
             Err(fault) => fault,
@@ -188,7 +197,7 @@ impl<R: Clock + Eprint + Files, W: Write> Round<'_, R, W> {
         };
         let judged = judge(self.alloc, image, rules, name, 0, &mut script, &mut cases)?;
         // A vector can't be written where memory is refused.
-        if let Some(RunFault::Write) = judged.fault {
+        if let Some(Fault::Run(RunFault::Write) | Fault::OutOfMemory) = judged.fault {
             return Err(Fault::OutOfMemory);
         }
         self.add_suite(name, judged.tally, cases, fault)
@@ -346,6 +355,7 @@ fn rules_of(checks: &Checks<'_>) -> Rules {
     Rules {
         fails_if_stale: checks.fails_if_stale,
         looks_at_fences: checks.looks_at_fences,
+        fails_if_unsettled: checks.fails_if_unsettled,
         is_strict: checks.is_strict,
         style: if checks.is_tap {
             Style::Tap
