@@ -3,6 +3,7 @@
 use Rattle.std.specs.Prelude.{ℕ, ◌≡◌, ◌++◌, Bool, true, false, List, [], ◌∷◌, codes, Option, Some, None, Result, Ok, Err}
 use Rattle.std.specs.Option.{option_map}
 use Rattle.iom_text.specs.Texts.{hexadecimal, numeral}
+use Rattle.iom_core.specs.Run.{end_of}
 use Rattle.iom_core.specs.State.{State}
 use Rattle.iom_core.specs.Table.{next, request_of_step}
 use Rattle.iom_core.specs.declared.access.Denial.{Denial}
@@ -57,7 +58,20 @@ abbrev pub SettlesIf : Option SettlingView → State → Step → ℕ → Option
 SettlesIf None state step number after = after ≡ None
 SettlesIf (Some before) state step number after = (some : SettlingView) × (after ≡ Some some) × Settles before state step number some
 
--- the last access of a line that wasn't settled; none is told once memory was refused
+-- steps of a line of this number behind some others, the newest first
+abbrev pub with_line : ℕ → List Step → List (Step × ℕ) → List (Step × ℕ)
+with_line number [] taken = taken
+with_line number (step ∷ steps) taken = with_line number steps ((step, number) ∷ taken)
+
+-- what is held goes along with steps of a line of this number, one after the other, unless memory was refused
+abbrev pub HoldsOn : Option SettlingView → State → List Step → ℕ → Option SettlingView → Type 0
+HoldsOn None state steps number after = after ≡ None
+HoldsOn (Some before) state steps number after =
+    (some : SettlingView) × (after ≡ Some some) × (before.is_lost ≡ true → some.is_lost ≡ true)
+    × (some.is_lost ≡ false → (start : State) (taken : List (Step × ℕ)) → Keeps before.holdings state start taken →
+    Keeps some.holdings (end_of state steps) start (with_line number steps taken))
+
+-- the last access of a line that wasn't settled
 abbrev pub unsettled_in : Option SettlingView → Option UnsettledAccess
 unsettled_in None = None
 unsettled_in (Some settling) = settling.unsettled

@@ -45,7 +45,7 @@ impl<'a> Debugger<'a> {
     ghost use Rattle.iom_debug.specs.Fences.{have_fence};
     ghost use Rattle.iom_debug.specs.Output.{IsAsRun, debug_reply, debug_steps, debug_steps_of};
     ghost use Rattle.iom_debug.specs.Reasons.{GoesAlong, KeepsLastStale, begun};
-    ghost use Rattle.iom_debug.specs.Settling.{AreOwedBy, is_lost_in, unsettled_in, unsettled_told};
+    ghost use Rattle.iom_debug.specs.Settling.{AreOwedBy, HoldsOn, is_lost_in, unsettled_in, unsettled_told};
     ghost use Rattle.iom_debug.specs.Stale.{stale_told};
     ghost use Rattle.iom_debug.specs.Telling.{slip_with};
 
@@ -85,13 +85,16 @@ impl<'a> Debugger<'a> {
             IsAsRun (console self.old.platform.now self.old.trace.now) text.now
             result.items (console self.new.platform.now self.new.trace.now) }
 
-        // What is told goes along with the steps, and of this line its last access that was stale is kept, and whether it carried out a fence.
+        // What is told goes along with the steps, and of this line its last access that was stale is kept, and whether it carried out a fence;
+        // where settledness is told, its last access that wasn't settled, by what any IOMMU may hold.
         ensures along { GoesAlong self.old.reasons.now self.old.platform.now (debug_steps_of self.old.names self.old.platform.now text.now) number
             self.new.reasons.now self.new.platform.now }
         ensures stale { KeepsLastStale (begun self.old.reasons.now) self.old.platform.now
             (debug_steps_of self.old.names self.old.platform.now text.now) number self.new.reasons.now }
         ensures fence { self.new.reasons.now.has_fence
             ≡ have_fence self.old.platform.now (debug_steps_of self.old.names self.old.platform.now text.now) }
+        ensures holds { HoldsOn self.old.reasons.now.settling self.old.platform.now
+            (debug_steps_of self.old.names self.old.platform.now text.now) number self.new.reasons.now.settling }
         ensures names { self.new.names ≡ names_after self.old.names text.now }
         ensures same { names_of self.new ≡ names_of self.old }
     {
