@@ -1,3 +1,4 @@
 pub mod Looks
+pub mod Owed
 pub mod Pieces
 pub mod Telling

@@ -9,42 +9,59 @@ use Rattle.iom_reader.proofs.Chains.{spoken, broken, lawful as by_lines_lawful}
 use Rattle.iom_debug.specs.Summary.{up_to_64_bits}
 use Rattle.iom_debug.specs.Taking.{Desk}
 use Rattle.iom_debug.specs.Telling.{Leaves, answer_at, slip_with}
-use Rattle.iom_check.specs.Checking.{Checked, CheckBreaks, CheckSays, IsChecked, LineSays, by_check, checking, closing, line_told, looks_behind, places_if, places_told}
-use Rattle.iom_check.specs.Judging.{tables_told}
+use Rattle.iom_debug.specs.Settling.{unsettled_in}
+use Rattle.iom_check.specs.Checking.{Checked, CheckBreaks, CheckSays, IsChecked, LineSays, by_check, checking, closing, TellsOwed, end_told, line_told, looks_behind, places_if, places_told, told_at}
+use Rattle.iom_check.specs.Judging.{elsewhere_told, tables_told}
+use Rattle.iom_check.specs.Owing.{owed_if}
 use Rattle.iom_check.specs.Scoring.{Score, Told, ended, judged, noted, remarked, with_wish}
 use Rattle.iom_check.specs.declared.rules.Tally.{Tally}
 
 pub lawful : IsAnswering by_check
 lawful = by_lines_lawful checking
 
-pub checked : (unread left : Option (List ℕ)) (old new : Progress Checked) (holds : Option (List ℕ)) (tally : Tally) →
-    Ends by_check unread left old new (Ok tt) → Appends new.written holds ((places_told new.console).said ++ closing (ended (places_told new.console).after new.console.number)) →
-    tally ≡ (ended (places_told new.console).after new.console.number).after.tally → IsChecked old.console unread left old.written holds tally
-checked unread left old new holds tally h wrote is = record {
-  script = h.text;
-  took = h.took;
-  all = h.all;
-  within = h.within;
-  text = h.answered.text;
-  end = new.console;
-  said = h.answered.said;
-  written = Appends-trans _ _ _ _ _ h.answered.written wrote;
-  counts = is;
-}
+-- `score` is the one behind the places, `console` the last one with it
+pub checked : (unread left : Option (List ℕ)) (old new : Progress Checked) (mid told holds : Option (List ℕ)) (is_lost : Bool) (tally : Tally)
+    (score after : Score) →
+    Ends by_check unread left old new (Ok tt) → Appends new.written mid (places_told new.console).said →
+    score ≡ (places_told new.console).after → TellsOwed (record new.console { score = score }) is_lost mid told after →
+    Appends told holds (closing (ended after new.console.number)) → tally ≡ (ended after new.console.number).after.tally →
+    IsChecked old.console unread left old.written holds is_lost tally
+checked unread left old new mid told holds is_lost tally score after h placed scored owing wrote is =
+    let end = new.console in
+    let places = places_told end in
+    let rest = λ (s : Score). owed_if end.number s owing.owed in
+    let left_is : after ≡ (end_told end owing.owed).after = owing.left ∙ ap (λ (s : Score). (rest s).after) scored in
+    record {
+      script = h.text;
+      took = h.took;
+      all = h.all;
+      within = h.within;
+      text = h.answered.text;
+      end = end;
+      said = h.answered.said;
+      owed = owing.owed;
+      owes = owing.owes;
+      written = Appends-trans _ _ _ _ _ h.answered.written
+          (Appends-trans _ _ _ _ _
+          (Appends-trans _ _ _ _ _ placed (subst (λ (s : Score). Appends mid told (rest s).said) scored owing.written))
+          (subst (λ (s : Score). Appends told holds (closing (ended s end.number))) left_is wrote));
+      counts = is ∙ ap (λ (s : Score). (ended s end.number).after.tally) left_is;
+    }
 
-pub line_says : (before : Checked) (after : Desk) (line said answer slip tables : List ℕ) (number : ℕ) (score : Score) →
+pub line_says : (before : Checked) (after : Desk) (line said answer slip tables elsewhere : List ℕ) (number : ℕ) (score : Score) →
     number ≡ up_to_64_bits (before.number + 1) → Leaves before.desk line number after → answer ≡ answer_at before.desk line →
     slip ≡ slip_with before.desk.names line → tables ≡ tables_told before.score.rules.fails_if_stale after.reasons.stale →
-    said ≡ (line_told before.score number line answer slip tables).said →
-    score ≡ (line_told before.score number line answer slip tables).after →
+    elsewhere ≡ elsewhere_told before.score.rules.fails_if_unsettled (unsettled_in after.reasons.settling) →
+    said ≡ (line_told before.score number line answer slip tables elsewhere).said →
+    score ≡ (line_told before.score number line answer slip tables elsewhere).after →
     LineSays before line said (record { desk = after; number = number; score = score })
-line_says before after line said answer slip tables number score count left is why stale told scored =
-    let judged = before.score.rules.fails_if_stale in
-    let all : line_told before.score number line answer slip tables
-    ≡ line_told before.score number line (answer_at before.desk line) (slip_with before.desk.names line) (tables_told judged after.reasons.stale) =
-    ap (λ a. line_told before.score number line a slip tables) is
-    ∙ ap (λ w. line_told before.score number line (answer_at before.desk line) w tables) why
-    ∙ ap (λ t. line_told before.score number line (answer_at before.desk line) (slip_with before.desk.names line) t) stale in
+line_says before after line said answer slip tables elsewhere number score count left is why stale unsettled told scored =
+    let said_of = λ (t e : List ℕ). line_told before.score number line (answer_at before.desk line) (slip_with before.desk.names line) t e in
+    let tables_now = tables_told before.score.rules.fails_if_stale after.reasons.stale in
+    let all : line_told before.score number line answer slip tables elsewhere ≡ told_at before number line after.reasons =
+    ap (λ a. line_told before.score number line a slip tables elsewhere) is
+    ∙ ap (λ w. line_told before.score number line (answer_at before.desk line) w tables elsewhere) why
+    ∙ ap (λ t. said_of t elsewhere) stale ∙ ap (λ e. said_of tables_now e) unsettled in
     record {
       number = count;
       left = left;
@@ -116,12 +133,12 @@ breaks_alone line kept first old new f cut alone front =
     broken checking line front.front f old new (subst (λ l. CheckBreaks old.console l front.front new.console) cut breaks) front.written
 
 -- a line is judged, and then its remark is told
-pub told_line : (s mid after : Score) (number : ℕ) (line answer slip tables empty first all : List ℕ) → empty ≡ [] →
-    first ≡ empty ++ (judged s number line answer slip tables).said → mid ≡ (judged s number line answer slip tables).after →
+pub told_line : (s mid after : Score) (number : ℕ) (line answer slip tables elsewhere empty first all : List ℕ) → empty ≡ [] →
+    first ≡ empty ++ (judged s number line answer slip tables elsewhere).said → mid ≡ (judged s number line answer slip tables elsewhere).after →
     all ≡ first ++ (remarked mid number line answer).said → after ≡ with_wish (remarked mid number line answer).after line →
-    (all ≡ (line_told s number line answer slip tables).said) × (after ≡ (line_told s number line answer slip tables).after)
-told_line s mid after number line answer slip tables empty first all none one moved two ended =
-    let begun = judged s number line answer slip tables in (
+    (all ≡ (line_told s number line answer slip tables elsewhere).said) × (after ≡ (line_told s number line answer slip tables elsewhere).after)
+told_line s mid after number line answer slip tables elsewhere empty first all none one moved two ended =
+    let begun = judged s number line answer slip tables elsewhere in (
       two ∙ ap (λ m. first ++ (remarked m number line answer).said) moved
           ∙ ap (λ p. p ++ (remarked begun.after number line answer).said) (one ∙ ap (λ p. p ++ begun.said) none),
       ended ∙ ap (λ m. with_wish (remarked m number line answer).after line) moved,

@@ -5,14 +5,17 @@ use Rattle.iom_reader.specs.Answering.{Answering}
 use Rattle.iom_reader.specs.Lines.{lines_of}
 use Rattle.iom_reader.specs.Running.{IsWithinLimits}
 use Rattle.iom_reader.specs.Speaking.{Speaking, Speaks, by_lines}
+use Rattle.iom_owed.specs.declared.settling.Owed.{Owed}
 use Rattle.iom_debug.specs.Fences.{have_fence}
 use Rattle.iom_debug.specs.Output.{debug_steps_of}
 use Rattle.iom_debug.specs.Summary.{up_to_64_bits}
 use Rattle.iom_debug.specs.Taking.{Desk}
 use Rattle.iom_debug.specs.Telling.{Leaves, answer_at, slip_with}
-use Rattle.iom_debug.specs.declared.stale.StaleAccess.{StaleAccess}
-use Rattle.iom_check.specs.Judging.{tables_told}
+use Rattle.iom_debug.specs.Reasons.{LineAccountView}
+use Rattle.iom_debug.specs.Settling.{AreOwedBy, unsettled_in}
+use Rattle.iom_check.specs.Judging.{elsewhere_told, tables_told}
 use Rattle.iom_check.specs.Looking.{looked_by}
+use Rattle.iom_check.specs.Owing.{owed_if}
 use Rattle.iom_check.specs.Reporting.{tally_told}
 use Rattle.iom_check.specs.Scoring.{Score, Told, ended, judged, quiet, remarked, with_wish}
 use Rattle.iom_check.specs.declared.rules.Tally.{Tally}
@@ -24,24 +27,25 @@ pub record Checked : Type 0 where
   pub score : Score
 
 -- a line's test point, and what would go unnoticed
-abbrev pub line_told : Score → ℕ → List ℕ → List ℕ → List ℕ → List ℕ → Told
-line_told s number line answer slip tables =
-    let first = judged s number line answer slip tables in
+abbrev pub line_told : Score → ℕ → List ℕ → List ℕ → List ℕ → List ℕ → List ℕ → Told
+line_told s number line answer slip tables elsewhere =
+    let first = judged s number line answer slip tables elsewhere in
     let second = remarked first.after number line answer in
     record { said = first.said ++ second.said; after = with_wish second.after line }
 
--- by the names before the line, and its last access that was stale
-abbrev pub told_at : Checked → ℕ → List ℕ → Option StaleAccess → Told
-told_at before number line stale =
+-- by the names before the line, its last access that was stale, and its last one that wasn't settled
+abbrev pub told_at : Checked → ℕ → List ℕ → LineAccountView → Told
+told_at before number line reasons =
     line_told before.score number line (answer_at before.desk line) (slip_with before.desk.names line)
-    (tables_told before.score.rules.fails_if_stale stale)
+    (tables_told before.score.rules.fails_if_stale reasons.stale)
+    (elsewhere_told before.score.rules.fails_if_unsettled (unsettled_in reasons.settling))
 
 -- a line by itself is told
 pub record LineSays (before : Checked) (line said : List ℕ) (after : Checked) : Type 0 where
   pub number : after.number ≡ up_to_64_bits (before.number + 1)
   pub left : Leaves before.desk line after.number after.desk
-  pub text : said ≡ (told_at before after.number line after.desk.reasons.stale).said
-  pub score : after.score ≡ (told_at before after.number line after.desk.reasons.stale).after
+  pub text : said ≡ (told_at before after.number line after.desk.reasons).said
+  pub score : after.score ≡ (told_at before after.number line after.desk.reasons).after
 
 -- the places of the caches, behind a line
 abbrev pub places_told : Checked → Told
@@ -85,8 +89,28 @@ by_check = by_lines checking
 abbrev pub closing : Told → List ℕ
 closing last = last.said ++ tally_told last.after.rules.style last.after.name last.after.tally.passed last.after.tally.failed
 
--- A whole script was checked: what was written is what is told of its lines, one after the other, and of its end.
-pub record IsChecked (start : Checked) (unread left held holds : Option (List ℕ)) (tally : Tally) : Type 0 where
+-- what is told at the end of a script: the places of the caches, and what is owed
+abbrev pub end_told : Checked → List Owed → Told
+end_told end owed =
+    let places = places_told end in
+    let rest = owed_if end.number places.after owed in
+    record { said = places.said ++ rest.said; after = rest.after }
+
+-- this is owed at the end, unless memory was refused
+abbrev pub AreOwedAt : Checked → Bool → List Owed → Type 0
+AreOwedAt end is_lost owed =
+    is_lost ≡ false → AreOwedBy end.desk.reasons.settling end.desk.state owed
+
+-- what is owed is told, of a score before it, where that is told
+pub record TellsOwed (end : Checked) (is_lost : Bool) (held holds : Option (List ℕ)) (after : Score) : Type 0 where
+  pub owed : List Owed
+  pub owes : AreOwedAt end is_lost owed
+  pub written : Appends held holds (owed_if end.number end.score owed).said
+  pub left : after ≡ (owed_if end.number end.score owed).after
+
+-- A whole script was checked: what was written is what is told of its lines, one after the other, and of its end. `is_lost` says whether memory
+-- was refused for what is told of settledness.
+pub record IsChecked (start : Checked) (unread left held holds : Option (List ℕ)) (is_lost : Bool) (tally : Tally) : Type 0 where
   pub script : List ℕ
   pub took : Consumes unread left script
   pub all : IsAtEnd left
@@ -94,5 +118,7 @@ pub record IsChecked (start : Checked) (unread left held holds : Option (List �
   pub text : List ℕ
   pub end : Checked
   pub said : Speaks checking start (lines_of script) text end
-  pub written : Appends held holds (text ++ ((places_told end).said ++ closing (ended (places_told end).after end.number)))
-  pub counts : tally ≡ (ended (places_told end).after end.number).after.tally
+  pub owed : List Owed
+  pub owes : AreOwedAt end is_lost owed
+  pub written : Appends held holds (text ++ ((end_told end owed).said ++ closing (ended (end_told end owed).after end.number)))
+  pub counts : tally ≡ (ended (end_told end owed).after end.number).after.tally

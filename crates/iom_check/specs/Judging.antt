@@ -1,6 +1,8 @@
 -- Which lines of a checked script pass and which fail, and what is said of them.
 use Rattle.std.specs.Prelude.{ℕ, ◌++◌, ◌&&◌, ◌||◌, Bool, false, not, nat_lt, List, [], length, codes, bytes_eq, Option, Some, None, is_some, if◌then◌else◌}
+use Rattle.iom_debug.specs.Settling.{unsettled_told}
 use Rattle.iom_debug.specs.Stale.{stale_told}
+use Rattle.iom_debug.specs.declared.settling.UnsettledAccess.{UnsettledAccess}
 use Rattle.iom_debug.specs.declared.stale.StaleAccess.{StaleAccess}
 use Rattle.iom_debug.specs.Telling.{before_comment, escaped, slip_text}
 use Rattle.iom_check.specs.Wanted.{answer_of, has_arrow, wanted, wants_stale}
@@ -16,19 +18,25 @@ meets is_judged None answer tables = not (bytes_eq answer (codes "bad"))
 meets is_judged (Some wish) answer tables =
     bytes_eq (answer_of wish) answer && (nat_lt 0 (length tables) || not (is_judged && wants_stale wish))
 
+-- a line's last access that wasn't settled, as it is told, where settledness is judged
+abbrev pub elsewhere_told : Bool → Option UnsettledAccess → List ℕ
+elsewhere_told is_judged access = if is_judged then unsettled_told access else []
+
 abbrev pub allows_stale : Option (List ℕ) → Bool
 allows_stale None = false
 allows_stale (Some wish) = wants_stale wish
 
--- a line with an answer fails where its wish isn't met, or an access is stale and that isn't wanted
-abbrev pub fails : Bool → Option (List ℕ) → List ℕ → List ℕ → Bool
-fails is_judged wish answer tables =
-    nat_lt 0 (length answer) && (not (meets is_judged wish answer tables) || (nat_lt 0 (length tables) && not (allows_stale wish)))
+-- A line with an answer fails where its wish isn't met, where an access is stale and that isn't wanted, and where one isn't settled.
+-- `elsewhere` is empty where none is to be told that isn't settled.
+abbrev pub fails : Bool → Option (List ℕ) → List ℕ → List ℕ → List ℕ → Bool
+fails is_judged wish answer tables elsewhere =
+    nat_lt 0 (length answer) && (not (meets is_judged wish answer tables) || ((nat_lt 0 (length tables) && not (allows_stale wish))
+    || nat_lt 0 (length elsewhere)))
 
 -- a line passes where it has a wish and an answer, and doesn't fail
-abbrev pub passes : Bool → Option (List ℕ) → List ℕ → List ℕ → Bool
-passes is_judged wish answer tables =
-    nat_lt 0 (length answer) && (is_some wish && not (fails is_judged wish answer tables))
+abbrev pub passes : Bool → Option (List ℕ) → List ℕ → List ℕ → List ℕ → Bool
+passes is_judged wish answer tables elsewhere =
+    nat_lt 0 (length answer) && (is_some wish && not (fails is_judged wish answer tables elsewhere))
 
 -- the wish that isn't met
 abbrev pub wish_text : Bool → Option (List ℕ) → List ℕ → List ℕ → List ℕ
@@ -39,15 +47,18 @@ wish_text is_judged (Some wish) answer tables =
 abbrev pub tables_text : List ℕ → List ℕ
 tables_text tables = if nat_lt 0 (length tables) then codes ", stale: " ++ escaped tables else []
 
+abbrev pub elsewhere_text : List ℕ → List ℕ
+elsewhere_text elsewhere = if nat_lt 0 (length elsewhere) then codes ", unsettled: " ++ escaped elsewhere else []
+
 -- a line as it is told
 abbrev pub title : List ℕ → List ℕ
 title line = escaped (before_comment line)
 
 -- what is said of a line that fails; the slip is why it is bad, and empty where it isn't
-unfoldable pub message : Bool → List ℕ → List ℕ → List ℕ → List ℕ → List ℕ
-message is_judged line answer slip tables =
+unfoldable pub message : Bool → List ℕ → List ℕ → List ℕ → List ℕ → List ℕ → List ℕ
+message is_judged line answer slip tables elsewhere =
     title line ++ codes " -> " ++ escaped answer ++ slip_text slip ++ wish_text is_judged (wanted line) answer tables
-    ++ tables_text tables
+    ++ tables_text tables ++ elsewhere_text elsewhere
 
 -- what would go unnoticed: a wish on a line that has no answer, and a comment that looks like a wish and is none
 abbrev pub remark_by : Option (List ℕ) → List ℕ → List ℕ → List ℕ

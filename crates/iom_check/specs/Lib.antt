@@ -3,6 +3,7 @@ pub mod Judging
 pub mod Reporting
 pub mod Scoring
 pub mod Looking
+pub mod Owing
 pub mod Checking
 pub mod Scores
 pub mod Drives

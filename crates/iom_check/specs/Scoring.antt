@@ -54,11 +54,11 @@ noted s line text =
     else record { said = note_told s.rules.style s.name line text; after = s }
 
 -- a line of this number, its answer, and why it is bad
-abbrev pub judged : Score → ℕ → List ℕ → List ℕ → List ℕ → List ℕ → Told
-judged s number line answer slip tables =
-    if fails s.rules.fails_if_stale (wanted line) answer tables
-    then failed s number (title line) (message s.rules.fails_if_stale line answer slip tables)
-    else if passes s.rules.fails_if_stale (wanted line) answer tables then passed s number (title line) else quiet s
+abbrev pub judged : Score → ℕ → List ℕ → List ℕ → List ℕ → List ℕ → List ℕ → Told
+judged s number line answer slip tables elsewhere =
+    if fails s.rules.fails_if_stale (wanted line) answer tables elsewhere
+    then failed s number (title line) (message s.rules.fails_if_stale line answer slip tables elsewhere)
+    else if passes s.rules.fails_if_stale (wanted line) answer tables elsewhere then passed s number (title line) else quiet s
 
 abbrev pub noted_at : Score → ℕ → List ℕ → Told
 noted_at s number text = if nat_lt 0 (length text) then noted s number text else quiet s

@@ -2,6 +2,7 @@
 
 ghost use Rattle.std.specs.Prelude.{◌≡◌, false, IfOk};
 ghost use Rattle.iom_reader.specs.Watching.{read_failed, write_failed};
+ghost use Rattle.iom_debug.specs.Settling.{is_lost_in};
 ghost use Rattle.iom_check.specs.Checking.{IsChecked};
 ghost use Rattle.iom_check.specs.Drives.{checked_by};
 
@@ -10,6 +11,7 @@ use crate::pages::ReportPage;
 use crate::rules::{Rules, Tally};
 use crate::scoring::Scoring;
 use iom_debug::{Debugger, first_bytes, write_told};
+use iom_owed::Owed;
 use iom_reader::{Answerer, RunFault, WatchedReader, WatchedWriter, answer_all};
 use iom_tool::Reply;
 use std::io::{Read, Write};
@@ -27,7 +29,8 @@ pub struct Checking<'a> {
 impl<'a> Checking<'a> {
     ghost use Rattle.std.specs.Prelude.{◌≡◌};
     ghost use Rattle.std.specs.Option.{option_map};
-    ghost use Rattle.iom_check.specs.Judging.{tables_told};
+    ghost use Rattle.iom_debug.specs.Settling.{is_lost_in, unsettled_in};
+    ghost use Rattle.iom_check.specs.Judging.{elsewhere_told, tables_told};
     ghost use Rattle.iom_check.specs.Scores.{begun, score_of};
 
     /// A check of what this debugger drives, by these rules, of no line yet. `name` is the script's file, if it has one, and `points` the
@@ -66,6 +69,24 @@ impl<'a> Checking<'a> {
         self.scoring.tally
     }
 
+    /// Whether memory was refused for what is told of settledness: then it isn't known whether later accesses are settled.
+    pub fn is_lost(&self) -> bool
+        ensures { result ≡ is_lost_in self.now.debugger.reasons.now.settling }
+    {
+        self.debugger.is_lost()
+    }
+
+    // Where the last line's last access that wasn't settled may be led, where that is told.
+    fn elsewhere(&self) -> Reply
+        ensures { result.items ≡ elsewhere_told self.now.scoring.rules.fails_if_unsettled (unsettled_in self.now.debugger.reasons.now.settling) }
+    {
+        if self.scoring.rules.fails_if_unsettled {
+            self.debugger.unsettled_told()
+        } else {
+            Reply::new()
+        }
+    }
+
     // What the tables said of the last line's last access that was stale, where that is told.
     fn tables(&self) -> Reply
         ensures { result.items ≡ tables_told self.now.scoring.rules.fails_if_stale self.now.debugger.reasons.now.stale }
@@ -101,6 +122,7 @@ impl Checking<'_> {
         let answer = self.debugger.line(self.number, line);
         let looks = self.scoring.rules.looks_at_fences && self.debugger.has_fence();
         let tables = self.tables();
+        let elsewhere = self.elsewhere();
         self.scoring.page.clear();
         self.scoring.judge(
             self.number,
@@ -108,6 +130,7 @@ impl Checking<'_> {
             answer.as_slice(),
             slip.as_slice(),
             tables.as_slice(),
+            elsewhere.as_slice(),
         );
         self.scoring.remark(self.number, line, answer.as_slice());
         looks
@@ -216,6 +239,95 @@ impl Checking<'_> {
     }
 }
 
+impl Checking<'_> {
+    ghost use Rattle.std.specs.Prelude.{◌≡◌, false, OnOk};
+    ghost use Rattle.std.specs.Io.KnownBytes.{Appends};
+    ghost use Rattle.iom_reader.specs.Running.{is_write};
+    ghost use Rattle.iom_reader.specs.Watching.{write_failed};
+    ghost use Rattle.iom_debug.specs.Settling.{is_lost_in};
+    ghost use Rattle.iom_check.specs.Checking.{TellsOwed};
+    ghost use Rattle.iom_check.specs.Drives.{checked_by};
+    ghost use Rattle.iom_check.specs.Owing.{all_owed, owed_at, owed_if};
+    ghost use Rattle.iom_check.specs.Scores.{score_of};
+
+    // Tells of a request that is owed.
+    fn tell_one<W: Write>(
+        &mut self,
+        owed: &Owed,
+        writer: &mut WatchedWriter<'_, W>,
+    ) -> Result<(), RunFault>
+        requires { write_failed writer.old ≡ false }
+        ensures ok { OnOk result (Appends (W.contents writer.old.inner.now) (W.contents writer.new.inner.now)
+            (owed_at (score_of self.old.scoring) self.old.number owed.now).said) }
+        ensures score { score_of self.new.scoring ≡ (owed_at (score_of self.old.scoring) self.old.number owed.now).after }
+        ensures told { write_failed writer.new ≡ is_write result }
+        ensures same_writer { writer.new.inner.ghost_name ≡ writer.old.inner.ghost_name }
+        ensures number { self.new.number ≡ self.old.number }
+        ensures debugger { self.new.debugger ≡ self.old.debugger }
+    {
+        self.scoring.page.clear();
+        self.scoring.owe(self.number, owed);
+        write_told(writer, self.scoring.page.as_slice())
+    }
+
+    // Tells of requests that are owed.
+    fn tell_all<W: Write>(
+        &mut self,
+        owed: &[Owed],
+        writer: &mut WatchedWriter<'_, W>,
+    ) -> Result<(), RunFault>
+        requires { write_failed writer.old ≡ false }
+        ensures ok { OnOk result (Appends (W.contents writer.old.inner.now) (W.contents writer.new.inner.now)
+            (all_owed self.old.number (score_of self.old.scoring) owed.now).said) }
+        ensures score { OnOk result (score_of self.new.scoring ≡ (all_owed self.old.number (score_of self.old.scoring) owed.now).after) }
+        ensures told { OnOk result (write_failed writer.new ≡ false) }
+        ensures same_writer { writer.new.inner.ghost_name ≡ writer.old.inner.ghost_name }
+        ensures number { self.new.number ≡ self.old.number }
+        ensures debugger { self.new.debugger ≡ self.old.debugger }
+    {
+        for each in owed {
+            self.tell_one(each, writer)?;
+        }
+        Ok(())
+    }
+
+    // The same, where the rules say so.
+    fn tell_if<W: Write>(
+        &mut self,
+        owed: &[Owed],
+        writer: &mut WatchedWriter<'_, W>,
+    ) -> Result<(), RunFault>
+        requires { write_failed writer.old ≡ false }
+        ensures ok { OnOk result (Appends (W.contents writer.old.inner.now) (W.contents writer.new.inner.now)
+            (owed_if self.old.number (score_of self.old.scoring) owed.now).said) }
+        ensures score { OnOk result (score_of self.new.scoring ≡ (owed_if self.old.number (score_of self.old.scoring) owed.now).after) }
+        ensures told { OnOk result (write_failed writer.new ≡ false) }
+        ensures same_writer { writer.new.inner.ghost_name ≡ writer.old.inner.ghost_name }
+        ensures number { self.new.number ≡ self.old.number }
+        ensures debugger { self.new.debugger ≡ self.old.debugger }
+    {
+        if self.scoring.rules.fails_if_unsettled {
+            self.tell_all(owed, writer)?;
+        }
+        Ok(())
+    }
+
+    // Tells of what is owed, where that is told.
+    fn tell_owed<W: Write>(&mut self, writer: &mut WatchedWriter<'_, W>) -> Result<(), RunFault>
+        requires { write_failed writer.old ≡ false }
+        ensures told { OnOk result (TellsOwed (checked_by self.old) (is_lost_in self.new.debugger.reasons.now.settling)
+            (W.contents writer.old.inner.now) (W.contents writer.new.inner.now) (score_of self.new.scoring)) }
+        ensures can_write { OnOk result (write_failed writer.new ≡ false) }
+        ensures same_writer { writer.new.inner.ghost_name ≡ writer.old.inner.ghost_name }
+        ensures number { self.new.number ≡ self.old.number }
+    {
+        if let Some(owed) = self.debugger.owed() {
+            self.tell_if(&owed, writer)?;
+        }
+        Ok(())
+    }
+}
+
 impl Answerer for Checking<'_> {
     ghost use Rattle.iom_debug.specs.Desks.{names_of};
     ghost use Rattle.iom_check.specs.Checking.{by_check};
@@ -251,10 +363,12 @@ pub fn check<R: Read, W: Write>(
     requires can_write { write_failed writer.old ≡ false }
     ensures checked { IfOk result (λ tally. IsChecked (checked_by checking.old)
         (R.remaining reader.old.inner.now) (R.remaining reader.new.inner.now)
-        (W.contents writer.old.inner.now) (W.contents writer.new.inner.now) tally) }
+        (W.contents writer.old.inner.now) (W.contents writer.new.inner.now)
+        (is_lost_in checking.new.debugger.reasons.now.settling) tally) }
 {
     answer_all(checking, reader, writer)?;
     checking.look_at_caches(writer)?;
+    checking.tell_owed(writer)?;
     checking.scoring.page.clear();
     checking.scoring.end(checking.number);
     write_told(writer, checking.scoring.page.as_slice())?;

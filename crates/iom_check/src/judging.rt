@@ -3,7 +3,7 @@
 ghost use Rattle.std.specs.Prelude.{◌≡◌, ◌+◌, ◌++◌, ◌≤◌, length, codes, IfSome};
 ghost use Rattle.std.specs.Option.{option_map};
 ghost use Rattle.iom_debug.specs.Telling.{escaped};
-ghost use Rattle.iom_check.specs.Judging.{allows_stale, fails, meets, message, passes, remark, remark_by, tables_text, title, wish_text};
+ghost use Rattle.iom_check.specs.Judging.{allows_stale, elsewhere_text, fails, meets, message, passes, remark, remark_by, tables_text, title, wish_text};
 
 use crate::wanting::{answer_of, has_arrow, wants_stale, wish_of};
 use iom_debug::{OutputPage, before_comment, put, put_escaped, put_slip};
@@ -30,19 +30,33 @@ fn allows_stale(wish: Option<&[u8]>) -> bool
     }
 }
 
-/// Whether a line with this wish fails. `tables` is empty where no stale access is to be told.
-pub fn fails(is_judged: bool, wish: Option<&[u8]>, answer: &[u8], tables: &[u8]) -> bool
-    ensures { result ≡ fails is_judged (option_map (λ wish. wish.now) wish.entry) answer.now tables.now }
+/// Whether a line with this wish fails. `tables` is empty where no stale access is to be told, and `elsewhere` where none that isn't settled.
+pub fn fails(
+    is_judged: bool,
+    wish: Option<&[u8]>,
+    answer: &[u8],
+    tables: &[u8],
+    elsewhere: &[u8],
+) -> bool
+    ensures { result ≡ fails is_judged (option_map (λ wish. wish.now) wish.entry) answer.now tables.now elsewhere.now }
 {
     !answer.is_empty()
-        && (!meets(is_judged, wish, answer, tables) || (!tables.is_empty() && !allows_stale(wish)))
+        && (!meets(is_judged, wish, answer, tables)
+            || (!tables.is_empty() && !allows_stale(wish))
+            || !elsewhere.is_empty())
 }
 
 /// Whether it passes.
-pub fn passes(is_judged: bool, wish: Option<&[u8]>, answer: &[u8], tables: &[u8]) -> bool
-    ensures { result ≡ passes is_judged (option_map (λ wish. wish.now) wish.entry) answer.now tables.now }
+pub fn passes(
+    is_judged: bool,
+    wish: Option<&[u8]>,
+    answer: &[u8],
+    tables: &[u8],
+    elsewhere: &[u8],
+) -> bool
+    ensures { result ≡ passes is_judged (option_map (λ wish. wish.now) wish.entry) answer.now tables.now elsewhere.now }
 {
-    !answer.is_empty() && wish.is_some() && !fails(is_judged, wish, answer, tables)
+    !answer.is_empty() && wish.is_some() && !fails(is_judged, wish, answer, tables, elsewhere)
 }
 
 // Puts the wish that isn't met.
@@ -100,6 +114,29 @@ fn put_stale(out: &mut OutputPage, tables: &[u8])
     put_escaped(out, tables);
 }
 
+// Puts where an access may still be led that isn't settled.
+fn put_elsewhere(out: &mut OutputPage, elsewhere: &[u8])
+    requires short { length elsewhere.now ≤ 320 }
+    requires room { length out.old.items ≤ 8192 }
+    ensures text { out.new.items ≡ out.old.items ++ elsewhere_text elsewhere.now }
+    ensures room { length out.new.items ≤ length out.old.items + 1308 }
+{
+    if !elsewhere.is_empty() {
+        put_unsettled(out, elsewhere);
+    }
+}
+
+// Puts it where there is one.
+fn put_unsettled(out: &mut OutputPage, elsewhere: &[u8])
+    requires short { length elsewhere.now ≤ 320 }
+    requires room { length out.old.items ≤ 8192 }
+    ensures text { out.new.items ≡ out.old.items ++ (codes ", unsettled: " ++ escaped elsewhere.now) }
+    ensures room { length out.new.items ≤ length out.old.items + 1308 }
+{
+    put(out, b", unsettled: ");
+    put_escaped(out, elsewhere);
+}
+
 /// A line as it is told: without its comment, escaped.
 pub fn title(line: &[u8]) -> OutputPage
     requires { length line.now ≤ 513 }
@@ -119,13 +156,15 @@ pub fn message(
     answer: &[u8],
     slip: &[u8],
     tables: &[u8],
+    elsewhere: &[u8],
 ) -> OutputPage
     requires line { length line.now ≤ 513 }
     requires answer { length answer.now ≤ 320 }
     requires slip { length slip.now ≤ 320 }
     requires tables { length tables.now ≤ 320 }
-    ensures text { result.items ≡ message is_judged line.now answer.now slip.now tables.now }
-    ensures room { length result.items ≤ 8192 }
+    requires elsewhere { length elsewhere.now ≤ 320 }
+    ensures text { result.items ≡ message is_judged line.now answer.now slip.now tables.now elsewhere.now }
+    ensures room { length result.items ≤ 8400 }
 {
     let mut out = title(line);
     put(&mut out, b" -> ");
@@ -133,6 +172,7 @@ pub fn message(
     put_slip(&mut out, slip);
     put_wish(&mut out, is_judged, wish_of(line), answer, tables);
     put_tables(&mut out, tables);
+    put_elsewhere(&mut out, elsewhere);
     out
 }
 

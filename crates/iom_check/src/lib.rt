@@ -8,6 +8,7 @@ pub use wanting::{answer_of, has_arrow, wants_stale, wish_of};
 mod checking;
 mod judging;
 mod looking;
+mod owing;
 mod pages;
 mod points;
 mod rules;

@@ -17,6 +17,9 @@ pub struct Rules {
     /// Whether, where that fails, each place of both caches that is stale fails behind a line that carried out an IOFENCE.C too, and not only
     /// at the script's end.
     pub looks_at_fences: bool,
+    /// Whether a line fails also where an access of it isn't settled, and at the script's end each request that is owed: that was made, and isn't
+    /// settled then. It is told only where the debugger's account follows what an IOMMU may hold.
+    pub fails_if_unsettled: bool,
     /// Whether what is noted fails: a comment that looks like a wish and is none, a wish on a line without an answer, a script without a
     /// wish.
     pub is_strict: bool,

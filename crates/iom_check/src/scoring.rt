@@ -2,10 +2,13 @@
 
 use crate::judging::{fails, message, passes, remark, title};
 use crate::looking::{Cache, is_current, place_message, place_title};
+use crate::owing::owed_message;
 use crate::pages::ReportPage;
 use crate::points::{Point, push_failure, push_note, push_pass, push_tally};
 use crate::rules::{Rules, Tally};
 use crate::wanting::wish_of;
+use iom_debug::{elsewhere_line, request_line};
+use iom_owed::Owed;
 
 /// What was found in a script up to a line, and what is told of that line.
 #[derive(Drop)]
@@ -31,6 +34,7 @@ impl<'a> Scoring<'a> {
     ghost use Rattle.iom_check.specs.Scoring.{ended, failed, judged, more, noted, noted_at, passed, remarked, with_wish};
     ghost use Rattle.iom_check.specs.Checking.{closing};
     ghost use Rattle.iom_check.specs.Looking.{looked_at};
+    ghost use Rattle.iom_check.specs.Owing.{owed_at};
 
     // The next test point, at a line.
     fn point(&self, line: u64) -> Point<'a>
@@ -62,7 +66,7 @@ impl<'a> Scoring<'a> {
     // A test point of a line fails.
     fn fail(&mut self, line: u64, title: &[u8], message: &[u8])
         requires title { length title.now ≤ 2052 }
-        requires message { length message.now ≤ 8192 }
+        requires message { length message.now ≤ 8400 }
         requires room { length self.old.page.items + 6 * length title.now + 6 * length message.now + 25300 ≤ 131072 }
         ensures text { self.new.page.items ≡ self.old.page.items ++ (failed (score_of self.old) line title.now message.now).said }
         ensures room { length self.new.page.items ≤ length self.old.page.items + 6 * length title.now + 6 * length message.now + 25300 }
@@ -90,25 +94,34 @@ impl<'a> Scoring<'a> {
     }
 
     /// Judges a line of this number by its answer. `slip` is why it is bad, and empty if it isn't; `tables` is empty where no stale access is
-    /// to be told.
-    pub fn judge(&mut self, number: u64, line: &[u8], answer: &[u8], slip: &[u8], tables: &[u8])
+    /// to be told, and `elsewhere` where none that isn't settled.
+    pub fn judge(
+        &mut self,
+        number: u64,
+        line: &[u8],
+        answer: &[u8],
+        slip: &[u8],
+        tables: &[u8],
+        elsewhere: &[u8],
+    )
         requires line { length line.now ≤ 513 }
         requires answer { length answer.now ≤ 320 }
         requires slip { length slip.now ≤ 320 }
         requires tables { length tables.now ≤ 320 }
+        requires elsewhere { length elsewhere.now ≤ 320 }
         requires empty { length self.old.page.items ≡ 0 }
-        ensures text { self.new.page.items ≡ self.old.page.items ++ (judged (score_of self.old) number line.now answer.now slip.now tables.now).said }
+        ensures text { self.new.page.items ≡ self.old.page.items ++ (judged (score_of self.old) number line.now answer.now slip.now tables.now elsewhere.now).said }
         ensures room { length self.new.page.items ≤ 90000 }
-        ensures score { score_of self.new ≡ (judged (score_of self.old) number line.now answer.now slip.now tables.now).after }
+        ensures score { score_of self.new ≡ (judged (score_of self.old) number line.now answer.now slip.now tables.now elsewhere.now).after }
     {
         let is_judged = self.rules.fails_if_stale;
-        if fails(is_judged, wish_of(line), answer, tables) {
+        if fails(is_judged, wish_of(line), answer, tables, elsewhere) {
             self.fail(
                 number,
                 title(line).as_slice(),
-                message(is_judged, line, answer, slip, tables).as_slice(),
+                message(is_judged, line, answer, slip, tables, elsewhere).as_slice(),
             );
-        } else if passes(is_judged, wish_of(line), answer, tables) {
+        } else if passes(is_judged, wish_of(line), answer, tables, elsewhere) {
             self.pass(number, title(line).as_slice());
         }
     }
@@ -141,6 +154,21 @@ impl<'a> Scoring<'a> {
                 place_message(title.as_slice(), answer).as_slice(),
             );
         }
+    }
+
+    /// Tells of a request that is owed, at a line of this number.
+    pub fn owe(&mut self, number: u64, owed: &Owed)
+        requires { length self.old.page.items ≡ 0 }
+        ensures text { self.new.page.items ≡ self.old.page.items ++ (owed_at (score_of self.old) number owed.now).said }
+        ensures score { score_of self.new ≡ (owed_at (score_of self.old) number owed.now).after }
+    {
+        let title = request_line(&owed.made.request);
+        let elsewhere = elsewhere_line(&owed.unsettled, owed.made.request.iova);
+        self.fail(
+            number,
+            title.as_slice(),
+            owed_message(title.as_slice(), owed.made.number, elsewhere.as_slice()).as_slice(),
+        );
     }
 
     // Notes at a script's end, of so many lines, that none had a wish.

@@ -87,6 +87,11 @@ tables in memory: an invalidation is missing. '# => ANSWER stale' wants this.
 At the end of the script each entry of the caches fails that no longer matches;
 with --at-fences also behind each line that carried out an IOFENCE.C.
 
+With --settled, a line also fails if an access of a device is not settled: some
+IOMMU that the standard allows could lead it elsewhere than the tables in
+memory do, whatever its caches keep and forget. At the end of the script each
+earlier access fails that would not be settled now.
+
 A comment that looks like an expected answer and is none, an expected answer
 on a line that has no answer, and a script that expects none are noted, and
 fail with --strict.

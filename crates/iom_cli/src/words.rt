@@ -14,6 +14,9 @@ const STALE: &str = "stale";
 /// The option of `check` by which the caches are looked at behind each fence too.
 const AT_FENCES: &str = "at-fences";
 
+/// The option of `check` by which accesses fail that aren't settled.
+const SETTLED: &str = "settled";
+
 /// The option of `check` by which what is noted fails.
 const STRICT: &str = "strict";
 
@@ -79,6 +82,8 @@ pub struct Checks<'a> {
     pub fails_if_stale: bool,
     /// Whether each stale place of the caches fails behind each fence too, and not only at the end of a script.
     pub looks_at_fences: bool,
+    /// Whether a line fails also where an access of it isn't settled, and at the end of a script each request that is owed.
+    pub fails_if_unsettled: bool,
     /// Whether what is only noted fails.
     pub is_strict: bool,
     /// Whether standard output is TAP, and not text.
@@ -190,6 +195,11 @@ const VERBS: [Verb; 7] = [
             Operand {
                 name: AT_FENCES,
                 help: "As --stale, and look at the caches behind each fence too",
+                need: Need::Flag,
+            },
+            Operand {
+                name: SETTLED,
+                help: "Also report each access that caches could lead elsewhere",
                 need: Need::Flag,
             },
             Operand {
@@ -403,6 +413,7 @@ fn judging<'a>(alloc: Global, found: &ArgMatches<'a>) -> Result<Task<'a>, WordsF
     Ok(Task::Check(Checks {
         fails_if_stale: looks_at_fences || found.get_flag(STALE),
         looks_at_fences,
+        fails_if_unsettled: found.get_flag(SETTLED),
         is_strict: found.get_flag(STRICT),
         is_tap: found.get_flag(TAP),
         junit: found.get_str(JUNIT),

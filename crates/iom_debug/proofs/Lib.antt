@@ -7,4 +7,5 @@ pub mod Remaining
 pub mod Summing
 pub mod Telling
 pub mod Alike
+pub mod Settled
 pub mod Slips

@@ -43,7 +43,7 @@ one_along here step number after took =
 
 pub one_kept : (here : Desk) (step : Step) (number : ℕ) (after : Desk) → Took here step number after →
     KeepsLastStale here.reasons here.state (step ∷ []) number after.reasons
-one_kept here step number after took = (after.reasons, one_along here step number after took, took.stale, took.fence, refl)
+one_kept here step number after took = (after.reasons, one_along here step number after took, took.stale, took.fence, took.settled, refl)
 
 -- where the next step isn't done
 pub record Stopped (start : Desk) (number : ℕ) (all : List Step) (here : Desk) (step : Step) (count : ℕ) (after : Desk) : Type 0 where
@@ -68,6 +68,7 @@ module _ (start : Desk) (number : ℕ) (all : List Step) (here : Desk) (step : S
               one_along here step number after took,
               took.stale,
               took.fence,
+              took.settled,
               subst (λ (s : State). KeepsLastStale after.reasons s (taken s rest) number last) took.state more,
             ));
         along = λ last end more. left.along last end

@@ -1,5 +1,6 @@
 pub mod Ways
 pub mod Stale
+pub mod Settling
 pub mod Fences
 pub mod Reasons
 pub mod Taking

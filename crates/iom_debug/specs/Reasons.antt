@@ -17,6 +17,7 @@ use Rattle.iom_account.specs.Following.{HistoryView, numbers_of}
 use Rattle.iom_account.specs.declared.history.FilledBy.{FilledBy}
 use Rattle.iom_account.specs.declared.reason.Reason.{Reason}
 use Rattle.iom_debug.specs.Fences.{is_fence}
+use Rattle.iom_debug.specs.Settling.{SettlesIf, SettlingView, line_begun}
 use Rattle.iom_debug.specs.Stale.{stale_access}
 use Rattle.iom_debug.specs.Ways.{address_of, address_text}
 use Rattle.iom_debug.specs.declared.stale.StaleAccess.{StaleAccess}
@@ -44,12 +45,13 @@ tables_of reason = reason.stale
 abbrev pub newest_tables : AccountView → Option Way
 newest_tables account = option_and_then tables_of (last_item account.reasons)
 
--- what is kept beside a platform: the account of its steps, the last access of a line that was stale, and whether a step of the line carried
--- out a fence
+-- what is kept beside a platform: the account of its steps, the last access of a line that was stale, whether a step of the line carried out
+-- a fence, and, where settledness is told, what any IOMMU may hold
 pub record LineAccountView : Type 0 where
   pub account : AccountView
   pub stale : Option StaleAccess
   pub has_fence : Bool
+  pub settling : Option SettlingView
 
 -- It went along with these steps of one number.
 abbrev pub GoesAlong : LineAccountView → State → List Step → ℕ → LineAccountView → State → Type 0
@@ -57,7 +59,7 @@ GoesAlong before state more number after left = AccountGoesAlong before.account 
 
 -- a line begins
 abbrev pub begun : LineAccountView → LineAccountView
-begun reasons = record reasons { stale = None; has_fence = false }
+begun reasons = record reasons { stale = None; has_fence = false; settling = option_map line_begun reasons.settling }
 
 -- the last of two, where there is one
 abbrev pub later : Option StaleAccess → Option StaleAccess → Option StaleAccess
@@ -77,12 +79,17 @@ KeepsStale before state step after = after.stale ≡ later before.stale (stale_i
 abbrev pub KeepsFence : LineAccountView → State → Step → LineAccountView → Type 0
 KeepsFence before state step after = after.has_fence ≡ (before.has_fence || is_fence (executed state step))
 
--- the same of steps of one number, one after the other: of the last of their accesses that was stale, and of fences
+-- and its access, where that wasn't settled
+abbrev pub KeepsSettling : LineAccountView → State → Step → ℕ → LineAccountView → Type 0
+KeepsSettling before state step number after = SettlesIf before.settling state step number after.settling
+
+-- the same of steps of one number, one after the other: of the last of their accesses that was stale or wasn't settled, and of fences
 abbrev pub KeepsLastStale : LineAccountView → State → List Step → ℕ → LineAccountView → Type 0
 KeepsLastStale before state [] number after = after ≡ before
 KeepsLastStale before state (step ∷ steps) number after =
     (mid : LineAccountView) × GoesAlong before state (step ∷ []) number mid (next state step).state × KeepsStale before state step mid
-    × KeepsFence before state step mid × KeepsLastStale mid (next state step).state steps number after
+    × KeepsFence before state step mid × KeepsSettling before state step number mid
+    × KeepsLastStale mid (next state step).state steps number after
 
 -- the numbers of the steps that filled what an access used
 abbrev pub origin_text : NumberedWarrant → List ℕ

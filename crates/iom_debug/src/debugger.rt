@@ -4,10 +4,12 @@ ghost use Rattle.iom_tool.specs.Parsed.{line_as};
 
 use crate::answers::answer_to;
 use crate::reasons::LineAccount;
+use crate::settling::unsettled_access_line;
 use crate::stale::stale_access_line;
 use crate::text::reply_of;
 use iom_core::Platform;
 use iom_names::{Names, is_let, is_line};
+use iom_owed::Owed;
 use iom_slips::slip;
 use iom_tool::{Console, Line, Reply, Trace};
 
@@ -32,7 +34,7 @@ pub struct Debugger<'a> {
 }
 
 impl<'a> Debugger<'a> {
-    ghost use Rattle.std.specs.Prelude.{◌≡◌, ◌≢◌, []};
+    ghost use Rattle.std.specs.Prelude.{◌≡◌, ◌≢◌, [], false, None, IfNone, IfSome};
     ghost use Rattle.std.specs.Option.{unwrap_or};
     ghost use Rattle.iom_core.specs.Run.{end_of};
     ghost use Rattle.iom_tool.specs.Console.{console, trace_after};
@@ -43,6 +45,7 @@ impl<'a> Debugger<'a> {
     ghost use Rattle.iom_debug.specs.Fences.{have_fence};
     ghost use Rattle.iom_debug.specs.Output.{IsAsRun, debug_reply, debug_steps, debug_steps_of};
     ghost use Rattle.iom_debug.specs.Reasons.{GoesAlong, KeepsLastStale, begun};
+    ghost use Rattle.iom_debug.specs.Settling.{AreOwedBy, HoldsOn, is_lost_in, unsettled_in, unsettled_told};
     ghost use Rattle.iom_debug.specs.Stale.{stale_told};
     ghost use Rattle.iom_debug.specs.Telling.{slip_with};
 
@@ -82,13 +85,16 @@ impl<'a> Debugger<'a> {
             IsAsRun (console self.old.platform.now self.old.trace.now) text.now
             result.items (console self.new.platform.now self.new.trace.now) }
 
-        // What is told goes along with the steps, and of this line its last access that was stale is kept, and whether it carried out a fence.
+        // What is told goes along with the steps, and of this line its last access that was stale is kept, and whether it carried out a fence;
+        // where settledness is told, its last access that wasn't settled, by what any IOMMU may hold.
         ensures along { GoesAlong self.old.reasons.now self.old.platform.now (debug_steps_of self.old.names self.old.platform.now text.now) number
             self.new.reasons.now self.new.platform.now }
         ensures stale { KeepsLastStale (begun self.old.reasons.now) self.old.platform.now
             (debug_steps_of self.old.names self.old.platform.now text.now) number self.new.reasons.now }
         ensures fence { self.new.reasons.now.has_fence
             ≡ have_fence self.old.platform.now (debug_steps_of self.old.names self.old.platform.now text.now) }
+        ensures holds { HoldsOn self.old.reasons.now.settling self.old.platform.now
+            (debug_steps_of self.old.names self.old.platform.now text.now) number self.new.reasons.now.settling }
         ensures names { self.new.names ≡ names_after self.old.names text.now }
         ensures same { names_of self.new ≡ names_of self.old }
     {
@@ -149,6 +155,33 @@ impl<'a> Debugger<'a> {
         ensures { result ≡ self.now.reasons.now.has_fence }
     {
         self.reasons.has_fence()
+    }
+
+    /// The last access of the last line that wasn't settled, as `read 0x40202abc may still go to addr=0x80011abc, the tables now say denied
+    /// 13`. Empty if each was, or settledness isn't told.
+    pub fn unsettled_told(&self) -> Reply
+        ensures { result.items ≡ unsettled_told (unsettled_in self.now.reasons.now.settling) }
+    {
+        match self.reasons.unsettled() {
+            Some(access) => unsettled_access_line(&access),
+            None => Reply::new(),
+        }
+    }
+
+    /// Whether settledness is told, and memory was refused for that. Then nothing is known of later accesses.
+    pub fn is_lost(&self) -> bool
+        ensures { result ≡ is_lost_in self.now.reasons.now.settling }
+    {
+        self.reasons.is_lost()
+    }
+
+    /// What is owed now: the requests that the steps made and that aren't settled, where settledness is told; each with the number of the newest
+    /// line that made it. None where it isn't told, and where memory is refused, which `is_lost` tells then.
+    pub fn owed(&mut self) -> Option<Vec<Owed>>
+        ensures owed { IfSome result (λ owed. AreOwedBy self.old.reasons.now.settling self.old.platform.now owed.items) }
+        ensures none { IfNone result (is_lost_in self.new.reasons.now.settling ≡ false → self.old.reasons.now.settling ≡ None) }
+    {
+        self.reasons.owed(self.platform)
     }
 
     /// The last access of the last line that was stale, as `read 0x40202abc served by line 12, the tables now say denied 13`. Empty if none

@@ -10,6 +10,7 @@ pub use page::{OutputPage, first_bytes, put, put_escaped, put_number, put_slip, 
 pub use parts::{is_told_alike, put_cached, put_part};
 pub use reason::origin_line;
 pub use reasons::LineAccount;
+pub use settling::{UnsettledAccess, elsewhere_line, request_line, unsettled_access_line};
 pub use stale::{Led, StaleAccess, led_by, stale_access_line};
 pub use standings::{context_standing_line, page_standing_line};
 pub use summary::{AccessOutcome, Summary, and_one};
@@ -25,6 +26,7 @@ mod page;
 mod parts;
 mod reason;
 mod reasons;
+mod settling;
 mod stale;
 mod standings;
 mod summary;

@@ -3,18 +3,24 @@
 ghost use Rattle.std.specs.Prelude.{◌≡◌};
 
 use crate::fences::is_fence;
+use crate::settling::{Settling, UnsettledAccess, settle};
 use crate::stale::{StaleAccess, kept_by, led_by};
 use iom_account::{Account, History, NumberedWarrant, Reason};
 use iom_core::{Answer, Platform, Step, Way};
+use iom_owed::Owed;
+use std::alloc::Global;
 use std::marker::Model;
 
 /// The reasons of the last 32 steps of a script, beside a platform and a trace: the warrant of each access, and the way that the tables gave
-/// it then if it was stale; the last access of a line that was stale, and whether a step of the line carried out an IOFENCE.C.
+/// it then if it was stale; the last access of a line that was stale, and whether a step of the line carried out an IOFENCE.C; and, where that
+/// is wanted, the last access of a line that wasn't settled.
 #[derive(Drop)]
 pub struct LineAccount {
     account: Account,
     stale: Option<StaleAccess>,
     has_fence: bool,
+    // where settledness is told
+    settling: Option<Settling>,
 }
 
 impl Model for LineAccount {
@@ -22,16 +28,18 @@ impl Model for LineAccount {
 
     ghost Value = { LineAccountView };
 
-    ghost view = { λ r. record { account = r.account; stale = r.stale; has_fence = r.has_fence } };
+    ghost view = { λ r. record { account = r.account; stale = r.stale; has_fence = r.has_fence; settling = r.settling } };
 }
 
 impl LineAccount {
-    ghost use Rattle.std.specs.Prelude.{◌≡◌, [], ◌∷◌, false, None, slice_get};
+    ghost use Rattle.std.specs.Prelude.{◌≡◌, [], ◌∷◌, false, None, IfNone, IfSome, IsSomeAnd, slice_get};
     ghost use Rattle.std.specs.Option.{option_copied};
     ghost use Rattle.circular_buffer.specs.Buffer.{last_item};
     ghost use Rattle.iom_account.specs.Account.{Accounts};
     ghost use Rattle.iom_core.specs.Table.{next};
-    ghost use Rattle.iom_debug.specs.Reasons.{GoesAlong, KeepsFence, KeepsStale, begun, newest_origin, newest_tables, stale_in};
+    ghost use Rattle.iom_owed.specs.Holdings.{Keeps};
+    ghost use Rattle.iom_debug.specs.Reasons.{GoesAlong, KeepsFence, KeepsSettling, KeepsStale, begun, newest_origin, newest_tables, stale_in};
+    ghost use Rattle.iom_debug.specs.Settling.{AreOwedBy, is_lost_in, unsettled_in};
 
     /// Empty reasons of this platform. No call of theirs takes memory. Origins are known only if both caches are empty now.
     pub fn new(platform: &Platform) -> LineAccount
@@ -39,11 +47,32 @@ impl LineAccount {
         ensures empty { result.account.reasons ≡ [] }
         ensures current { result.stale ≡ None }
         ensures fence { result.has_fence ≡ false }
+        ensures settling { result.settling ≡ None }
     {
         LineAccount {
             account: Account::new(platform),
             stale: None,
             has_fence: false,
+            settling: None,
+        }
+    }
+
+    /// As `new`, of a platform that has taken no step yet, and it tells of each access whether it was settled. For that each step may take
+    /// memory; where that is refused, no more is known of accesses, which `is_lost` tells.
+    pub fn with_holdings(platform: &Platform, alloc: Global) -> LineAccount
+        ensures begins { Accounts result.account platform.now platform.now [] [] }
+        ensures empty { result.account.reasons ≡ [] }
+        ensures current { result.stale ≡ None }
+        ensures fence { result.has_fence ≡ false }
+        ensures keeps { IsSomeAnd result.settling (λ settling. Keeps settling.holdings platform.now platform.now []) }
+        ensures settled { IsSomeAnd result.settling (λ settling. settling.unsettled ≡ None) }
+        ensures known { IsSomeAnd result.settling (λ settling. settling.is_lost ≡ false) }
+    {
+        LineAccount {
+            account: Account::new(platform),
+            stale: None,
+            has_fence: false,
+            settling: Some(Settling::new(alloc)),
         }
     }
 
@@ -97,16 +126,47 @@ impl LineAccount {
         self.has_fence
     }
 
-    /// A line begins: none of its accesses was stale yet, and it carried out no IOFENCE.C.
+    /// The last access of the last line that wasn't settled; None if each was, or settledness isn't told.
+    pub fn unsettled(&self) -> Option<UnsettledAccess>
+        ensures { result ≡ unsettled_in self.now.settling }
+    {
+        self.settling.as_ref()?.unsettled()
+    }
+
+    /// Whether settledness is told, and memory was refused for that. Then nothing is known of later accesses.
+    pub fn is_lost(&self) -> bool
+        ensures { result ≡ is_lost_in self.now.settling }
+    {
+        match &self.settling {
+            Some(settling) => settling.is_lost(),
+            None => false,
+        }
+    }
+
+    /// What is owed now: the requests that the steps made and that aren't settled on this platform, where settledness is told; each with the
+    /// number of the newest step that made it. None where it isn't told, and where memory is refused, which `is_lost` tells then.
+    pub fn owed(&mut self, platform: &Platform) -> Option<Vec<Owed>>
+        ensures owed { IfSome result (λ owed. AreOwedBy self.old.settling platform.now owed.items) }
+        ensures known { IfSome result (λ owed. is_lost_in self.old.settling ≡ false) }
+        ensures kept { IfSome result (λ owed. self.new ≡ self.old) }
+        ensures none { IfNone result (is_lost_in self.new.settling ≡ false → self.old.settling ≡ None) }
+    {
+        self.settling.as_mut()?.owed(platform)
+    }
+
+    /// A line begins: none of its accesses was stale or unsettled yet, and it carried out no IOFENCE.C.
     pub fn begin_line(&mut self)
         ensures { self.new ≡ begun self.old }
     {
         self.stale = None;
         self.has_fence = false;
+        if let Some(settling) = &mut self.settling {
+            settling.begin_line();
+        }
     }
 
     /// Carries out the next step on the platform, a step of the line of this number, writes its answer to `answer`, and keeps its reason.
-    /// If there are 32 the oldest leaves. Answers the step's access if that was stale.
+    /// If there are 32 the oldest leaves. Answers the step's access if that was stale. Where settledness is told, it is judged just before.
     #[tactic(auto, using(crate::proofs::Newest::tables_newest))]
     pub fn step(
         &mut self,
@@ -120,10 +180,12 @@ impl LineAccount {
         ensures access { result ≡ stale_in self.old platform.old step.now self.new }
         ensures stale { KeepsStale self.old platform.old step.now self.new }
         ensures fence { KeepsFence self.old platform.old step.now self.new }
+        ensures settled { KeepsSettling self.old platform.old step.now number self.new }
         ensures along { GoesAlong self.old platform.old (step.now ∷ []) number self.new platform.new }
     {
         let led = led_by(self.account.history(), platform, step);
         let is_fence = is_fence(platform, step);
+        settle(&mut self.settling, platform, step, number);
         self.account.step(platform, step, number, answer);
         self.has_fence = self.has_fence || is_fence;
         let stale = kept_by(led, self.newest_origin(), self.newest_tables());

@@ -156,8 +156,8 @@ fn context_changes(before: &Context, now: &Context) -> Reply
     out
 }
 
-// The operands that changed of the contexts that two ways go by.
-fn way_changes(used: &Way, tables: &Way) -> Reply
+/// The operands that changed of the contexts that two ways go by.
+pub fn way_changes(used: &Way, tables: &Way) -> Reply
     ensures text { result.items ≡ way_changes used.now tables.now }
     ensures short { length result.items ≤ 218 }
 {
@@ -225,7 +225,7 @@ fn push_headed(out: &mut Reply, head: &[u8], text: &[u8])
 
 // Appends what changed of the contexts of two ways that lead alike, or else of their pages.
 fn push_changes(out: &mut Reply, context: &[u8], page: &[u8])
-    requires room { length out.old.items ≤ 65 }
+    requires room { length out.old.items ≤ 70 }
     requires context { length context.now ≤ 218 }
     requires page { length page.now ≤ 218 }
     ensures { out.new.items ≡ out.old.items ++ alike_text context.now page.now }
@@ -239,7 +239,7 @@ fn push_changes(out: &mut Reply, context: &[u8], page: &[u8])
 
 // Appends what differs of two ways that lead alike, with what changed of their contexts.
 fn push_alike(out: &mut Reply, changes: &[u8], used: &Way, tables: &Way)
-    requires room { length out.old.items ≤ 65 }
+    requires room { length out.old.items ≤ 70 }
     requires short { length changes.now ≤ 218 }
     ensures { out.new.items ≡ out.old.items ++ alike_text changes.now (page_changes used.now tables.now) }
 {
@@ -248,7 +248,7 @@ fn push_alike(out: &mut Reply, changes: &[u8], used: &Way, tables: &Way)
 
 // Appends what differs of two ways to the same address, or that are denied for the same cause.
 fn push_same(out: &mut Reply, changes: &[u8], used: &Way, tables: &Way)
-    requires room { length out.old.items ≤ 65 }
+    requires room { length out.old.items ≤ 70 }
     requires short { length changes.now ≤ 218 }
     requires same { changes.now ≡ way_changes used.now tables.now }
     ensures { out.new.items ≡ out.old.items ++ same_text used.now tables.now }
@@ -263,9 +263,9 @@ fn push_same(out: &mut Reply, changes: &[u8], used: &Way, tables: &Way)
     }
 }
 
-// Appends how the tables differ from the way that an access was led.
-fn push_difference(out: &mut Reply, changes: &[u8], used: &Way, tables: &Way, iova: u64)
-    requires room { length out.old.items ≤ 65 }
+/// Appends how the tables differ from the way that an access was led.
+pub fn push_difference(out: &mut Reply, changes: &[u8], used: &Way, tables: &Way, iova: u64)
+    requires room { length out.old.items ≤ 70 }
     requires short { length changes.now ≤ 218 }
     requires same { changes.now ≡ way_changes used.now tables.now }
     ensures { out.new.items ≡ out.old.items ++ difference_text used.now tables.now iova }
@@ -294,8 +294,8 @@ fn served_line(stale: &StaleAccess, changes: &[u8]) -> u64
     }
 }
 
-// Appends the kind of an access.
-fn push_kind(out: &mut Reply, kind: Kind)
+/// Appends the kind of an access.
+pub fn push_kind(out: &mut Reply, kind: Kind)
     requires { length out.old.items ≡ 0 }
     ensures text { out.new.items ≡ out.old.items ++ kind_text kind }
     ensures room { length out.new.items ≤ 6 }

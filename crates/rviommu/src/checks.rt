@@ -65,12 +65,17 @@ fn judge<'f, R: Read, W: Write>(
     let mut writer = WatchedWriter::new(&mut placing);
     let mut platform = iom_asm::load(alloc, image)?;
     let mut trace = Trace::new(alloc)?;
-    let mut reasons = LineAccount::new(&platform);
+    let mut reasons = if rules.fails_if_unsettled {
+        LineAccount::with_holdings(&platform, alloc)
+    } else {
+        LineAccount::new(&platform)
+    };
     let debugger = Debugger::new(&mut platform, &mut trace, &mut reasons);
     let mut checking = Checking::new(debugger, rules, name, points);
     let ended = check(&mut checking, &mut reader, &mut writer);
-    let tally = checking.tally();
+    let (tally, is_lost) = (checking.tally(), checking.is_lost());
     let fault = match ended {
+        Ok(_) if is_lost => Some(Fault::OutOfMemory),
         Ok(_) => None,
         Err(_) if placing.is_short() => Some(Fault::OutOfMemory),
         Err(fault) => Some(Fault::of_run(fault, script.take_fault())),
@@ -212,7 +217,7 @@ impl<R: Clock + Eprint + Files, W: Write> Round<'_, R, W> {
             &mut cases,
         )?;
         // A vector can't be written where memory is refused.
-        if let Some(Fault::Run(RunFault::Write)) = judged.fault {
+        if let Some(Fault::Run(RunFault::Write) | Fault::OutOfMemory) = judged.fault {
             return Err(Fault::OutOfMemory);
         }
         self.add_suite(name, judged.tally, cases, fault)
@@ -370,6 +375,7 @@ fn rules_of(checks: &Checks<'_>) -> Rules {
     Rules {
         fails_if_stale: checks.fails_if_stale,
         looks_at_fences: checks.looks_at_fences,
+        fails_if_unsettled: checks.fails_if_unsettled,
         is_strict: checks.is_strict,
         style: if checks.is_tap {
             Style::Tap

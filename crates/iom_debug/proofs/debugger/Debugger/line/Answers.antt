@@ -1,5 +1,6 @@
 use Rattle.iom_debug.proofs.Fenced.{noted}
 use Rattle.iom_debug.proofs.Lines.{as_run}
+use Rattle.iom_debug.proofs.Settled.{held}
 use Rattle.iom_debug.proofs.debugger.Debugger.line.Goals as goal
 
 pub returns-clause-along : goal.returns-clause-along
@@ -10,6 +11,9 @@ returns-clause-stale c = rw c.read-line.ensures.line at c.carry_out.ensures.stal
 
 pub returns-clause-fence : goal.returns-clause-fence
 returns-clause-fence c = noted c.args.self.now.reasons.now _ _ _ _ (rw c.read-line.ensures.line at c.carry_out.ensures.stale)
+
+pub returns-clause-holds : goal.returns-clause-holds
+returns-clause-holds c = held c.args.self.now.reasons.now _ _ _ _ (rw c.read-line.ensures.line at c.carry_out.ensures.stale)
 
 pub returns-clause-as_run : goal.returns-clause-as_run
 returns-clause-as_run c = λ other.

@@ -1,0 +1,113 @@
+-- Whether the accesses of lines are settled, that is led by each IOMMU where the tables lead them, whatever it keeps and forgets: RISC-V IOMMU
+-- Architecture 1.0, "Caching in-memory data structures".
+use Rattle.std.specs.Prelude.{ℕ, ◌≡◌, ◌++◌, Bool, true, false, List, [], ◌∷◌, codes, Option, Some, None, Result, Ok, Err}
+use Rattle.std.specs.Option.{option_map}
+use Rattle.iom_text.specs.Texts.{hexadecimal, numeral}
+use Rattle.iom_core.specs.Run.{end_of}
+use Rattle.iom_core.specs.State.{State}
+use Rattle.iom_core.specs.Table.{next, request_of_step}
+use Rattle.iom_core.specs.declared.access.Denial.{Denial}
+use Rattle.iom_core.specs.declared.access.Request.{Request}
+use Rattle.iom_core.specs.declared.step.Step.{Step}
+use Rattle.iom_owed.specs.Holdings.{HoldingsView, Keeps}
+use Rattle.iom_owed.specs.Newest.{steps_of}
+use Rattle.iom_owed.specs.Settled.{AreOwed, IsJudged}
+use Rattle.iom_owed.specs.declared.settling.Owed.{Owed}
+use Rattle.iom_owed.specs.declared.settling.Unsettled.{Unsettled}
+use Rattle.iom_debug.specs.Stale.{difference_text, kind_text}
+use Rattle.iom_debug.specs.Ways.{address_of, address_text}
+use Rattle.iom_debug.specs.declared.settling.UnsettledAccess.{UnsettledAccess}
+
+-- what any IOMMU may hold, the last access of a line that wasn't settled, and whether memory was refused: then no more is known
+pub record SettlingView : Type 0 where
+  pub holdings : HoldingsView
+  pub unsettled : Option UnsettledAccess
+  pub is_lost : Bool
+
+-- a line begins
+abbrev pub line_begun : SettlingView → SettlingView
+line_begun settling = record settling { unsettled = None }
+
+-- the last of two, where there is one
+abbrev pub later_unsettled : Option UnsettledAccess → Option UnsettledAccess → Option UnsettledAccess
+later_unsettled found None = found
+later_unsettled found (Some access) = Some access
+
+abbrev pub access_of : Request → Unsettled → UnsettledAccess
+access_of request unsettled = record { request = request; unsettled = unsettled }
+
+-- This is found of what a step asks after these steps: None where it is settled, or asks nothing.
+abbrev pub IsFound : State → List Step → Option Request → Option UnsettledAccess → Type 0
+IsFound start steps None found = found ≡ None
+IsFound start steps (Some request) found =
+    (judged : Option Unsettled) × (found ≡ option_map (access_of request) judged) × IsJudged start steps request judged
+
+-- A step leaves this: its access, where that wasn't settled just before. Unless memory was refused, that is judged by what any IOMMU may
+-- hold, which is kept.
+pub record Settles (before : SettlingView) (state : State) (step : Step) (number : ℕ) (after : SettlingView) : Type 0 where
+  pub found : Option UnsettledAccess
+  pub told : after.unsettled ≡ later_unsettled before.unsettled found
+  pub lost : before.is_lost ≡ true → after.is_lost ≡ true
+  pub judged : after.is_lost ≡ false → (start : State) (taken : List (Step × ℕ)) → Keeps before.holdings state start taken →
+      IsFound start (steps_of taken) (request_of_step state step) found
+  pub keeps : after.is_lost ≡ false → (start : State) (taken : List (Step × ℕ)) → Keeps before.holdings state start taken →
+      Keeps after.holdings (next state step).state start ((step, number) ∷ taken)
+
+-- the same where settledness is told, and else nothing
+abbrev pub SettlesIf : Option SettlingView → State → Step → ℕ → Option SettlingView → Type 0
+SettlesIf None state step number after = after ≡ None
+SettlesIf (Some before) state step number after = (some : SettlingView) × (after ≡ Some some) × Settles before state step number some
+
+-- steps of a line of this number behind some others, the newest first
+abbrev pub with_line : ℕ → List Step → List (Step × ℕ) → List (Step × ℕ)
+with_line number [] taken = taken
+with_line number (step ∷ steps) taken = with_line number steps ((step, number) ∷ taken)
+
+-- what is held goes along with steps of a line of this number, one after the other, unless memory was refused
+abbrev pub HoldsOn : Option SettlingView → State → List Step → ℕ → Option SettlingView → Type 0
+HoldsOn None state steps number after = after ≡ None
+HoldsOn (Some before) state steps number after =
+    (some : SettlingView) × (after ≡ Some some) × (before.is_lost ≡ true → some.is_lost ≡ true)
+    × (some.is_lost ≡ false → (start : State) (taken : List (Step × ℕ)) → Keeps before.holdings state start taken →
+    Keeps some.holdings (end_of state steps) start (with_line number steps taken))
+
+-- the last access of a line that wasn't settled
+abbrev pub unsettled_in : Option SettlingView → Option UnsettledAccess
+unsettled_in None = None
+unsettled_in (Some settling) = settling.unsettled
+
+-- whether memory was refused, where settledness is told
+abbrev pub is_lost_in : Option SettlingView → Bool
+is_lost_in None = false
+is_lost_in (Some settling) = settling.is_lost
+
+-- this is owed, where settledness is told: by each start, and steps from it that what is held goes along with
+abbrev pub AreOwedBy : Option SettlingView → State → List Owed → Type 0
+AreOwedBy None state owed = owed ≡ []
+AreOwedBy (Some settling) state owed =
+    (start : State) (taken : List (Step × ℕ)) → Keeps settling.holdings state start taken →
+    AreOwed start (steps_of taken) settling.holdings.requests owed
+
+abbrev pub may_text : Result ℕ Denial → List ℕ
+may_text (Ok addr) = codes " may still go to "
+may_text (Err denial) = codes " may still be "
+
+-- as `may still go to addr=0x80011abc, the tables now say denied 13`
+unfoldable pub elsewhere_text : Unsettled → ℕ → List ℕ
+elsewhere_text found iova =
+    may_text (address_of found.elsewhere iova) ++ address_text (address_of found.elsewhere iova)
+    ++ difference_text found.elsewhere found.tables iova
+
+-- as `read 0x40202000 of device 5`
+unfoldable pub request_text : Request → List ℕ
+request_text request = kind_text request.kind ++ hexadecimal request.iova ++ codes " of device " ++ numeral 10 request.did
+
+-- as `read 0x40202abc may still go to addr=0x80011abc, the tables now say denied 13`
+unfoldable pub unsettled_text : UnsettledAccess → List ℕ
+unsettled_text access =
+    kind_text access.request.kind ++ hexadecimal access.request.iova ++ elsewhere_text access.unsettled access.request.iova
+
+-- nothing where each access was settled
+abbrev pub unsettled_told : Option UnsettledAccess → List ℕ
+unsettled_told None = []
+unsettled_told (Some access) = unsettled_text access

@@ -1,0 +1,241 @@
+//! Whether the accesses of lines are settled.
+
+ghost use Rattle.std.specs.Prelude.{◌≡◌, ◌+◌, ◌++◌, ◌≤◌, ℕ, List, ◌∷◌, true, length, IfNone, IfOk, IfSome, OnOk};
+ghost use Rattle.std.specs.Option.{option_map};
+ghost use Rattle.iom_core.specs.State.{State};
+ghost use Rattle.iom_core.specs.Table.{next, request_of_step};
+ghost use Rattle.iom_owed.specs.Holdings.{Keeps};
+ghost use Rattle.iom_owed.specs.Newest.{steps_of};
+ghost use Rattle.iom_debug.specs.Settling.{IsFound, access_of, Settles, SettlesIf, elsewhere_text, line_begun, may_text, request_text, unsettled_text};
+
+use crate::stale::{push_difference, push_kind, way_changes};
+use crate::text::{push_hexadecimal, push_number, push_text};
+use crate::ways::{address_of, push_address};
+use iom_core::{Denial, Platform, Request, Step};
+use iom_owed::{Holdings, Owed, Unsettled};
+use iom_tool::Reply;
+use std::alloc::{AllocError, Global};
+use std::marker::Model;
+
+/// An access that wasn't settled: an IOMMU may lead it elsewhere than the tables do.
+#[derive(Clone, Copy)]
+pub struct UnsettledAccess {
+    /// Its request.
+    pub request: Request,
+    /// Where it may be led.
+    pub unsettled: Unsettled,
+}
+
+/// What any IOMMU may hold beside a platform, and the last access of a line that wasn't settled.
+#[derive(Drop)]
+pub struct Settling {
+    holdings: Holdings,
+    unsettled: Option<UnsettledAccess>,
+    // whether memory was refused
+    is_lost: bool,
+}
+
+impl Model for Settling {
+    ghost use Rattle.iom_debug.specs.Settling.{SettlingView};
+
+    ghost Value = { SettlingView };
+
+    ghost view = { λ s. record { holdings = s.holdings; unsettled = s.unsettled; is_lost = s.is_lost } };
+}
+
+// The access of a request that isn't settled.
+fn access_of(request: Request, found: Option<Unsettled>) -> Option<UnsettledAccess>
+    ensures { result ≡ option_map (access_of request) found }
+{
+    let unsettled = found?;
+    Some(UnsettledAccess { request, unsettled })
+}
+
+impl Settling {
+    ghost use Rattle.std.specs.Prelude.{[], false, None};
+    ghost use Rattle.iom_core.specs.declared.step.Step.{Step};
+    ghost use Rattle.iom_owed.specs.Settled.{AreOwed};
+
+    /// Nothing held yet: for a platform that has taken no step. It takes no memory.
+    pub fn new(alloc: Global) -> Settling
+        ensures keeps { (start : State) → Keeps result.holdings start start [] }
+        ensures current { result.unsettled ≡ None }
+        ensures known { result.is_lost ≡ false }
+    {
+        Settling {
+            holdings: Holdings::new(alloc),
+            unsettled: None,
+            is_lost: false,
+        }
+    }
+
+    /// The last access of the last line that wasn't settled; None if each was.
+    pub fn unsettled(&self) -> Option<UnsettledAccess>
+        ensures { result ≡ self.now.unsettled }
+    {
+        self.unsettled
+    }
+
+    /// Whether memory was refused. Then nothing is known of later accesses.
+    pub fn is_lost(&self) -> bool
+        ensures { result ≡ self.now.is_lost }
+    {
+        self.is_lost
+    }
+
+    /// A line begins: none of its accesses was unsettled yet.
+    pub fn begin_line(&mut self)
+        ensures { self.new ≡ line_begun self.old }
+    {
+        self.unsettled = None;
+    }
+
+    // The access that a step is about to make, if it isn't settled. The fault is a refused allocation.
+    fn find(&self, platform: &Platform, step: &Step) -> Result<Option<UnsettledAccess>, AllocError>
+        ensures { (start : State) (taken : List (Step × ℕ)) → Keeps self.now.holdings platform.now start taken →
+            IfOk result (IsFound start (steps_of taken) (request_of_step platform.now step.now)) }
+    {
+        let Some(request) = platform.request_of(step) else {
+            return Ok(None);
+        };
+        let found = self
+            .holdings
+            .unsettled(&platform.board, &platform.ram, &request)?;
+        Ok(access_of(request, found))
+    }
+
+    // Follows a step that the platform takes next, a step of the line of this number. Answers its access if that isn't settled. The fault is
+    // a refused allocation.
+    fn follow(
+        &mut self,
+        platform: &Platform,
+        step: &Step,
+        number: u64,
+    ) -> Result<Option<UnsettledAccess>, AllocError>
+        ensures judged { (start : State) (taken : List (Step × ℕ)) → Keeps self.old.holdings platform.now start taken →
+            IfOk result (IsFound start (steps_of taken) (request_of_step platform.now step.now)) }
+        ensures keeps { (start : State) (taken : List (Step × ℕ)) → Keeps self.old.holdings platform.now start taken →
+            OnOk result (Keeps self.new.holdings (next platform.now step.now).state start ((step.now, number) ∷ taken)) }
+        ensures unsettled { self.new.unsettled ≡ self.old.unsettled }
+        ensures lost { self.new.is_lost ≡ self.old.is_lost }
+    {
+        let found = self.find(platform, step)?;
+        self.holdings
+            .follow(&platform.board, &platform.ram, step, number)?;
+        Ok(found)
+    }
+
+    // The same where memory was not refused before: notes what is found, or that memory is refused.
+    fn take_known(&mut self, platform: &Platform, step: &Step, number: u64)
+        requires { self.old.is_lost ≡ false }
+        ensures { Settles self.old platform.now step.now number self.new }
+    {
+        match self.follow(platform, step, number) {
+            Ok(None) => {}
+            Ok(found) => self.unsettled = found,
+            Err(_) => self.is_lost = true,
+        }
+    }
+
+    /// What is owed now: the requests that were made and aren't settled on this platform. None where memory is refused, now or before, which
+    /// `is_lost` tells then.
+    pub fn owed(&mut self, platform: &Platform) -> Option<Vec<Owed>>
+        ensures owed { (start : State) (taken : List (Step × ℕ)) → Keeps self.old.holdings platform.now start taken →
+            IfSome result (λ owed. AreOwed start (steps_of taken) self.old.holdings.requests owed.items) }
+        ensures kept { IfSome result (λ owed. self.new ≡ self.old) }
+        ensures known { IfSome result (λ owed. self.old.is_lost ≡ false) }
+        ensures lost { IfNone result (self.new.is_lost ≡ true) }
+    {
+        if self.is_lost {
+            return None;
+        }
+        let owed = self.holdings.owed(&platform.board, &platform.ram).ok();
+        self.is_lost = owed.is_none();
+        owed
+    }
+
+    /// Follows a step that the platform takes next, a step of the line of this number, and judges its access. Where memory is refused, no
+    /// more is known of this step and of later ones, which `is_lost` tells.
+    pub fn take(&mut self, platform: &Platform, step: &Step, number: u64)
+        ensures { Settles self.old platform.now step.now number self.new }
+    {
+        if !self.is_lost {
+            self.take_known(platform, step, number);
+        }
+    }
+}
+
+/// Follows a step where settledness is told.
+pub fn settle(settling: &mut Option<Settling>, platform: &Platform, step: &Step, number: u64)
+    ensures { SettlesIf settling.old platform.now step.now number settling.new }
+{
+    if let Some(settling) = settling {
+        settling.take(platform, step, number);
+    }
+}
+
+// Appends that an access may still be led somewhere.
+fn push_may(out: &mut Reply, address: Result<u64, Denial>)
+    requires { length out.old.items ≤ 24 }
+    ensures text { out.new.items ≡ out.old.items ++ may_text address }
+    ensures room { length out.new.items ≤ 41 }
+{
+    match address {
+        Ok(_) => push_text(out, b" may still go to "),
+        Err(_) => push_text(out, b" may still be "),
+    }
+}
+
+// Appends where a request may still be led.
+#[tactic(auto, unfolding(crate::specs::Settling::elsewhere_text))]
+fn push_elsewhere(out: &mut Reply, unsettled: &Unsettled, iova: u64)
+    requires { length out.old.items ≤ 24 }
+    ensures { out.new.items ≡ out.old.items ++ elsewhere_text unsettled.now iova }
+{
+    let address = address_of(&unsettled.elsewhere, iova);
+    let changes = way_changes(&unsettled.elsewhere, &unsettled.tables);
+    push_may(out, address);
+    push_address(out, address);
+    push_difference(
+        out,
+        changes.as_slice(),
+        &unsettled.elsewhere,
+        &unsettled.tables,
+        iova,
+    );
+}
+
+/// Where a request for this IOVA may still be led, at most 320 bytes, as ` may still go to addr=0x80011abc, the tables now say denied 13`.
+pub fn elsewhere_line(unsettled: &Unsettled, iova: u64) -> Reply
+    ensures { result.items ≡ elsewhere_text unsettled.now iova }
+{
+    let mut out = Reply::new();
+    push_elsewhere(&mut out, unsettled, iova);
+    out
+}
+
+/// A request with its device, at most 64 bytes, as `read 0x40202000 of device 5`.
+#[tactic(auto, unfolding(crate::specs::Settling::request_text))]
+pub fn request_line(request: &Request) -> Reply
+    ensures text { result.items ≡ request_text request.now }
+    ensures short { length result.items ≤ 64 }
+{
+    let mut out = Reply::new();
+    push_kind(&mut out, request.kind);
+    push_hexadecimal(&mut out, request.iova);
+    push_number(&mut out, b" of device ", u64::from(request.did));
+    out
+}
+
+/// The text of an access that wasn't settled, at most 320 bytes, as
+/// `read 0x40202abc may still go to addr=0x80011abc, the tables now say denied 13`.
+#[tactic(auto, unfolding(crate::specs::Settling::unsettled_text))]
+pub fn unsettled_access_line(access: &UnsettledAccess) -> Reply
+    ensures { result.items ≡ unsettled_text access.now }
+{
+    let mut out = Reply::new();
+    push_kind(&mut out, access.request.kind);
+    push_hexadecimal(&mut out, access.request.iova);
+    push_elsewhere(&mut out, &access.unsettled, access.request.iova);
+    out
+}
