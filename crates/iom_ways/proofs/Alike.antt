@@ -1,5 +1,5 @@
 -- Which uses make no difference: by what they give the walk, the entry of the first stage, the end of the second or the context.
-use Rattle.std.proofs.Common.{◌≡◌, ◌∙◌, ◌++◌, ℕ, Bool, true, false, List, [], ◌∷◌, map, Option, Some, None, Result, Ok, Err, if◌then◌else◌, refl, sym, ap, subst}
+use Rattle.std.proofs.Common.{◌≡◌, ◌++◌, ℕ, Bool, true, false, List, [], ◌∷◌, map, Option, Some, None, Result, Ok, Err, if◌then◌else◌, refl, ap, subst}
 use Rattle.std.specs.Prelude.{flat_map}
 use Rattle.iom_bits.specs.declared.causes.Cause.{Cause}
 use Rattle.iom_bits.specs.declared.causes.Kind.TheVariants.{Read}
@@ -21,14 +21,13 @@ use Rattle.iom_nested.specs.Stages.{second_shape_of}
 use Rattle.iom_nested.specs.declared.translation.Hit.{Hit}
 use Rattle.iom_nested.specs.declared.translation.Reached.{Reached}
 use Rattle.iom_cache.specs.Keys.{gscid_of}
-use Rattle.iom_choices.specs.Trees.{Ends, ways_over}
+use Rattle.iom_choices.specs.Trees.{Ends}
 use Rattle.iom_core.specs.Access.{plain, request_key, way_to}
 use Rattle.iom_core.specs.State.{Machine}
 use Rattle.iom_core.specs.declared.access.Request.{Request}
-use Rattle.iom_core.specs.declared.way.Way.{Way as Led}
 use Rattle.iom_core.specs.declared.way.Way.TheVariants.{Context as ByContext, Denied}
 use Rattle.iom_every.specs.Stages.{second_outcome, second_reads}
-use Rattle.iom_every.specs.Trees.{Walk, entered_tree, entries_of, first_found, first_read, got_by, located_tree, looking, page_tree, path_tree, reads_behind, staged}
+use Rattle.iom_every.specs.Trees.{Walk, entered_tree, entries_of, first_found, got_by, located_tree, looking, page_tree, path_tree, reads_behind, staged}
 use Rattle.iom_every.specs.Uses.{ForPage, page_use}
 use Rattle.iom_every.specs.Walks.{global_by, held_in, is_global_use, with_used}
 use Rattle.iom_every.specs.Ways.{directory_reads, located_by, whole_of}
@@ -38,7 +37,7 @@ use Rattle.iom_every.specs.declared.entry.Held.{Held}
 use Rattle.iom_every.specs.declared.uses.Entered.{Entered}
 use Rattle.iom_every.specs.declared.walks.MetBy.{MetBy}
 use Rattle.iom_ways.specs.Branches.{behind_access, behind_entry, behind_met, behind_path, behind_reached}
-use Rattle.iom_ways.proofs.Beside.{AreBeside, Beside, Widens, ends_beside, looked_beside, page_beside, path_beside, reached_beside, widens_left, widens_own, widens_right}
+use Rattle.iom_ways.proofs.Beside.{AreBeside, Widens, ends_beside, looked_beside, page_beside, path_beside, reached_beside, widens_left, widens_own, widens_right}
 
 -- The second stage ends as by memory.
 access_ends : (held : List Entry) (memory : Memory) (features : Features) (request : Request) (context : Context) (located first second wider : List Entry) (found : Result Hit Failure) →

@@ -1,47 +1,37 @@
 -- A use of an entry that makes no difference: the walk goes on as by memory, and only reads other entries.
-use Rattle.std.proofs.Common.{◌≡◌, ◌∙◌, ◌⊎◌, ◌++◌, ℕ, zero, suc, Bool, true, false, List, [], ◌∷◌, map, Option, Some, None, Result, Ok, Err, if◌then◌else◌, refl, sym, ap, subst, inl, inr}
-use Rattle.std.specs.Prelude.{flat_map}
+use Rattle.std.proofs.Common.{◌≡◌, ◌⊎◌, ◌++◌, ℕ, zero, suc, Bool, true, false, List, [], ◌∷◌, Option, Some, None, Result, Ok, Err, if◌then◌else◌, sym, subst, inl, inr}
 use Rattle.std.proofs.lemmas.List.{map-append}
 use Rattle.std.proofs.lemmas.Grind.{flat_map-append}
-use Rattle.iom_bits.specs.declared.causes.Cause.{Cause}
-use Rattle.iom_bits.specs.declared.causes.Kind.{Kind}
 use Rattle.iom_bits.specs.declared.causes.Kind.TheVariants.{Read}
 use Rattle.iom_bits.specs.declared.features.Features.{Features}
 use Rattle.iom_mem.specs.Memory.{Memory}
-use Rattle.iom_ddt.specs.Contexts.{is_bare}
 use Rattle.iom_ddt.specs.declared.context.Context.{Context}
 use Rattle.iom_walk.specs.Path.{entry_at, next_table, verdict_on}
 use Rattle.iom_walk.specs.Shape.{is_in_width, levels}
 use Rattle.iom_walk.specs.Verdict.{is_pointer}
-use Rattle.iom_walk.specs.declared.met.MetEntry.{MetEntry as Met}
-use Rattle.iom_walk.specs.declared.outcome.Outcome.{Outcome}
 use Rattle.iom_walk.specs.declared.outcome.Outcome.TheVariants as outcome
 use Rattle.iom_walk.specs.declared.shape.Format.{Format}
 use Rattle.iom_walk.specs.declared.shape.Shape.{Shape}
-use Rattle.iom_walk.specs.declared.source.Got.{Got}
 use Rattle.iom_nested.specs.Faults.{Failure}
 use Rattle.iom_nested.specs.Nested.{first_stage, hit_by, reached_by, second_stage, told_of}
 use Rattle.iom_nested.specs.Stages.{first_shape_of, format_of, ram_got, second_shape_of}
 use Rattle.iom_nested.specs.declared.translation.Hit.{Hit}
 use Rattle.iom_nested.specs.declared.translation.Reached.{Reached}
-use Rattle.iom_cache.specs.Keys.{gscid_of}
 use Rattle.iom_choices.specs.Systems.{ModelWalk, IsAmong}
-use Rattle.iom_choices.specs.Trees.{Ends, reads_in, ways_over}
+use Rattle.iom_choices.specs.Trees.{reads_in, ways_over}
 use Rattle.iom_choices.proofs.Lists.{among-left, among-right, among_either}
-use Rattle.iom_core.specs.Access.{request_key, way_to}
-use Rattle.iom_core.specs.State.{Machine}
+use Rattle.iom_core.specs.Access.{way_to}
 use Rattle.iom_core.specs.declared.access.Request.{Request}
 use Rattle.iom_core.specs.declared.way.Way.{Way as Led}
 use Rattle.iom_every.specs.Stages.{second_outcome, second_reads}
 use Rattle.iom_every.specs.Trees.{Walk, access_tree, first_found, first_read, first_tree, got_by, looking, looking_behind, met_tree, page_tree, path_tree, staged}
-use Rattle.iom_every.specs.Uses.{ForAccess, ForEntry, ForFirst, ForPage, Look, access_use, entry_use, first_use, page_use}
-use Rattle.iom_every.specs.Walks.{entry_of, held_in, is_global_use}
-use Rattle.iom_every.specs.Ways.{directory_reads, located_by, whole_of}
+use Rattle.iom_every.specs.Uses.{ForAccess, ForEntry, ForFirst, Look, access_use, entry_use, first_use}
+use Rattle.iom_every.specs.Walks.{entry_of}
+use Rattle.iom_every.specs.Ways.{whole_of}
 use Rattle.iom_every.specs.declared.entry.Entry.{Entry}
 use Rattle.iom_every.specs.declared.entry.Held.{Held}
-use Rattle.iom_every.specs.declared.uses.Entered.{Entered}
 use Rattle.iom_every.specs.declared.walks.MetBy.{MetBy}
-use Rattle.iom_ways.specs.Branches.{behind_access, behind_entry, behind_met, behind_path, behind_reached}
+use Rattle.iom_ways.specs.Branches.{behind_reached}
 use Rattle.iom_ways.specs.Ways.{AreAdded, Gathers, Has, leads}
 use Rattle.iom_ways.specs.declared.ways.Ways.{Ways}
 use Rattle.iom_ways.proofs.Gathering.{WayList, by_use, each_use, looked, own_ways}

@@ -1,7 +1,6 @@
 use Rattle.std.proofs.Common.{◌≡◌, ◌∙◌, List, ap, refl, sym}
 use Rattle.iom_core.specs.State.{State, state_on}
 use Rattle.iom_every.specs.Rows.{bare}
-use Rattle.iom_every.specs.declared.entry.Entry.{Entry}
 use Rattle.iom_owed.specs.Holdings.{entries_in}
 use Rattle.iom_owed.specs.declared.noting.Kept.{Kept}
 use Rattle.iom_owed.proofs.Followed.{gathered_led, gathered_reads}
