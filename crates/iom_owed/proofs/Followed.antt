@@ -4,23 +4,29 @@ use Rattle.std.specs.Option.{option_map}
 use Rattle.iom_choices.specs.Models.{end_of}
 use Rattle.iom_choices.specs.Settled.{IsRead}
 use Rattle.iom_choices.specs.Systems.{IsAmong}
+use Rattle.iom_choices.specs.Trees.{ways_over}
 use Rattle.iom_core.specs.State.{State}
 use Rattle.iom_core.specs.Table.{executed, next, request_of_step}
 use Rattle.iom_core.specs.declared.access.Request.{Request}
 use Rattle.iom_core.specs.declared.step.Step.{Step}
+use Rattle.iom_core.specs.declared.way.Way.{Way as Led}
 use Rattle.iom_every.specs.Drops.{drops_by}
 use Rattle.iom_every.specs.declared.entry.Entry.{Entry}
 use Rattle.iom_every.specs.Every.{May, iommu, platform}
 use Rattle.iom_every.specs.Rows.{bare}
+use Rattle.iom_every.specs.Trees.{tree_of}
 use Rattle.iom_every.proofs.Kept.{asks_bare, executes_bare}
+use Rattle.iom_ways.specs.Ways.{AreAdded, Gathers, leads}
+use Rattle.iom_ways.specs.declared.ways.Ways.{Ways}
 use Rattle.iom_queue.specs.declared.command.Command.{Command}
 use Rattle.iom_owed.specs.Holdings.{HoldingsView, Keeps, at_page, entries_in, entry_of, request_of, requests_in}
 use Rattle.iom_owed.specs.Newest.{HasNoneTwice, steps_of}
-use Rattle.iom_owed.specs.Notes.{Adds, Renews, kept_of, left_by, made_by, read_by, without_dropped}
+use Rattle.iom_owed.specs.Notes.{Adds, Renews, kept_of, left_by, made_by, made_of, read_by, without_dropped}
 use Rattle.iom_owed.specs.declared.noting.Kept.{Kept}
 use Rattle.iom_owed.specs.declared.noting.Made.{Made}
 use Rattle.iom_owed.proofs.Left.{entries_left, left_entries, left_kept, left_once}
-use Rattle.iom_owed.proofs.Lists.{IsFrom, among_of, from_among, one_of}
+use Rattle.iom_owed.proofs.Lists.{IsFrom, added_to_none, among_both, among_of, from_among, one_of}
+use Rattle.iom_owed.proofs.Places.{renews_same}
 use Rattle.iom_owed.proofs.Reading.{could_read, read_could}
 
 -- the entries that are put in are those that were read, each under the number
@@ -161,3 +167,42 @@ begun state = record {
   requests = λ made. (λ h. h, λ h. h);
   requests_once = tt;
 }
+
+-- entries that were gathered are those that could be read
+pub renews_gathered : (number : ℕ) (reads gathered : List Entry) (before after : List Kept) → AreAdded reads [] gathered →
+    Renews entry_of (map (kept_of number) gathered) before after → Renews entry_of (map (kept_of number) reads) before after
+renews_gathered number reads gathered before after added p =
+    let same : (entry : Entry) → IsAmong gathered entry ↔ IsAmong reads entry = added_to_none reads gathered added in
+    renews_same entry_of (map (kept_of number) gathered) (map (kept_of number) reads) before after (λ n. (
+      λ h. among_both (kept_of number) gathered reads (λ entry h. (same entry).0 h) n h,
+      λ h. among_both (kept_of number) reads gathered (λ entry h. (same entry).1 h) n h,
+    )) p
+
+-- what a request adds that is made
+pub adds : (state : State) (request : Option Request) (one page : Request) (number : ℕ) (self : HoldingsView) (gathered : List Entry) (entries entries_after : List Kept) (requests requests_after : List Made) →
+    request ≡ Some one → page ≡ at_page one → entries ≡ self.entries → requests ≡ self.requests →
+    AreAdded (read_by state (entries_in self.entries) (Some one)) [] gathered →
+    Renews entry_of (map (kept_of number) gathered) entries entries_after → Renews request_of (made_of number page ∷ []) requests requests_after →
+    Adds state request number self (record { entries = entries_after; requests = requests_after })
+adds state request one page number self gathered entries entries_after requests requests_after asked paged entries_are requests_are added kept made =
+    let after : HoldingsView = record { entries = entries_after; requests = requests_after } in
+    let there : Adds state (Some one) number self after = record {
+      entries = renews_gathered number (read_by state (entries_in self.entries) (Some one)) gathered self.entries entries_after added
+          (subst (λ (before : List Kept). Renews entry_of (map (kept_of number) gathered) before entries_after) entries_are kept);
+      requests = subst (λ (before : List Made). Renews request_of (made_of number (at_page one) ∷ []) before requests_after) requests_are
+          (subst (λ (page : Request). Renews request_of (made_of number page ∷ []) requests requests_after) paged made);
+    } in
+    subst (λ (request : Option Request). Adds state request number self after) (sym asked) there
+
+-- what is gathered of a request over these entries, where nothing was
+pub gathered_led : (held kept : List Entry) (state : State) (request : Request) (before after : Ways) → held ≡ kept → before.led.items ≡ [] →
+    Gathers (ways_over held (tree_of state request)) before after → AreAdded (leads (ways_over kept (tree_of state request))) [] after.led.items
+gathered_led held kept state request before after same none done =
+    subst (λ (entries : List Entry). AreAdded (leads (ways_over entries (tree_of state request))) [] after.led.items) same
+    (subst (λ (start : List Led). AreAdded (leads (ways_over held (tree_of state request))) start after.led.items) none done.led)
+
+pub gathered_reads : (held kept : List Entry) (state : State) (request : Request) (before after : Ways) → held ≡ kept → before.reads.items ≡ [] →
+    Gathers (ways_over held (tree_of state request)) before after → AreAdded (read_by state kept (Some request)) [] after.reads.items
+gathered_reads held kept state request before after same none done =
+    subst (λ (entries : List Entry). AreAdded (read_by state entries (Some request)) [] after.reads.items) same
+    (subst (λ (start : List Entry). AreAdded (read_by state held (Some request)) start after.reads.items) none done.reads)

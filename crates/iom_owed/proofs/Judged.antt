@@ -18,6 +18,7 @@ use Rattle.iom_every.specs.Rows.{bare}
 use Rattle.iom_every.specs.Trees.{tree_of}
 use Rattle.iom_every.specs.Ways.{way_of}
 use Rattle.iom_every.proofs.Caching.{by_tables_is}
+use Rattle.iom_ways.specs.Ways.{leads}
 use Rattle.iom_owed.specs.Holdings.{HoldingsView, Keeps, entries_in}
 use Rattle.iom_owed.specs.Newest.{steps_of}
 use Rattle.iom_owed.specs.Settled.{AreOwed, IsJudged, IsSettledNow, LeadsElsewhere}
@@ -26,9 +27,6 @@ use Rattle.iom_owed.specs.declared.settling.Owed.{Owed}
 use Rattle.iom_owed.specs.declared.settling.Unsettled.{Unsettled}
 use Rattle.iom_owed.proofs.Lists.{IsFrom, among_of, among_read, from_among}
 use Rattle.iom_owed.proofs.Reading.{HasSource, source_of, trees}
-
-abbrev pub leads : List (ModelWalk Entry Led) → List Led
-leads ways = map (λ (way : ModelWalk Entry Led). way.led) ways
 
 -- all ways lead where the tables lead
 pub settled_by : (held : HoldingsView) (state start : State) (taken : List (Step × ℕ)) (request : Request) (tables : Led) → Keeps held state start taken →

@@ -1,7 +1,8 @@
 -- Lists of things that are of something, of which none is there twice.
-use Rattle.std.proofs.Common.{◌≡◌, ◌∙◌, ◌<◌, ◌++◌, ℕ, zero, suc, List, [], ◌∷◌, get_or, length, map, arith, refl, sym, ap, subst, inl, inr}
+use Rattle.std.proofs.Common.{◌≡◌, ◌∙◌, ◌<◌, ◌++◌, ℕ, zero, suc, List, [], ◌∷◌, get_or, length, map, ◌↔◌, arith, refl, sym, ap, subst, inl, inr}
 use Rattle.iom_choices.specs.Systems.{IsAmong}
 use Rattle.iom_choices.proofs.Lists.{among_either}
+use Rattle.iom_ways.specs.Ways.{AreAdded}
 use Rattle.iom_owed.specs.Newest.{HasNoneTwice}
 
 pub among_of : {N X : Type 0} (of : N → X) (xs : List N) (n : N) → IsAmong xs n → IsAmong (map of xs) (of n)
@@ -50,3 +51,18 @@ pub among_read : {X : Type 0} (xs : List X) (i : ℕ) (x d : X) → i < length x
 among_read [] i x d inside is = absurd (omega arith)
 among_read (y ∷ xs) zero x d inside is = inl (sym is)
 among_read (y ∷ xs) (suc i) x d inside is = inr (among_read xs i x d (omega arith) is)
+
+-- what is added to nothing is all
+pub added_to_none : {X : Type 0} (news after : List X) → AreAdded news [] after → (x : X) → IsAmong after x ↔ IsAmong news x
+added_to_none news after added x = (
+  λ h. elim ((added x).0 h) [
+    | inl none ↦ absurd none
+    | inr new ↦ new
+  ],
+  λ h. (added x).1 (inr h),
+)
+
+-- things that are of the same
+pub among_both : {N X : Type 0} (of : N → X) (xs ys : List N) → ((n : N) → IsAmong xs n → IsAmong ys n) → (x : X) → IsAmong (map of xs) x → IsAmong (map of ys) x
+among_both {N} {X} of xs ys both x h =
+    let f : IsFrom of xs x = from_among of xs x h in subst (IsAmong (map of ys)) f.is (among_of of ys f.thing (both f.thing f.among))

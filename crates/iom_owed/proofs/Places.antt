@@ -1,12 +1,12 @@
 -- What is left of a list when new things are put into it.
-use Rattle.std.proofs.Common.{◌≡◌, ◌∙◌, ◌⊎◌, ◌++◌, ℕ, zero, suc, List, [], ◌∷◌, map, Some, refl, sym, ap, subst, inl, inr}
+use Rattle.std.proofs.Common.{◌≡◌, ◌∙◌, ◌⊎◌, ◌++◌, ℕ, zero, suc, List, [], ◌∷◌, map, Some, ◌↔◌, refl, sym, ap, subst, inl, inr}
 use Rattle.std.specs.Prelude.{Bool, true, IsOk, Result, if◌then◌else◌, is_ok, slice_get, slice_set}
 use Rattle.std.proofs.lemmas.List.{map-append}
 use Rattle.iom_choices.specs.Systems.{IsAmong}
 use Rattle.iom_choices.proofs.Lists.{among-left, among-right, among_at, among_either}
 use Rattle.iom_owed.specs.Newest.{HasNoneTwice}
 use Rattle.iom_owed.specs.Notes.{Renews}
-use Rattle.iom_owed.proofs.Lists.{among_of, once_more}
+use Rattle.iom_owed.proofs.Lists.{among_both, among_of, once_more}
 
 pub renews_none : {N X : Type 0} (of : N → X) (xs : List N) → Renews of [] xs xs
 renews_none of xs = record {
@@ -124,6 +124,24 @@ renews_then {N} {X} of new news a b c p q = record {
     ]
   ];
   once = λ once. q.once (p.once once);
+}
+
+-- the same things, in another order or more than once
+pub renews_same : {N X : Type 0} (of : N → X) (news others before after : List N) → ((n : N) → IsAmong news n ↔ IsAmong others n) → Renews of news before after → Renews of others before after
+renews_same of news others before after same p = record {
+  all = λ x h. elim (p.all x h) [
+    | inl old ↦ inl old
+    | inr new ↦ inr (among_both of news others (λ n h. (same n).0 h) x new)
+  ];
+  kept = λ x h. p.kept x (elim h [
+    | inl old ↦ inl old
+    | inr new ↦ inr (among_both of others news (λ n h. (same n).1 h) x new)
+  ]);
+  each = λ once n h. elim (p.each once n h) [
+    | inl new ↦ inl ((same n).0 new)
+    | inr old ↦ inr (old.0, λ k. old.1 (among_both of others news (λ n h. (same n).1 h) (of n) k))
+  ];
+  once = p.once;
 }
 
 -- what a push leaves that has room

@@ -1,15 +1,14 @@
 //! What an IOMMU may hold, beside a platform that takes its steps.
 
-ghost use Rattle.std.specs.Prelude.{◌≡◌, ℕ, List, ◌∷◌, [], map, IfOk, OnErr, OnOk, Some};
-ghost use Rattle.iom_choices.specs.Systems.{ModelWalk};
+ghost use Rattle.std.specs.Prelude.{◌≡◌, ℕ, List, ◌∷◌, [], IfOk, OnErr, OnOk, Some};
 ghost use Rattle.iom_choices.specs.Trees.{ways_over};
 ghost use Rattle.iom_core.specs.State.{State, state_on};
 ghost use Rattle.iom_core.specs.Table.{next};
-ghost use Rattle.iom_core.specs.declared.way.Way.{Way as Led};
 ghost use Rattle.iom_every.specs.Rows.{bare};
 ghost use Rattle.iom_every.specs.Trees.{tree_of};
 ghost use Rattle.iom_owed.specs.Holdings.{Keeps, entries_in};
 ghost use Rattle.iom_owed.specs.Notes.{Adds, read_by, without_dropped};
+ghost use Rattle.iom_ways.specs.Ways.{AreAdded, leads};
 
 use crate::executed::executed;
 use crate::noting::{Kept, Made, at_page, entries_in, forget, renew_entries, renew_request};
@@ -121,10 +120,10 @@ impl Holdings {
         ram: &M,
         request: &Request,
     ) -> Result<Ways, AllocError>
-        ensures led { IfOk result (λ ways. ways.led.items ≡ map (λ (way : ModelWalk Entry Led). way.led)
-            (ways_over (entries_in self.now.entries) (tree_of (bare (state_on (M.memory ram.now) board.now)) request.now))) }
-        ensures reads { IfOk result (λ ways. ways.reads.items
-            ≡ read_by (bare (state_on (M.memory ram.now) board.now)) (entries_in self.now.entries) (Some request.now)) }
+        ensures led { IfOk result (λ ways. AreAdded
+            (leads (ways_over (entries_in self.now.entries) (tree_of (bare (state_on (M.memory ram.now) board.now)) request.now))) [] ways.led.items) }
+        ensures reads { IfOk result (λ ways. AreAdded
+            (read_by (bare (state_on (M.memory ram.now) board.now)) (entries_in self.now.entries) (Some request.now)) [] ways.reads.items) }
     {
         let alloc = *self.entries.allocator();
         let held = entries_in(alloc, self.entries())?;

@@ -11,8 +11,9 @@ ghost use Rattle.iom_owed.specs.Settled.{AreOwed, IsJudged, IsSettledNow};
 
 use crate::holdings::Holdings;
 use crate::noting::Made;
-use iom_core::{Board, Denial, Request, Way};
+use iom_core::{Board, Request, Way};
 use iom_mem::Region;
+use iom_ways::is_same_way;
 use std::alloc::AllocError;
 
 /// A request that isn't settled: an IOMMU may lead it elsewhere than the tables do.
@@ -102,30 +103,9 @@ fn first_other(led: &[Way], tables: &Way) -> Option<Way>
     ensures none { IfNone result ((way : Led) → IsAmong led.now way → way ≡ tables.now) }
 {
     for way in led {
-        if !is_same(way, tables) {
+        if !is_same_way(way, tables) {
             return Some(*way);
         }
     }
     None
-}
-
-// Whether two ways are one.
-fn is_same(way: &Way, other: &Way) -> bool
-    ensures { IsTrue result ↔ (way.now ≡ other.now) }
-{
-    match (way, other) {
-        (Way::Register, Way::Register) => true,
-        (Way::Context(context), Way::Context(other)) => context == other,
-        (Way::Walked(context, hit), Way::Walked(other, found)) => context == other && hit == found,
-        (Way::Denied(denial), Way::Denied(other)) => is_same_denial(denial, other),
-        _ => false,
-    }
-}
-
-fn is_same_denial(denial: &Denial, other: &Denial) -> bool
-    ensures { IsTrue result ↔ (denial.now ≡ other.now) }
-{
-    denial.cause == other.cause
-        && denial.iotval2 == other.iotval2
-        && denial.reported == other.reported
 }

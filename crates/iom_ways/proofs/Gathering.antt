@@ -1,37 +1,99 @@
 -- Ways that are gathered look-up by look-up.
-use Rattle.std.proofs.Common.{◌≡◌, ◌∙◌, ◌++◌, ◌+◌, ◌<◌, ◌≤◌, ℕ, List, [], ◌∷◌, length, drop, Bool, Option, Some, None, if◌then◌else◌, refl, sym, ap, subst, append_assoc}
+use Rattle.std.proofs.Common.{◌≡◌, ◌∙◌, ◌++◌, ◌+◌, ◌<◌, ◌≤◌, ℕ, zero, suc, arith, List, [], ◌∷◌, length, drop, Bool, Option, Some, None, if◌then◌else◌, refl, sym, ap, subst, inl, inr}
 use Rattle.std.specs.Prelude.{OnOk, Result, filter, flat_map, get_or, is_some}
 use Rattle.std.proofs.lemmas.List.{append-nil, map-append, drop_all, drop_more}
 use Rattle.std.proofs.lemmas.Grind.{flat_map-append}
 use Rattle.iom_core.specs.declared.way.Way.{Way as Led}
-use Rattle.iom_choices.specs.Systems.{ModelWalk}
+use Rattle.iom_choices.specs.Systems.{IsAmong, ModelWalk}
+use Rattle.iom_choices.proofs.Lists.{among-left, among-right, among_either}
 use Rattle.iom_choices.specs.Trees.{reads_in, ways_over}
 use Rattle.iom_every.specs.declared.entry.Entry.{Entry}
 use Rattle.iom_every.specs.Trees.{Walk, looking}
 use Rattle.iom_every.specs.Uses.{Look}
-use Rattle.iom_ways.specs.Ways.{Gathers, leads}
+use Rattle.iom_ways.specs.Ways.{AreAdded, Gathers, Has, leads}
 use Rattle.iom_ways.specs.declared.ways.Ways.{Ways}
 
 abbrev pub WayList : Type 0
 WayList = List (ModelWalk Entry Led)
 
+-- what is added to a list
+pub added_none : {X : Type 0} (xs : List X) → AreAdded [] xs xs
+added_none xs = λ x. (
+  λ h. inl h,
+  λ h. elim h [
+    | inl old ↦ old
+    | inr none ↦ absurd none
+  ],
+)
+
+pub added_then : {X : Type 0} (xs ys a b c : List X) → AreAdded xs a b → AreAdded ys b c → AreAdded (xs ++ ys) a c
+added_then xs ys a b c one other = λ x. (
+  λ h. elim ((other x).0 h) [
+    | inl mid ↦ elim ((one x).0 mid) [
+      | inl old ↦ inl old
+      | inr new ↦ inr (among-left xs ys x new)
+    ]
+    | inr new ↦ inr (among-right xs ys x new)
+  ],
+  λ h. elim h [
+    | inl old ↦ (other x).1 (inl ((one x).1 (inl old)))
+    | inr new ↦ elim (among_either xs ys x new) [
+      | inl first ↦ (other x).1 (inl ((one x).1 (inr first)))
+      | inr second ↦ (other x).1 (inr second)
+    ]
+  ],
+)
+
+pub added_same : {X : Type 0} (xs ys a b : List X) → xs ≡ ys → AreAdded xs a b → AreAdded ys a b
+added_same {X} xs ys a b is h = subst (λ (news : List X). AreAdded news a b) is h
+
 pub none_gathered : (at : Ways) → Gathers [] at at
-none_gathered at = record { led = sym (append-nil at.led.items); reads = sym (append-nil at.reads.items) }
+none_gathered at = record { led = added_none at.led.items; reads = added_none at.reads.items }
 
 pub both : (xs ys : WayList) (before between after : Ways) → Gathers xs before between → Gathers ys between after → Gathers (xs ++ ys) before after
 both xs ys before between after one other = record {
-  led = other.led ∙ ap (λ (led : List Led). led ++ leads ys) one.led ∙ append_assoc before.led.items (leads xs) (leads ys)
-      ∙ ap (λ (led : List Led). before.led.items ++ led) (sym (map-append (λ (way : ModelWalk Entry Led). way.led) xs ys));
-  reads = other.reads ∙ ap (λ (reads : List Entry). reads ++ reads_in ys) one.reads ∙ append_assoc before.reads.items (reads_in xs) (reads_in ys)
-      ∙ ap (λ (reads : List Entry). before.reads.items ++ reads) (sym (flat_map-append (λ (way : ModelWalk Entry Led). way.reads) xs ys));
+  led = added_same (leads xs ++ leads ys) (leads (xs ++ ys)) before.led.items after.led.items
+      (sym (map-append (λ (way : ModelWalk Entry Led). way.led) xs ys))
+      (added_then (leads xs) (leads ys) before.led.items between.led.items after.led.items one.led other.led);
+  reads = added_same (reads_in xs ++ reads_in ys) (reads_in (xs ++ ys)) before.reads.items after.reads.items
+      (sym (flat_map-append (λ (way : ModelWalk Entry Led). way.reads) xs ys))
+      (added_then (reads_in xs) (reads_in ys) before.reads.items between.reads.items after.reads.items one.reads other.reads);
 }
 
 -- one way
-pub one : (led : Led) (reads : List Entry) (before after : Ways) → after.led.items ≡ before.led.items ++ led ∷ [] → after.reads.items ≡ before.reads.items ++ reads →
+pub one : (led : Led) (reads : List Entry) (before after : Ways) → AreAdded (led ∷ []) before.led.items after.led.items → AreAdded reads before.reads.items after.reads.items →
     Gathers (record { led = led; reads = reads } ∷ []) before after
 one led reads before after led_is reads_are = record {
   led = led_is;
-  reads = reads_are ∙ ap (λ (read : List Entry). before.reads.items ++ read) (sym (append-nil reads));
+  reads = added_same reads (reads ++ []) before.reads.items after.reads.items (sym (append-nil reads)) reads_are;
+}
+
+pub added_end : {X : Type 0} (x : X) (xs ys : List X) → ys ≡ xs ++ x ∷ [] → AreAdded (x ∷ []) xs ys
+added_end {X} x xs ys is = subst (λ (all : List X). AreAdded (x ∷ []) xs all) (sym is) (λ y. (
+  λ h. among_either xs (x ∷ []) y h,
+  λ h. elim h [
+    | inl old ↦ among-left xs (x ∷ []) y old
+    | inr new ↦ among-right xs (x ∷ []) y new
+  ],
+))
+
+-- an element that is read is among them
+pub among_read : {X : Type 0} (xs : List X) (i : ℕ) (x d : X) → i < length xs → x ≡ get_or xs i d → IsAmong xs x
+among_read [] i x d inside is = absurd (omega arith)
+among_read (y ∷ xs) zero x d inside is = inl (sym is)
+among_read (y ∷ xs) (suc i) x d inside is = inr (among_read xs i x d (omega arith) is)
+
+-- what is gathered is there, and stays there
+pub has_all : (ways : WayList) (before after : Ways) → Gathers ways before after → Has ways after
+has_all ways before after done = record {
+  led = λ led h. (done.led led).1 (inr h);
+  reads = λ entry h. (done.reads entry).1 (inr h);
+}
+
+pub has_still : (ways others : WayList) (before after : Ways) → Has ways before → Gathers others before after → Has ways after
+has_still ways others before after has done = record {
+  led = λ led h. (done.led led).1 (inl (has.led led h));
+  reads = λ entry h. (done.reads entry).1 (inl (has.reads entry h));
 }
 
 -- The ways of each entry that fits, one entry's behind the other's.

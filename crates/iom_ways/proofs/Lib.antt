@@ -4,3 +4,5 @@ pub mod Paths
 pub mod Stages
 pub mod Trees
 pub mod Firsts
+pub mod Beside
+pub mod Alike

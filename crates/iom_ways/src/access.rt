@@ -1,6 +1,6 @@
 //! The second stage for the access itself, and the end of a way.
 
-ghost use Rattle.std.specs.Prelude.{◌≡◌, ◌++◌, ◌<◌, ◌^◌, None, Ok, Some, Result, IfOk, IfSome, OnOk};
+ghost use Rattle.std.specs.Prelude.{◌≡◌, ◌↔◌, ◌<◌, ◌^◌, ◌∷◌, [], None, Ok, Some, Result, IfOk, IfSome, IsTrue, OnOk};
 ghost use Rattle.iom_walk.specs.Shape.{levels};
 ghost use Rattle.iom_nested.specs.Faults.{Failure};
 ghost use Rattle.iom_nested.specs.Nested.{told_of};
@@ -9,12 +9,14 @@ ghost use Rattle.iom_nested.specs.declared.translation.Hit.{Hit};
 ghost use Rattle.iom_nested.specs.declared.translation.Reached.{Reached};
 ghost use Rattle.iom_choices.specs.Trees.{ways_over};
 ghost use Rattle.iom_core.specs.Access.{way_to};
+ghost use Rattle.iom_every.specs.Stages.{second_outcome};
 ghost use Rattle.iom_every.specs.Trees.{access_tree, looking, staged};
 ghost use Rattle.iom_every.specs.Uses.{ForAccess, access_use};
 ghost use Rattle.iom_every.specs.Ways.{whole_of};
 ghost use Rattle.iom_ways.specs.Branches.{behind_access, behind_reached};
-ghost use Rattle.iom_ways.specs.Ways.{Gathers};
+ghost use Rattle.iom_ways.specs.Ways.{AreAdded, Gathers, Has};
 
+use crate::adding::{put_entries, put_entry, put_led};
 use crate::under::Under;
 use crate::ways::Ways;
 use iom_bits::Cause;
@@ -24,10 +26,10 @@ use iom_ddt::Context;
 use iom_every::{Entry, Held, second_outcome, second_reads, second_use};
 use iom_mem::Region;
 use iom_nested::{Fault, Hit, Reached, hit_by, second_shape, second_stage};
-use iom_walk::Shape;
+use iom_walk::{Outcome, Shape};
 use std::alloc::AllocError;
 
-/// Appends the ways behind a first stage that leads there and reads these entries.
+/// Puts in the ways behind a first stage that leads there and reads these entries.
 pub(crate) fn put_access<M: Region>(
     out: &mut Ways,
     under: &Under<'_, M>,
@@ -70,7 +72,7 @@ fn put_reached<M: Region>(
     }
 }
 
-// Appends the ways by a second stage of this shape: from its root, and from each entry that is held for the address.
+// Puts in the ways by a second stage of this shape: from its root, and from each entry that is held for the address.
 fn put_second<M: Region>(
     out: &mut Ways,
     under: &Under<'_, M>,
@@ -84,17 +86,66 @@ fn put_second<M: Region>(
         (behind_access (M.memory under.now.ram.now) under.now.features under.now.request under.now.context under.now.located.now first.now shape reached)))
         out.old out.new) }
 {
+    let (ram, features, context) = (under.ram, under.features, &under.context);
+    let kind = under.request.kind;
+    let plain = second_outcome(ram, features, context, shape, reached.addr, kind, None);
     put_used(out, under, first, reached, shape, None)?;
     for entry in under.held.iter() {
         let Some(used) = second_use(&under.context, shape, reached.addr, entry) else {
             continue;
         };
-        put_used(out, under, first, reached, shape, Some(used))?;
+        put_other(out, under, first, reached, shape, used, plain)?;
     }
     Ok(())
 }
 
-// Appends the way by a second stage that is entered at this entry, or at its root.
+// Puts in the way by a second stage that is entered at this entry, besides that from its root, which ends so: if both end alike, what is read.
+fn put_other<M: Region>(
+    out: &mut Ways,
+    under: &Under<'_, M>,
+    first: &[Entry],
+    reached: Reached,
+    shape: Shape,
+    used: Held,
+    plain: Outcome,
+) -> Result<(), AllocError>
+    requires level { reached.level < 5 }
+    requires used { used.level < levels shape }
+    requires plain { plain ≡ second_outcome (M.memory under.now.ram.now) under.now.features under.now.context shape reached.addr under.now.request.kind None }
+    requires there { Has (ways_over under.now.held.now
+        (behind_access (M.memory under.now.ram.now) under.now.features under.now.request under.now.context under.now.located.now first.now shape reached None)) out.old }
+    ensures { OnOk result (Gathers (ways_over under.now.held.now
+        (behind_access (M.memory under.now.ram.now) under.now.features under.now.request under.now.context under.now.located.now first.now shape reached (Some used)))
+        out.old out.new) }
+{
+    let (ram, features, context) = (under.ram, under.features, &under.context);
+    let kind = under.request.kind;
+    let end = second_outcome(
+        ram,
+        features,
+        context,
+        shape,
+        reached.addr,
+        kind,
+        Some(used),
+    );
+    if is_same_end(end, plain) {
+        let second = second_reads(ram, features, context, shape, reached.addr, Some(used));
+        put_entries(&mut out.reads, &second)?;
+        Ok(())
+    } else {
+        put_used(out, under, first, reached, shape, Some(used))
+    }
+}
+
+// Whether two walks of the second stage end alike.
+fn is_same_end(end: Outcome, other: Outcome) -> bool
+    ensures { IsTrue result ↔ (end ≡ other) }
+{
+    end == other
+}
+
+// Puts in the way by a second stage that is entered at this entry, or at its root.
 fn put_used<M: Region>(
     out: &mut Ways,
     under: &Under<'_, M>,
@@ -116,7 +167,7 @@ fn put_used<M: Region>(
     put_staged(out, under, first, &second, hit_by(reached, end, kind))
 }
 
-// Appends the way by both stages, which read these entries and end so.
+// Puts in the way by both stages, which read these entries and end so.
 fn put_staged<M: Region>(
     out: &mut Ways,
     under: &Under<'_, M>,
@@ -128,10 +179,10 @@ fn put_staged<M: Region>(
         OnOk result (Gathers (ways_over under.now.held.now (staged under.now.request under.now.context under.now.located.now first.now end second.now))
         out.old out.new) }
 {
-    out.led.push(way_to(&under.context, &found))?;
-    out.reads.extend_from_slice(under.located)?;
-    out.reads.extend_from_slice(first)?;
-    out.reads.extend_from_slice(second)?;
+    put_led(&mut out.led, &way_to(&under.context, &found))?;
+    put_entries(&mut out.reads, under.located)?;
+    put_entries(&mut out.reads, first)?;
+    put_entries(&mut out.reads, second)?;
     put_whole(&mut out.reads, &under.request, &under.context, &found)?;
     Ok(())
 }
@@ -146,19 +197,19 @@ fn way_to(context: &Context, found: &Result<Hit, Fault>) -> Way
     }
 }
 
-// Appends the whole translation, if there is a hit.
+// Puts in the whole translation, if there is a hit.
 fn put_whole(
     out: &mut Vec<Entry>,
     request: &Request,
     context: &Context,
     found: &Result<Hit, Fault>,
 ) -> Result<(), AllocError>
-    ensures { OnOk result (out.new.items ≡ out.old.items ++ whole_of request.now context.now found.now) }
+    ensures { OnOk result (AreAdded (whole_of request.now context.now found.now) out.old.items out.new.items) }
 {
     let _: Option<Result<Context, Cause>> = None;
     if let Ok(hit) = found {
         let key = key_of(context, request.did, request.iova, request.kind);
-        out.push(Entry::Page { key, hit: *hit })?;
+        put_entry(out, &Entry::Page { key, hit: *hit })?;
     }
     Ok(())
 }

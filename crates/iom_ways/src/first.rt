@@ -20,7 +20,7 @@ use iom_nested::{first_shape, first_stage, reached_by};
 use iom_walk::{Format, Outcome, Shape};
 use std::alloc::AllocError;
 
-/// Appends the ways by both stages of a context.
+/// Puts in the ways by both stages of a context.
 pub(crate) fn put_stages<M: Region>(out: &mut Ways, under: &Under<'_, M>) -> Result<(), AllocError>
     requires translated { is_bare under.now.context ≡ false }
     ensures { OnOk result (Gathers (ways_over under.now.held.now
@@ -43,7 +43,7 @@ pub(crate) fn put_stages<M: Region>(out: &mut Ways, under: &Under<'_, M>) -> Res
     }
 }
 
-// Appends the ways by a first stage of this shape: from its root, and from each entry that is held for the IOVA.
+// Puts in the ways by a first stage of this shape: from its root, and from each entry that is held for the IOVA.
 fn put_first<M: Region>(
     out: &mut Ways,
     under: &Under<'_, M>,
@@ -64,7 +64,7 @@ fn put_first<M: Region>(
     Ok(())
 }
 
-// Appends the ways by a first stage that is entered at this entry, or at its root.
+// Puts in the ways by a first stage that is entered at this entry, or at its root.
 fn put_used<M: Region>(
     out: &mut Ways,
     under: &Under<'_, M>,
@@ -121,7 +121,7 @@ fn put_entered<M: Region>(
     }
 }
 
-// Appends the ways by a whole path of the first stage.
+// Puts in the ways by a whole path of the first stage.
 fn put_from_root<M: Region>(
     out: &mut Ways,
     under: &Under<'_, M>,

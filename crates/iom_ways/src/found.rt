@@ -35,7 +35,7 @@ pub(crate) type PathBy = ArrayVec<MetBy, 5>;
 // All that a path of the first stage reads: five entries, and five of the second stage for each of them.
 type FirstReads = ArrayVec<Entry, 30>;
 
-/// Appends the ways by a first stage whose walk has met all of these entries.
+/// Puts in the ways by a first stage whose walk has met all of these entries.
 pub(crate) fn put_found<M: Region>(
     out: &mut Ways,
     under: &Under<'_, M>,

@@ -2,10 +2,12 @@
 //! `iom_choices` lists them over the walks of `iom_every`.
 #![tactic(auto)]
 
+pub use adding::is_same_way;
 pub use laws::memory_leads_first;
 pub use ways::{Ways, put_ways};
 
 mod access;
+mod adding;
 mod first;
 mod found;
 mod laws;

@@ -1,6 +1,6 @@
 //! The path of the first stage, whose entries are each read through the second.
 
-ghost use Rattle.std.specs.Prelude.{◌≡◌, ◌++◌, ◌∷◌, [], ◌+◌, ◌*◌, ◌<◌, ◌≤◌, ◌^◌, length, All, None, Some, OnOk, IfSome};
+ghost use Rattle.std.specs.Prelude.{◌≡◌, ◌↔◌, ◌++◌, ◌∷◌, [], ◌+◌, ◌*◌, ◌<◌, ◌≤◌, ◌^◌, length, All, None, Some, OnOk, IfSome, IsTrue};
 ghost use Rattle.arrayvec.specs.ArrayVec.{array_vec_len};
 ghost use Rattle.iom_walk.specs.Shape.{index_of, levels};
 ghost use Rattle.iom_nested.specs.Stages.{second_shape_of};
@@ -8,19 +8,20 @@ ghost use Rattle.iom_choices.specs.Trees.{ways_over};
 ghost use Rattle.iom_every.specs.Trees.{got_by, looking};
 ghost use Rattle.iom_every.specs.Uses.{ForEntry, entry_use};
 ghost use Rattle.iom_ways.specs.Branches.{MetFits, UsedFits, behind_entry, behind_met, rest_of_path};
-ghost use Rattle.iom_ways.specs.Ways.{Gathers};
+ghost use Rattle.iom_ways.specs.Ways.{Gathers, Has};
 
+use crate::adding::put_entries;
 use crate::found::{PathBy, put_found};
 use crate::under::Under;
 use crate::ways::Ways;
 use iom_bits::Kind;
-use iom_every::{Held, MetBy, second_outcome, second_use};
+use iom_every::{Held, MetBy, second_outcome, second_reads, second_use};
 use iom_mem::Region;
 use iom_nested::{Physical, got_behind, second_shape};
 use iom_walk::{Format, Got, MetEntry, Shape, Words, place_in};
 use std::alloc::AllocError;
 
-/// Appends the ways by a first stage whose walk has met these entries, from a table on, of which `count` levels are left; `table` is its PPN,
+/// Puts in the ways by a first stage whose walk has met these entries, from a table on, of which `count` levels are left; `table` is its PPN,
 /// below 2^44.
 #[cycle(walking)]
 pub(crate) fn put_path<M: Region>(
@@ -78,11 +79,54 @@ fn put_behind<M: Region>(
         (behind_entry (M.memory under.now.ram.now) under.now.features under.now.request under.now.context under.now.located.now format used path.now shape place level)))
         out.old out.new) }
 {
+    let plain = got_by(under, shape, place, None);
     put_read(out, under, format, used, path, shape, place, level, None)?;
     for entry in under.held.iter() {
         let Some(behind) = second_use(&under.context, shape, place, entry) else {
             continue;
         };
+        put_other(
+            out, under, format, used, path, shape, place, level, behind, plain,
+        )?;
+    }
+    Ok(())
+}
+
+// The same, if this entry of the second stage is used for it, besides the ways by memory, which has this there: if both read the same, what the
+// second stage reads.
+#[cycle(walking)]
+fn put_other<M: Region>(
+    out: &mut Ways,
+    under: &Under<'_, M>,
+    format: Format,
+    used: Option<Held>,
+    path: &[MetBy],
+    shape: Shape,
+    place: u64,
+    level: u8,
+    behind: Held,
+    plain: Got,
+) -> Result<(), AllocError>
+    requires shape { second_shape_of under.now.context ≡ Some shape }
+    requires level { level < levels format.shape }
+    requires room { length path.now + level < 5 }
+    requires used { IfSome used (λ held. held.level < 5) }
+    requires levels { All (MetFits (second_shape_of under.now.context)) path.now }
+    requires behind { behind.level < levels shape }
+    requires plain { plain ≡ got_by (M.memory under.now.ram.now) under.now.features under.now.context (Some shape) None place }
+    requires there { Has (ways_over under.now.held.now
+        (behind_entry (M.memory under.now.ram.now) under.now.features under.now.request under.now.context under.now.located.now format used path.now shape place level None)) out.old }
+    ensures { OnOk result (Gathers (ways_over under.now.held.now
+        (behind_entry (M.memory under.now.ram.now) under.now.features under.now.request under.now.context under.now.located.now format used path.now shape place level (Some behind)))
+        out.old out.new) }
+{
+    let got = got_by(under, shape, place, Some(behind));
+    if is_same_got(got, plain) {
+        let (ram, features, context) = (under.ram, under.features, &under.context);
+        let second = second_reads(ram, features, context, shape, place, Some(behind));
+        put_entries(&mut out.reads, &second)?;
+        Ok(())
+    } else {
         put_read(
             out,
             under,
@@ -93,9 +137,8 @@ fn put_behind<M: Region>(
             place,
             level,
             Some(behind),
-        )?;
+        )
     }
-    Ok(())
 }
 
 // The same, if this entry of the second stage or none is used for it.
@@ -134,6 +177,13 @@ fn put_read<M: Region>(
             used: behind,
         },
     )
+}
+
+// Whether two reads of an entry give the same.
+fn is_same_got(got: Got, other: Got) -> bool
+    ensures { IsTrue result ↔ (got ≡ other) }
+{
+    got == other
 }
 
 // What the guest has at an address of its own, if this entry of the second stage or none is used for it.

@@ -36,7 +36,7 @@ pub(crate) struct Under<'a, M: Region> {
     pub located: &'a [Entry],
 }
 
-/// Appends the ways below a context with a stage.
+/// Puts in the ways below a context with a stage.
 pub(crate) fn put_translated<M: Region>(
     out: &mut Ways,
     under: &Under<'_, M>,
@@ -59,7 +59,7 @@ pub(crate) fn put_translated<M: Region>(
     Ok(())
 }
 
-// Appends the way by a whole translation that is held.
+// Puts in the way by a whole translation that is held.
 fn put_page<M: Region>(out: &mut Ways, under: &Under<'_, M>, hit: Hit) -> Result<(), AllocError>
     ensures { OnOk result (Gathers (ways_over under.now.held.now
         (page_tree (M.memory under.now.ram.now) under.now.features under.now.request under.now.context under.now.located.now (Some hit)))

@@ -1,6 +1,6 @@
 //! The ways of a request.
 
-ghost use Rattle.std.specs.Prelude.{◌≡◌, ◌++◌, ◌≤◌, ◌∷◌, [], None, OnOk, IfSome};
+ghost use Rattle.std.specs.Prelude.{◌≡◌, ◌↔◌, ◌≤◌, ◌∷◌, [], None, Some, OnOk, IfSome, IsTrue};
 ghost use Rattle.iom_regs.specs.Views.{mode_of};
 ghost use Rattle.iom_ddt.specs.Directory.{levels_of};
 ghost use Rattle.iom_choices.specs.Trees.{ways_over};
@@ -8,9 +8,11 @@ ghost use Rattle.iom_core.specs.Access.{machine_of};
 ghost use Rattle.iom_core.specs.State.{State};
 ghost use Rattle.iom_every.specs.Trees.{entered_tree, looking, tree_of};
 ghost use Rattle.iom_every.specs.Uses.{ForDevice, IsEntrance, device_use};
+ghost use Rattle.iom_every.specs.Ways.{located_by};
 ghost use Rattle.iom_ways.specs.Branches.{directory_tree, under_tree};
-ghost use Rattle.iom_ways.specs.Ways.{Gathers};
+ghost use Rattle.iom_ways.specs.Ways.{Gathers, Has};
 
+use crate::adding::{put_entries, put_led};
 use crate::under::{Under, put_translated};
 use iom_bits::{Cause, Features};
 use iom_core::{Denial, Request, Way};
@@ -23,17 +25,17 @@ use std::alloc::AllocError;
 /// Where ways lead, and what they read in memory.
 #[derive(Drop)]
 pub struct Ways {
-    /// Where each way leads.
+    /// Where they lead, each result once.
     pub led: Vec<Way>,
-    /// The entries that they read, as they may be kept, one way's behind the other's.
+    /// The entries that they read, as they may be kept, each once.
     pub reads: Vec<Entry>,
 }
 
-/// Appends the ways of a request, of a device id of 24 bits, that the entries in `held` allow: at each look-up of its walk memory answers, or
-/// an entry that fits ("Caching in-memory data structures").
+/// Puts in the ways of a request, of a device id of 24 bits, that the entries in `held` allow: at each look-up of its walk memory answers, or
+/// an entry that fits ("Caching in-memory data structures"). What is there already isn't put in again.
 ///
-/// The first way is that of memory alone, whatever is held. The same way may come more than once. The fault is a refused allocation; then some
-/// of them are appended, and nothing else has changed.
+/// Where an entry gives a walk what memory gives it, that use isn't followed on its own: it leads nowhere else, and its reads are put in. The
+/// fault is a refused allocation; then some of the ways are put in, and nothing else has changed.
 pub fn put_ways<M: Region>(
     out: &mut Ways,
     ram: &M,
@@ -51,16 +53,16 @@ pub fn put_ways<M: Region>(
     }
 }
 
-/// Appends a way that leads there and reads these entries.
+/// Puts in a way that leads there and reads these entries.
 pub(crate) fn put_way(out: &mut Ways, led: Way, reads: &[Entry]) -> Result<(), AllocError>
     ensures { OnOk result (Gathers (record { led = led; reads = reads.now } ∷ []) out.old out.new) }
 {
-    out.led.push(led)?;
-    out.reads.extend_from_slice(reads)?;
+    put_led(&mut out.led, &led)?;
+    put_entries(&mut out.reads, reads)?;
     Ok(())
 }
 
-// Appends the ways under a directory.
+// Puts in the ways under a directory.
 fn put_directory<M: Region>(
     out: &mut Ways,
     ram: &M,
@@ -93,17 +95,57 @@ fn put_devices<M: Region>(
         (entered_tree (machine_of (M.memory ram.now) registers.now [] []) request.now))) out.old out.new) }
 {
     let depth = depth_of(registers);
+    let plain = located_by(ram, registers, request.did, None);
     put_entered(out, ram, registers, held, request, &None)?;
     for entry in held.iter() {
         let Some(at) = device_use(depth, request.did, entry) else {
             continue;
         };
-        put_entered(out, ram, registers, held, request, &Some(at))?;
+        put_other(out, ram, registers, held, request, &at, &plain)?;
     }
     Ok(())
 }
 
-// Appends the ways by the context that a search of the directory finds, if it begins at this entry or at the root.
+// Puts in the ways by a search that begins at this entry, besides those from the root, which leads so: if both lead alike, what is read.
+fn put_other<M: Region>(
+    out: &mut Ways,
+    ram: &M,
+    registers: &Regs,
+    held: &[Entry],
+    request: &Request,
+    at: &Entered,
+    plain: &Result<Context, Cause>,
+) -> Result<(), AllocError>
+    requires directory { 1 ≤ levels_of (mode_of registers.now) }
+    requires entrance { IsEntrance at.now }
+    requires plain { plain.now ≡ located_by (machine_of (M.memory ram.now) registers.now [] []) request.now.did None }
+    requires there { Has (ways_over held.now
+        (entered_tree (machine_of (M.memory ram.now) registers.now [] []) request.now None)) out.old }
+    ensures { OnOk result (Gathers (ways_over held.now
+        (entered_tree (machine_of (M.memory ram.now) registers.now [] []) request.now (Some at.now))) out.old out.new) }
+{
+    let found = located_by(ram, registers, request.did, Some(*at));
+    if is_same_found(&found, plain) {
+        let located = directory_reads(ram, registers, request.did, Some(*at));
+        put_entries(&mut out.reads, &located)?;
+        Ok(())
+    } else {
+        put_entered(out, ram, registers, held, request, &Some(*at))
+    }
+}
+
+// Whether two searches of the directory end alike.
+fn is_same_found(found: &Result<Context, Cause>, other: &Result<Context, Cause>) -> bool
+    ensures { IsTrue result ↔ (found.now ≡ other.now) }
+{
+    match (found, other) {
+        (Ok(context), Ok(other)) => context == other,
+        (Err(why), Err(other)) => why == other,
+        _ => false,
+    }
+}
+
+// Puts in the ways by the context that a search of the directory finds, if it begins at this entry or at the root.
 fn put_entered<'a, M: Region>(
     out: &mut Ways,
     ram: &'a M,
@@ -134,7 +176,7 @@ fn put_entered<'a, M: Region>(
     }
 }
 
-// Appends the ways by a context.
+// Puts in the ways by a context.
 fn put_under<M: Region>(out: &mut Ways, under: &Under<'_, M>) -> Result<(), AllocError>
     ensures { OnOk result (Gathers (ways_over under.now.held.now
         (under_tree (M.memory under.now.ram.now) under.now.features under.now.request under.now.context under.now.located.now))

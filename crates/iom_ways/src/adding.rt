@@ -1,0 +1,89 @@
+//! Lists that hold nothing twice.
+
+ghost use Rattle.std.specs.Prelude.{◌≡◌, ◌↔◌, ◌∷◌, [], IsTrue, OnOk};
+ghost use Rattle.iom_choices.specs.Systems.{IsAmong};
+ghost use Rattle.iom_ways.specs.Ways.{AreAdded};
+
+use iom_bits::Cause;
+use iom_core::{Denial, Way};
+use iom_ddt::Context;
+use iom_every::{Entry, is_same};
+use std::alloc::AllocError;
+
+/// Puts those of these entries into a list that aren't there.
+pub(crate) fn put_entries(out: &mut Vec<Entry>, entries: &[Entry]) -> Result<(), AllocError>
+    ensures { OnOk result (AreAdded entries.now out.old.items out.new.items) }
+{
+    let _: Option<Result<Context, Cause>> = None;
+    for entry in entries {
+        put_entry(out, entry)?;
+    }
+    Ok(())
+}
+
+/// Puts an entry into a list, unless it is there.
+pub(crate) fn put_entry(out: &mut Vec<Entry>, entry: &Entry) -> Result<(), AllocError>
+    ensures { OnOk result (AreAdded (entry.now ∷ []) out.old.items out.new.items) }
+{
+    let _: Option<Result<Context, Cause>> = None;
+    if !has_entry(out, entry) {
+        out.push(*entry)?;
+    }
+    Ok(())
+}
+
+fn has_entry(entries: &[Entry], entry: &Entry) -> bool
+    ensures found { IsTrue result → IsAmong entries.now entry.now }
+    ensures all { IsAmong entries.now entry.now → IsTrue result }
+{
+    let _: Option<Result<Context, Cause>> = None;
+    for own in entries {
+        if is_same(own, entry) {
+            return true;
+        }
+    }
+    false
+}
+
+/// Puts where a way leads into a list, unless it is there.
+pub(crate) fn put_led(out: &mut Vec<Way>, led: &Way) -> Result<(), AllocError>
+    ensures { OnOk result (AreAdded (led.now ∷ []) out.old.items out.new.items) }
+{
+    if !has_led(out, led) {
+        out.push(*led)?;
+    }
+    Ok(())
+}
+
+fn has_led(ways: &[Way], led: &Way) -> bool
+    ensures found { IsTrue result → IsAmong ways.now led.now }
+    ensures all { IsAmong ways.now led.now → IsTrue result }
+{
+    for own in ways {
+        if is_same_way(own, led) {
+            return true;
+        }
+    }
+    false
+}
+
+/// Whether two ways lead alike: both by the register, or by equal contexts and to equal frames, or denied alike.
+pub fn is_same_way(way: &Way, other: &Way) -> bool
+    ensures { IsTrue result ↔ (way.now ≡ other.now) }
+{
+    match (way, other) {
+        (Way::Register, Way::Register) => true,
+        (Way::Context(context), Way::Context(other)) => context == other,
+        (Way::Walked(context, hit), Way::Walked(other, found)) => context == other && hit == found,
+        (Way::Denied(denial), Way::Denied(other)) => is_same_denial(denial, other),
+        _ => false,
+    }
+}
+
+fn is_same_denial(denial: &Denial, other: &Denial) -> bool
+    ensures { IsTrue result ↔ (denial.now ≡ other.now) }
+{
+    denial.cause == other.cause
+        && denial.iotval2 == other.iotval2
+        && denial.reported == other.reported
+}
