@@ -80,6 +80,6 @@ class Slips(Case):
         """explain: a name stands for its number on the lines behind its let, also behind one that gives it another number"""
         script = b"let a 0x80000000\nload a 8\nlet a 0x80000008\nput a cmd iodir\nload a 8\n"
         self.assertEqual(run(["explain"], script)[1].decode().splitlines()[:7], [
-            "1: let a 0x80000000 -> done", "2: load 0x80000000 8 -> 0x0", "3: let a 0x80000008 -> done",
-            "4: store 0x80000008 8 0x3 -> done", "4: store 0x80000010 8 0x0 -> done", "4: put a cmd iodir -> done",
-            "5: load 0x80000008 8 -> 0x3"])
+            "1: let a 0x80000000 -> done", "2: load 0x80000000 0x8 -> 0x0", "3: let a 0x80000008 -> done",
+            "4: store 0x80000008 0x8 0x3 -> done", "4: store 0x80000010 0x8 0x0 -> done", "4: put a cmd iodir -> done",
+            "5: load 0x80000008 0x8 -> 0x3"])
