@@ -1,0 +1,200 @@
+"""`check --settled` beside a plain program that plays small runs through every choice of what an IOMMU keeps.
+
+A run has up to six accesses of two devices to three pages, through two tables, between stores to their entries and
+invalidations. `Every` has all sets of entries that an IOMMU may hold after it, and each way that such an IOMMU may lead
+an access.
+"""
+import random
+import re
+from itertools import combinations
+
+from frame import Case, run
+
+DEVICES, PAGES, TABLES = range(2), range(3), range(2)
+RUNS, MOST_ENTRIES = 80, 8
+# Causes: no context, no page.
+NO_CONTEXT, NO_PAGE = 258, 13
+IMAGE = b"ram 0x80000000 0x100000\ncapabilities nl=1\n"
+IOVA, CONTEXTS, ROOTS, MIDDLES, LEAVES = 0x40200000, 0x80001000, 0x80002, 0x80004, 0x80006
+FRAMES, QUEUE = 0x80040, 0x80090000
+
+
+class Memory:
+    """Each device's context has an id of its entries and the place of a pointer, which leads to a table of pages."""
+
+    def __init__(self):
+        self.contexts = {0: (0, 0), 1: (1, 1)}
+        self.pointers = {0: 0, 1: 1}
+        self.leaves = {(table, page): 10 * table + page for table in TABLES for page in PAGES}
+
+    def store(self, part, key, value):
+        getattr(self, part)[key] = value
+
+
+def below(memory, tag, table, page):
+    """The end of a walk from a table on, None if it has no page, and the entries that it reads."""
+    frame = memory.leaves[table, page]
+    return frame, [] if frame is None else [("leaf", tag, page, frame)]
+
+
+def first_ends(memory, held, tag, place, page):
+    table = memory.pointers[place]
+    if table is None:
+        yield None, []
+    else:
+        frame, reads = below(memory, tag, table, page)
+        yield frame, [("pointer", tag, table), *reads]
+    for entry in held:
+        if entry[:3] == ("leaf", tag, page):
+            yield entry[3], []
+        if entry[:2] == ("pointer", tag):
+            yield below(memory, tag, entry[2], page)
+
+
+def page_ends(memory, held, context, page):
+    tag, place = context
+    for frame, reads in first_ends(memory, held, tag, place, page):
+        yield frame, reads + ([] if frame is None else [("page", tag, page, frame)])
+    for entry in held:
+        if entry[:3] == ("page", tag, page):
+            yield entry[3], []
+
+
+def ways(memory, held, request):
+    """Each way of a request over these entries: its end, and what it reads. The first is memory's."""
+    device, page = request
+    context = memory.contexts[device]
+    searches = [(context, [] if context is None else [("device", device, context)])]
+    searches += [(entry[2], []) for entry in held if entry[:2] == ("device", device)]
+    for found, located in searches:
+        if found is None:
+            yield NO_CONTEXT, located
+            continue
+        for frame, reads in page_ends(memory, held, found, page):
+            yield NO_PAGE if frame is None else (found, frame), located + reads
+
+
+def is_dropped(command, entry):
+    kind, operand = command
+    if kind == "page":
+        return entry[0] in ("leaf", "page") and entry[2] == operand
+    if kind == "page and pointers":
+        return entry[0] == "pointer" or entry[0] in ("leaf", "page") and entry[2] == operand
+    if kind == "device":
+        return entry[:2] == ("device", operand)
+    return entry[0] != "device"
+
+
+class Every:
+    """All that IOMMUs may hold: one set for each that chose otherwise."""
+
+    def __init__(self):
+        self.holdings = {frozenset()}
+
+    def follow(self, memory, kind, operand):
+        after = set()
+        for held in self.holdings:
+            reads = {it for _, reads in ways(memory, held, operand) for it in reads} if kind == "access" else set()
+            kept = sorted((it for it in held | reads if kind != "drop" or not is_dropped(operand, it)), key=str)
+            after.update(frozenset(some) for count in range(len(kept) + 1) for some in combinations(kept, count))
+        self.holdings = after
+
+    def elsewhere(self, memory, request):
+        """Each end of a request that isn't memory's."""
+        tables = next(ways(memory, [], request))[0]
+        return {end for held in self.holdings for end, _ in ways(memory, held, request)} - {tables}
+
+
+def steps_of(chance):
+    """A run, six of whose steps are accesses."""
+    for _ in range(6):
+        yield "access", (chance.choice(DEVICES), chance.choice(PAGES))
+        for _ in range(chance.choice((0, 0, 1, 1, 2))):
+            yield chance.choice((
+                ("store", ("leaves", (chance.choice(TABLES), chance.choice(PAGES)), chance.choice((None, 5)))),
+                ("store", ("pointers", chance.choice(TABLES), chance.choice((None, 0, 1)))),
+                ("store", ("contexts", chance.choice(DEVICES), chance.choice((None, (0, 0), (0, 1), (1, 1))))),
+                ("drop", ("all", None)), ("drop", ("page", chance.choice(PAGES))),
+                ("drop", ("page and pointers", chance.choice(PAGES))), ("drop", ("device", chance.choice(DEVICES))),
+            ))
+
+
+def stored(part, key, value):
+    """The line that stores an entry of this memory."""
+    if part == "contexts":
+        place = f"{CONTEXTS + 32 * key:#x}"
+        return f"store {place} 8 0" if value is None else f"put {place} context pscid={value[0]} mode=8 ppn={ROOTS + value[1]:#x}"
+    if part == "pointers":
+        place, word = f"put {4096 * (ROOTS + key) + 8:#x} pte", None if value is None else f"ppn={MIDDLES + value:#x} flags=1"
+    else:
+        place = f"put {4096 * (LEAVES + key[0]) + 8 * key[1]:#x} pte"
+        word = None if value is None else f"ppn={FRAMES + value:#x} flags=0xd7"
+    return f"{place} {word or 'flags=0'}"
+
+
+def sent(command, index):
+    """The lines that send a command, the one of this index in the queue, and have it carried out."""
+    kind, operand = command
+    page = f"page={(IOVA >> 12) + operand:#x}" if "page" in kind else ""
+    item = {"all": "vma", "page": f"vma av=1 {page}", "page and pointers": f"vma av=1 nl=1 {page}",
+            "device": f"iodir dv=1 did={operand}"}[kind]
+    return [f"put {QUEUE + 16 * index:#x} cmd {item}", f"reg write cqt {index + 1}", "cmd # => done"]
+
+
+def begun():
+    """The lines before a run: the entries of a new memory, and the registers."""
+    memory = Memory()
+    entries = [(part, *it) for part in ("contexts", "pointers", "leaves") for it in getattr(memory, part).items()]
+    middles = [f"put {4096 * (MIDDLES + table) + 8:#x} pte ppn={LEAVES + table:#x} flags=1" for table in TABLES]
+    return [*(stored(*it) for it in entries), *middles, "reg write ddtp 0x20000402", "reg write cqb 0x20024005", "reg write cqcsr 1"]
+
+
+def end_told(told):
+    """The end that a report names: a frame or a cause."""
+    frame, cause = re.fullmatch(r"go to addr=0x(\w+)|be denied (\d+)", told).groups()
+    return int(cause) if cause else int(frame, 16) // 4096 - FRAMES
+
+
+class Choices(Case):
+    def play(self, steps):
+        """A run's lines, and what is to be told: of the accesses that aren't settled, by their lines, and of what is owed."""
+        memory, every, lines, made, unsettled, sends = Memory(), Every(), begun(), {}, {}, 0
+        for kind, operand in steps:
+            if kind == "store":
+                lines.append(stored(*operand))
+                memory.store(*operand)
+            elif kind == "drop":
+                lines += sent(operand, sends)
+                sends += 1
+            else:
+                lines.append(f"dma read {operand[0]} {IOVA + 4096 * operand[1]:#x} 4")
+                unsettled[len(lines)] = every.elsewhere(memory, operand)
+                made[operand] = len(lines)
+            every.follow(memory, kind, operand)
+            if max(map(len, every.holdings)) > MOST_ENTRIES:
+                break
+        owed = {(IOVA + 4096 * page, device, made[device, page]): every.elsewhere(memory, (device, page)) for device, page in made}
+        return lines, unsettled, owed
+
+    def wanted(self, told):
+        return {key: {end if isinstance(end, int) else end[1] for end in ends} for key, ends in told.items() if ends}
+
+    def test_every_choice(self):
+        """an access is settled, and a request owed, exactly as every choice of keeping and forgetting says"""
+        seed = random.randrange(2**32)
+        chance, image, differing = random.Random(seed), self.image(IMAGE), 0
+        for number in range(RUNS):
+            lines, unsettled, owed = self.play(steps_of(chance))
+            out = run(["check", "--settled", image], "\n".join([*lines, ""]).encode())[1].decode()
+            with self.subTest(seed=seed, run=number, lines=lines, out=out):
+                found = {int(line): end_told(end) for line, end in
+                         re.findall(r"(?m)^line (\d+): dma .*, unsettled: read \w+ may still ((?:go|be) .*?),", out)}
+                left = {(int(iova, 16), int(device), int(line)): end_told(end) for iova, device, line, end in
+                        re.findall(r"(?m)^line \d+: read (\w+) of device (\d+), as in line (\d+), may still ((?:go|be) .*?),", out)}
+                for wanted, told in ((self.wanted(unsettled), found), (self.wanted(owed), left)):
+                    self.assertEqual(set(told), set(wanted))
+                    for key, end in told.items():
+                        self.assertIn(end, wanted[key])
+                self.assertEqual(out.splitlines()[-1].split(", ")[1], f"{len(found) + len(left)} failed")
+                differing += len(found) + len(left)
+        self.assertGreater(differing, RUNS // 3)
