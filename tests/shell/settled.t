@@ -1,0 +1,92 @@
+With --settled a line fails, too, if an access of it wasn't settled just before: then some IOMMU that the standard allows
+could lead it elsewhere than the tables do, whatever it keeps and forgets. At the end each request fails that was made and
+isn't settled then.
+
+  $ rviommu asm "$TESTDIR/../mapped.asm" image
+  $ begin="reg write ddtp 0x20000402
+  > reg write cqb 0x20024001
+  > reg write cqcsr 1
+  > dma read 5 0x40201abc 4 # => 11223344"
+  $ settled() { rviommu check --settled "$@" image; }
+
+A driver that invalidates before the frame is used by others is right, also if it gathers invalidations before one fence.
+
+  $ echo "$begin
+  > dma read 5 0x40202abc 4 # => 00000000
+  > store 0x80004008 8 0
+  > store 0x80004010 8 0
+  > put 0x80090000 cmd vma av=1 pscv=1 pscid=3 page=0x40201
+  > put 0x80090010 cmd vma av=1 pscv=1 pscid=3 page=0x40202
+  > put 0x80090020 cmd fence
+  > reg write cqt 3
+  > cmd run 9 # => 0x4 idle
+  > dma read 5 0x40201abc 4 # => denied 13
+  > dma read 5 0x40202abc 4 # => denied 13" | settled
+
+Without an invalidation an access isn't settled. It is told, also if the cache of this platform still serves it. A page that
+isn't used again is told at the end.
+
+  $ echo "$begin
+  > store 0x80004008 8 0
+  > dma read 5 0x40201abc 4 # => 11223344" | settled
+  $ echo "$begin
+  > store 0x80004008 8 0
+  > dma read 5 0x40201abc 4 # => 11223344" | settled --stale
+  $ echo "$begin
+  > store 0x80004008 8 0" | settled
+  $ echo "$begin
+  > store 0x80004008 8 0" | settled --tap
+  $ echo "$begin
+  > store 0x80004008 8 0" | rviommu check image
+
+Seventy other pages push the translation out of the cache of this platform, but not of every one.
+
+  $ { cat "$TESTDIR/../mapped.asm"
+  > echo 'at 0x80004018'
+  > for i in $(seq 70); do echo 'pte ppn=0x80010 flags=0xd7'; done; } > seventy.asm
+  $ rviommu asm seventy.asm seventy
+  $ { echo "$begin"
+  > for i in $(seq 70); do printf 'dma read 5 0x%x 4\n' $((0x40202abc + 4096 * i)); done
+  > echo 'store 0x80004008 8 0'
+  > echo 'dma read 5 0x40201abc 4 # => denied 13'; } > seventy_pages
+  $ rviommu check --stale seventy < seventy_pages
+  $ rviommu check --settled seventy < seventy_pages
+
+A table is freed, and its page used for other things, behind invalidations of the pages under it: they leave its pointer.
+
+  $ freed="$begin
+  > store 0x80003008 8 0
+  > put 0x80090000 cmd vma av=1 pscv=1 pscid=3 page=0x40201
+  > put 0x80090010 cmd fence
+  > reg write cqt 2
+  > cmd run 9 # => 0x3 idle
+  > store 0x80004008 8 0x200050d7
+  > dma read 5 0x40201abc 4 # => denied 13"
+  $ echo "$freed" | rviommu check --stale image
+  $ echo "$freed" | settled
+
+A wish for a stale access is about --stale alone.
+
+  $ echo "$begin
+  > store 0x80004008 8 0
+  > dma read 5 0x40201abc 4 # => 11223344 stale" | settled --stale
+
+Where an allocation for it is refused, it ends with that fault, never with other answers.
+
+  $ command -v cc > none || exit 80
+  $ cc -shared -fPIC -o refusing.so "$TESTDIR/../c/refusing.c"
+  $ echo "$freed" > freed
+  $ rviommu check --settled image < freed > ample
+  $ number=0; seen=nothing
+  $ while number=$((number + 1)); do
+  >   rm -f counted
+  >   env LD_PRELOAD=./refusing.so REFUSED=$number COUNTED=counted "$RVIOMMU_PROGRAM" check --settled image < freed > out 2> errors
+  >   ended=$?
+  >   test -e counted || break
+  >   case $ended in
+  >     1) cmp -s out ample || echo "allocation $number: other answers";;
+  >     3) grep -q '^rviommu: .*out of memory$' errors && seen='out of memory';;
+  >     *) test "$ended" = 2 || echo "allocation $number: $ended";;
+  >   esac
+  > done
+  $ echo "$seen"
