@@ -11,7 +11,10 @@ Each example has answers; those of its words are written, run where it names non
   >   cmp "$made/out" "${script%.script}.answers"
   >   test $status = 0 || echo "$script: $status, $(tail -n 1 "$made/out")"
   > done
+  freed_table.script: 1, 9 passed, 4 failed
   missing_invalidation.script: 1, 13 passed, 1 failed
+  owed.script: 1, 10 passed, 1 failed
+  seventy_pages.script: 1, 3 passed, 2 failed
   stopped_queue.script: 1, 17 passed, 1 failed
   $ ls *.script | wc -l > "$made/scripts"; ls *.answers | wc -l | cmp - "$made/scripts"
 

@@ -22,6 +22,7 @@ A driver that invalidates before the frame is used by others is right, also if i
   > cmd run 9 # => 0x4 idle
   > dma read 5 0x40201abc 4 # => denied 13
   > dma read 5 0x40202abc 4 # => denied 13" | settled
+  5 passed, 0 failed
 
 Without an invalidation an access isn't settled. It is told, also if the cache of this platform still serves it. A page that
 isn't used again is told at the end.
@@ -29,15 +30,36 @@ isn't used again is told at the end.
   $ echo "$begin
   > store 0x80004008 8 0
   > dma read 5 0x40201abc 4 # => 11223344" | settled
+  line 6: dma read 5 0x40201abc 4 -> 11223344, unsettled: read 0x40201abc may still go to addr=0x80010abc, the tables now say denied 13
+  line 6: read 0x40201000 of device 5, as in line 6, may still go to addr=0x80010000, the tables now say denied 13
+  1 passed, 2 failed
+  [1]
   $ echo "$begin
   > store 0x80004008 8 0
   > dma read 5 0x40201abc 4 # => 11223344" | settled --stale
+  line 6: dma read 5 0x40201abc 4 -> 11223344, stale: read 0x40201abc served by line 4, the tables now say denied 13, unsettled: read 0x40201abc may still go to addr=0x80010abc, the tables now say denied 13
+  line 6: place page 0 is stale: the tables now say denied 13
+  line 6: read 0x40201000 of device 5, as in line 6, may still go to addr=0x80010000, the tables now say denied 13
+  1 passed, 3 failed
+  [1]
   $ echo "$begin
   > store 0x80004008 8 0" | settled
+  line 5: read 0x40201000 of device 5, as in line 4, may still go to addr=0x80010000, the tables now say denied 13
+  1 passed, 1 failed
+  [1]
   $ echo "$begin
   > store 0x80004008 8 0" | settled --tap
+  TAP version 14
+  ok 1 - line 4: dma read 5 0x40201abc 4
+  not ok 2 - line 5: read 0x40201000 of device 5
+    ---
+    message: "line 5: read 0x40201000 of device 5, as in line 4, may still go to addr=0x80010000, the tables now say denied 13"
+    ...
+  1..2
+  [1]
   $ echo "$begin
   > store 0x80004008 8 0" | rviommu check image
+  1 passed, 0 failed
 
 Seventy other pages push the translation out of the cache of this platform, but not of every one.
 
@@ -50,7 +72,12 @@ Seventy other pages push the translation out of the cache of this platform, but 
   > echo 'store 0x80004008 8 0'
   > echo 'dma read 5 0x40201abc 4 # => denied 13'; } > seventy_pages
   $ rviommu check --stale seventy < seventy_pages
+  2 passed, 0 failed
   $ rviommu check --settled seventy < seventy_pages
+  line 76: dma read 5 0x40201abc 4 -> denied 13, unsettled: read 0x40201abc may still go to addr=0x80010abc, the tables now say denied 13
+  line 76: read 0x40201000 of device 5, as in line 76, may still go to addr=0x80010000, the tables now say denied 13
+  1 passed, 2 failed
+  [1]
 
 A table is freed, and its page used for other things, behind invalidations of the pages under it: they leave its pointer.
 
@@ -63,20 +90,31 @@ A table is freed, and its page used for other things, behind invalidations of th
   > store 0x80004008 8 0x200050d7
   > dma read 5 0x40201abc 4 # => denied 13"
   $ echo "$freed" | rviommu check --stale image
+  3 passed, 0 failed
   $ echo "$freed" | settled
+  line 11: dma read 5 0x40201abc 4 -> denied 13, unsettled: read 0x40201abc may still go to addr=0x80014abc, the tables now say denied 13
+  line 11: read 0x40201000 of device 5, as in line 11, may still go to addr=0x80014000, the tables now say denied 13
+  2 passed, 2 failed
+  [1]
 
 A wish for a stale access is about --stale alone.
 
   $ echo "$begin
   > store 0x80004008 8 0
   > dma read 5 0x40201abc 4 # => 11223344 stale" | settled --stale
+  line 6: dma read 5 0x40201abc 4 -> 11223344, stale: read 0x40201abc served by line 4, the tables now say denied 13, unsettled: read 0x40201abc may still go to addr=0x80010abc, the tables now say denied 13
+  line 6: place page 0 is stale: the tables now say denied 13
+  line 6: read 0x40201000 of device 5, as in line 6, may still go to addr=0x80010000, the tables now say denied 13
+  1 passed, 3 failed
+  [1]
 
-Where an allocation for it is refused, it ends with that fault, never with other answers.
+Where an allocation for it is refused, it ends with that fault, never with other answers. Before its words are read the status is 1.
 
   $ command -v cc > none || exit 80
   $ cc -shared -fPIC -o refusing.so "$TESTDIR/../c/refusing.c"
   $ echo "$freed" > freed
   $ rviommu check --settled image < freed > ample
+  [1]
   $ number=0; seen=nothing
   $ while number=$((number + 1)); do
   >   rm -f counted
@@ -84,9 +122,10 @@ Where an allocation for it is refused, it ends with that fault, never with other
   >   ended=$?
   >   test -e counted || break
   >   case $ended in
-  >     1) cmp -s out ample || echo "allocation $number: other answers";;
+  >     1) cmp -s out ample || grep -qx 'rviommu: out of memory' errors || echo "allocation $number: other answers";;
   >     3) grep -q '^rviommu: .*out of memory$' errors && seen='out of memory';;
   >     *) test "$ended" = 2 || echo "allocation $number: $ended";;
   >   esac
   > done
   $ echo "$seen"
+  out of memory
