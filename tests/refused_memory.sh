@@ -37,7 +37,7 @@ items_are_listed OutOfMemory
 parts_are_copied AllocError
 memory_is_made_of_words OutOfMemory 13
 memory_is_taken OutOfMemory 13
-words_are_put AllocError
+words_are_put AllocError 14
 board_is_taken OutOfMemory 14
 words_are_read_from_bytes OutOfMemory 13
 words_are_written_as_bytes AllocError
