@@ -19,18 +19,20 @@ use Rattle.iom_every.proofs.Kept.{asks_bare, executes_bare}
 use Rattle.iom_ways.specs.Ways.{AreAdded, Gathers, leads}
 use Rattle.iom_ways.specs.declared.ways.Ways.{Ways}
 use Rattle.iom_queue.specs.declared.command.Command.{Command}
-use Rattle.iom_owed.specs.Holdings.{HoldingsView, Keeps, at_page, entries_in, entry_of, request_of, requests_in}
-use Rattle.iom_owed.specs.Newest.{HasNoneTwice, steps_of}
-use Rattle.iom_owed.specs.Notes.{Adds, Renews, kept_of, left_by, made_by, made_of, read_by, without_dropped}
-use Rattle.iom_owed.specs.declared.noting.Kept.{Kept}
+use Rattle.iom_owed.specs.Holdings.{HoldingsView, Keeps, at_page, request_of, requests_in}
+use Rattle.iom_owed.specs.Newest.{steps_of}
+use Rattle.iom_owed.specs.Notes.{Adds, made_by, made_of, read_by, without_dropped}
+use Rattle.iom_held.specs.Kept.{HasNoneTwice, Renews, entries_in, entry_of, kept_of, left_by}
+use Rattle.iom_held.specs.declared.kept.Kept.{Kept}
+use Rattle.iom_held.proofs.Left.{entries_left, left_entries, left_kept, left_once}
+use Rattle.iom_held.proofs.Lists.{IsFrom, among_both, among_of, from_among, one_of}
+use Rattle.iom_held.proofs.Places.{renews_same}
 use Rattle.iom_owed.specs.declared.noting.Made.{Made}
-use Rattle.iom_owed.proofs.Left.{entries_left, left_entries, left_kept, left_once}
-use Rattle.iom_owed.proofs.Lists.{IsFrom, added_to_none, among_both, among_of, from_among, one_of}
-use Rattle.iom_owed.proofs.Places.{renews_same}
+use Rattle.iom_owed.proofs.Lists.{added_to_none}
 use Rattle.iom_owed.proofs.Reading.{could_read, read_could}
 
 -- the entries that are put in are those that were read, each under the number
-news_are : (number : ℕ) (reads : List Entry) → entries_in (map (kept_of number) reads) ≡ reads
+pub news_are : (number : ℕ) (reads : List Entry) → entries_in (map (kept_of number) reads) ≡ reads
 news_are number [] = refl
 news_are number (entry ∷ reads) = ap (λ (rest : List Entry). entry ∷ rest) (news_are number reads)
 
@@ -179,30 +181,24 @@ renews_gathered number reads gathered before after added p =
     )) p
 
 -- what a request adds that is made
-pub adds : (state : State) (request : Option Request) (one page : Request) (number : ℕ) (self : HoldingsView) (gathered : List Entry) (entries entries_after : List Kept) (requests requests_after : List Made) →
-    request ≡ Some one → page ≡ at_page one → entries ≡ self.entries → requests ≡ self.requests →
-    AreAdded (read_by state (entries_in self.entries) (Some one)) [] gathered →
-    Renews entry_of (map (kept_of number) gathered) entries entries_after → Renews request_of (made_of number page ∷ []) requests requests_after →
-    Adds state request number self (record { entries = entries_after; requests = requests_after })
-adds state request one page number self gathered entries entries_after requests requests_after asked paged entries_are requests_are added kept made =
-    let after : HoldingsView = record { entries = entries_after; requests = requests_after } in
-    let there : Adds state (Some one) number self after = record {
-      entries = renews_gathered number (read_by state (entries_in self.entries) (Some one)) gathered self.entries entries_after added
-          (subst (λ (before : List Kept). Renews entry_of (map (kept_of number) gathered) before entries_after) entries_are kept);
-      requests = subst (λ (before : List Made). Renews request_of (made_of number (at_page one) ∷ []) before requests_after) requests_are
-          (subst (λ (page : Request). Renews request_of (made_of number page ∷ []) requests requests_after) paged made);
+pub adds : (state : State) (request : Option Request) (one : Request) (number : ℕ) (before after : HoldingsView) (gathered : List Entry) → request ≡ Some one →
+    AreAdded (read_by state (entries_in before.entries) (Some one)) [] gathered →
+    Renews entry_of (map (kept_of number) gathered) before.entries after.entries → Renews request_of (made_of number (at_page one) ∷ []) before.requests after.requests →
+    Adds state request number before after
+adds state request one number before after gathered asked added kept made =
+    let there : Adds state (Some one) number before after = record {
+      entries = renews_gathered number (read_by state (entries_in before.entries) (Some one)) gathered before.entries after.entries added kept;
+      requests = made;
     } in
-    subst (λ (request : Option Request). Adds state request number self after) (sym asked) there
+    subst (λ (request : Option Request). Adds state request number before after) (sym asked) there
 
 -- what is gathered of a request over these entries, where nothing was
-pub gathered_led : (held kept : List Entry) (state : State) (request : Request) (before after : Ways) → held ≡ kept → before.led.items ≡ [] →
-    Gathers (ways_over held (tree_of state request)) before after → AreAdded (leads (ways_over kept (tree_of state request))) [] after.led.items
-gathered_led held kept state request before after same none done =
-    subst (λ (entries : List Entry). AreAdded (leads (ways_over entries (tree_of state request))) [] after.led.items) same
-    (subst (λ (start : List Led). AreAdded (leads (ways_over held (tree_of state request))) start after.led.items) none done.led)
+pub gathered_led : (held : List Entry) (state : State) (request : Request) (before after : Ways) → before.led.items ≡ [] →
+    Gathers (ways_over held (tree_of state request)) before after → AreAdded (leads (ways_over held (tree_of state request))) [] after.led.items
+gathered_led held state request before after none done =
+    subst (λ (start : List Led). AreAdded (leads (ways_over held (tree_of state request))) start after.led.items) none done.led
 
-pub gathered_reads : (held kept : List Entry) (state : State) (request : Request) (before after : Ways) → held ≡ kept → before.reads.items ≡ [] →
-    Gathers (ways_over held (tree_of state request)) before after → AreAdded (read_by state kept (Some request)) [] after.reads.items
-gathered_reads held kept state request before after same none done =
-    subst (λ (entries : List Entry). AreAdded (read_by state entries (Some request)) [] after.reads.items) same
-    (subst (λ (start : List Entry). AreAdded (read_by state held (Some request)) start after.reads.items) none done.reads)
+pub gathered_reads : (held : List Entry) (state : State) (request : Request) (before after : Ways) → before.reads.items ≡ [] →
+    Gathers (ways_over held (tree_of state request)) before after → AreAdded (read_by state held (Some request)) [] after.reads.items
+gathered_reads held state request before after none done =
+    subst (λ (start : List Entry). AreAdded (read_by state held (Some request)) start after.reads.items) none done.reads

@@ -1,11 +1,12 @@
 -- What the ways over what may be held say of a request.
-use Rattle.std.proofs.Common.{◌≡◌, ◌∙◌, ◌⊎◌, ◌++◌, ◌≢◌, ◌+◌, ◌<◌, ℕ, drop, get_or, length, false, List, [], ◌∷◌, map, Option, Some, None, refl, sym, ap, subst, inl, inr}
-use Rattle.std.specs.Prelude.{Bool, true, not, IsTrue, ◌↔◌, is_some}
-use Rattle.std.proofs.lemmas.List.{drop_more, map-append}
+use Rattle.std.proofs.Common.{◌≡◌, ◌∙◌, ◌⊎◌, ◌++◌, ◌≢◌, ◌+◌, ◌≤◌, ℕ, zero, suc, arith, drop, length, false, List, [], ◌∷◌, map, Option, Some, None, refl, sym, ap, subst, inl, inr}
+use Rattle.std.specs.Prelude.{Bool, true, not, IsTrue, ◌↔◌, is_some, slice_get}
+use Rattle.std.proofs.lemmas.List.{drop_all, drop_more, map-append}
+use Rattle.std.proofs.lemmas.Option.{get_or_from_slice_get, slice_get_within}
 use Rattle.iom_choices.specs.Models.{end_of}
 use Rattle.iom_choices.specs.Systems.{ModelWalk, IsAmong}
 use Rattle.iom_choices.specs.Trees.{ways_over}
-use Rattle.iom_choices.proofs.Lists.{among-left, among-right, among_either, each_of}
+use Rattle.iom_choices.proofs.Lists.{among-left, among-right, among_at, among_either, each_of}
 use Rattle.iom_choices.proofs.Trees.{alike_settled}
 use Rattle.iom_core.specs.Looking.{by_tables}
 use Rattle.iom_core.specs.State.{State}
@@ -19,13 +20,16 @@ use Rattle.iom_every.specs.Trees.{tree_of}
 use Rattle.iom_every.specs.Ways.{way_of}
 use Rattle.iom_every.proofs.Caching.{by_tables_is}
 use Rattle.iom_ways.specs.Ways.{leads}
-use Rattle.iom_owed.specs.Holdings.{HoldingsView, Keeps, entries_in}
+use Rattle.iom_owed.specs.Alone.{IsStepTold, IsTold}
+use Rattle.iom_held.specs.Kept.{entries_in}
+use Rattle.iom_owed.specs.Holdings.{HoldingsView, Keeps}
 use Rattle.iom_owed.specs.Newest.{steps_of}
-use Rattle.iom_owed.specs.Settled.{AreOwed, IsJudged, IsSettledNow, LeadsElsewhere}
+use Rattle.iom_owed.specs.Settled.{AreOwed, IsJudged, IsOwedAt, IsServed, IsSettledNow, IsStepJudged, LeadsElsewhere}
 use Rattle.iom_owed.specs.declared.noting.Made.{Made}
 use Rattle.iom_owed.specs.declared.settling.Owed.{Owed}
 use Rattle.iom_owed.specs.declared.settling.Unsettled.{Unsettled}
-use Rattle.iom_owed.proofs.Lists.{IsFrom, among_of, among_read, from_among}
+use Rattle.iom_owed.proofs.Alone.{none_served, one_served}
+use Rattle.iom_held.proofs.Lists.{IsFrom, among_of, from_among}
 use Rattle.iom_owed.proofs.Reading.{HasSource, source_of, trees}
 
 -- all ways lead where the tables lead
@@ -44,16 +48,17 @@ settled_by held state start taken request tables k told alike =
     ∙ told ∙ sym (by_tables_is at request))) in
     subst P (sym k.reached) there told alike
 
--- one of the ways leads elsewhere
+-- one of the ways leads elsewhere, and no entry alone does
 pub led_by : (held : HoldingsView) (state start : State) (taken : List (Step × ℕ)) (request : Request) (found : Unsettled) → Keeps held state start taken →
     found.tables ≡ by_tables state.machine request →
     IsAmong (leads (ways_over (entries_in held.entries) (tree_of (bare state) request))) found.elsewhere → found.elsewhere ≢ found.tables →
-    LeadsElsewhere start (steps_of taken) request found
-led_by held state start taken request found k told among differs =
+    IsServed held state request found.elsewhere found.number → LeadsElsewhere held start (steps_of taken) request found
+led_by held state start taken request found k told among differs served =
     let at : State = end_of platform start (steps_of taken) in
     let P : State → Type 0 = λ state. found.tables ≡ by_tables state.machine request →
-    IsAmong (leads (ways_over (entries_in held.entries) (tree_of (bare state) request))) found.elsewhere → LeadsElsewhere start (steps_of taken) request found in
-    let there : P at = λ told among.
+    IsAmong (leads (ways_over (entries_in held.entries) (tree_of (bare state) request))) found.elsewhere →
+    IsServed held state request found.elsewhere found.number → LeadsElsewhere held start (steps_of taken) request found in
+    let there : P at = λ told among served.
     let f : IsFrom (λ (way : ModelWalk Entry Led). way.led) (ways_over (entries_in held.entries) (tree_of (bare at) request)) found.elsewhere =
     from_among (λ (way : ModelWalk Entry Led). way.led) (ways_over (entries_in held.entries) (tree_of (bare at) request)) found.elsewhere among in
     let s : HasSource (May false start (steps_of taken)) (bare at) request f.thing =
@@ -63,33 +68,49 @@ led_by held state start taken request found k told among differs =
       led = ap (λ (way : ModelWalk Entry Led). way.led) s.is ∙ f.is;
       tables = sym told;
       differs = differs;
+      served = served;
     } in
-    subst P (sym k.reached) there told among
+    subst P (sym k.reached) there told among served
 
-some_led : {a b : Led} → Some a ≡ Some b → a ≡ b
-some_led is = search is
+-- what is told over what is held is the judgement
+pub told_judged : (held : HoldingsView) (state start : State) (taken : List (Step × ℕ)) (request : Request) (found : Option Unsettled) → Keeps held state start taken →
+    IsTold state held.entries request found → IsJudged held start (steps_of taken) request found
+told_judged held state start taken request None k alike = settled_by held state start taken request (by_tables state.machine request) k refl alike
+told_judged held state start taken request (Some found) k told = elim told [
+  | inl alone ↦ one_served held state start taken request (by_tables state.machine request) found k refl alone
+  | inr both ↦ led_by held state start taken request found k both.told both.led (λ same. both.differs (same ∙ both.told))
+      (subst (IsServed held state request found.elsewhere) (sym both.numbered) (none_served held state request (by_tables state.machine request) refl both.none))
+]
+
+pub step_judged : (held : HoldingsView) (state start : State) (taken : List (Step × ℕ)) (request : Option Request) (found : Option Unsettled) → Keeps held state start taken →
+    IsStepTold state held.entries request found → IsStepJudged held start (steps_of taken) request found
+step_judged held state start taken None found k told = told
+step_judged held state start taken (Some request) found k told = told_judged held state start taken request found k told
+
+some_thing : {X : Type 0} {a b : X} → Some a ≡ Some b → a ≡ b
+some_thing is = search is
 
 -- no request is settled and led elsewhere
-pub not_both : (start : State) (steps : List Step) (request : Request) (found : Unsettled) → LeadsElsewhere start steps request found → IsSettledNow start steps request → ⊥
-not_both start steps request found elsewhere settled =
+pub not_both : (held : HoldingsView) (start : State) (steps : List Step) (request : Request) (found : Unsettled) → LeadsElsewhere held start steps request found → IsSettledNow start steps request → ⊥
+not_both held start steps request found elsewhere settled =
     let same : (way_of (bare (end_of platform start steps)) elsewhere.source request).led ≡ (way_of (bare (end_of platform start steps)) [] request).led =
-    some_led (settled elsewhere.source elsewhere.may) in
+    some_thing (settled elsewhere.source elsewhere.may) in
     elsewhere.differs (sym elsewhere.led ∙ same ∙ by_tables_is (end_of platform start steps) request ∙ elsewhere.tables)
 
 -- what is owed of some requests, but for those that remain to be looked at
-pub record IsOwedBut (start : State) (steps : List Step) (made rest : List Made) (owed : List Owed) : Type 0 where
-  pub told : (each : Owed) → IsAmong owed each → IsAmong made each.made × LeadsElsewhere start steps each.made.request each.unsettled
-  pub settled : (each : Made) → IsAmong made each → IsAmong (map (λ (told : Owed). told.made) owed) each ⊎ (IsSettledNow start steps each.request ⊎ IsAmong rest each)
+pub record IsOwedBut (held : HoldingsView) (start : State) (steps : List Step) (rest : List Made) (owed : List Owed) : Type 0 where
+  pub told : (each : Owed) → IsAmong owed each → IsAmong held.requests each.made × LeadsElsewhere held start steps each.made.request each.unsettled
+  pub settled : (each : Made) → IsAmong held.requests each → IsAmong (map (λ (told : Owed). told.made) owed) each ⊎ (IsSettledNow start steps each.request ⊎ IsAmong rest each)
 
-pub owed_none : (start : State) (steps : List Step) (made : List Made) → IsOwedBut start steps made made []
-owed_none start steps made = record {
+pub owed_none : (held : HoldingsView) (start : State) (steps : List Step) → IsOwedBut held start steps held.requests []
+owed_none held start steps = record {
   told = λ each h. absurd h;
   settled = λ each h. inr (inr h);
 }
 
-pub owed_settled : (start : State) (steps : List Step) (made rest : List Made) (owed : List Owed) (one : Made) → IsOwedBut start steps made (one ∷ rest) owed →
-    IsSettledNow start steps one.request → IsOwedBut start steps made rest owed
-owed_settled start steps made rest owed one k settled = record {
+pub owed_settled : (held : HoldingsView) (start : State) (steps : List Step) (rest : List Made) (owed : List Owed) (one : Made) → IsOwedBut held start steps (one ∷ rest) owed →
+    IsSettledNow start steps one.request → IsOwedBut held start steps rest owed
+owed_settled held start steps rest owed one k settled = record {
   told = k.told;
   settled = λ each h. elim (k.settled each h) [
     | inl told ↦ inl told
@@ -106,15 +127,15 @@ owed_settled start steps made rest owed one k settled = record {
 abbrev pub owed_of : Made → Unsettled → Owed
 owed_of made unsettled = record { made = made; unsettled = unsettled }
 
-pub owed_more : (start : State) (steps : List Step) (made rest : List Made) (owed : List Owed) (one : Made) (found : Unsettled) → IsOwedBut start steps made (one ∷ rest) owed →
-    IsAmong made one → LeadsElsewhere start steps one.request found → IsOwedBut start steps made rest (owed ++ owed_of one found ∷ [])
-owed_more start steps made rest owed one found k among elsewhere =
+pub owed_more : (held : HoldingsView) (start : State) (steps : List Step) (rest : List Made) (owed : List Owed) (one : Made) (found : Unsettled) → IsOwedBut held start steps (one ∷ rest) owed →
+    IsAmong held.requests one → LeadsElsewhere held start steps one.request found → IsOwedBut held start steps rest (owed ++ owed_of one found ∷ [])
+owed_more held start steps rest owed one found k among elsewhere =
     let made_in : List Owed → List Made = λ owed. map (λ (told : Owed). told.made) owed in
     let keys : made_in (owed ++ owed_of one found ∷ []) ≡ made_in owed ++ one ∷ [] = map-append (λ (told : Owed). told.made) owed (owed_of one found ∷ []) in record {
       told = λ each h. elim (among_either owed (owed_of one found ∷ []) each h) [
         | inl before ↦ k.told each before
         | inr last ↦ elim last [
-          | inl same ↦ subst (λ (each : Owed). IsAmong made each.made × LeadsElsewhere start steps each.made.request each.unsettled) same (among, elsewhere)
+          | inl same ↦ subst (λ (each : Owed). IsAmong held.requests each.made × LeadsElsewhere held start steps each.made.request each.unsettled) same (among, elsewhere)
           | inr none ↦ absurd none
         ]
       ];
@@ -130,8 +151,8 @@ owed_more start steps made rest owed one found k among elsewhere =
       ];
     }
 
-pub owed_all : (start : State) (steps : List Step) (made : List Made) (owed : List Owed) → IsOwedBut start steps made [] owed → AreOwed start steps made owed
-owed_all start steps made owed k = record {
+pub owed_all : (held : HoldingsView) (start : State) (steps : List Step) (owed : List Owed) → IsOwedBut held start steps [] owed → AreOwed held start steps owed
+owed_all held start steps owed k = record {
   told = k.told;
   settled = λ each h. elim (k.settled each h) [
     | inl told ↦ inl told
@@ -143,22 +164,46 @@ owed_all start steps made owed k = record {
 }
 
 -- a judgement of None tells that it is settled
-pub told_settled : (start : State) (steps : List Step) (request : Request) (found : Option Unsettled) (settled : Bool) → is_some found ≡ not settled →
-    IsJudged start steps request found → IsTrue settled ↔ IsSettledNow start steps request
-told_settled start steps request None true is judged = (λ told. judged, λ same. refl)
-told_settled start steps request None false is judged = absurd (cc)
-told_settled start steps request (Some found) true is judged = absurd (cc)
-told_settled start steps request (Some found) false is judged = (λ told. absurd (cc), λ same. absurd (not_both start steps request found judged same))
+pub told_settled : (held : HoldingsView) (start : State) (steps : List Step) (request : Request) (found : Option Unsettled) (settled : Bool) → is_some found ≡ not settled →
+    IsJudged held start steps request found → IsTrue settled ↔ IsSettledNow start steps request
+told_settled held start steps request None true is judged = (λ told. judged, λ same. refl)
+told_settled held start steps request None false is judged = absurd (cc)
+told_settled held start steps request (Some found) true is judged = absurd (cc)
+told_settled held start steps request (Some found) false is judged = (λ told. absurd (cc), λ same. absurd (not_both held start steps request found judged same))
 
 -- one request of the list is looked at
-module _ (start : State) (steps : List Step) (made : List Made) (i : ℕ) (d : Made) (owed : List Owed) (inside : i < length made) (k : IsOwedBut start steps made (drop i made) owed) where
-  split : IsOwedBut start steps made (get_or made i d ∷ drop (i + 1) made) owed
-  split = subst (λ (rest : List Made). IsOwedBut start steps made rest owed) (drop_more made i d inside) k
+remains : {X : Type 0} (xs : List X) (i : ℕ) (x : X) → slice_get xs i ≡ Some x → drop i xs ≡ x ∷ drop (i + 1) xs
+remains {X} xs i x is =
+    drop_more xs i x (slice_get_within xs i x is) ∙ ap (λ (y : X). y ∷ drop (i + 1) xs) (get_or_from_slice_get xs i x x is)
 
-  pub looked_settled : IsSettledNow start steps (get_or made i d).request → IsOwedBut start steps made (drop (i + 1) made) owed
-  looked_settled settled = owed_settled start steps made (drop (i + 1) made) owed (get_or made i d) split settled
+none_past : {X : Type 0} (xs : List X) (i : ℕ) → slice_get xs i ≡ None → length xs ≤ i
+none_past [] i is = omega arith
+none_past (y ∷ xs) zero is = absurd (cc)
+none_past (y ∷ xs) (suc i) is = let h : length xs ≤ i = none_past xs i is in omega arith
 
-  pub looked_owed : (found : Unsettled) → LeadsElsewhere start steps (get_or made i d).request found →
-      IsOwedBut start steps made (drop (i + 1) made) (owed ++ owed_of (get_or made i d) found ∷ [])
-  looked_owed found elsewhere =
-      owed_more start steps made (drop (i + 1) made) owed (get_or made i d) found split (among_read made i (get_or made i d) d inside refl) elsewhere
+remain_none : {X : Type 0} (xs : List X) (i : ℕ) → slice_get xs i ≡ None → drop (i + 1) xs ≡ drop i xs
+remain_none xs i is =
+    let h : length xs ≤ i = none_past xs i is in drop_all (i + 1) xs (omega arith) ∙ sym (drop_all i xs h)
+
+module _ (held : HoldingsView) (start : State) (steps : List Step) (i : ℕ) (owed : List Owed) (k : IsOwedBut held start steps (drop i held.requests) owed) where
+  looked_none : (made : Option Made) → slice_get held.requests i ≡ made → IsOwedAt held start steps made None → IsOwedBut held start steps (drop (i + 1) held.requests) owed
+  looked_none None at settled = subst (λ (rest : List Made). IsOwedBut held start steps rest owed) (sym (remain_none held.requests i at)) k
+  looked_none (Some made) at settled =
+      owed_settled held start steps (drop (i + 1) held.requests) owed made
+      (subst (λ (rest : List Made). IsOwedBut held start steps rest owed) (remains held.requests i made at) k) settled
+
+  looked_one : (made : Option Made) (one : Owed) → slice_get held.requests i ≡ made → IsOwedAt held start steps made (Some one) →
+      IsOwedBut held start steps (drop (i + 1) held.requests) (owed ++ one ∷ [])
+  looked_one None one at none = absurd (cc)
+  looked_one (Some made) one at is =
+      let here : Owed = owed_of made one.unsettled in
+      let same : here ≡ one = λ j. owed_of (sym is.0 j) one.unsettled in
+      subst (λ (each : Owed). IsOwedBut held start steps (drop (i + 1) held.requests) (owed ++ each ∷ [])) same
+      (owed_more held start steps (drop (i + 1) held.requests) owed made one.unsettled
+      (subst (λ (rest : List Made). IsOwedBut held start steps rest owed) (remains held.requests i made at) k) (among_at held.requests i made at) is.1)
+
+  pub looked_settled : IsOwedAt held start steps (slice_get held.requests i) None → IsOwedBut held start steps (drop (i + 1) held.requests) owed
+  looked_settled settled = looked_none (slice_get held.requests i) refl settled
+
+  pub looked_owed : (one : Owed) → IsOwedAt held start steps (slice_get held.requests i) (Some one) → IsOwedBut held start steps (drop (i + 1) held.requests) (owed ++ one ∷ [])
+  looked_owed one is = looked_one (slice_get held.requests i) one refl is

@@ -1,7 +1,8 @@
 pub mod Lists
-pub mod Places
+pub mod Results
+pub mod Numbers
 pub mod Reading
-pub mod Left
 pub mod Followed
+pub mod Alone
 pub mod Judged
 pub mod Settled

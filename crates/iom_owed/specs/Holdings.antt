@@ -12,22 +12,17 @@ use Rattle.iom_core.specs.declared.step.Step.{Step}
 use Rattle.iom_every.specs.declared.entry.Entry.{Entry}
 use Rattle.iom_every.specs.Every.{May, iommu, platform}
 use Rattle.iom_every.specs.Rows.{bare}
-use Rattle.iom_owed.specs.Newest.{HasNoneTwice, IsNewest, steps_of}
-use Rattle.iom_owed.specs.declared.noting.Kept.{Kept}
+use Rattle.iom_held.specs.Kept.{HasNoneTwice, entries_in}
+use Rattle.iom_owed.specs.Newest.{IsNewest, steps_of}
+use Rattle.iom_held.specs.declared.kept.Kept.{Kept}
 use Rattle.iom_owed.specs.declared.noting.Made.{Made}
 
 pub record HoldingsView : Type 0 where
   pub entries : List Kept
   pub requests : List Made
 
-abbrev pub entry_of : Kept → Entry
-entry_of kept = kept.entry
-
 abbrev pub request_of : Made → Request
 request_of made = made.request
-
-abbrev pub entries_in : List Kept → List Entry
-entries_in kept = map entry_of kept
 
 abbrev pub requests_in : List Made → List Request
 requests_in made = map request_of made

@@ -1,4 +1,6 @@
 pub mod Newest
 pub mod Holdings
+pub mod Keys
 pub mod Notes
+pub mod Alone
 pub mod Settled

@@ -1,7 +1,6 @@
 -- What steps have, with the number of the newest step that has it. Steps are listed newest first, each with its number.
 use Rattle.std.specs.Prelude.{ℕ, ◌≡◌, ◌⊎◌, List, [], ◌∷◌, map}
 use Rattle.iom_core.specs.declared.step.Step.{Step}
-use Rattle.iom_choices.specs.Systems.{IsAmong}
 
 abbrev pub steps_of : List (Step × ℕ) → List Step
 steps_of taken = map (λ (each : Step × ℕ). each.0) taken
@@ -12,8 +11,3 @@ IsNewest has [] x number = ⊥
 IsNewest has (last ∷ taken) x number =
     (has (steps_of taken) last.0 x × (number ≡ last.1))
     ⊎ ((has (steps_of taken) last.0 x → ⊥) × IsNewest has taken x number)
-
--- no two of a list are the same
-abbrev pub HasNoneTwice : {X : Type 0} → List X → Type 0
-HasNoneTwice [] = Unit {0}
-HasNoneTwice (x ∷ xs) = (IsAmong xs x → ⊥) × HasNoneTwice xs

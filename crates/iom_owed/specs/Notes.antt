@@ -1,28 +1,14 @@
 -- What a step leaves of what is kept.
-use Rattle.std.specs.Prelude.{ℕ, ◌⊎◌, not, List, [], ◌∷◌, filter, map, Option, Some, None}
-use Rattle.iom_choices.specs.Systems.{IsAmong}
+use Rattle.std.specs.Prelude.{ℕ, List, [], ◌∷◌, map, Option, Some, None}
 use Rattle.iom_choices.specs.Trees.{reads_in, ways_of}
 use Rattle.iom_core.specs.State.{State}
 use Rattle.iom_core.specs.declared.access.Request.{Request}
-use Rattle.iom_every.specs.Drops.{drops_entry}
 use Rattle.iom_every.specs.declared.entry.Entry.{Entry}
 use Rattle.iom_every.specs.Trees.{tree_of}
 use Rattle.iom_queue.specs.declared.command.Command.{Command}
-use Rattle.iom_owed.specs.Holdings.{HoldingsView, at_page, entries_in, entry_of, request_of}
-use Rattle.iom_owed.specs.Newest.{HasNoneTwice}
-use Rattle.iom_owed.specs.declared.noting.Kept.{Kept}
+use Rattle.iom_held.specs.Kept.{Renews, entries_in, entry_of, kept_of, left_by}
+use Rattle.iom_owed.specs.Holdings.{HoldingsView, at_page, request_of}
 use Rattle.iom_owed.specs.declared.noting.Made.{Made}
-
--- New things are put into a list, each in place of the one that is of the same. `of` is what a thing is of.
-pub record Renews {N X : Type 0} (of : N → X) (news before after : List N) : Type 0 where
-  pub all : (x : X) → IsAmong (map of after) x → IsAmong (map of before) x ⊎ IsAmong (map of news) x
-  pub kept : (x : X) → IsAmong (map of before) x ⊎ IsAmong (map of news) x → IsAmong (map of after) x
-  pub each : HasNoneTwice (map of before) → (n : N) → IsAmong after n →
-      IsAmong news n ⊎ (IsAmong before n × (IsAmong (map of news) (of n) → ⊥))
-  pub once : HasNoneTwice (map of before) → HasNoneTwice (map of after)
-
-abbrev pub kept_of : ℕ → Entry → Kept
-kept_of number entry = record { entry = entry; number = number }
 
 abbrev pub made_of : ℕ → Request → Made
 made_of number request = record { request = request; number = number }
@@ -42,9 +28,5 @@ pub record Adds (state : State) (request : Option Request) (number : ℕ) (befor
   pub requests : Renews request_of (made_by number request) before.requests after.requests
 
 -- what a step's command leaves
-abbrev pub left_by : Option Command → List Kept → List Kept
-left_by None kept = kept
-left_by (Some command) kept = filter (λ (each : Kept). not (drops_entry command each.entry)) kept
-
 abbrev pub without_dropped : Option Command → HoldingsView → HoldingsView
 without_dropped command held = record held { entries = left_by command held.entries }

@@ -1,5 +1,5 @@
 -- Whether it makes a difference to a request what an IOMMU holds: RISC-V IOMMU Architecture 1.0, "Caching in-memory data structures".
-use Rattle.std.specs.Prelude.{◌≡◌, ◌≢◌, ◌⊎◌, false, List, ◌∷◌, [], map, Option, Some, None}
+use Rattle.std.specs.Prelude.{ℕ, ◌≡◌, ◌≢◌, ◌⊎◌, false, List, ◌∷◌, [], map, Option, Some, None}
 use Rattle.iom_choices.specs.Models.{end_of}
 use Rattle.iom_choices.specs.Settled.{EachUse, IsSettled}
 use Rattle.iom_choices.specs.Systems.{IsAmong}
@@ -8,11 +8,14 @@ use Rattle.iom_core.specs.State.{State}
 use Rattle.iom_core.specs.Table.{request_of_step}
 use Rattle.iom_core.specs.declared.access.Request.{Request}
 use Rattle.iom_core.specs.declared.step.Step.{Step}
+use Rattle.iom_core.specs.declared.way.Way.{Way as Led}
 use Rattle.iom_every.specs.declared.entry.Entry.{Entry}
 use Rattle.iom_every.specs.Every.{May, iommu, platform}
 use Rattle.iom_every.specs.Rows.{bare}
 use Rattle.iom_every.specs.Uses.{Look}
 use Rattle.iom_every.specs.Ways.{way_of}
+use Rattle.iom_owed.specs.Holdings.{HoldingsView}
+use Rattle.iom_held.specs.declared.kept.Kept.{Kept}
 use Rattle.iom_owed.specs.declared.noting.Made.{Made}
 use Rattle.iom_owed.specs.declared.settling.Owed.{Owed}
 use Rattle.iom_owed.specs.declared.settling.Unsettled.{Unsettled}
@@ -21,23 +24,54 @@ use Rattle.iom_owed.specs.declared.settling.Unsettled.{Unsettled}
 abbrev pub IsSettledNow : State → List Step → Request → Type 0
 IsSettledNow start steps request = IsSettled (iommu false) (May false start steps) (bare (end_of platform start steps)) (Some request)
 
+-- An entry with this number alone leads the request there: each look-up uses it, or reads memory.
+pub record IsServedBy (held : HoldingsView) (state : State) (request : Request) (way : Led) (number : ℕ) : Type 0 where
+  pub kept : Kept
+  pub among : IsAmong held.entries kept
+  pub numbered : kept.number ≡ number
+  pub source : List (Look × Entry)
+  pub alone : EachUse (λ entry. entry ≡ kept.entry) source
+  pub led : (way_of (bare state) source request).led ≡ way
+
+-- each entry alone leads the request where memory leads it
+abbrev pub NoneServes : HoldingsView → State → Request → Type 0
+NoneServes held state request =
+    (kept : Kept) → IsAmong held.entries kept → IsSettled (iommu false) (λ entry. entry ≡ kept.entry) (bare state) (Some request)
+
+-- the number of an entry that alone leads the request there; None: no entry alone leads it elsewhere than memory
+abbrev pub IsServed : HoldingsView → State → Request → Led → Option ℕ → Type 0
+IsServed held state request way None = NoneServes held state request
+IsServed held state request way (Some number) = IsServedBy held state request way number
+
 -- Entries that may be held lead the request elsewhere than the tables do.
-pub record LeadsElsewhere (start : State) (steps : List Step) (request : Request) (found : Unsettled) : Type 0 where
+pub record LeadsElsewhere (held : HoldingsView) (start : State) (steps : List Step) (request : Request) (found : Unsettled) : Type 0 where
   pub source : List (Look × Entry)
   pub may : EachUse (May false start steps) source
   pub led : (way_of (bare (end_of platform start steps)) source request).led ≡ found.elsewhere
   pub tables : by_tables (end_of platform start steps).machine request ≡ found.tables
   pub differs : found.elsewhere ≢ found.tables
+  pub served : IsServed held (end_of platform start steps) request found.elsewhere found.number
 
 -- None: it is settled
-abbrev pub IsJudged : State → List Step → Request → Option Unsettled → Type 0
-IsJudged start steps request None = IsSettledNow start steps request
-IsJudged start steps request (Some found) = LeadsElsewhere start steps request found
+abbrev pub IsJudged : HoldingsView → State → List Step → Request → Option Unsettled → Type 0
+IsJudged held start steps request None = IsSettledNow start steps request
+IsJudged held start steps request (Some found) = LeadsElsewhere held start steps request found
+
+-- of a step's request; None: it makes none, or it is settled
+abbrev pub IsStepJudged : HoldingsView → State → List Step → Option Request → Option Unsettled → Type 0
+IsStepJudged held start steps None found = found ≡ None
+IsStepJudged held start steps (Some request) found = IsJudged held start steps request found
+
+-- a request that was made, if there is one, is owed; None: it is settled
+abbrev pub IsOwedAt : HoldingsView → State → List Step → Option Made → Option Owed → Type 0
+IsOwedAt held start steps None found = found ≡ None
+IsOwedAt held start steps (Some made) None = IsSettledNow start steps made.request
+IsOwedAt held start steps (Some made) (Some owed) = (owed.made ≡ made) × LeadsElsewhere held start steps made.request owed.unsettled
 
 -- these are what is owed: the requests that were made and aren't settled, each with a way that leads elsewhere
-pub record AreOwed (start : State) (steps : List Step) (made : List Made) (owed : List Owed) : Type 0 where
-  pub told : (each : Owed) → IsAmong owed each → IsAmong made each.made × LeadsElsewhere start steps each.made.request each.unsettled
-  pub settled : (each : Made) → IsAmong made each → IsAmong (map (λ (told : Owed). told.made) owed) each ⊎ IsSettledNow start steps each.request
+pub record AreOwed (held : HoldingsView) (start : State) (steps : List Step) (owed : List Owed) : Type 0 where
+  pub told : (each : Owed) → IsAmong owed each → IsAmong held.requests each.made × LeadsElsewhere held start steps each.made.request each.unsettled
+  pub settled : (each : Made) → IsAmong held.requests each → IsAmong (map (λ (told : Owed). told.made) owed) each ⊎ IsSettledNow start steps each.request
 
 -- what a step requests, if it makes an access, is settled before the step
 abbrev pub IsSettledBefore : State → List Step → Option Request → Type 0

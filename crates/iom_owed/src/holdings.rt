@@ -1,21 +1,25 @@
 //! What an IOMMU may hold, beside a platform that takes its steps.
 
-ghost use Rattle.std.specs.Prelude.{◌≡◌, ℕ, List, ◌∷◌, [], IfOk, OnErr, OnOk, Some};
-ghost use Rattle.iom_choices.specs.Trees.{ways_over};
-ghost use Rattle.iom_core.specs.State.{State, state_on};
-ghost use Rattle.iom_core.specs.Table.{next};
+ghost use Rattle.std.specs.Prelude.{◌≡◌, ℕ, List, ◌∷◌, [], length, slice_get, IfOk, OnErr, OnOk};
+ghost use Rattle.iom_core.specs.Looking.{by_tables};
+ghost use Rattle.iom_core.specs.State.{State, in_front_of, state_on};
+ghost use Rattle.iom_core.specs.Table.{executed, next, request_of_step};
 ghost use Rattle.iom_every.specs.Rows.{bare};
-ghost use Rattle.iom_every.specs.Trees.{tree_of};
-ghost use Rattle.iom_owed.specs.Holdings.{Keeps, entries_in};
-ghost use Rattle.iom_owed.specs.Notes.{Adds, read_by, without_dropped};
-ghost use Rattle.iom_ways.specs.Ways.{AreAdded, leads};
+ghost use Rattle.iom_owed.specs.Holdings.{Keeps};
+ghost use Rattle.iom_owed.specs.Alone.{IsStepTold};
+ghost use Rattle.iom_owed.specs.Newest.{steps_of};
+ghost use Rattle.iom_owed.specs.Notes.{Adds, without_dropped};
+ghost use Rattle.iom_owed.specs.Settled.{IsStepJudged};
 
 use crate::executed::executed;
-use crate::noting::{Kept, Made, at_page, entries_in, forget, renew_entries, renew_request};
+use crate::gathering::{gather, no_ways, note};
+use crate::noting::{Made, Numbers, made_at};
+use crate::settling::{Unsettled, judge};
+use indexmap::IndexMap;
 use iom_core::{Board, Request, Step};
+use iom_held::HeldEntries;
 use iom_mem::Region;
-use iom_queue::Command;
-use iom_ways::{Ways, put_ways};
+use iom_ways::Ways;
 use std::alloc::{AllocError, Global};
 use std::marker::Model;
 
@@ -23,45 +27,55 @@ use std::marker::Model;
 #[derive(Drop)]
 pub struct Holdings {
     // The entries, each once.
-    pub(crate) entries: Vec<Kept>,
-    // The requests, each once.
-    pub(crate) requests: Vec<Made>,
+    pub(crate) entries: HeldEntries,
+    // The requests, each once, with their numbers.
+    pub(crate) requests: Numbers,
+    // The ways of the last step's request: room that the next step uses again.
+    ways: Ways,
 }
 
 impl Model for Holdings {
     ghost use Rattle.iom_owed.specs.Holdings.{HoldingsView};
+    ghost use Rattle.iom_owed.specs.Keys.{made_in};
 
     ghost Value = { HoldingsView };
 
-    ghost view = { λ h. record { entries = h.entries.items; requests = h.requests.items } };
+    ghost view = { λ h. record { entries = h.entries; requests = made_in h.requests.entries } };
 }
 
 impl Holdings {
     ghost use Rattle.iom_core.specs.declared.step.Step.{Step};
-    ghost use Rattle.iom_every.specs.declared.entry.Entry.{Entry};
 
     /// Nothing held and nothing made: for a platform that has taken no step yet. It takes no memory.
     pub fn new(alloc: Global) -> Holdings
         ensures { (start : State) → Keeps result start start [] }
     {
         Holdings {
-            entries: Vec::new(alloc),
-            requests: Vec::new(alloc),
+            entries: HeldEntries::new(alloc),
+            requests: IndexMap::new(alloc),
+            ways: no_ways(alloc),
         }
     }
 
     /// The entries that may be held now, each once.
-    pub fn entries(&self) -> &[Kept]
+    pub fn entries(&self) -> &HeldEntries
         ensures { result.now ≡ self.now.entries }
     {
         &self.entries
     }
 
-    /// The requests that the steps made, each once, for the first byte of its page.
-    pub fn requests(&self) -> &[Made]
-        ensures { result.now ≡ self.now.requests }
+    /// How many requests the steps made, each counted once, for the first byte of its page.
+    pub fn request_count(&self) -> usize
+        ensures { result ≡ length self.now.requests }
     {
-        &self.requests
+        self.requests.len()
+    }
+
+    /// The request of this place among those that the steps made, in the order in which they were first made; None beyond the last.
+    pub fn request(&self, i: usize) -> Option<Made>
+        ensures { result ≡ slice_get self.now.requests i }
+    {
+        made_at(&self.requests, i)
     }
 
     /// Follows a step that this board takes next in front of this memory, under the caller's `number`: call it before the step. The fault
@@ -79,9 +93,28 @@ impl Holdings {
     {
         let request = board.request_of(ram, step);
         self.add(board, ram, request, number)?;
-        let command = executed(board, ram, step);
-        self.drop_by(command);
+        self.drop_executed(board, ram, step);
         Ok(())
+    }
+
+    /// Follows a step as `follow` does, and answers what `unsettled` says of its request before the step; None if it makes none.
+    pub fn judge_and_follow<M: Region>(
+        &mut self,
+        board: &Board,
+        ram: &M,
+        step: &Step,
+        number: u64,
+    ) -> Result<Option<Unsettled>, AllocError>
+        ensures judged { (start : State) (taken : List (Step × ℕ)) → Keeps self.old (state_on (M.memory ram.now) board.now) start taken →
+            IfOk result (IsStepJudged self.old start (steps_of taken) (request_of_step (state_on (M.memory ram.now) board.now) step.now)) }
+        ensures keeps { (start : State) (taken : List (Step × ℕ)) → Keeps self.old (state_on (M.memory ram.now) board.now) start taken →
+            OnOk result (Keeps self.new (next (state_on (M.memory ram.now) board.now) step.now).state start ((step.now, number) ∷ taken)) }
+        ensures unchanged { OnErr result (self.new ≡ self.old) }
+    {
+        let request = board.request_of(ram, step);
+        let found = self.judge_and_add(board, ram, request, number)?;
+        self.drop_executed(board, ram, step);
+        Ok(found)
     }
 
     // Adds a step's request, if it makes one, and the entries that it can read.
@@ -98,40 +131,48 @@ impl Holdings {
         let Some(request) = request else {
             return Ok(());
         };
-        let ways = self.ways(board, ram, &request)?;
-        self.entries.reserve(ways.reads.len())?;
-        self.requests.reserve(1)?;
-        renew_entries(&mut self.entries, &ways.reads, number);
-        renew_request(&mut self.requests, &at_page(&request), number);
-        Ok(())
+        gather(&mut self.ways, board, ram, &self.entries, &request)?;
+        note(
+            &mut self.entries,
+            &mut self.requests,
+            &request,
+            &self.ways.reads,
+            number,
+        )
     }
 
-    // Takes out the entries that a command drops.
-    fn drop_by(&mut self, command: Option<Command>)
-        ensures { self.new ≡ without_dropped command self.old }
-    {
-        forget(&mut self.entries, command);
-    }
-
-    // The ways of a request over what may be held.
-    pub(crate) fn ways<M: Region>(
-        &self,
+    // The same, and what is said of the request by the same ways.
+    fn judge_and_add<M: Region>(
+        &mut self,
         board: &Board,
         ram: &M,
-        request: &Request,
-    ) -> Result<Ways, AllocError>
-        ensures led { IfOk result (λ ways. AreAdded
-            (leads (ways_over (entries_in self.now.entries) (tree_of (bare (state_on (M.memory ram.now) board.now)) request.now))) [] ways.led.items) }
-        ensures reads { IfOk result (λ ways. AreAdded
-            (read_by (bare (state_on (M.memory ram.now) board.now)) (entries_in self.now.entries) (Some request.now)) [] ways.reads.items) }
+        request: Option<Request>,
+        number: u64,
+    ) -> Result<Option<Unsettled>, AllocError>
+        ensures told { IfOk result (IsStepTold (state_on (M.memory ram.now) board.now) self.old.entries request) }
+        ensures added { OnOk result (Adds (bare (state_on (M.memory ram.now) board.now)) request number self.old self.new) }
+        ensures unchanged { OnErr result (self.new ≡ self.old) }
     {
-        let alloc = *self.entries.allocator();
-        let held = entries_in(alloc, self.entries())?;
-        let mut ways = Ways {
-            led: Vec::new(alloc),
-            reads: Vec::new(alloc),
+        let Some(request) = request else {
+            return Ok(None);
         };
-        put_ways(&mut ways, ram, board.registers(), &held, request)?;
-        Ok(ways)
+        gather(&mut self.ways, board, ram, &self.entries, &request)?;
+        let alloc = *self.requests.allocator();
+        let found = judge(alloc, board, ram, &self.entries, &self.ways.led, &request)?;
+        note(
+            &mut self.entries,
+            &mut self.requests,
+            &request,
+            &self.ways.reads,
+            number,
+        )?;
+        Ok(found)
+    }
+
+    // Takes out the entries that a step's command drops.
+    fn drop_executed<M: Region>(&mut self, board: &Board, ram: &M, step: &Step)
+        ensures { self.new ≡ without_dropped (executed (state_on (M.memory ram.now) board.now) step.now) self.old }
+    {
+        self.entries.forget(executed(board, ram, step));
     }
 }

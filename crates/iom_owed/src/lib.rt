@@ -4,12 +4,15 @@
 #![tactic(auto)]
 
 pub use holdings::Holdings;
+pub use iom_held::Kept;
 pub use law::settled_steps_are_answered_alike;
-pub use noting::{Kept, Made};
+pub use noting::Made;
 pub use settling::{Owed, Unsettled};
 
 mod executed;
+mod gathering;
 mod holdings;
 mod law;
 mod noting;
+mod serving;
 mod settling;

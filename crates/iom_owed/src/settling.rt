@@ -1,20 +1,27 @@
 //! Whether it makes a difference to a request what an IOMMU holds.
 
-ghost use Rattle.std.specs.Prelude.{◌≡◌, ◌≢◌, ◌↔◌, ℕ, List, ◌∷◌, [], IfNone, IfOk, IfSome, IsTrue};
+ghost use Rattle.std.specs.Prelude.{◌≡◌, ◌≢◌, ◌↔◌, ℕ, List, ◌∷◌, [], slice_get, IfNone, IfOk, IfSome, IsTrue};
 ghost use Rattle.iom_choices.specs.Systems.{IsAmong};
 ghost use Rattle.iom_core.specs.Looking.{by_tables};
 ghost use Rattle.iom_core.specs.State.{State, in_front_of, state_on};
 ghost use Rattle.iom_core.specs.declared.way.Way.{Way as Led};
+ghost use Rattle.iom_every.specs.Rows.{bare};
+ghost use Rattle.iom_held.specs.Kept.{entries_in};
+ghost use Rattle.iom_owed.specs.Alone.{IsTold, leads_over};
+ghost use Rattle.iom_ways.specs.Ways.{AreAdded};
 ghost use Rattle.iom_owed.specs.Holdings.{Keeps};
 ghost use Rattle.iom_owed.specs.Newest.{steps_of};
-ghost use Rattle.iom_owed.specs.Settled.{AreOwed, IsJudged, IsSettledNow};
+ghost use Rattle.iom_owed.specs.Settled.{AreOwed, IsJudged, IsOwedAt, IsSettledNow};
 
+use crate::gathering::{gather, no_ways};
 use crate::holdings::Holdings;
 use crate::noting::Made;
+use crate::serving::served_alone;
 use iom_core::{Board, Request, Way};
+use iom_held::HeldEntries;
 use iom_mem::Region;
-use iom_ways::is_same_way;
-use std::alloc::AllocError;
+use iom_ways::{Ways, is_same_way};
+use std::alloc::{AllocError, Global};
 
 /// A request that isn't settled: an IOMMU may lead it elsewhere than the tables do.
 #[derive(Clone, Copy)]
@@ -23,6 +30,9 @@ pub struct Unsettled {
     pub elsewhere: Way,
     /// The way by the tables, which differs.
     pub tables: Way,
+    /// The number of an entry that alone leads it to `elsewhere`, wherever a look-up uses it and all else is read from memory: that of the
+    /// newest step that could read it. None if no single entry leads it elsewhere than the tables do.
+    pub number: Option<u64>,
 }
 
 /// A request that was made and isn't settled now: an invalidation is owed.
@@ -52,8 +62,8 @@ impl Holdings {
         Ok(unsettled.is_none())
     }
 
-    /// A way by entries that may be held that leads a request elsewhere than the tables in this memory do; None if it is settled. The fault
-    /// is a refused allocation.
+    /// A way by entries that may be held that leads a request elsewhere than the tables in this memory do, with the number of the entry that
+    /// may still serve it, if one alone does; None if it is settled. The fault is a refused allocation.
     pub fn unsettled<M: Region>(
         &self,
         board: &Board,
@@ -61,32 +71,97 @@ impl Holdings {
         request: &Request,
     ) -> Result<Option<Unsettled>, AllocError>
         ensures { (start : State) (taken : List (Step × ℕ)) → Keeps self.now (state_on (M.memory ram.now) board.now) start taken →
-            IfOk result (IsJudged start (steps_of taken) request.now) }
+            IfOk result (IsJudged self.now start (steps_of taken) request.now) }
     {
-        let tables = way_by_tables(board, ram, request);
-        let ways = self.ways(board, ram, request)?;
-        let Some(elsewhere) = first_other(&ways.led, &tables) else {
-            return Ok(None);
-        };
-        Ok(Some(Unsettled { elsewhere, tables }))
+        let mut ways = no_ways(*self.requests.allocator());
+        self.unsettled_by(board, ram, request, &mut ways)
+    }
+
+    // The same, in this room for its ways.
+    fn unsettled_by<M: Region>(
+        &self,
+        board: &Board,
+        ram: &M,
+        request: &Request,
+        ways: &mut Ways,
+    ) -> Result<Option<Unsettled>, AllocError>
+        ensures { (start : State) (taken : List (Step × ℕ)) → Keeps self.now (state_on (M.memory ram.now) board.now) start taken →
+            IfOk result (IsJudged self.now start (steps_of taken) request.now) }
+    {
+        let alloc = *self.requests.allocator();
+        gather(ways, board, ram, &self.entries, request)?;
+        judge(alloc, board, ram, &self.entries, &ways.led, request)
     }
 
     /// What is owed: the requests that were made and aren't settled now. The fault is a refused allocation.
     pub fn owed<M: Region>(&self, board: &Board, ram: &M) -> Result<Vec<Owed>, AllocError>
         ensures { (start : State) (taken : List (Step × ℕ)) → Keeps self.now (state_on (M.memory ram.now) board.now) start taken →
-            IfOk result (λ owed. AreOwed start (steps_of taken) self.now.requests owed.items) }
+            IfOk result (λ owed. AreOwed self.now start (steps_of taken) owed.items) }
     {
-        let mut owed = Vec::new(*self.requests.allocator());
-        for made in &self.requests {
-            if let Some(unsettled) = self.unsettled(board, ram, &made.request)? {
-                owed.push(Owed {
-                    made: *made,
-                    unsettled,
-                })?;
+        let alloc = *self.requests.allocator();
+        let mut ways = no_ways(alloc);
+        let mut owed = Vec::new(alloc);
+        for i in 0..self.request_count() {
+            if let Some(each) = self.owed_at(board, ram, i, &mut ways)? {
+                owed.push(each)?;
             }
         }
         Ok(owed)
     }
+
+    // Whether the request of this place is owed, in this room for its ways.
+    fn owed_at<M: Region>(
+        &self,
+        board: &Board,
+        ram: &M,
+        i: usize,
+        ways: &mut Ways,
+    ) -> Result<Option<Owed>, AllocError>
+        ensures { (start : State) (taken : List (Step × ℕ)) → Keeps self.now (state_on (M.memory ram.now) board.now) start taken →
+            IfOk result (IsOwedAt self.now start (steps_of taken) (slice_get self.now.requests i)) }
+    {
+        let Some(made) = self.request(i) else {
+            return Ok(None);
+        };
+        match self.unsettled_by(board, ram, &made.request, ways)? {
+            Some(unsettled) => Ok(Some(Owed { made, unsettled })),
+            None => Ok(None),
+        }
+    }
+}
+
+/// What is said of a request over these entries, whose ways lead so: a way elsewhere than the tables lead it; None if each leads there.
+pub(crate) fn judge<M: Region>(
+    alloc: Global,
+    board: &Board,
+    ram: &M,
+    held: &HeldEntries,
+    led: &[Way],
+    request: &Request,
+) -> Result<Option<Unsettled>, AllocError>
+    requires led { AreAdded (leads_over (bare (state_on (M.memory ram.now) board.now)) request.now (entries_in held.now)) [] led.now }
+    ensures { IfOk result (IsTold (state_on (M.memory ram.now) board.now) held.now request.now) }
+{
+    if lead_alike(led) {
+        return Ok(None);
+    }
+    let tables = way_by_tables(board, ram, request);
+    let Some(elsewhere) = first_other(led, &tables) else {
+        return Ok(None);
+    };
+    let alone = served_alone(alloc, board, ram, held, request, &tables)?;
+    Ok(Some(alone.unwrap_or(Unsettled {
+        elsewhere,
+        tables,
+        number: None,
+    })))
+}
+
+// Whether these are one way alone.
+fn lead_alike(led: &[Way]) -> bool
+    ensures { IsTrue result → (way other : Led) → IsAmong led.now way → IsAmong led.now other → way ≡ other }
+{
+    led.len() == 1
 }
 
 // Where the tables lead a request.
@@ -96,8 +171,8 @@ fn way_by_tables<M: Region>(board: &Board, ram: &M, request: &Request) -> Way
     board.lookup_uncached(ram, request).way
 }
 
-// The first of these ways that differs from this one; None if none does.
-fn first_other(led: &[Way], tables: &Way) -> Option<Way>
+/// The first of these ways that differs from this one; None if none does.
+pub(crate) fn first_other(led: &[Way], tables: &Way) -> Option<Way>
     ensures found { IfSome result (λ way. IsAmong led.now way) }
     ensures differs { IfSome result (λ way. way ≢ tables.now) }
     ensures none { IfNone result ((way : Led) → IsAmong led.now way → way ≡ tables.now) }

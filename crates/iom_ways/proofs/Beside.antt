@@ -31,10 +31,10 @@ use Rattle.iom_every.specs.Ways.{whole_of}
 use Rattle.iom_every.specs.declared.entry.Entry.{Entry}
 use Rattle.iom_every.specs.declared.entry.Held.{Held}
 use Rattle.iom_every.specs.declared.walks.MetBy.{MetBy}
-use Rattle.iom_ways.specs.Branches.{behind_reached}
+use Rattle.iom_ways.specs.Branches.{behind_reached, by_use, each_use, own_ways}
 use Rattle.iom_ways.specs.Ways.{AreAdded, Gathers, Has, leads}
 use Rattle.iom_ways.specs.declared.ways.Ways.{Ways}
-use Rattle.iom_ways.proofs.Gathering.{WayList, by_use, each_use, looked, own_ways}
+use Rattle.iom_ways.proofs.Gathering.{WayList, looked}
 
 -- other ways lead nowhere else, and read these entries at most besides
 pub record Within (more : List Entry) (ways others : WayList) : Type 0 where

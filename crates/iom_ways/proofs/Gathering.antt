@@ -10,6 +10,7 @@ use Rattle.iom_choices.specs.Trees.{reads_in, ways_over}
 use Rattle.iom_every.specs.declared.entry.Entry.{Entry}
 use Rattle.iom_every.specs.Trees.{Walk, looking}
 use Rattle.iom_every.specs.Uses.{Look}
+use Rattle.iom_ways.specs.Branches.{by_use, each_use, own_ways}
 use Rattle.iom_ways.specs.Ways.{AreAdded, Gathers, Has, leads}
 use Rattle.iom_ways.specs.declared.ways.Ways.{Ways}
 
@@ -68,14 +69,17 @@ one led reads before after led_is reads_are = record {
   reads = added_same reads (reads ++ []) before.reads.items after.reads.items (sym (append-nil reads)) reads_are;
 }
 
-pub added_end : {X : Type 0} (x : X) (xs ys : List X) → ys ≡ xs ++ x ∷ [] → AreAdded (x ∷ []) xs ys
-added_end {X} x xs ys is = subst (λ (all : List X). AreAdded (x ∷ []) xs all) (sym is) (λ y. (
-  λ h. among_either xs (x ∷ []) y h,
+pub added_all : {X : Type 0} (more xs ys : List X) → ys ≡ xs ++ more → AreAdded more xs ys
+added_all {X} more xs ys is = subst (λ (all : List X). AreAdded more xs all) (sym is) (λ y. (
+  λ h. among_either xs more y h,
   λ h. elim h [
-    | inl old ↦ among-left xs (x ∷ []) y old
-    | inr new ↦ among-right xs (x ∷ []) y new
+    | inl old ↦ among-left xs more y old
+    | inr new ↦ among-right xs more y new
   ],
 ))
+
+pub added_end : {X : Type 0} (x : X) (xs ys : List X) → ys ≡ xs ++ x ∷ [] → AreAdded (x ∷ []) xs ys
+added_end x xs ys is = added_all (x ∷ []) xs ys is
 
 -- an element that is read is among them
 pub among_read : {X : Type 0} (xs : List X) (i : ℕ) (x d : X) → i < length xs → x ≡ get_or xs i d → IsAmong xs x
@@ -95,19 +99,6 @@ has_still ways others before after has done = record {
   led = λ led h. (done.led led).1 (inl (has.led led h));
   reads = λ entry h. (done.reads entry).1 (inl (has.reads entry h));
 }
-
--- The ways of each entry that fits, one entry's behind the other's.
-abbrev pub by_use : {X : Type 0} → (X → WayList) → Option X → WayList
-by_use own None = []
-by_use own (Some x) = own x
-
-abbrev pub each_use : {X : Type 0} → (Entry → Option X) → (X → WayList) → List Entry → WayList
-each_use fits own [] = []
-each_use fits own (entry ∷ entries) = by_use own (fits entry) ++ each_use fits own entries
-
--- those behind a look-up
-abbrev pub own_ways : {X : Type 0} → List Entry → (Option X → Walk) → X → WayList
-own_ways held more x = ways_over held (more (Some x))
 
 uses_are : {X : Type 0} (held : List Entry) (look : Look) (fits : Look → Entry → Option X) (more : Option X → Walk) (entries : List Entry) →
     flat_map (λ (entry : Entry). ways_over held (more (fits look entry))) (filter (λ (entry : Entry). is_some (fits look entry)) entries)
@@ -133,39 +124,41 @@ looked held look fits more = ap (λ (rest : WayList). ways_over held (more None)
 abbrev pub AreLeft : WayList → WayList → Ways → Ways → Type 0
 AreLeft left all before at = (after : Ways) → Gathers left at after → Gathers all before after
 
--- In a loop over the entries: behind memory's branch; behind an entry that doesn't fit; behind one that does; and at the end.
-pub begun : {X : Type 0} (held : List Entry) (look : Look) (fits : Look → Entry → Option X) (more : Option X → Walk) (before at : Ways) →
-    Gathers (ways_over held (more None)) before at →
-    AreLeft (each_use (fits look) (own_ways held more) held) (ways_over held (looking look fits more)) before at
-begun held look fits more before at done = λ after rest.
+-- behind memory's branch, and each entry's
+pub begun : {X : Type 0} (held : List Entry) (look : Look) (fits : Look → Entry → Option X) (more : Option X → Walk) (before at after : Ways) →
+    Gathers (ways_over held (more None)) before at → Gathers (each_use (fits look) (own_ways held more) held) at after →
+    Gathers (ways_over held (looking look fits more)) before after
+begun held look fits more before at after done rest =
     subst (λ (ways : WayList). Gathers ways before after) (looked held look fits more)
     (both (ways_over held (more None)) (each_use (fits look) (own_ways held more) held) before at after done rest)
 
-step : {X : Type 0} (fits : Entry → Option X) (own : X → WayList) (entries : List Entry) (n : ℕ) (entry : Entry) → n < length entries → entry ≡ get_or entries n entry →
-    each_use fits own (drop n entries) ≡ by_use own (fits entry) ++ each_use fits own (drop (n + 1) entries)
-step fits own entries n entry within is =
-    ap (λ (rest : List Entry). each_use fits own rest) (drop_more entries n entry within)
-    ∙ ap (λ (e : Entry). by_use own (fits e) ++ each_use fits own (drop (n + 1) entries)) (sym is)
+-- In a loop over entries: behind one that doesn't fit; behind one that does; and at the end.
 
-pub passed : {X : Type 0} (fits : Entry → Option X) (own : X → WayList) (entries : List Entry) (all : WayList) (n : ℕ) (entry : Entry) (found : Option X) (before at : Ways) →
+step : {E X : Type 0} (fits : E → Option X) (own : X → WayList) (entries : List E) (n : ℕ) (entry : E) → n < length entries → entry ≡ get_or entries n entry →
+    each_use fits own (drop n entries) ≡ by_use own (fits entry) ++ each_use fits own (drop (n + 1) entries)
+step {E} fits own entries n entry within is =
+    ap (λ (rest : List E). each_use fits own rest) (drop_more entries n entry within)
+    ∙ ap (λ (e : E). by_use own (fits e) ++ each_use fits own (drop (n + 1) entries)) (sym is)
+
+pub passed : {E X : Type 0} (fits : E → Option X) (own : X → WayList) (entries : List E) (all : WayList) (n : ℕ) (entry : E) (found : Option X) (before at : Ways) →
     AreLeft (each_use fits own (drop n entries)) all before at → n < length entries → entry ≡ get_or entries n entry →
     found ≡ fits entry → found ≡ None → AreLeft (each_use fits own (drop (n + 1) entries)) all before at
-passed {X} fits own entries all n entry found before at left within is fit none = λ after rest. left after
+passed {E} {X} fits own entries all n entry found before at left within is fit none = λ after rest. left after
     (subst (λ (ways : WayList). Gathers ways at after)
     (ap (λ (o : Option X). by_use own o ++ each_use fits own (drop (n + 1) entries)) (sym none ∙ fit) ∙ sym (step fits own entries n entry within is)) rest)
 
-pub turned : {X : Type 0} (fits : Entry → Option X) (own : X → WayList) (entries : List Entry) (all : WayList) (n : ℕ) (entry : Entry) (found : Option X) (x : X) (before at now : Ways) →
+pub turned : {E X : Type 0} (fits : E → Option X) (own : X → WayList) (entries : List E) (all : WayList) (n : ℕ) (entry : E) (found : Option X) (x : X) (before at now : Ways) →
     AreLeft (each_use fits own (drop n entries)) all before at → n < length entries → entry ≡ get_or entries n entry →
     found ≡ fits entry → found ≡ Some x → Gathers (own x) at now → AreLeft (each_use fits own (drop (n + 1) entries)) all before now
-turned {X} fits own entries all n entry found x before at now left within is fit some done = λ after rest. left after
+turned {E} {X} fits own entries all n entry found x before at now left within is fit some done = λ after rest. left after
     (subst (λ (ways : WayList). Gathers ways at after)
     (ap (λ (o : Option X). by_use own o ++ each_use fits own (drop (n + 1) entries)) (sym some ∙ fit) ∙ sym (step fits own entries n entry within is))
     (both (own x) (each_use fits own (drop (n + 1) entries)) at now after done rest))
 
-pub ended : {X : Type 0} (fits : Entry → Option X) (own : X → WayList) (entries : List Entry) (all : WayList) (n : ℕ) (before at : Ways) →
+pub ended : {E X : Type 0} (fits : E → Option X) (own : X → WayList) (entries : List E) (all : WayList) (n : ℕ) (before at : Ways) →
     AreLeft (each_use fits own (drop n entries)) all before at → length entries ≤ n → Gathers all before at
-ended fits own entries all n before at left end = left at
-    (subst (λ (rest : List Entry). Gathers (each_use fits own rest) at at) (sym (drop_all n entries end)) (none_gathered at))
+ended {E} fits own entries all n before at left end = left at
+    (subst (λ (rest : List E). Gathers (each_use fits own rest) at at) (sym (drop_all n entries end)) (none_gathered at))
 
 -- the same, over an equal tree
 pub same_tree : {T E : Type 0} (result : Result T E) (held : List Entry) (tree other : Walk) (before after : Ways) → tree ≡ other →

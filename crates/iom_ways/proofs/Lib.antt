@@ -1,4 +1,5 @@
 pub mod Gathering
+pub mod Tagged
 pub mod Ends
 pub mod Paths
 pub mod Stages
@@ -6,3 +7,4 @@ pub mod Trees
 pub mod Firsts
 pub mod Beside
 pub mod Alike
+pub mod Fresh

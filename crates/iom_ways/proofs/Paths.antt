@@ -68,14 +68,6 @@ runs_out memory features request context located format used path table count no
     ap (λ (whole : List MetBy). behind_path memory features request context located format used whole) (sym (append-nil path))
     ∙ sym (ap (λ (n : ℕ). rest_of_path memory features request context located format used path table n) none)
 
--- the second stage's entry that is used for it says what is read
-pub reads_behind_it : (memory : Memory) (features : Features) (request : Request) (context : Context) (located : List Entry) (format : Format) (used : Option Held) (path : List MetBy) (shape : Shape) (place level : ℕ) (behind : Option Held) (got : Got) →
-    got ≡ got_by memory features context (Some shape) behind place →
-    behind_met memory features request context located format used path (record { entry = record { level = level; place = place; got = got }; used = behind })
-    ≡ behind_entry memory features request context located format used path shape place level behind
-reads_behind_it memory features request context located format used path shape place level behind got read =
-    ap (λ (g : Got). behind_met memory features request context located format used path (record { entry = record { level = level; place = place; got = g }; used = behind })) read
-
 -- which entries may be used for it
 pub own_level : (context : Context) (shape : Shape) (level place : ℕ) (entry : Entry) → second_fits context shape place entry ≡ entry_use context shape level place (ForEntry level) entry
 own_level context shape level place entry =

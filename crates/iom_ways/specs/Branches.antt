@@ -1,6 +1,6 @@
 -- What is behind each look-up of a request's tree, if this entry or none is used there: RISC-V IOMMU Architecture 1.0, "Process to translate an
 -- IOVA". These are parts of `tree_of`.
-use Rattle.std.specs.Prelude.{ℕ, ◌++◌, ◌<◌, List, [], ◌∷◌, Option, Some, None, Result, IfSome, if◌then◌else◌}
+use Rattle.std.specs.Prelude.{ℕ, ◌++◌, ◌<◌, false, List, [], ◌∷◌, Option, Some, None, Result, IfSome, if◌then◌else◌}
 use Rattle.iom_bits.specs.declared.causes.Kind.TheVariants.{Read}
 use Rattle.iom_bits.specs.declared.features.Features.{Features}
 use Rattle.iom_mem.specs.Memory.{Memory}
@@ -21,13 +21,16 @@ use Rattle.iom_core.specs.Access.{request_key}
 use Rattle.iom_core.specs.State.{Machine}
 use Rattle.iom_core.specs.declared.access.Request.{Request}
 use Rattle.iom_core.specs.declared.way.Way.TheVariants.{Context as ByContext}
-use Rattle.iom_choices.specs.Trees.{Ends}
+use Rattle.iom_core.specs.declared.way.Way.{Way as Led}
+use Rattle.iom_choices.specs.Systems.{ModelWalk}
+use Rattle.iom_choices.specs.Trees.{Ends, ways_over}
 use Rattle.iom_every.specs.declared.entry.Entry.{Entry}
 use Rattle.iom_every.specs.declared.entry.Held.{Held}
-use Rattle.iom_every.specs.Stages.{second_outcome, second_reads}
+use Rattle.iom_every.specs.Stages.{in_memory, second_outcome, second_reads}
 use Rattle.iom_every.specs.declared.walks.MetBy.{MetBy}
 use Rattle.iom_every.specs.Trees.{Walk, access_tree, entered_tree, first_found, first_read, got_by, looking, met_tree, page_tree, path_tree, staged}
 use Rattle.iom_every.specs.Uses.{ForDevice, ForPage, device_use, page_use}
+use Rattle.iom_every.specs.Walks.{held_in, met}
 use Rattle.iom_every.specs.Ways.{depth_of}
 
 -- behind what the first stage reached and read: the access
@@ -83,6 +86,17 @@ behind_used memory features request context located shape used =
     (behind_path memory features request context located (format_of features shape) used)
     else behind_reached memory features request context located [] (reached_by request.iova outcome.Fault)
 
+-- the entries of memory's own path of the first stage, as they may be kept
+abbrev pub fresh_entries : Memory → Features → Request → Context → Shape → List Held
+fresh_entries memory features request context shape =
+    held_in features false request.iova
+    (met (λ (level : ℕ). got_by memory features context (second_shape_of context) None) (format_of features shape) context.ppn request.iova None)
+
+-- the same of the second stage, for a guest-physical address
+abbrev pub second_entries : Memory → Features → Context → Shape → ℕ → List Held
+second_entries memory features context shape address =
+    held_in features false address (met (in_memory memory) (format_of features shape) context.gppn address None)
+
 -- below a context
 abbrev pub under_tree : Memory → Features → Request → Context → List Entry → Walk
 under_tree memory features request context located =
@@ -94,3 +108,16 @@ abbrev pub directory_tree : Machine → Request → Walk
 directory_tree m request =
     if is_too_wide (depth_of m) request.did then entered_tree m request None
     else looking ForDevice (device_use (depth_of m) request.did) (entered_tree m request)
+
+-- the ways by each of these that gives a use to a look-up, one's behind the other's
+abbrev pub by_use : {X : Type 0} → (X → List (ModelWalk Entry Led)) → Option X → List (ModelWalk Entry Led)
+by_use own None = []
+by_use own (Some x) = own x
+
+abbrev pub each_use : {E X : Type 0} → (E → Option X) → (X → List (ModelWalk Entry Led)) → List E → List (ModelWalk Entry Led)
+each_use fits own [] = []
+each_use fits own (entry ∷ entries) = by_use own (fits entry) ++ each_use fits own entries
+
+-- those behind a look-up
+abbrev pub own_ways : {X : Type 0} → List Entry → (Option X → Walk) → X → List (ModelWalk Entry Led)
+own_ways held more x = ways_over held (more (Some x))

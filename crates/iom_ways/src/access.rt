@@ -3,7 +3,7 @@
 ghost use Rattle.std.specs.Prelude.{◌≡◌, ◌↔◌, ◌<◌, ◌^◌, ◌∷◌, [], None, Ok, Some, Result, IfOk, IfSome, IsTrue, OnOk};
 ghost use Rattle.iom_walk.specs.Shape.{levels};
 ghost use Rattle.iom_nested.specs.Faults.{Failure};
-ghost use Rattle.iom_nested.specs.Nested.{told_of};
+ghost use Rattle.iom_nested.specs.Nested.{LeafReaches, told_of};
 ghost use Rattle.iom_nested.specs.Stages.{second_shape_of};
 ghost use Rattle.iom_nested.specs.declared.translation.Hit.{Hit};
 ghost use Rattle.iom_nested.specs.declared.translation.Reached.{Reached};
@@ -13,17 +13,20 @@ ghost use Rattle.iom_every.specs.Stages.{second_outcome};
 ghost use Rattle.iom_every.specs.Trees.{access_tree, looking, staged};
 ghost use Rattle.iom_every.specs.Uses.{ForAccess, access_use};
 ghost use Rattle.iom_every.specs.Ways.{whole_of};
-ghost use Rattle.iom_ways.specs.Branches.{behind_access, behind_reached};
+ghost use Rattle.iom_held.specs.Kept.{entries_in};
+ghost use Rattle.iom_held.specs.declared.kept.Kept.{Kept};
+ghost use Rattle.iom_ways.specs.Branches.{behind_access, behind_reached, each_use, own_ways, second_entries};
 ghost use Rattle.iom_ways.specs.Ways.{AreAdded, Gathers, Has};
 
-use crate::adding::{put_entries, put_entry, put_led};
-use crate::under::Under;
+use crate::adding::{has_held, put_entries, put_led};
+use crate::under::{Under, second_entries};
 use crate::ways::Ways;
 use iom_bits::Cause;
 use iom_cache::key_of;
 use iom_core::{Denial, Request, Way};
 use iom_ddt::Context;
-use iom_every::{Entry, Held, second_outcome, second_reads, second_use};
+use iom_every::{Entry, Held, HeldPath, second_outcome, second_reads, second_use};
+use iom_held::{Kept, second_tags};
 use iom_mem::Region;
 use iom_nested::{Fault, Hit, Reached, hit_by, second_shape, second_stage};
 use iom_walk::{Outcome, Shape};
@@ -39,7 +42,7 @@ pub(crate) fn put_access<M: Region>(
     requires level { IfOk reached (λ reached. reached.level < 5) }
     requires inside { second_shape_of under.now.context ≡ None → IfOk reached (λ reached. reached.addr < 2 ^ 56) }
     ensures { (found : Result Reached Failure) → reached ≡ told_of under.now.request.kind found →
-        OnOk result (Gathers (ways_over under.now.held.now
+        OnOk result (Gathers (ways_over (entries_in under.now.held.now)
         (behind_reached (M.memory under.now.ram.now) under.now.features under.now.request under.now.context under.now.located.now first.now found))
         out.old out.new) }
 {
@@ -58,7 +61,7 @@ fn put_reached<M: Region>(
 ) -> Result<(), AllocError>
     requires level { reached.level < 5 }
     requires inside { second_shape_of under.now.context ≡ None → reached.addr < 2 ^ 56 }
-    ensures { OnOk result (Gathers (ways_over under.now.held.now
+    ensures { OnOk result (Gathers (ways_over (entries_in under.now.held.now)
         (behind_reached (M.memory under.now.ram.now) under.now.features under.now.request under.now.context under.now.located.now first.now (Ok reached)))
         out.old out.new) }
 {
@@ -81,7 +84,7 @@ fn put_second<M: Region>(
     shape: Shape,
 ) -> Result<(), AllocError>
     requires level { reached.level < 5 }
-    ensures { OnOk result (Gathers (ways_over under.now.held.now
+    ensures { OnOk result (Gathers (ways_over (entries_in under.now.held.now)
         (looking ForAccess (access_use under.now.context shape reached.addr)
         (behind_access (M.memory under.now.ram.now) under.now.features under.now.request under.now.context under.now.located.now first.now shape reached)))
         out.old out.new) }
@@ -89,17 +92,48 @@ fn put_second<M: Region>(
     let (ram, features, context) = (under.ram, under.features, &under.context);
     let kind = under.request.kind;
     let plain = second_outcome(ram, features, context, shape, reached.addr, kind, None);
-    put_used(out, under, first, reached, shape, None)?;
-    for entry in under.held.iter() {
-        let Some(used) = second_use(&under.context, shape, reached.addr, entry) else {
-            continue;
-        };
-        put_other(out, under, first, reached, shape, used, plain)?;
+    put_used(out, under, first, reached, shape, None, plain)?;
+    let fresh = second_entries(under, shape, reached.addr);
+    let tags = second_tags(reached.addr);
+    for tag in tags.iter() {
+        let shelf = under.held.tagged(*tag);
+        put_shelf(out, under, first, reached, shape, shelf, plain, &fresh)?;
     }
     Ok(())
 }
 
-// Puts in the way by a second stage that is entered at this entry, besides that from its root, which ends so: if both end alike, what is read.
+// The same from each of these entries, besides that from its root, which ends so and whose path has these entries.
+fn put_shelf<M: Region>(
+    out: &mut Ways,
+    under: &Under<'_, M>,
+    first: &[Entry],
+    reached: Reached,
+    shape: Shape,
+    shelf: &[Kept],
+    plain: Outcome,
+    fresh: &HeldPath,
+) -> Result<(), AllocError>
+    requires level { reached.level < 5 }
+    requires plain { plain ≡ second_outcome (M.memory under.now.ram.now) under.now.features under.now.context shape reached.addr under.now.request.kind None }
+    requires fresh { fresh.now.items ≡ second_entries (M.memory under.now.ram.now) under.now.features under.now.context shape reached.addr }
+    requires there { Has (ways_over (entries_in under.now.held.now)
+        (behind_access (M.memory under.now.ram.now) under.now.features under.now.request under.now.context under.now.located.now first.now shape reached None)) out.old }
+    ensures { OnOk result (Gathers (each_use (λ (kept : Kept). access_use under.now.context shape reached.addr ForAccess kept.entry)
+        (own_ways (entries_in under.now.held.now)
+        (behind_access (M.memory under.now.ram.now) under.now.features under.now.request under.now.context under.now.located.now first.now shape reached)) shelf.now)
+        out.old out.new) }
+{
+    for kept in shelf.iter() {
+        let Some(used) = second_use(&under.context, shape, reached.addr, &kept.entry) else {
+            continue;
+        };
+        put_other(out, under, first, reached, shape, used, plain, fresh)?;
+    }
+    Ok(())
+}
+
+// Puts in the way by a second stage that is entered at this entry, besides that from its root, which ends so: if both end alike, what is read;
+// if the path from its root has the entry, that way is there.
 fn put_other<M: Region>(
     out: &mut Ways,
     under: &Under<'_, M>,
@@ -108,16 +142,21 @@ fn put_other<M: Region>(
     shape: Shape,
     used: Held,
     plain: Outcome,
+    fresh: &HeldPath,
 ) -> Result<(), AllocError>
     requires level { reached.level < 5 }
     requires used { used.level < levels shape }
     requires plain { plain ≡ second_outcome (M.memory under.now.ram.now) under.now.features under.now.context shape reached.addr under.now.request.kind None }
-    requires there { Has (ways_over under.now.held.now
+    requires fresh { fresh.now.items ≡ second_entries (M.memory under.now.ram.now) under.now.features under.now.context shape reached.addr }
+    requires there { Has (ways_over (entries_in under.now.held.now)
         (behind_access (M.memory under.now.ram.now) under.now.features under.now.request under.now.context under.now.located.now first.now shape reached None)) out.old }
-    ensures { OnOk result (Gathers (ways_over under.now.held.now
+    ensures { OnOk result (Gathers (ways_over (entries_in under.now.held.now)
         (behind_access (M.memory under.now.ram.now) under.now.features under.now.request under.now.context under.now.located.now first.now shape reached (Some used)))
         out.old out.new) }
 {
+    if has_held(fresh, used) {
+        return Ok(());
+    }
     let (ram, features, context) = (under.ram, under.features, &under.context);
     let kind = under.request.kind;
     let end = second_outcome(
@@ -132,10 +171,9 @@ fn put_other<M: Region>(
     if is_same_end(end, plain) {
         let second = second_reads(ram, features, context, shape, reached.addr, Some(used));
         put_entries(&mut out.reads, &second)?;
-        Ok(())
-    } else {
-        put_used(out, under, first, reached, shape, Some(used))
+        return Ok(());
     }
+    put_used(out, under, first, reached, shape, Some(used), end)
 }
 
 // Whether two walks of the second stage end alike.
@@ -145,7 +183,7 @@ fn is_same_end(end: Outcome, other: Outcome) -> bool
     end == other
 }
 
-// Puts in the way by a second stage that is entered at this entry, or at its root.
+// Puts in the way by a second stage that is entered at this entry, or at its root, and ends so.
 fn put_used<M: Region>(
     out: &mut Ways,
     under: &Under<'_, M>,
@@ -153,18 +191,20 @@ fn put_used<M: Region>(
     reached: Reached,
     shape: Shape,
     used: Option<Held>,
+    end: Outcome,
 ) -> Result<(), AllocError>
     requires level { reached.level < 5 }
     requires used { IfSome used (λ held. held.level < levels shape) }
-    ensures { OnOk result (Gathers (ways_over under.now.held.now
+    requires leaf { LeafReaches end }
+    requires end { end ≡ second_outcome (M.memory under.now.ram.now) under.now.features under.now.context shape reached.addr under.now.request.kind used }
+    ensures { OnOk result (Gathers (ways_over (entries_in under.now.held.now)
         (behind_access (M.memory under.now.ram.now) under.now.features under.now.request under.now.context under.now.located.now first.now shape reached used))
         out.old out.new) }
 {
     let (ram, features, context) = (under.ram, under.features, &under.context);
-    let kind = under.request.kind;
-    let end = second_outcome(ram, features, context, shape, reached.addr, kind, used);
     let second = second_reads(ram, features, context, shape, reached.addr, used);
-    put_staged(out, under, first, &second, hit_by(reached, end, kind))
+    let hit = hit_by(reached, end, under.request.kind);
+    put_staged(out, under, first, &second, hit)
 }
 
 // Puts in the way by both stages, which read these entries and end so.
@@ -176,7 +216,7 @@ fn put_staged<M: Region>(
     found: Result<Hit, Fault>,
 ) -> Result<(), AllocError>
     ensures { (end : Result Hit Failure) → found ≡ told_of under.now.request.kind end →
-        OnOk result (Gathers (ways_over under.now.held.now (staged under.now.request under.now.context under.now.located.now first.now end second.now))
+        OnOk result (Gathers (ways_over (entries_in under.now.held.now) (staged under.now.request under.now.context under.now.located.now first.now end second.now))
         out.old out.new) }
 {
     put_led(&mut out.led, &way_to(&under.context, &found))?;
@@ -209,7 +249,7 @@ fn put_whole(
     let _: Option<Result<Context, Cause>> = None;
     if let Ok(hit) = found {
         let key = key_of(context, request.did, request.iova, request.kind);
-        put_entry(out, &Entry::Page { key, hit: *hit })?;
+        put_entries(out, &[Entry::Page { key, hit: *hit }])?;
     }
     Ok(())
 }

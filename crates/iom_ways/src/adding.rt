@@ -1,4 +1,4 @@
-//! Lists that hold nothing twice.
+//! Lists that grow by what ways lead to and read.
 
 ghost use Rattle.std.specs.Prelude.{◌≡◌, ◌↔◌, ◌∷◌, [], IsTrue, OnOk};
 ghost use Rattle.iom_choices.specs.Systems.{IsAmong};
@@ -7,42 +7,34 @@ ghost use Rattle.iom_ways.specs.Ways.{AreAdded};
 use iom_bits::Cause;
 use iom_core::{Denial, Way};
 use iom_ddt::Context;
-use iom_every::{Entry, is_same};
+use iom_every::{Entry, Held};
 use std::alloc::AllocError;
 
-/// Puts those of these entries into a list that aren't there.
+/// Puts these entries at the end of a list; those that are there may stand twice then.
 pub(crate) fn put_entries(out: &mut Vec<Entry>, entries: &[Entry]) -> Result<(), AllocError>
     ensures { OnOk result (AreAdded entries.now out.old.items out.new.items) }
 {
     let _: Option<Result<Context, Cause>> = None;
-    for entry in entries {
-        put_entry(out, entry)?;
-    }
+    out.extend_from_slice(entries)?;
     Ok(())
 }
 
-/// Puts an entry into a list, unless it is there.
-pub(crate) fn put_entry(out: &mut Vec<Entry>, entry: &Entry) -> Result<(), AllocError>
-    ensures { OnOk result (AreAdded (entry.now ∷ []) out.old.items out.new.items) }
+/// Whether this entry is one of them.
+pub(crate) fn has_held(entries: &[Held], held: Held) -> bool
+    ensures { IsTrue result → IsAmong entries.now held }
 {
-    let _: Option<Result<Context, Cause>> = None;
-    if !has_entry(out, entry) {
-        out.push(*entry)?;
-    }
-    Ok(())
-}
-
-fn has_entry(entries: &[Entry], entry: &Entry) -> bool
-    ensures found { IsTrue result → IsAmong entries.now entry.now }
-    ensures all { IsAmong entries.now entry.now → IsTrue result }
-{
-    let _: Option<Result<Context, Cause>> = None;
     for own in entries {
-        if is_same(own, entry) {
+        if is_same_held(own, &held) {
             return true;
         }
     }
     false
+}
+
+fn is_same_held(held: &Held, other: &Held) -> bool
+    ensures { IsTrue result ↔ (held.now ≡ other.now) }
+{
+    held == other
 }
 
 /// Puts where a way leads into a list, unless it is there.

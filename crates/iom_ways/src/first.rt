@@ -1,29 +1,37 @@
 //! The first stage, entered at an entry that is held or at its root.
 
-ghost use Rattle.std.specs.Prelude.{◌≡◌, ◌<◌, [], false, None, Some, OnOk, IfSome};
+ghost use Rattle.std.specs.Prelude.{ℕ, ◌≡◌, ◌<◌, [], false, All, None, Some, OnOk, IfSome, IsSome};
 ghost use Rattle.iom_ddt.specs.Contexts.{is_bare};
 ghost use Rattle.iom_choices.specs.Trees.{ways_over};
-ghost use Rattle.iom_nested.specs.Stages.{first_shape_of, format_of, second_shape_of};
-ghost use Rattle.iom_every.specs.Trees.{first_tree, met_tree, page_tree};
+ghost use Rattle.iom_nested.specs.Stages.{first_shape_of, format_of, second_shape_of, table_got};
+ghost use Rattle.iom_every.specs.Trees.{first_tree, got_by, met_tree, page_tree};
+ghost use Rattle.iom_every.specs.Uses.{ForFirst, first_use};
+ghost use Rattle.iom_every.specs.Walks.{met};
+ghost use Rattle.iom_held.specs.Kept.{entries_in};
+ghost use Rattle.iom_held.specs.declared.kept.Kept.{Kept};
 ghost use Rattle.iom_walk.specs.Shape.{levels};
-ghost use Rattle.iom_ways.specs.Branches.{behind_path, behind_reached, behind_used, rest_of_path};
-ghost use Rattle.iom_ways.specs.Ways.{Gathers};
+ghost use Rattle.iom_ways.specs.Branches.{behind_path, behind_reached, behind_used, each_use, fresh_entries, own_ways, rest_of_path};
+ghost use Rattle.iom_ways.specs.Ways.{Gathers, Has};
 
 use crate::access::put_access;
+use crate::adding::has_held;
 use crate::found::put_found;
 use crate::path::put_path;
 use crate::under::Under;
 use crate::ways::Ways;
-use iom_every::{Held, entry_of, first_use};
+use iom_bits::Features;
+use iom_ddt::Context;
+use iom_every::{Held, HeldPath, entry_of, first_use, held_in, met};
+use iom_held::{Kept, first_tags};
 use iom_mem::Region;
-use iom_nested::{first_shape, first_stage, reached_by};
-use iom_walk::{Format, Outcome, Shape};
+use iom_nested::{Physical, Second, first_shape, first_stage, reached_by, second_shape};
+use iom_walk::{Format, MetPath, Outcome, Shape};
 use std::alloc::AllocError;
 
 /// Puts in the ways by both stages of a context.
 pub(crate) fn put_stages<M: Region>(out: &mut Ways, under: &Under<'_, M>) -> Result<(), AllocError>
     requires translated { is_bare under.now.context ≡ false }
-    ensures { OnOk result (Gathers (ways_over under.now.held.now
+    ensures { OnOk result (Gathers (ways_over (entries_in under.now.held.now)
         (page_tree (M.memory under.now.ram.now) under.now.features under.now.request under.now.context under.now.located.now None))
         out.old out.new) }
 {
@@ -49,19 +57,105 @@ fn put_first<M: Region>(
     under: &Under<'_, M>,
     shape: Shape,
 ) -> Result<(), AllocError>
-    ensures { OnOk result (Gathers (ways_over under.now.held.now
+    ensures { OnOk result (Gathers (ways_over (entries_in under.now.held.now)
         (first_tree (M.memory under.now.ram.now) under.now.features under.now.context under.now.request.iova under.now.request.kind (Some shape)
         (λ reached first. behind_reached (M.memory under.now.ram.now) under.now.features under.now.request under.now.context under.now.located.now first reached)))
         out.old out.new) }
 {
+    let fresh = fresh_entries(under, shape);
     put_used(out, under, shape, None)?;
-    for entry in under.held.iter() {
-        let Some(used) = first_use(&under.context, shape, under.request.iova, entry) else {
-            continue;
-        };
-        put_used(out, under, shape, Some(used))?;
+    let tags = first_tags(under.request.iova);
+    for tag in tags.iter() {
+        let shelf = under.held.tagged(*tag);
+        put_shelf(out, under, shape, shelf, &fresh)?;
     }
     Ok(())
+}
+
+// The same from each of these entries, besides those from its root, whose path has these entries in memory.
+fn put_shelf<M: Region>(
+    out: &mut Ways,
+    under: &Under<'_, M>,
+    shape: Shape,
+    shelf: &[Kept],
+    fresh: &HeldPath,
+) -> Result<(), AllocError>
+    requires fresh { fresh.now.items ≡ fresh_entries (M.memory under.now.ram.now) under.now.features under.now.request under.now.context shape }
+    requires there { Has (ways_over (entries_in under.now.held.now)
+        (behind_used (M.memory under.now.ram.now) under.now.features under.now.request under.now.context under.now.located.now shape None)) out.old }
+    ensures { OnOk result (Gathers (each_use (λ (kept : Kept). first_use under.now.context shape under.now.request.iova ForFirst kept.entry)
+        (own_ways (entries_in under.now.held.now)
+        (behind_used (M.memory under.now.ram.now) under.now.features under.now.request under.now.context under.now.located.now shape)) shelf.now)
+        out.old out.new) }
+{
+    for kept in shelf.iter() {
+        let Some(used) = first_use(&under.context, shape, under.request.iova, &kept.entry) else {
+            continue;
+        };
+        put_other(out, under, shape, used, fresh)?;
+    }
+    Ok(())
+}
+
+// The same from this entry. If memory's own path has it, all its ways are there.
+fn put_other<M: Region>(
+    out: &mut Ways,
+    under: &Under<'_, M>,
+    shape: Shape,
+    used: Held,
+    fresh: &HeldPath,
+) -> Result<(), AllocError>
+    requires used { used.level < levels shape }
+    requires fresh { fresh.now.items ≡ fresh_entries (M.memory under.now.ram.now) under.now.features under.now.request under.now.context shape }
+    requires there { Has (ways_over (entries_in under.now.held.now)
+        (behind_used (M.memory under.now.ram.now) under.now.features under.now.request under.now.context under.now.located.now shape None)) out.old }
+    ensures { OnOk result (Gathers (ways_over (entries_in under.now.held.now)
+        (behind_used (M.memory under.now.ram.now) under.now.features under.now.request under.now.context under.now.located.now shape (Some used)))
+        out.old out.new) }
+{
+    if has_held(fresh, used) {
+        return Ok(());
+    }
+    put_used(out, under, shape, Some(used))
+}
+
+// The entries that memory's own path of the first stage has now, as they may be kept.
+fn fresh_entries<M: Region>(under: &Under<'_, M>, shape: Shape) -> HeldPath
+    ensures { result.items ≡ fresh_entries (M.memory under.now.ram.now) under.now.features under.now.request under.now.context shape }
+{
+    let (features, iova) = (under.features, under.request.iova);
+    let path = own_path(under, Format { shape, features }, iova);
+    held_in(features, false, iova, &path)
+}
+
+// The path of an IOVA in memory.
+fn own_path<M: Region>(under: &Under<'_, M>, format: Format, iova: u64) -> MetPath
+    ensures path { result.items ≡ met (λ (level : ℕ). got_by (M.memory under.now.ram.now) under.now.features under.now.context
+        (second_shape_of under.now.context) None) format under.now.context.ppn iova None }
+    ensures fits { All (λ entry. entry.level < 5) result.items }
+{
+    let (ram, context) = (under.ram, &under.context);
+    if second_shape(context).is_some() {
+        return guest_path(ram, under.features, context, format, iova);
+    }
+    met(&Physical { ram }, format, context.fields.ppn, iova, None)
+}
+
+// The same through the second stage.
+fn guest_path<M: Region>(
+    ram: &M,
+    features: Features,
+    context: &Context,
+    format: Format,
+    iova: u64,
+) -> MetPath
+    requires second { IsSome (second_shape_of context.now) }
+    ensures path { result.items ≡ met (λ (level : ℕ). table_got (M.memory ram.now) features context.now) format context.now.ppn iova None }
+    ensures fits { All (λ entry. entry.level < 5) result.items }
+{
+    let root = context.fields.ppn;
+    let guest = Second::new(ram, features, context);
+    met(&guest, format, root, iova, None)
 }
 
 // Puts in the ways by a first stage that is entered at this entry, or at its root.
@@ -72,7 +166,7 @@ fn put_used<M: Region>(
     used: Option<Held>,
 ) -> Result<(), AllocError>
     requires used { IfSome used (λ held. held.level < levels shape) }
-    ensures { OnOk result (Gathers (ways_over under.now.held.now
+    ensures { OnOk result (Gathers (ways_over (entries_in under.now.held.now)
         (behind_used (M.memory under.now.ram.now) under.now.features under.now.request under.now.context under.now.located.now shape used))
         out.old out.new) }
 {
@@ -93,7 +187,7 @@ fn put_entered<M: Region>(
     used: Option<Held>,
 ) -> Result<(), AllocError>
     requires used { IfSome used (λ held. held.level < levels shape) }
-    ensures { OnOk result (Gathers (ways_over under.now.held.now
+    ensures { OnOk result (Gathers (ways_over (entries_in under.now.held.now)
         (met_tree (M.memory under.now.ram.now) under.now.features under.now.context (second_shape_of under.now.context) (format_of under.now.features shape) under.now.request.iova used
         (behind_path (M.memory under.now.ram.now) under.now.features under.now.request under.now.context under.now.located.now (format_of under.now.features shape) used)))
         out.old out.new) }
@@ -127,7 +221,7 @@ fn put_from_root<M: Region>(
     under: &Under<'_, M>,
     format: Format,
 ) -> Result<(), AllocError>
-    ensures { OnOk result (Gathers (ways_over under.now.held.now
+    ensures { OnOk result (Gathers (ways_over (entries_in under.now.held.now)
         (rest_of_path (M.memory under.now.ram.now) under.now.features under.now.request under.now.context under.now.located.now format None [] under.now.context.ppn (levels format.shape)))
         out.old out.new) }
 {

@@ -10,6 +10,7 @@ ghost use Rattle.iom_every.specs.declared.entry.Entry.TheVariants.{First as OfFi
 ghost use Rattle.iom_every.specs.declared.walks.MetBy.{MetBy};
 ghost use Rattle.iom_every.specs.Trees.{entries_of, first_found, first_read, reads_behind};
 ghost use Rattle.iom_every.specs.Walks.{with_used};
+ghost use Rattle.iom_held.specs.Kept.{entries_in};
 ghost use Rattle.iom_ways.specs.Branches.{MetFits, UsedFits, behind_path};
 ghost use Rattle.iom_ways.specs.Ways.{Gathers};
 
@@ -46,7 +47,7 @@ pub(crate) fn put_found<M: Region>(
     requires few { length path.now ≤ 5 }
     requires used { IfSome used (λ held. held.level < 5) }
     requires levels { All (MetFits (second_shape_of under.now.context)) path.now }
-    ensures { OnOk result (Gathers (ways_over under.now.held.now
+    ensures { OnOk result (Gathers (ways_over (entries_in under.now.held.now)
         (behind_path (M.memory under.now.ram.now) under.now.features under.now.request under.now.context under.now.located.now format used path.now))
         out.old out.new) }
 {

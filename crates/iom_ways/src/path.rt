@@ -7,15 +7,18 @@ ghost use Rattle.iom_nested.specs.Stages.{second_shape_of};
 ghost use Rattle.iom_choices.specs.Trees.{ways_over};
 ghost use Rattle.iom_every.specs.Trees.{got_by, looking};
 ghost use Rattle.iom_every.specs.Uses.{ForEntry, entry_use};
-ghost use Rattle.iom_ways.specs.Branches.{MetFits, UsedFits, behind_entry, behind_met, rest_of_path};
+ghost use Rattle.iom_held.specs.Kept.{entries_in};
+ghost use Rattle.iom_held.specs.declared.kept.Kept.{Kept};
+ghost use Rattle.iom_ways.specs.Branches.{MetFits, UsedFits, behind_entry, behind_met, each_use, own_ways, rest_of_path, second_entries};
 ghost use Rattle.iom_ways.specs.Ways.{Gathers, Has};
 
-use crate::adding::put_entries;
+use crate::adding::{has_held, put_entries};
 use crate::found::{PathBy, put_found};
-use crate::under::Under;
+use crate::under::{Under, second_entries};
 use crate::ways::Ways;
 use iom_bits::Kind;
-use iom_every::{Held, MetBy, second_outcome, second_reads, second_use};
+use iom_every::{Held, HeldPath, MetBy, second_outcome, second_reads, second_use};
+use iom_held::{Kept, second_tags};
 use iom_mem::Region;
 use iom_nested::{Physical, got_behind, second_shape};
 use iom_walk::{Format, Got, MetEntry, Shape, Words, place_in};
@@ -38,7 +41,7 @@ pub(crate) fn put_path<M: Region>(
     requires room { length path.now + count ≤ 5 }
     requires used { IfSome used (λ held. held.level < 5) }
     requires levels { All (MetFits (second_shape_of under.now.context)) path.now }
-    ensures { OnOk result (Gathers (ways_over under.now.held.now
+    ensures { OnOk result (Gathers (ways_over (entries_in under.now.held.now)
         (rest_of_path (M.memory under.now.ram.now) under.now.features under.now.request under.now.context under.now.located.now format used path.now table count))
         out.old out.new) }
 {
@@ -74,26 +77,69 @@ fn put_behind<M: Region>(
     requires room { length path.now + level < 5 }
     requires used { IfSome used (λ held. held.level < 5) }
     requires levels { All (MetFits (second_shape_of under.now.context)) path.now }
-    ensures { OnOk result (Gathers (ways_over under.now.held.now
+    ensures { OnOk result (Gathers (ways_over (entries_in under.now.held.now)
         (looking (ForEntry level) (entry_use under.now.context shape level place)
         (behind_entry (M.memory under.now.ram.now) under.now.features under.now.request under.now.context under.now.located.now format used path.now shape place level)))
         out.old out.new) }
 {
     let plain = got_by(under, shape, place, None);
-    put_read(out, under, format, used, path, shape, place, level, None)?;
-    for entry in under.held.iter() {
-        let Some(behind) = second_use(&under.context, shape, place, entry) else {
+    put_read(
+        out, under, format, used, path, shape, place, level, None, plain,
+    )?;
+    let fresh = second_entries(under, shape, place);
+    let tags = second_tags(place);
+    for tag in tags.iter() {
+        let shelf = under.held.tagged(*tag);
+        put_shelf(
+            out, under, format, used, path, shape, place, level, shelf, plain, &fresh,
+        )?;
+    }
+    Ok(())
+}
+
+// The same by each of these entries of the second stage, besides the ways by memory, which has this there, by a path that has
+// these entries.
+#[cycle(walking)]
+fn put_shelf<M: Region>(
+    out: &mut Ways,
+    under: &Under<'_, M>,
+    format: Format,
+    used: Option<Held>,
+    path: &[MetBy],
+    shape: Shape,
+    place: u64,
+    level: u8,
+    shelf: &[Kept],
+    plain: Got,
+    fresh: &HeldPath,
+) -> Result<(), AllocError>
+    requires shape { second_shape_of under.now.context ≡ Some shape }
+    requires level { level < levels format.shape }
+    requires room { length path.now + level < 5 }
+    requires used { IfSome used (λ held. held.level < 5) }
+    requires levels { All (MetFits (second_shape_of under.now.context)) path.now }
+    requires plain { plain ≡ got_by (M.memory under.now.ram.now) under.now.features under.now.context (Some shape) None place }
+    requires fresh { fresh.now.items ≡ second_entries (M.memory under.now.ram.now) under.now.features under.now.context shape place }
+    requires there { Has (ways_over (entries_in under.now.held.now)
+        (behind_entry (M.memory under.now.ram.now) under.now.features under.now.request under.now.context under.now.located.now format used path.now shape place level None)) out.old }
+    ensures { OnOk result (Gathers (each_use (λ (kept : Kept). entry_use under.now.context shape level place (ForEntry level) kept.entry)
+        (own_ways (entries_in under.now.held.now)
+        (behind_entry (M.memory under.now.ram.now) under.now.features under.now.request under.now.context under.now.located.now format used path.now shape place level)) shelf.now)
+        out.old out.new) }
+{
+    for kept in shelf.iter() {
+        let Some(behind) = second_use(&under.context, shape, place, &kept.entry) else {
             continue;
         };
         put_other(
-            out, under, format, used, path, shape, place, level, behind, plain,
+            out, under, format, used, path, shape, place, level, behind, plain, fresh,
         )?;
     }
     Ok(())
 }
 
 // The same, if this entry of the second stage is used for it, besides the ways by memory, which has this there: if both read the same, what the
-// second stage reads.
+// second stage reads; if the path from its root has the entry, those ways are there.
 #[cycle(walking)]
 fn put_other<M: Region>(
     out: &mut Ways,
@@ -106,6 +152,7 @@ fn put_other<M: Region>(
     level: u8,
     behind: Held,
     plain: Got,
+    fresh: &HeldPath,
 ) -> Result<(), AllocError>
     requires shape { second_shape_of under.now.context ≡ Some shape }
     requires level { level < levels format.shape }
@@ -114,34 +161,30 @@ fn put_other<M: Region>(
     requires levels { All (MetFits (second_shape_of under.now.context)) path.now }
     requires behind { behind.level < levels shape }
     requires plain { plain ≡ got_by (M.memory under.now.ram.now) under.now.features under.now.context (Some shape) None place }
-    requires there { Has (ways_over under.now.held.now
+    requires fresh { fresh.now.items ≡ second_entries (M.memory under.now.ram.now) under.now.features under.now.context shape place }
+    requires there { Has (ways_over (entries_in under.now.held.now)
         (behind_entry (M.memory under.now.ram.now) under.now.features under.now.request under.now.context under.now.located.now format used path.now shape place level None)) out.old }
-    ensures { OnOk result (Gathers (ways_over under.now.held.now
+    ensures { OnOk result (Gathers (ways_over (entries_in under.now.held.now)
         (behind_entry (M.memory under.now.ram.now) under.now.features under.now.request under.now.context under.now.located.now format used path.now shape place level (Some behind)))
         out.old out.new) }
 {
+    if has_held(fresh, behind) {
+        return Ok(());
+    }
     let got = got_by(under, shape, place, Some(behind));
     if is_same_got(got, plain) {
         let (ram, features, context) = (under.ram, under.features, &under.context);
         let second = second_reads(ram, features, context, shape, place, Some(behind));
         put_entries(&mut out.reads, &second)?;
-        Ok(())
-    } else {
-        put_read(
-            out,
-            under,
-            format,
-            used,
-            path,
-            shape,
-            place,
-            level,
-            Some(behind),
-        )
+        return Ok(());
     }
+    let behind = Some(behind);
+    put_read(
+        out, under, format, used, path, shape, place, level, behind, got,
+    )
 }
 
-// The same, if this entry of the second stage or none is used for it.
+// The same, if this entry of the second stage or none is used for it, by which it reads this.
 #[cycle(walking)]
 fn put_read<M: Region>(
     out: &mut Ways,
@@ -153,6 +196,7 @@ fn put_read<M: Region>(
     place: u64,
     level: u8,
     behind: Option<Held>,
+    got: Got,
 ) -> Result<(), AllocError>
     requires shape { second_shape_of under.now.context ≡ Some shape }
     requires level { level < levels format.shape }
@@ -160,11 +204,11 @@ fn put_read<M: Region>(
     requires used { IfSome used (λ held. held.level < 5) }
     requires levels { All (MetFits (second_shape_of under.now.context)) path.now }
     requires behind { IfSome behind (λ held. held.level < levels shape) }
-    ensures { OnOk result (Gathers (ways_over under.now.held.now
+    requires got { got ≡ got_by (M.memory under.now.ram.now) under.now.features under.now.context (Some shape) behind place }
+    ensures { OnOk result (Gathers (ways_over (entries_in under.now.held.now)
         (behind_entry (M.memory under.now.ram.now) under.now.features under.now.request under.now.context under.now.located.now format used path.now shape place level behind))
         out.old out.new) }
 {
-    let got = got_by(under, shape, place, behind);
     let entry = MetEntry { level, place, got };
     put_met(
         out,
@@ -218,7 +262,7 @@ fn put_met<M: Region>(
     requires used { IfSome used (λ held. held.level < 5) }
     requires levels { All (MetFits (second_shape_of under.now.context)) path.now }
     requires fits { UsedFits (second_shape_of under.now.context) met.used }
-    ensures { OnOk result (Gathers (ways_over under.now.held.now
+    ensures { OnOk result (Gathers (ways_over (entries_in under.now.held.now)
         (behind_met (M.memory under.now.ram.now) under.now.features under.now.request under.now.context under.now.located.now format used path.now met))
         out.old out.new) }
 {

@@ -6,6 +6,9 @@ ghost use Rattle.iom_choices.specs.Trees.{ways_over};
 ghost use Rattle.iom_core.specs.Access.{request_key};
 ghost use Rattle.iom_every.specs.Trees.{looking, page_tree};
 ghost use Rattle.iom_every.specs.Uses.{ForPage, page_use};
+ghost use Rattle.iom_held.specs.Kept.{entries_in};
+ghost use Rattle.iom_held.specs.declared.kept.Kept.{Kept};
+ghost use Rattle.iom_ways.specs.Branches.{each_use, own_ways, second_entries};
 ghost use Rattle.iom_ways.specs.Ways.{Gathers};
 
 use crate::first::put_stages;
@@ -14,9 +17,11 @@ use iom_bits::Features;
 use iom_cache::{Key, key_of};
 use iom_core::{Request, Way};
 use iom_ddt::Context;
-use iom_every::{Entry, page_use};
+use iom_every::{Entry, HeldPath, held_in, met, page_use};
+use iom_held::{HeldEntries, Kept, page_tags};
 use iom_mem::Region;
-use iom_nested::Hit;
+use iom_nested::{Hit, Physical};
+use iom_walk::{Format, Shape};
 use std::alloc::AllocError;
 
 /// What all ways of a request below one context share.
@@ -27,7 +32,7 @@ pub(crate) struct Under<'a, M: Region> {
     /// The features of the IOMMU.
     pub features: Features,
     /// The entries that may be held.
-    pub held: &'a [Entry],
+    pub held: &'a HeldEntries,
     /// The request.
     pub request: Request,
     /// The context that leads it.
@@ -42,7 +47,7 @@ pub(crate) fn put_translated<M: Region>(
     under: &Under<'_, M>,
 ) -> Result<(), AllocError>
     requires translated { is_bare under.now.context ≡ false }
-    ensures { OnOk result (Gathers (ways_over under.now.held.now
+    ensures { OnOk result (Gathers (ways_over (entries_in under.now.held.now)
         (looking ForPage (page_use (request_key under.now.request under.now.context))
         (page_tree (M.memory under.now.ram.now) under.now.features under.now.request under.now.context under.now.located.now)))
         out.old out.new) }
@@ -50,8 +55,28 @@ pub(crate) fn put_translated<M: Region>(
     let request = &under.request;
     let key = key_of(&under.context, request.did, request.iova, request.kind);
     put_stages(out, under)?;
-    for entry in under.held.iter() {
-        let Some(hit) = page_use(&key, entry) else {
+    let tags = page_tags(&key);
+    for tag in tags.iter() {
+        let shelf = under.held.tagged(*tag);
+        put_shelf(out, under, &key, shelf)?;
+    }
+    Ok(())
+}
+
+// The same by each of these entries that is a whole translation with this key.
+fn put_shelf<M: Region>(
+    out: &mut Ways,
+    under: &Under<'_, M>,
+    key: &Key,
+    shelf: &[Kept],
+) -> Result<(), AllocError>
+    ensures { OnOk result (Gathers (each_use (λ (kept : Kept). page_use key.now ForPage kept.entry)
+        (own_ways (entries_in under.now.held.now)
+        (page_tree (M.memory under.now.ram.now) under.now.features under.now.request under.now.context under.now.located.now)) shelf.now)
+        out.old out.new) }
+{
+    for kept in shelf.iter() {
+        let Some(hit) = page_use(key, &kept.entry) else {
             continue;
         };
         put_page(out, under, hit)?;
@@ -61,9 +86,23 @@ pub(crate) fn put_translated<M: Region>(
 
 // Puts in the way by a whole translation that is held.
 fn put_page<M: Region>(out: &mut Ways, under: &Under<'_, M>, hit: Hit) -> Result<(), AllocError>
-    ensures { OnOk result (Gathers (ways_over under.now.held.now
+    ensures { OnOk result (Gathers (ways_over (entries_in under.now.held.now)
         (page_tree (M.memory under.now.ram.now) under.now.features under.now.request under.now.context under.now.located.now (Some hit)))
         out.old out.new) }
 {
     put_way(out, Way::Walked(under.context, hit), under.located)
+}
+
+/// The entries that memory's own path of the second stage has now for a guest-physical address, as they may be kept.
+pub(crate) fn second_entries<M: Region>(
+    under: &Under<'_, M>,
+    shape: Shape,
+    address: u64,
+) -> HeldPath
+    ensures { result.items ≡ second_entries (M.memory under.now.ram.now) under.now.features under.now.context shape address }
+{
+    let (ram, features) = (under.ram, under.features);
+    let (format, root) = (Format { shape, features }, under.context.fields.gppn);
+    let path = met(&Physical { ram }, format, root, address, None);
+    held_in(features, false, address, &path)
 }

@@ -9,7 +9,9 @@ ghost use Rattle.iom_core.specs.State.{State};
 ghost use Rattle.iom_every.specs.Trees.{entered_tree, looking, tree_of};
 ghost use Rattle.iom_every.specs.Uses.{ForDevice, IsEntrance, device_use};
 ghost use Rattle.iom_every.specs.Ways.{located_by};
-ghost use Rattle.iom_ways.specs.Branches.{directory_tree, under_tree};
+ghost use Rattle.iom_held.specs.Kept.{entries_in};
+ghost use Rattle.iom_held.specs.declared.kept.Kept.{Kept};
+ghost use Rattle.iom_ways.specs.Branches.{directory_tree, each_use, own_ways, under_tree};
 ghost use Rattle.iom_ways.specs.Ways.{Gathers, Has};
 
 use crate::adding::{put_entries, put_led};
@@ -18,6 +20,7 @@ use iom_bits::{Cause, Features};
 use iom_core::{Denial, Request, Way};
 use iom_ddt::{Context, is_too_wide};
 use iom_every::{Entered, Entry, depth_of, device_use, directory_reads, located_by};
+use iom_held::{HeldEntries, Kept, device_tags};
 use iom_mem::Region;
 use iom_regs::{Mode, Regs};
 use std::alloc::AllocError;
@@ -27,24 +30,25 @@ use std::alloc::AllocError;
 pub struct Ways {
     /// Where they lead, each result once.
     pub led: Vec<Way>,
-    /// The entries that they read, as they may be kept, each once.
+    /// The entries that they read, as they may be kept; one may stand here more than once.
     pub reads: Vec<Entry>,
 }
 
 /// Puts in the ways of a request, of a device id of 24 bits, that the entries in `held` allow: at each look-up of its walk memory answers, or
-/// an entry that fits ("Caching in-memory data structures"). What is there already isn't put in again.
+/// an entry that fits ("Caching in-memory data structures"). A result that is there already isn't put in again.
 ///
-/// Where an entry gives a walk what memory gives it, that use isn't followed on its own: it leads nowhere else, and its reads are put in. The
-/// fault is a refused allocation; then some of the ways are put in, and nothing else has changed.
+/// Where an entry gives a walk what memory gives it, that use isn't followed on its own: it leads nowhere else, and its reads are put in. An
+/// entry of a stage that memory's own path has now isn't followed at all. The fault is a refused allocation; then some of the ways are put
+/// in, and nothing else has changed.
 pub fn put_ways<M: Region>(
     out: &mut Ways,
     ram: &M,
     registers: &Regs,
-    held: &[Entry],
+    held: &HeldEntries,
     request: &Request,
 ) -> Result<(), AllocError>
     ensures { (state : State) → state.machine.memory ≡ M.memory ram.now → state.machine.registers ≡ registers.now →
-        OnOk result (Gathers (ways_over held.now (tree_of state request.now)) out.old out.new) }
+        OnOk result (Gathers (ways_over (entries_in held.now) (tree_of state request.now)) out.old out.new) }
 {
     match registers.mode() {
         Mode::Off => put_way(out, Way::Denied(Denial::plain(Cause::Off)), &[]),
@@ -67,15 +71,16 @@ fn put_directory<M: Region>(
     out: &mut Ways,
     ram: &M,
     registers: &Regs,
-    held: &[Entry],
+    held: &HeldEntries,
     request: &Request,
 ) -> Result<(), AllocError>
     requires directory { 1 ≤ levels_of (mode_of registers.now) }
-    ensures { OnOk result (Gathers (ways_over held.now
+    ensures { OnOk result (Gathers (ways_over (entries_in held.now)
         (directory_tree (machine_of (M.memory ram.now) registers.now [] []) request.now)) out.old out.new) }
 {
     if is_too_wide(registers, request.did) {
-        put_entered(out, ram, registers, held, request, &None)
+        let found = located_by(ram, registers, request.did, None);
+        put_entered(out, ram, registers, held, request, &None, &found)
     } else {
         put_devices(out, ram, registers, held, request)
     }
@@ -86,22 +91,48 @@ fn put_devices<M: Region>(
     out: &mut Ways,
     ram: &M,
     registers: &Regs,
-    held: &[Entry],
+    held: &HeldEntries,
     request: &Request,
 ) -> Result<(), AllocError>
     requires directory { 1 ≤ levels_of (mode_of registers.now) }
-    ensures { OnOk result (Gathers (ways_over held.now
+    ensures { OnOk result (Gathers (ways_over (entries_in held.now)
         (looking ForDevice (device_use (levels_of (mode_of registers.now)) request.now.did)
         (entered_tree (machine_of (M.memory ram.now) registers.now [] []) request.now))) out.old out.new) }
 {
-    let depth = depth_of(registers);
     let plain = located_by(ram, registers, request.did, None);
-    put_entered(out, ram, registers, held, request, &None)?;
-    for entry in held.iter() {
-        let Some(at) = device_use(depth, request.did, entry) else {
+    put_entered(out, ram, registers, held, request, &None, &plain)?;
+    let tags = device_tags(request.did);
+    for tag in tags.iter() {
+        let shelf = held.tagged(*tag);
+        put_shelf(out, ram, registers, held, request, shelf, &plain)?;
+    }
+    Ok(())
+}
+
+// The same from each of these entries, besides those from the root, which leads so.
+fn put_shelf<M: Region>(
+    out: &mut Ways,
+    ram: &M,
+    registers: &Regs,
+    held: &HeldEntries,
+    request: &Request,
+    shelf: &[Kept],
+    plain: &Result<Context, Cause>,
+) -> Result<(), AllocError>
+    requires directory { 1 ≤ levels_of (mode_of registers.now) }
+    requires plain { plain.now ≡ located_by (machine_of (M.memory ram.now) registers.now [] []) request.now.did None }
+    requires there { Has (ways_over (entries_in held.now)
+        (entered_tree (machine_of (M.memory ram.now) registers.now [] []) request.now None)) out.old }
+    ensures { OnOk result (Gathers (each_use (λ (kept : Kept). device_use (levels_of (mode_of registers.now)) request.now.did ForDevice kept.entry)
+        (own_ways (entries_in held.now) (entered_tree (machine_of (M.memory ram.now) registers.now [] []) request.now)) shelf.now)
+        out.old out.new) }
+{
+    let depth = depth_of(registers);
+    for kept in shelf.iter() {
+        let Some(at) = device_use(depth, request.did, &kept.entry) else {
             continue;
         };
-        put_other(out, ram, registers, held, request, &at, &plain)?;
+        put_other(out, ram, registers, held, request, &at, plain)?;
     }
     Ok(())
 }
@@ -111,7 +142,7 @@ fn put_other<M: Region>(
     out: &mut Ways,
     ram: &M,
     registers: &Regs,
-    held: &[Entry],
+    held: &HeldEntries,
     request: &Request,
     at: &Entered,
     plain: &Result<Context, Cause>,
@@ -119,9 +150,9 @@ fn put_other<M: Region>(
     requires directory { 1 ≤ levels_of (mode_of registers.now) }
     requires entrance { IsEntrance at.now }
     requires plain { plain.now ≡ located_by (machine_of (M.memory ram.now) registers.now [] []) request.now.did None }
-    requires there { Has (ways_over held.now
+    requires there { Has (ways_over (entries_in held.now)
         (entered_tree (machine_of (M.memory ram.now) registers.now [] []) request.now None)) out.old }
-    ensures { OnOk result (Gathers (ways_over held.now
+    ensures { OnOk result (Gathers (ways_over (entries_in held.now)
         (entered_tree (machine_of (M.memory ram.now) registers.now [] []) request.now (Some at.now))) out.old out.new) }
 {
     let found = located_by(ram, registers, request.did, Some(*at));
@@ -130,7 +161,7 @@ fn put_other<M: Region>(
         put_entries(&mut out.reads, &located)?;
         Ok(())
     } else {
-        put_entered(out, ram, registers, held, request, &Some(*at))
+        put_entered(out, ram, registers, held, request, &Some(*at), &found)
     }
 }
 
@@ -145,40 +176,42 @@ fn is_same_found(found: &Result<Context, Cause>, other: &Result<Context, Cause>)
     }
 }
 
-// Puts in the ways by the context that a search of the directory finds, if it begins at this entry or at the root.
+// Puts in the ways by what a search of the directory finds, if it begins at this entry or at the root.
 fn put_entered<'a, M: Region>(
     out: &mut Ways,
     ram: &'a M,
     registers: &Regs,
-    held: &'a [Entry],
+    held: &'a HeldEntries,
     request: &Request,
     at: &Option<Entered>,
+    found: &Result<Context, Cause>,
 ) -> Result<(), AllocError>
     requires directory { 1 ≤ levels_of (mode_of registers.now) }
     requires entrance { IfSome at.now IsEntrance }
-    ensures { OnOk result (Gathers (ways_over held.now
+    requires found { found.now ≡ located_by (machine_of (M.memory ram.now) registers.now [] []) request.now.did at.now }
+    ensures { OnOk result (Gathers (ways_over (entries_in held.now)
         (entered_tree (machine_of (M.memory ram.now) registers.now [] []) request.now at.now)) out.old out.new) }
 {
     let located = directory_reads(ram, registers, request.did, *at);
-    match located_by(ram, registers, request.did, *at) {
+    match found {
         Ok(context) => {
             let under = Under {
                 ram,
                 features: registers.features(),
                 held,
                 request: *request,
-                context,
+                context: *context,
                 located: &located,
             };
             put_under(out, &under)
         }
-        Err(why) => { put_way(out, Way::Denied(Denial::plain(why)), &located) }
+        Err(why) => { put_way(out, Way::Denied(Denial::plain(*why)), &located) }
     }
 }
 
 // Puts in the ways by a context.
 fn put_under<M: Region>(out: &mut Ways, under: &Under<'_, M>) -> Result<(), AllocError>
-    ensures { OnOk result (Gathers (ways_over under.now.held.now
+    ensures { OnOk result (Gathers (ways_over (entries_in under.now.held.now)
         (under_tree (M.memory under.now.ram.now) under.now.features under.now.request under.now.context under.now.located.now))
         out.old out.new) }
 {

@@ -1,18 +1,23 @@
-use Rattle.std.proofs.Common.{◌∙◌, [], Some, ap}
+use Rattle.std.proofs.Common.{[], Some, subst}
 use Rattle.iom_core.specs.State.{State, state_on}
 use Rattle.iom_every.specs.Rows.{bare}
-use Rattle.iom_owed.specs.Holdings.{HoldingsView, entries_in}
-use Rattle.iom_owed.specs.Notes.{read_by}
+use Rattle.iom_held.specs.Kept.{entries_in}
 use Rattle.iom_ways.specs.Ways.{AreAdded}
+use Rattle.iom_owed.specs.Holdings.{HoldingsView}
+use Rattle.iom_owed.specs.Keys.{made_in}
+use Rattle.iom_owed.specs.Notes.{Adds, read_by}
 use Rattle.iom_owed.proofs.Followed.{adds}
+use Rattle.iom_owed.proofs.Results.{on_both}
 use Rattle.iom_owed.proofs.holdings.Holdings.add.Goals as goal
 
 pub returns-clause-added : goal.returns-clause-added
 returns-clause-added g c =
     let state : State = bare (state_on (g.M.Region.memory c.args.ram.now) c.args.board.now) in
-    let added : AreAdded (read_by state (entries_in c.args.self.now.entries) (Some c.in-Some.request)) [] c.deref.result.now =
-    rw c.deref.ensures.value c.in_ok-ways.ensures.reads in
-    adds state c.args.request c.in-Some.request c.at_page.result c.args.number c.args.self.now c.deref.result.now _ _ _ _ c.in-Some.is c.at_page.ensures
-    (c.in_ok-reserve.ensures.items ∙ ap (λ (held : HoldingsView). held.entries) c.self.view_is)
-    (c.in_ok-reserve-2.ensures.items ∙ ap (λ (held : HoldingsView). held.requests) c.self.view_is)
-    added c.renew_entries.ensures c.renew_request.ensures
+    let after : HoldingsView = record { entries = c.note.new.held; requests = made_in c.note.new.numbers.entries } in
+    let added : AreAdded (read_by state (entries_in c.self.inside.entries) (Some c.in-Some.request)) [] c.deref.result.now =
+    rw c.deref.ensures.value c.in_ok-gather.ensures.reads in
+    on_both c.note.result _ _ (Adds state c.args.request c.args.number c.args.self.now after)
+    (λ kept made. subst (λ (before : HoldingsView). Adds state c.args.request c.args.number before after) c.self.view_is
+    (adds state c.args.request c.in-Some.request c.args.number (record { entries = c.self.inside.entries; requests = made_in c.self.inside.requests.entries }) after
+    c.deref.result.now c.in-Some.is added kept made))
+    c.note.ensures.entries c.note.ensures.requests

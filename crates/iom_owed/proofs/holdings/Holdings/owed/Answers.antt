@@ -1,39 +1,33 @@
-use Rattle.std.proofs.Common.{◌≡◌, ◌∙◌, ◌<◌, ◌++◌, ℕ, List, ◌∷◌, [], get_or, length, ap, subst}
-use Rattle.iom_bits.specs.declared.causes.Kind.TheVariants.{Read}
-use Rattle.iom_owed.specs.Holdings.{HoldingsView}
+use Rattle.std.proofs.Common.{◌≡◌, ◌≤◌, ◌++◌, List, ◌∷◌, [], drop, length, subst}
+use Rattle.std.specs.Prelude.{slice_get}
+use Rattle.std.proofs.lemmas.List.{drop_all}
 use Rattle.iom_owed.specs.Newest.{steps_of}
-use Rattle.iom_owed.specs.Settled.{IsJudged, LeadsElsewhere, IsSettledNow}
+use Rattle.iom_owed.specs.Settled.{IsOwedAt}
 use Rattle.iom_owed.specs.declared.noting.Made.{Made}
 use Rattle.iom_owed.specs.declared.settling.Owed.{Owed}
-use Rattle.iom_owed.proofs.Judged.{looked_owed, looked_settled, owed_of}
+use Rattle.iom_owed.proofs.Judged.{IsOwedBut, looked_owed, looked_settled, owed_all}
 use Rattle.iom_owed.proofs.holdings.Holdings.owed.Goals as goal
 use Rattle.iom_owed.proofs.holdings.Holdings.owed.Goals.{in-Some+in_ok-push, in_default}
 
--- what an element is that isn't there
-nothing : Made
-nothing = record { request = record { iova = 0; did = 0; kind = Read }; number = 0 }
-
-pub loop-made-preserved : goal.loop-made-preserved
-unfolding nothing
-loop-made-preserved g c = λ start taken k.
-    let all : List Made = c.args.self.now.requests in
-    let listed : c.deref-made-items.result.now ≡ all = c.deref-made-items.ensures.value ∙ ap (λ (held : HoldingsView). held.requests) c.self.view_is in
-    let inside : c.loop-made.made-index < length all = subst (λ (made : List Made). c.loop-made.made-index < length made) listed c.loop-made-test.true in
-    let judged : IsJudged start (steps_of taken) (get_or all c.loop-made.made-index nothing).request c.in_ok-unsettled.field-0 =
-    subst (λ (made : List Made). IsJudged start (steps_of taken) (get_or made c.loop-made.made-index nothing).request c.in_ok-unsettled.field-0) listed (c.in_ok-unsettled.ensures start taken k) in
-    let at : ℕ = c.loop-made.made-index in
-    let before : List Owed = c.loop-made.owed.items in
-    let so_far = c.loop-made.invariant start taken k in
+pub loop-i-preserved : goal.loop-i-preserved
+loop-i-preserved g c = λ start taken k.
+    let requests : List Made = c.args.self.now.requests in
+    let before : List Owed = c.loop-i.owed.items in
+    let so_far : IsOwedBut c.args.self.now start (steps_of taken) (drop c.loop-i.i requests) before = c.loop-i.invariant start taken k in
+    let judged : IsOwedAt c.args.self.now start (steps_of taken) (slice_get requests c.loop-i.i) c.in_ok-each.field-0 = c.in_ok-each.ensures start taken k in
     elim c.match-branch-2.branch [
       | in-Some+in_ok-push w ↦
-          let elsewhere : LeadsElsewhere start (steps_of taken) (get_or all at nothing).request w.in-Some.unsettled =
-          subst (IsJudged start (steps_of taken) (get_or all at nothing).request) w.in-Some.is judged in
-          let more : c.match-branch-2.owed.items ≡ before ++ owed_of (get_or all at nothing) w.in-Some.unsettled ∷ [] =
-          rw w.owed-is w.in_ok-push.ensures.items
-          ∙ ap (λ (made : List Made). before ++ owed_of (get_or made at nothing) w.in-Some.unsettled ∷ []) listed in
-          rw more (looked_owed start (steps_of taken) all at nothing before inside so_far w.in-Some.unsettled elsewhere)
+          let more : c.match-branch-2.owed.items ≡ before ++ w.in-Some.each ∷ [] = rw w.owed-is w.in_ok-push.ensures.items in
+          rw more (looked_owed c.args.self.now start (steps_of taken) c.loop-i.i before so_far w.in-Some.each
+          (subst (IsOwedAt c.args.self.now start (steps_of taken) (slice_get requests c.loop-i.i)) w.in-Some.is judged))
       | in_default w ↦
-          let settled : IsSettledNow start (steps_of taken) (get_or all at nothing).request =
-          subst (IsJudged start (steps_of taken) (get_or all at nothing).request) w.in_default.is judged in
-          rw w.owed-is (looked_settled start (steps_of taken) all at nothing before inside so_far settled)
+          rw w.owed-is (looked_settled c.args.self.now start (steps_of taken) c.loop-i.i before so_far
+          (subst (IsOwedAt c.args.self.now start (steps_of taken) (slice_get requests c.loop-i.i)) w.in_default.is judged))
     ]
+
+pub returns : goal.returns
+returns g c = λ start taken k.
+    let past : length c.args.self.now.requests ≤ c.loop-i.i = rw (← c.request_count-i-end.ensures) c.loop-i-test.false in
+    owed_all c.args.self.now start (steps_of taken) c.loop-i.owed.items
+    (subst (λ (rest : List Made). IsOwedBut c.args.self.now start (steps_of taken) rest c.loop-i.owed.items) (drop_all c.loop-i.i c.args.self.now.requests past)
+    (c.loop-i.invariant start taken k))

@@ -7,6 +7,6 @@ use Rattle.iom_owed.proofs.Judged.{IsOwedBut}
 use Rattle.iom_owed.proofs.holdings.Holdings.owed.Given as goal
 
 -- the requests that remain are yet to be looked at
-abbrev pub invariant-loop-made : goal.invariant-loop-made
-invariant-loop-made g l = (start : State) (taken : List (Step × ℕ)) → Keeps l.self (state_on (g.M.Region.memory l.ram) l.board) start taken →
-    IsOwedBut start (steps_of taken) l.self.requests (drop l.made-index l.self.requests) l.owed.items
+abbrev pub invariant-loop-i : goal.invariant-loop-i
+invariant-loop-i g l = (start : State) (taken : List (Step × ℕ)) → Keeps l.self (state_on (g.M.Region.memory l.ram) l.board) start taken →
+    IsOwedBut l.self start (steps_of taken) (drop l.i l.self.requests) l.owed.items

@@ -1,0 +1,6 @@
+pub mod Lists
+pub mod Places
+pub mod Left
+pub mod Within
+pub mod Standing
+pub mod Forgotten

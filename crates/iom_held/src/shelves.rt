@@ -1,0 +1,187 @@
+//! Shelves of entries: each entry stands on the shelf that follows from its tag.
+
+ghost use Rattle.std.specs.Prelude.{◌≡◌, ◌⊎◌, ◌<◌, ◌≤◌, ◌+◌, ◌∷◌, [], ℕ, List, length, map, vec_len, vec_capacity, slice_get, IfNone, IfOk, IfSome, OnErr, OnOk, Some};
+ghost use Rattle.iom_choices.specs.Systems.{IsAmong};
+ghost use Rattle.iom_every.specs.declared.entry.Entry.{Entry};
+ghost use Rattle.iom_held.specs.Kept.{Renews, entries_in, entry_of, kept_of, left_by};
+ghost use Rattle.iom_held.specs.Shelves.{HasRoom, HaveGrown, HaveRoom, StandInPlace, entries_on, slot_of};
+ghost use Rattle.iom_held.specs.Tags.{tag_of};
+
+use crate::kept::Kept;
+use crate::tags::{Tag, tag_of};
+use iom_bits::Cause;
+use iom_ddt::Context;
+use iom_every::{Entry, drops_entry, is_same};
+use iom_queue::Command;
+use std::alloc::{AllocError, Global};
+
+/// The number of a tag's shelf, of `count`.
+#[tactic(auto, unfolding(crate::specs::Shelves::slot_of))]
+pub(crate) fn slot_of(count: usize, tag: &Tag) -> usize
+    requires { 0 < count }
+    ensures number { result ≡ slot_of count tag.now }
+    ensures inside { result < count }
+{
+    let number = tag.part.wrapping_mul(11).wrapping_add(tag.kind as u64);
+    let mixed = number.wrapping_mul(11_400_714_819_323_198_485) >> 32;
+    mixed as usize % count
+}
+
+/// Empty shelves. The fault is a refused allocation.
+pub(crate) fn empty_shelves(alloc: Global, count: usize) -> Result<Vec<Vec<Kept>>, AllocError>
+    ensures none { IfOk result (λ shelves. entries_on shelves.items ≡ []) }
+    ensures count { IfOk result (λ shelves. vec_len shelves ≡ count) }
+{
+    let _: Option<Result<Context, Cause>> = None;
+    let _: Option<Entry> = None;
+    let mut shelves = Vec::with_capacity(alloc, count)?;
+    for _i in 0..count {
+        shelves.push(Vec::new(alloc))?;
+    }
+    Ok(shelves)
+}
+
+/// Puts entries in, under this number: each in place of the same entry under another number. The fault is a refused allocation, and then
+/// the same entries are there.
+pub(crate) fn renew_all(
+    shelves: &mut [Vec<Kept>],
+    entries: &[Entry],
+    number: u64,
+) -> Result<(), AllocError>
+    requires some { 0 < length shelves.old }
+    requires in_place { StandInPlace shelves.old }
+    ensures in_place { StandInPlace shelves.new }
+    ensures renewed { OnOk result (Renews entry_of (map (kept_of number) entries.now) (entries_on shelves.old) (entries_on shelves.new)) }
+    ensures unchanged { OnErr result (entries_on shelves.new ≡ entries_on shelves.old) }
+{
+    let _: Option<Result<Context, Cause>> = None;
+    reserve_all(shelves, entries)?;
+    renew_entries(shelves, entries, number);
+    Ok(())
+}
+
+// Makes room for the entries of a list that aren't there, so that the last ones can be put in first.
+fn reserve_all(shelves: &mut [Vec<Kept>], entries: &[Entry]) -> Result<(), AllocError>
+    requires some { 0 < length shelves.old }
+    ensures grown { HaveGrown shelves.old shelves.new }
+    ensures room { OnOk result (HaveRoom shelves.new entries.now (length entries.now)) }
+{
+    let _: Option<Result<Context, Cause>> = None;
+    for (i, entry) in entries.iter().enumerate() {
+        reserve(shelves, entry, entries.len() - i)?;
+    }
+    Ok(())
+}
+
+/// Makes room for so many more on an entry's shelf, if the entry isn't there. The fault is a refused allocation.
+pub(crate) fn reserve(
+    shelves: &mut [Vec<Kept>],
+    entry: &Entry,
+    more: usize,
+) -> Result<(), AllocError>
+    requires some { 0 < length shelves.old }
+    ensures grown { HaveGrown shelves.old shelves.new }
+    ensures room { OnOk result (HasRoom shelves.new entry.now more) }
+{
+    let _: Option<Result<Context, Cause>> = None;
+    let i = slot_of(shelves.len(), &tag_of(entry));
+    reserve_on(&mut shelves[i], entry, more)
+}
+
+// The same on that shelf.
+fn reserve_on(shelf: &mut Vec<Kept>, entry: &Entry, more: usize) -> Result<(), AllocError>
+    ensures items { shelf.new.items ≡ shelf.old.items }
+    ensures len { vec_len shelf.new ≡ vec_len shelf.old }
+    ensures capacity { vec_capacity shelf.old ≤ vec_capacity shelf.new }
+    ensures room { OnOk result (IsAmong (entries_in shelf.new.items) entry.now ⊎ (vec_len shelf.new + more ≤ vec_capacity shelf.new)) }
+{
+    let _: Option<Result<Context, Cause>> = None;
+    if place_of(shelf, entry).is_some() {
+        return Ok(());
+    }
+    shelf.reserve(more)
+}
+
+// Puts entries in for which there is room, the last ones first.
+fn renew_entries(shelves: &mut [Vec<Kept>], entries: &[Entry], number: u64)
+    requires some { 0 < length shelves.old }
+    requires in_place { StandInPlace shelves.old }
+    requires room { HaveRoom shelves.old entries.now (length entries.now) }
+    ensures in_place { StandInPlace shelves.new }
+    ensures renewed { Renews entry_of (map (kept_of number) entries.now) (entries_on shelves.old) (entries_on shelves.new) }
+{
+    let _: Option<Result<Context, Cause>> = None;
+    let mut i = entries.len();
+    while i > 0 {
+        i -= 1;
+        renew(shelves, &entries[i], number);
+    }
+}
+
+/// Puts an entry in for which there is room.
+pub(crate) fn renew(shelves: &mut [Vec<Kept>], entry: &Entry, number: u64)
+    requires some { 0 < length shelves.old }
+    requires in_place { StandInPlace shelves.old }
+    requires room { HasRoom shelves.old entry.now 1 }
+    ensures in_place { StandInPlace shelves.new }
+    ensures renewed { Renews entry_of (kept_of number entry.now ∷ []) (entries_on shelves.old) (entries_on shelves.new) }
+    ensures room { (other : Entry) (more : ℕ) → HasRoom shelves.old other (more + 1) → HasRoom shelves.new other more }
+{
+    let _: Option<Result<Context, Cause>> = None;
+    let i = slot_of(shelves.len(), &tag_of(entry));
+    renew_on(&mut shelves[i], entry, number);
+}
+
+// The same on its shelf.
+fn renew_on(kept: &mut Vec<Kept>, entry: &Entry, number: u64)
+    requires room { IsAmong (entries_in kept.old.items) entry.now ⊎ (vec_len kept.old + 1 ≤ vec_capacity kept.old) }
+    ensures renewed { Renews entry_of (kept_of number entry.now ∷ []) kept.old.items kept.new.items }
+    ensures len { vec_len kept.new ≤ vec_len kept.old + 1 }
+    ensures capacity { vec_capacity kept.old ≤ vec_capacity kept.new }
+{
+    let _: Option<Result<Context, Cause>> = None;
+    if let Some(i) = place_of(kept, entry) {
+        kept[i].number = number;
+        return;
+    }
+    let _ = kept.push(Kept {
+        entry: *entry,
+        number,
+    });
+}
+
+// The place of an entry; None if it isn't kept.
+fn place_of(kept: &[Kept], entry: &Entry) -> Option<usize>
+    ensures found { IfSome result (λ i. slice_get (entries_in kept.now) i ≡ Some entry.now) }
+    ensures inside { IfSome result (λ i. i < length kept.now) }
+    ensures none { IfNone result (IsAmong (entries_in kept.now) entry.now → ⊥) }
+{
+    for (i, each) in kept.iter().enumerate() {
+        if is_same(&each.entry, entry) {
+            return Some(i);
+        }
+    }
+    None
+}
+
+/// Takes the entries out that this command drops.
+pub(crate) fn forget_all(shelves: &mut [Vec<Kept>], command: Option<Command>)
+    requires in_place { StandInPlace shelves.old }
+    ensures in_place { StandInPlace shelves.new }
+    ensures left { entries_on shelves.new ≡ left_by command (entries_on shelves.old) }
+{
+    let _: Option<Result<Context, Cause>> = None;
+    let _: Option<Entry> = None;
+    if let Some(command) = &command {
+        for i in 0..shelves.len() {
+            forget(&mut shelves[i], command);
+        }
+    }
+}
+
+// The same of a shelf.
+fn forget(kept: &mut Vec<Kept>, command: &Command)
+    ensures { kept.new.items ≡ left_by (Some command.now) kept.old.items }
+{
+    kept.retain(|each| !drops_entry(command, &each.entry));
+}

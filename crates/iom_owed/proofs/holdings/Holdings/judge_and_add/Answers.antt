@@ -1,0 +1,28 @@
+use Rattle.std.proofs.Common.{[], Option, Some, sym, subst}
+use Rattle.iom_core.specs.State.{State, state_on}
+use Rattle.iom_core.specs.declared.access.Request.{Request}
+use Rattle.iom_every.specs.Rows.{bare}
+use Rattle.iom_held.specs.Kept.{entries_in}
+use Rattle.iom_ways.specs.Ways.{AreAdded}
+use Rattle.iom_owed.specs.Alone.{IsStepTold, IsTold}
+use Rattle.iom_owed.specs.Holdings.{HoldingsView}
+use Rattle.iom_owed.specs.Keys.{made_in}
+use Rattle.iom_owed.specs.Notes.{Adds, read_by}
+use Rattle.iom_owed.proofs.Followed.{adds}
+use Rattle.iom_owed.proofs.holdings.Holdings.judge_and_add.Goals as goal
+
+pub returns-clause-told : goal.returns-clause-told
+returns-clause-told g c =
+    let state : State = state_on (g.M.Region.memory c.args.ram.now) c.args.board.now in
+    subst (λ (request : Option Request). IsStepTold state c.args.self.now.entries request c.in_ok-found.found) (sym c.in-Some.is)
+    (subst (λ (held : HoldingsView). IsTold state held.entries c.in-Some.request c.in_ok-found.found) c.self.view_is c.in_ok-found.ensures)
+
+pub returns-clause-added : goal.returns-clause-added
+returns-clause-added g c =
+    let state : State = bare (state_on (g.M.Region.memory c.args.ram.now) c.args.board.now) in
+    let after : HoldingsView = record { entries = c.note.new.held; requests = made_in c.note.new.numbers.entries } in
+    let added : AreAdded (read_by state (entries_in c.self.inside.entries) (Some c.in-Some.request)) [] c.deref-2.result.now =
+    rw c.deref-2.ensures.value c.in_ok-gather.ensures.reads in
+    subst (λ (before : HoldingsView). Adds state c.args.request c.args.number before after) c.self.view_is
+    (adds state c.args.request c.in-Some.request c.args.number (record { entries = c.self.inside.entries; requests = made_in c.self.inside.requests.entries }) after
+    c.deref-2.result.now c.in-Some.is added c.in_ok-note.ensures.entries c.in_ok-note.ensures.requests)
