@@ -1,4 +1,10 @@
 pub mod Looks
 pub mod Owed
 pub mod Pieces
+pub mod Reading
 pub mod Telling
+pub mod Answered
+pub mod Accessed
+pub mod Scored
+pub mod Scripts
+pub mod Ended

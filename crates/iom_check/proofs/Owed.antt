@@ -5,7 +5,7 @@ use Rattle.std.proofs.KnownBytes.{Appends-nil, Appends-trans}
 use Rattle.iom_owed.specs.declared.settling.Owed.{Owed}
 use Rattle.iom_core.specs.State.{State}
 use Rattle.iom_debug.specs.Settling.{AreOwedBy, SettlingView}
-use Rattle.iom_check.specs.Checking.{Checked, TellsOwed}
+use Rattle.iom_check.specs.Checking.{Checked, StaysLost, TellsOwed}
 use Rattle.iom_check.specs.Owing.{all_owed, owed_at, owed_if}
 use Rattle.iom_check.specs.Scoring.{Score, Told, quiet}
 use Rattle.iom_check.proofs.Looks.{behind}
@@ -72,12 +72,13 @@ none_owed (Some settling) state is = absurd (cc is)
 
 -- where nothing is asked
 pub none_told : (end : Checked) (is_lost : Bool) (a : Option (List ℕ)) → (is_lost ≡ false → end.desk.reasons.settling ≡ None) →
-    TellsOwed end is_lost a a end.score
-none_told end is_lost a none =
+    StaysLost end is_lost → TellsOwed end is_lost a a end.score
+none_told end is_lost a none lost =
     let is : owed_if end.number end.score [] ≡ quiet end.score = none_said end.number end.score in
     record {
       owed = [];
       owes = λ known. none_owed end.desk.reasons.settling end.desk.state (none known);
+      lost = lost;
       written = subst (λ (t : Told). Appends a a t.said) (sym is) (Appends-nil a);
       left = ap (λ (t : Told). t.after) (sym is);
     }

@@ -8,7 +8,7 @@ use Rattle.iom_reader.specs.declared.fault.RunFault.{RunFault}
 use Rattle.iom_reader.proofs.Chains.{spoken, broken, lawful as by_lines_lawful}
 use Rattle.iom_debug.specs.Summary.{up_to_64_bits}
 use Rattle.iom_debug.specs.Taking.{Desk}
-use Rattle.iom_debug.specs.Telling.{Leaves, answer_at, slip_with}
+use Rattle.iom_debug.specs.Telling.{IsAnswer, Leaves, slip_with}
 use Rattle.iom_debug.specs.Settling.{unsettled_in}
 use Rattle.iom_check.specs.Checking.{Checked, CheckBreaks, CheckSays, IsChecked, LineSays, by_check, checking, closing, TellsOwed, end_told, line_told, looks_behind, places_if, places_told, told_at}
 use Rattle.iom_check.specs.Judging.{elsewhere_told, tables_told}
@@ -41,6 +41,7 @@ checked unread left old new mid told holds is_lost tally score after h placed sc
       said = h.answered.said;
       owed = owing.owed;
       owes = owing.owes;
+      lost = owing.lost;
       written = Appends-trans _ _ _ _ _ h.answered.written
           (Appends-trans _ _ _ _ _
           (Appends-trans _ _ _ _ _ placed (subst (λ (s : Score). Appends mid told (rest s).said) scored owing.written))
@@ -49,22 +50,23 @@ checked unread left old new mid told holds is_lost tally score after h placed sc
     }
 
 pub line_says : (before : Checked) (after : Desk) (line said answer slip tables elsewhere : List ℕ) (number : ℕ) (score : Score) →
-    number ≡ up_to_64_bits (before.number + 1) → Leaves before.desk line number after → answer ≡ answer_at before.desk line →
+    number ≡ up_to_64_bits (before.number + 1) → Leaves before.desk line number after → IsAnswer before.desk line answer →
     slip ≡ slip_with before.desk.names line → tables ≡ tables_told before.score.rules.fails_if_stale after.reasons.stale →
     elsewhere ≡ elsewhere_told before.score.rules.fails_if_unsettled (unsettled_in after.reasons.settling) →
     said ≡ (line_told before.score number line answer slip tables elsewhere).said →
     score ≡ (line_told before.score number line answer slip tables elsewhere).after →
     LineSays before line said (record { desk = after; number = number; score = score })
 line_says before after line said answer slip tables elsewhere number score count left is why stale unsettled told scored =
-    let said_of = λ (t e : List ℕ). line_told before.score number line (answer_at before.desk line) (slip_with before.desk.names line) t e in
+    let said_of = λ (t e : List ℕ). line_told before.score number line answer (slip_with before.desk.names line) t e in
     let tables_now = tables_told before.score.rules.fails_if_stale after.reasons.stale in
-    let all : line_told before.score number line answer slip tables elsewhere ≡ told_at before number line after.reasons =
-    ap (λ a. line_told before.score number line a slip tables elsewhere) is
-    ∙ ap (λ w. line_told before.score number line (answer_at before.desk line) w tables elsewhere) why
+    let all : line_told before.score number line answer slip tables elsewhere ≡ told_at before number line answer after.reasons =
+    ap (λ w. line_told before.score number line answer w tables elsewhere) why
     ∙ ap (λ t. said_of t elsewhere) stale ∙ ap (λ e. said_of tables_now e) unsettled in
     record {
       number = count;
       left = left;
+      answer = answer;
+      answered = is;
       text = told ∙ ap (λ (t : Told). t.said) all;
       score = scored ∙ ap (λ (t : Told). t.after) all;
     }

@@ -1,5 +1,5 @@
 -- What the word `check` writes for the lines of a script, and counts.
-use Rattle.std.specs.Prelude.{ℕ, ◌≡◌, ◌+◌, ◌++◌, ◌&&◌, Bool, false, List, Option, if◌then◌else◌}
+use Rattle.std.specs.Prelude.{ℕ, ◌≡◌, ◌+◌, ◌++◌, ◌&&◌, Bool, true, false, List, Option, if◌then◌else◌}
 use Rattle.std.specs.Io.KnownBytes.{Appends, Consumes, IsAtEnd}
 use Rattle.iom_reader.specs.Answering.{Answering}
 use Rattle.iom_reader.specs.Lines.{lines_of}
@@ -10,9 +10,9 @@ use Rattle.iom_debug.specs.Fences.{have_fence}
 use Rattle.iom_debug.specs.Output.{debug_steps_of}
 use Rattle.iom_debug.specs.Summary.{up_to_64_bits}
 use Rattle.iom_debug.specs.Taking.{Desk}
-use Rattle.iom_debug.specs.Telling.{Leaves, answer_at, slip_with}
+use Rattle.iom_debug.specs.Telling.{IsAnswer, Leaves, slip_with}
 use Rattle.iom_debug.specs.Reasons.{LineAccountView}
-use Rattle.iom_debug.specs.Settling.{AreOwedBy, unsettled_in}
+use Rattle.iom_debug.specs.Settling.{AreOwedBy, is_lost_in, unsettled_in}
 use Rattle.iom_check.specs.Judging.{elsewhere_told, tables_told}
 use Rattle.iom_check.specs.Looking.{looked_by}
 use Rattle.iom_check.specs.Owing.{owed_if}
@@ -33,10 +33,10 @@ line_told s number line answer slip tables elsewhere =
     let second = remarked first.after number line answer in
     record { said = first.said ++ second.said; after = with_wish second.after line }
 
--- by the names before the line, its last access that was stale, and its last one that wasn't settled
-abbrev pub told_at : Checked → ℕ → List ℕ → LineAccountView → Told
-told_at before number line reasons =
-    line_told before.score number line (answer_at before.desk line) (slip_with before.desk.names line)
+-- by its answer, the names before the line, its last access that was stale, and its last one that wasn't settled
+abbrev pub told_at : Checked → ℕ → List ℕ → List ℕ → LineAccountView → Told
+told_at before number line answer reasons =
+    line_told before.score number line answer (slip_with before.desk.names line)
     (tables_told before.score.rules.fails_if_stale reasons.stale)
     (elsewhere_told before.score.rules.fails_if_unsettled (unsettled_in reasons.settling))
 
@@ -44,8 +44,10 @@ told_at before number line reasons =
 pub record LineSays (before : Checked) (line said : List ℕ) (after : Checked) : Type 0 where
   pub number : after.number ≡ up_to_64_bits (before.number + 1)
   pub left : Leaves before.desk line after.number after.desk
-  pub text : said ≡ (told_at before after.number line after.desk.reasons).said
-  pub score : after.score ≡ (told_at before after.number line after.desk.reasons).after
+  pub answer : List ℕ
+  pub answered : IsAnswer before.desk line answer
+  pub text : said ≡ (told_at before after.number line answer after.desk.reasons).said
+  pub score : after.score ≡ (told_at before after.number line answer after.desk.reasons).after
 
 -- the places of the caches, behind a line
 abbrev pub places_told : Checked → Told
@@ -101,15 +103,20 @@ abbrev pub AreOwedAt : Checked → Bool → List Owed → Type 0
 AreOwedAt end is_lost owed =
     is_lost ≡ false → AreOwedBy end.desk.reasons.settling end.desk.state owed
 
+-- once memory was refused it stays so
+abbrev pub StaysLost : Checked → Bool → Type 0
+StaysLost end is_lost = is_lost_in end.desk.reasons.settling ≡ true → is_lost ≡ true
+
 -- what is owed is told, of a score before it, where that is told
 pub record TellsOwed (end : Checked) (is_lost : Bool) (held holds : Option (List ℕ)) (after : Score) : Type 0 where
   pub owed : List Owed
   pub owes : AreOwedAt end is_lost owed
+  pub lost : StaysLost end is_lost
   pub written : Appends held holds (owed_if end.number end.score owed).said
   pub left : after ≡ (owed_if end.number end.score owed).after
 
 -- A whole script was checked: what was written is what is told of its lines, one after the other, and of its end. `is_lost` says whether memory
--- was refused for what is told of settledness.
+-- was refused for what is told of settledness, at the lines or at the end.
 pub record IsChecked (start : Checked) (unread left held holds : Option (List ℕ)) (is_lost : Bool) (tally : Tally) : Type 0 where
   pub script : List ℕ
   pub took : Consumes unread left script
@@ -120,5 +127,6 @@ pub record IsChecked (start : Checked) (unread left held holds : Option (List �
   pub said : Speaks checking start (lines_of script) text end
   pub owed : List Owed
   pub owes : AreOwedAt end is_lost owed
+  pub lost : StaysLost end is_lost
   pub written : Appends held holds (text ++ ((end_told end owed).said ++ closing (ended (end_told end owed).after end.number)))
   pub counts : tally ≡ (ended (end_told end owed).after end.number).after.tally

@@ -5,5 +5,6 @@ pub mod Scoring
 pub mod Looking
 pub mod Owing
 pub mod Checking
+pub mod Scripts
 pub mod Scores
 pub mod Drives

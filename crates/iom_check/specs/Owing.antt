@@ -7,7 +7,8 @@ use Rattle.iom_debug.specs.Settling.{elsewhere_text, request_text}
 use Rattle.iom_debug.specs.Telling.{escaped}
 use Rattle.iom_check.specs.Scoring.{Score, Told, failed, quiet}
 
--- as `read 0x40202000 of device 5, as in line 12, may still go to addr=0x80011000, the tables now say denied 13`
+-- as `read 0x40202000 of device 5, as in line 12, may still go to addr=0x80011000, read in line 3, the tables now say
+-- denied 13`
 unfoldable pub owed_message : List ℕ → ℕ → List ℕ → List ℕ
 owed_message title number elsewhere = title ++ codes ", as in line " ++ numeral 10 number ++ codes "," ++ escaped elsewhere
 

@@ -10,6 +10,7 @@ use crate::looking::{Cache, standing_at};
 use crate::pages::ReportPage;
 use crate::rules::{Rules, Tally};
 use crate::scoring::Scoring;
+use crate::wanting::wish_of;
 use iom_debug::{Debugger, first_bytes, write_told};
 use iom_owed::Owed;
 use iom_reader::{Answerer, RunFault, WatchedReader, WatchedWriter, answer_all};
@@ -118,21 +119,25 @@ impl Checking<'_> {
         ensures same { names_of self.new.debugger ≡ names_of self.old.debugger }
     {
         self.number = self.number.saturating_add(1);
-        let slip = self.debugger.slip(line);
-        let answer = self.debugger.line(self.number, line);
+        let read = self.debugger.names.read(line);
+        let slip = self.debugger.slip_of(&read, line);
+        let answer = self.debugger.carry_out(self.number, read);
         let looks = self.scoring.rules.looks_at_fences && self.debugger.has_fence();
         let tables = self.tables();
         let elsewhere = self.elsewhere();
+        let wish = wish_of(line);
         self.scoring.page.clear();
         self.scoring.judge(
             self.number,
             line,
+            wish,
             answer.as_slice(),
             slip.as_slice(),
             tables.as_slice(),
             elsewhere.as_slice(),
         );
-        self.scoring.remark(self.number, line, answer.as_slice());
+        self.scoring
+            .remark(self.number, line, wish, answer.as_slice());
         looks
     }
 

@@ -3,7 +3,7 @@
 ghost use Rattle.std.specs.Prelude.{◌≡◌, ◌+◌, ◌++◌, ◌≤◌, length, codes, IfSome};
 ghost use Rattle.std.specs.Option.{option_map};
 ghost use Rattle.iom_debug.specs.Telling.{escaped};
-ghost use Rattle.iom_check.specs.Judging.{allows_stale, elsewhere_text, fails, meets, message, passes, remark, remark_by, tables_text, title, wish_text};
+ghost use Rattle.iom_check.specs.Judging.{allows_stale, elsewhere_text, fails, meets, message, passes, remark_by, tables_text, title, wish_text};
 
 use crate::wanting::{answer_of, has_arrow, wants_stale, wish_of};
 use iom_debug::{OutputPage, before_comment, put, put_escaped, put_slip};
@@ -176,8 +176,9 @@ pub fn message(
     out
 }
 
-// What a line with this wish has that would go unnoticed; empty: nothing.
-fn remark_by(wish: Option<&[u8]>, line: &[u8], answer: &[u8]) -> &'static [u8]
+/// What a line with this wish has that would go unnoticed: a wish, but no answer; or a comment that looks like a wish and is none. Empty:
+/// neither.
+pub fn remark(wish: Option<&[u8]>, line: &[u8], answer: &[u8]) -> &'static [u8]
     ensures text { result.now ≡ remark_by (option_map (λ wish. wish.now) wish.entry) line.now answer.now }
     ensures short { length result.now ≤ 64 }
 {
@@ -186,13 +187,4 @@ fn remark_by(wish: Option<&[u8]>, line: &[u8], answer: &[u8]) -> &'static [u8]
         None if has_arrow(line) => b"the comment isn't a wish, which is # => ANSWER",
         _ => b"",
     }
-}
-
-/// What a line has that would go unnoticed: a wish, but no answer; or a comment that looks like a wish and is none. Empty: neither.
-#[tactic(auto, unfolding(crate::specs::Judging::remark))]
-pub fn remark(line: &[u8], answer: &[u8]) -> &'static [u8]
-    ensures text { result.now ≡ remark line.now answer.now }
-    ensures short { length result.now ≤ 64 }
-{
-    remark_by(wish_of(line), line, answer)
 }

@@ -2,11 +2,13 @@
 #![tactic(auto)]
 
 pub use checking::{Checking, check};
+pub use law::scripts_without_failures_are_settled;
 pub use rules::{Rules, Style, Tally};
 pub use wanting::{answer_of, has_arrow, wants_stale, wish_of};
 
 mod checking;
 mod judging;
+mod law;
 mod looking;
 mod owing;
 mod pages;

@@ -5,8 +5,7 @@ use crate::looking::{Cache, is_current, place_message, place_title};
 use crate::owing::owed_message;
 use crate::pages::ReportPage;
 use crate::points::{Point, push_failure, push_note, push_pass, push_tally};
-use crate::rules::{Rules, Tally};
-use crate::wanting::wish_of;
+use crate::rules::{Rules, Style, Tally};
 use iom_debug::{elsewhere_line, request_line};
 use iom_owed::Owed;
 
@@ -33,8 +32,10 @@ impl<'a> Scoring<'a> {
     ghost use Rattle.iom_check.specs.Scores.{score_of};
     ghost use Rattle.iom_check.specs.Scoring.{ended, failed, judged, more, noted, noted_at, passed, remarked, with_wish};
     ghost use Rattle.iom_check.specs.Checking.{closing};
+    ghost use Rattle.iom_check.specs.Judging.{message, title};
     ghost use Rattle.iom_check.specs.Looking.{looked_at};
     ghost use Rattle.iom_check.specs.Owing.{owed_at};
+    ghost use Rattle.iom_check.specs.Wanted.{wanted};
 
     // The next test point, at a line.
     fn point(&self, line: u64) -> Point<'a>
@@ -63,7 +64,23 @@ impl<'a> Scoring<'a> {
         self.tally.passed = self.tally.passed.saturating_add(1);
     }
 
+    // A test point passes, at a line. As text nothing is told of it.
+    #[inline(never)]
+    fn pass_line(&mut self, number: u64, line: &[u8])
+        requires line { length line.now ≤ 513 }
+        requires empty { length self.old.page.items ≡ 0 }
+        ensures text { self.new.page.items ≡ self.old.page.items ++ (passed (score_of self.old) number (title line.now)).said }
+        ensures room { length self.new.page.items ≤ 90000 }
+        ensures score { score_of self.new ≡ (passed (score_of self.old) number (title line.now)).after }
+    {
+        match self.rules.style {
+            Style::Text => self.pass(number, b""),
+            Style::Tap | Style::Junit => self.pass(number, title(line).as_slice()),
+        }
+    }
+
     // A test point of a line fails.
+    #[inline(never)]
     fn fail(&mut self, line: u64, title: &[u8], message: &[u8])
         requires title { length title.now ≤ 2052 }
         requires message { length message.now ≤ 8400 }
@@ -78,24 +95,9 @@ impl<'a> Scoring<'a> {
         self.tally.failed = self.tally.failed.saturating_add(1);
     }
 
-    // Notes what would go unnoticed: it fails where the rules are strict.
-    fn note(&mut self, line: u64, text: &[u8])
-        requires short { length text.now ≤ 64 }
-        requires room { length self.old.page.items ≤ 90000 }
-        ensures text { self.new.page.items ≡ self.old.page.items ++ (noted (score_of self.old) line text.now).said }
-        ensures room { length self.new.page.items ≤ 120000 }
-        ensures score { score_of self.new ≡ (noted (score_of self.old) line text.now).after }
-    {
-        if self.rules.is_strict {
-            self.fail(line, text, text);
-        } else {
-            push_note(&mut self.page, self.rules.style, self.name, line, text);
-        }
-    }
-
-    /// Judges a line of this number by its answer. `slip` is why it is bad, and empty if it isn't; `tables` is empty where no stale access is
-    /// to be told, and `elsewhere` where none that isn't settled.
-    pub fn judge(
+    // A test point fails, at a line.
+    #[inline(never)]
+    fn fail_line(
         &mut self,
         number: u64,
         line: &[u8],
@@ -110,33 +112,80 @@ impl<'a> Scoring<'a> {
         requires tables { length tables.now ≤ 320 }
         requires elsewhere { length elsewhere.now ≤ 320 }
         requires empty { length self.old.page.items ≡ 0 }
+        ensures text { self.new.page.items ≡ self.old.page.items ++ (failed (score_of self.old) number (title line.now)
+            (message self.old.rules.fails_if_stale line.now answer.now slip.now tables.now elsewhere.now)).said }
+        ensures room { length self.new.page.items ≤ 90000 }
+        ensures score { score_of self.new ≡ (failed (score_of self.old) number (title line.now)
+            (message self.old.rules.fails_if_stale line.now answer.now slip.now tables.now elsewhere.now)).after }
+    {
+        let is_judged = self.rules.fails_if_stale;
+        self.fail(
+            number,
+            title(line).as_slice(),
+            message(is_judged, line, answer, slip, tables, elsewhere).as_slice(),
+        );
+    }
+
+    // Notes what would go unnoticed: it fails where the rules are strict.
+    #[inline(never)]
+    fn note(&mut self, line: u64, text: &[u8])
+        requires short { length text.now ≤ 64 }
+        requires room { length self.old.page.items ≤ 90000 }
+        ensures text { self.new.page.items ≡ self.old.page.items ++ (noted (score_of self.old) line text.now).said }
+        ensures room { length self.new.page.items ≤ 120000 }
+        ensures score { score_of self.new ≡ (noted (score_of self.old) line text.now).after }
+    {
+        if self.rules.is_strict {
+            self.fail(line, text, text);
+        } else {
+            push_note(&mut self.page, self.rules.style, self.name, line, text);
+        }
+    }
+
+    /// Judges a line of this number, which has this wish, by its answer. `slip` is why it is bad, and empty if it isn't; `tables` is empty where no stale access is
+    /// to be told, and `elsewhere` where none that isn't settled.
+    pub fn judge(
+        &mut self,
+        number: u64,
+        line: &[u8],
+        wish: Option<&[u8]>,
+        answer: &[u8],
+        slip: &[u8],
+        tables: &[u8],
+        elsewhere: &[u8],
+    )
+        requires line { length line.now ≤ 513 }
+        requires wish { option_map (λ wish. wish.now) wish ≡ wanted line.now }
+        requires answer { length answer.now ≤ 320 }
+        requires slip { length slip.now ≤ 320 }
+        requires tables { length tables.now ≤ 320 }
+        requires elsewhere { length elsewhere.now ≤ 320 }
+        requires empty { length self.old.page.items ≡ 0 }
         ensures text { self.new.page.items ≡ self.old.page.items ++ (judged (score_of self.old) number line.now answer.now slip.now tables.now elsewhere.now).said }
         ensures room { length self.new.page.items ≤ 90000 }
         ensures score { score_of self.new ≡ (judged (score_of self.old) number line.now answer.now slip.now tables.now elsewhere.now).after }
     {
         let is_judged = self.rules.fails_if_stale;
-        if fails(is_judged, wish_of(line), answer, tables, elsewhere) {
-            self.fail(
-                number,
-                title(line).as_slice(),
-                message(is_judged, line, answer, slip, tables, elsewhere).as_slice(),
-            );
-        } else if passes(is_judged, wish_of(line), answer, tables, elsewhere) {
-            self.pass(number, title(line).as_slice());
+        if fails(is_judged, wish, answer, tables, elsewhere) {
+            self.fail_line(number, line, answer, slip, tables, elsewhere);
+        } else if passes(is_judged, wish, answer, tables, elsewhere) {
+            self.pass_line(number, line);
         }
     }
 
     /// Notes what a line of this number has that would go unnoticed, and whether it has a wish.
-    pub fn remark(&mut self, number: u64, line: &[u8], answer: &[u8])
-        requires { length self.old.page.items ≤ 90000 }
+    #[tactic(auto, unfolding(crate::specs::Judging::remark))]
+    pub fn remark(&mut self, number: u64, line: &[u8], wish: Option<&[u8]>, answer: &[u8])
+        requires wish { option_map (λ wish. wish.now) wish ≡ wanted line.now }
+        requires room { length self.old.page.items ≤ 90000 }
         ensures text { self.new.page.items ≡ self.old.page.items ++ (remarked (score_of self.old) number line.now answer.now).said }
         ensures score { score_of self.new ≡ with_wish (remarked (score_of self.old) number line.now answer.now).after line.now }
     {
-        let text = remark(line, answer);
+        let text = remark(wish, line, answer);
         if !text.is_empty() {
             self.note(number, text);
         }
-        self.has_wish = self.has_wish || wish_of(line).is_some();
+        self.has_wish = self.has_wish || wish.is_some();
     }
 
     /// Judges place `i` of a cache by its answer, at a line of this number.

@@ -135,6 +135,8 @@ The script has the lines of `rviommu --help` and these:
   origin page I                 the context of a translation
   why I                         the lines that cached what step I of the trace
                                 used, and whether it was stale
+  owed                          how many requests some IOMMU could still lead
+                                elsewhere than the tables do, and the first
 
 The line `include FILE` stands for the text of FILE, which is named from the
 folder of the script. If standard output is a terminal, bad is followed by its
@@ -156,10 +158,13 @@ Below each access of a device come the reasons for its answer:
   walk: ..      the parts of its walk, if it was not fully cached
   warrant: ..   the lines that its translation comes from
   stale: ..     if it was stale, what served it and what the tables say
+  unsettled: .. with --settled, if some IOMMU could lead it elsewhere, where,
+                and the line that read what could still serve it
 
 At the end it counts the accesses: granted, denied by cause, served from the
-caches, and stale, with their lines. With --only, the accesses of that kind
-alone are printed before.
+caches, and stale, with their lines; with --settled also those that are not
+settled (`rviommu check --help`). With --only, the accesses of that kind alone
+are printed before; unsettled implies --settled.
 
 An example:
 

@@ -14,7 +14,7 @@ const STALE: &str = "stale";
 /// The option of `check` by which the caches are looked at behind each fence too.
 const AT_FENCES: &str = "at-fences";
 
-/// The option of `check` by which accesses fail that aren't settled.
+/// The option of `check` by which accesses fail that aren't settled, and of `explain` by which they are told.
 const SETTLED: &str = "settled";
 
 /// The option of `check` by which what is noted fails.
@@ -42,7 +42,10 @@ const INPUT: &str = "-";
 const KINDS: [&str; 6] = ["cmd", "fault", "context", "dir", "pte", "u64"];
 
 /// The accesses that `explain` can tell alone.
-const ONLY_THESE: [&str; 2] = ["denied", "stale"];
+const ONLY_THESE: [&str; 3] = ["denied", "stale", UNSETTLED];
+
+/// The name of accesses that aren't settled, among those.
+const UNSETTLED: &str = "unsettled";
 
 /// The accesses that `explain` tells, where it doesn't tell all.
 #[derive(Clone, Copy)]
@@ -51,6 +54,8 @@ pub struct Only {
     pub denied: bool,
     /// Those that are stale.
     pub stale: bool,
+    /// Those that aren't settled.
+    pub unsettled: bool,
 }
 
 /// How a script is played.
@@ -60,8 +65,12 @@ pub enum How {
     Run,
     /// Each line is answered, and may be one of `debug`.
     Debug,
-    /// Each line is printed with its answer and the reasons of its accesses, or these accesses alone.
-    Explain { only: Option<Only> },
+    /// Each line is printed with its answer and the reasons of its accesses, or these accesses alone. If `tells_settled`, it is also told which
+    /// accesses aren't settled.
+    Explain {
+        only: Option<Only>,
+        tells_settled: bool,
+    },
 }
 
 impl How {
@@ -245,8 +254,13 @@ const VERBS: [Verb; 7] = [
         after_help: help::EXPLAIN,
         operands: &[
             Operand {
+                name: SETTLED,
+                help: "Also print which accesses caches could lead elsewhere",
+                need: Need::Flag,
+            },
+            Operand {
                 name: ONLY,
-                help: "Print these accesses alone: denied, stale or denied,stale",
+                help: "Print these accesses alone: any of denied,stale,unsettled",
                 need: Need::Valued("WHAT"),
             },
             Operand {
@@ -385,7 +399,21 @@ fn told_alone<'a>(found: &ArgMatches<'a>) -> Option<Only> {
     Some(Only {
         denied: named.iter().any(|it| *it == "denied"),
         stale: named.iter().any(|it| *it == "stale"),
+        unsettled: named.iter().any(|it| *it == UNSETTLED),
     })
+}
+
+// How `explain` plays a script. To tell accesses alone that aren't settled is to tell which those are.
+fn explaining<'a>(found: &ArgMatches<'a>) -> How {
+    let only = told_alone(found);
+    let names_unsettled = match only {
+        Some(only) => only.unsettled,
+        None => false,
+    };
+    How::Explain {
+        only,
+        tells_settled: names_unsettled || found.get_flag(SETTLED),
+    }
 }
 
 // The scripts that `check` names.
@@ -431,12 +459,7 @@ fn task_in<'a>(alloc: Global, matches: &ArgMatches<'a>) -> Result<Task<'a>, Word
         }),
         Some(("run", found)) => Ok(script(How::Run, found)),
         Some(("debug", found)) => Ok(script(How::Debug, found)),
-        Some(("explain", found)) => Ok(script(
-            How::Explain {
-                only: told_alone(found),
-            },
-            found,
-        )),
+        Some(("explain", found)) => Ok(script(explaining(found), found)),
         Some(("check", found)) => judging(alloc, found),
         Some(("upgrade", found)) => Ok(Task::Upgrade {
             image: value(found, "IMAGE"),

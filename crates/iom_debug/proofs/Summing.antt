@@ -1,12 +1,13 @@
 -- The counts over some accesses and one more.
-use Rattle.std.proofs.Common.{◌≡◌, ◌∙◌, ◌++◌, ◌+◌, ◌-◌, ◌==◌, ℕ, suc, None, Bool, true, false, List, [], ◌∷◌, length, map, if◌then◌else◌, append-nil, refl, sym, ap, length-append, arith}
+use Rattle.std.proofs.Common.{◌≡◌, ◌∙◌, ◌++◌, ◌+◌, ◌-◌, ◌==◌, ℕ, suc, None, Bool, true, false, List, [], ◌∷◌, length, map, take, if◌then◌else◌, append-nil, refl, sym, ap, length-append, arith}
 use Rattle.std.specs.Prelude.{cond, slice_get}
 use Rattle.std.specs.List.{count_by, dedup, dedup_from, filter}
+use Rattle.std.proofs.Math.Seq.{take-append_seam, take-length}
 use Rattle.std.proofs.lemmas.List.{map-append}
 use Rattle.std.proofs.lemmas.List.Elements.{filter-append}
 use Rattle.std.proofs.lemmas.List.Sums.{sum_by_push}
 use Rattle.circular_buffer.specs.Buffer.{last_item}
-use Rattle.iom_debug.specs.Summary.{Counts, and_one, causes, counted, counts_of, denied_with, is_denied_for, is_granted, is_it, stale_lines, up_to_64_bits, with_line, with_outcome, with_own_line}
+use Rattle.iom_debug.specs.Summary.{Counts, and_one, causes, counted, counts_of, denied_with, is_denied_for, is_granted, is_it, line_if, lines_where, up_to_64_bits, with_line, with_outcome, with_own_lines}
 use Rattle.iom_debug.specs.declared.summary.AccessOutcome.{AccessOutcome}
 
 one_more : (b : Bool) (n : ℕ) → up_to_64_bits (n + cond b 1 0) ≡ and_one b (up_to_64_bits n)
@@ -94,12 +95,21 @@ line_by : (earlier : List ℕ) (o : AccessOutcome) (b : Bool) → dedup same (ea
 line_by earlier o true = dedup_more o.number earlier
 line_by earlier o false = ap (dedup same) (append-nil earlier)
 
-lines_more : (told : List AccessOutcome) (o : AccessOutcome) →
-    stale_lines (told ++ o ∷ []) ≡ (if o.is_stale then with_line (stale_lines told) o.number else stale_lines told)
-lines_more told o =
-    ap (λ (l : List AccessOutcome). dedup same (map (λ x. x.number) l)) (filter-append (λ x. x.is_stale) told (o ∷ []))
-    ∙ ap (dedup same) (map-append (λ x. x.number) (filter (λ x. x.is_stale) told) (filter (λ x. x.is_stale) (o ∷ [])))
-    ∙ line_by (map (λ x. x.number) (filter (λ x. x.is_stale) told)) o o.is_stale
+lines_more : (is : AccessOutcome → Bool) (told : List AccessOutcome) (o : AccessOutcome) →
+    lines_where is (told ++ o ∷ []) ≡ line_if (is o) (lines_where is told) o.number
+lines_more is told o =
+    ap (λ (l : List AccessOutcome). dedup same (map (λ x. x.number) l)) (filter-append is told (o ∷ []))
+    ∙ ap (dedup same) (map-append (λ x. x.number) (filter is told) (filter is (o ∷ [])))
+    ∙ line_by (map (λ x. x.number) (filter is told)) o (is o)
+
+-- the lines before one more
+front_by : (lines : List ℕ) (n : ℕ) (b : Bool) → take (length lines) (if b then lines else lines ++ n ∷ []) ≡ lines
+front_by lines n true = take-length lines
+front_by lines n false = take-append_seam lines (n ∷ [])
+
+pub first_ones : (is : Bool) (lines : List ℕ) (n : ℕ) → take (length lines) (line_if is lines n) ≡ lines
+first_ones true lines n = front_by lines n (is_it n (last_item lines))
+first_ones false lines n = take-length lines
 
 -- one access more
 summed : (told : List AccessOutcome) (o : AccessOutcome) → with_outcome (counts_of told) o ≡ counts_of (told ++ o ∷ [])
@@ -109,12 +119,16 @@ summed told o = rw (
   denied_more causes told o,
   counted_more (λ x. x.is_cached) told o,
   counted_more (λ x. x.is_stale) told o,
-  lines_more told o,
+  lines_more (λ x. x.is_stale) told o,
+  counted_more (λ x. x.is_unsettled) told o,
+  lines_more (λ x. x.is_unsettled) told o,
 ) refl
 
 -- the same in two steps
-pub summed_by : (old mid new : Counts) (o : AccessOutcome) → mid ≡ with_own_line old o → new ≡ record (with_outcome mid o) { lines = mid.lines } →
+pub summed_by : (old mid new : Counts) (o : AccessOutcome) → mid ≡ with_own_lines old o →
+    new ≡ record (with_outcome mid o) { stale_lines = mid.stale_lines; unsettled_lines = mid.unsettled_lines } →
     (told : List AccessOutcome) → old ≡ counts_of told → new ≡ counts_of (told ++ o ∷ [])
 summed_by old mid new o mid_is new_is told is =
-    new_is ∙ ap (λ (m : Counts). record (with_outcome m o) { lines = m.lines }) mid_is
+    new_is
+    ∙ ap (λ (m : Counts). record (with_outcome m o) { stale_lines = m.stale_lines; unsettled_lines = m.unsettled_lines }) mid_is
     ∙ ap (λ (c : Counts). with_outcome c o) is ∙ summed told o

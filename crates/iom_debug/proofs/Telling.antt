@@ -11,7 +11,7 @@ use Rattle.iom_reader.specs.declared.fault.RunFault.{RunFault}
 use Rattle.iom_reader.proofs.Chains.{spoken, broken, lawful as by_lines_lawful}
 use Rattle.iom_debug.specs.Summary.{up_to_64_bits}
 use Rattle.iom_debug.specs.Taking.{Desk}
-use Rattle.iom_debug.specs.Telling.{Debugged, DebugSays, Leaves, answer_at, at_once, line_told, slip_told, with_slip}
+use Rattle.iom_debug.specs.Telling.{Debugged, DebugSays, IsAnswer, Leaves, at_once, line_told, slip_told, with_slip}
 
 pub nothing_written : (a : Option (List ℕ)) (text : List ℕ) → length text ≡ 0 → Appends a a text
 nothing_written a text none = subst (Appends a a) (sym (nil_from_length text none)) (Appends-nil a)
@@ -39,7 +39,7 @@ pub cut_short : (most count : ℕ) (line : List ℕ) → count ≡ min (length l
 cut_short most count line is = omega (arith, length-take count line)
 
 pub debug_says : (before : Debugged) (after : Desk) (line kept said answer slip : List ℕ) (number : ℕ) → kept ≡ take 513 line →
-    number ≡ up_to_64_bits (before.number + 1) → Leaves before.desk kept number after → answer ≡ answer_at before.desk kept →
+    number ≡ up_to_64_bits (before.number + 1) → Leaves before.desk kept number after → IsAnswer before.desk kept answer →
     slip ≡ slip_told before.tells_slips before.desk.names kept → said ≡ line_told (with_slip answer slip) →
     DebugSays before (take 513 line) said (record { desk = after; number = number; tells_slips = before.tells_slips })
 debug_says before after line kept said answer slip number cut count left is why told =
@@ -48,5 +48,7 @@ debug_says before after line kept said answer slip number cut count left is why 
       number = count;
       left = left;
       same = refl;
-      text = told ∙ ap (λ a. line_told (with_slip a slip)) is ∙ ap (λ w. line_told (with_slip (answer_at before.desk kept) w)) why;
+      answer = answer;
+      answered = is;
+      text = told ∙ ap (λ w. line_told (with_slip answer w)) why;
     })

@@ -1,26 +1,27 @@
 -- The answers to the questions that `debug` alone has. None of them is a step.
-use Rattle.std.specs.Prelude.{ℕ, List, slice_get}
+use Rattle.std.specs.Prelude.{ℕ, ◌≡◌, List, slice_get}
 use Rattle.iom_mem.specs.Memory.{bytes_at}
-use Rattle.iom_tool.specs.Console.{Console}
+use Rattle.iom_core.specs.State.{State}
 use Rattle.iom_debug.specs.Walks.{walk_text}
-use Rattle.iom_debug.specs.Reasons.{context_origin_text, page_origin_text, why_text}
+use Rattle.iom_debug.specs.Reasons.{LineAccountView, context_origin_text, page_origin_text, why_text}
+use Rattle.iom_debug.specs.Owing.{IsOwedAnswer}
 use Rattle.iom_debug.specs.Ways.{stale_address, stale_context_text, stale_page_text, stale_text}
 use Rattle.iom_debug.specs.Texts.{bytes_text, device_text, disk_text, queue_text, vectors_text}
 use Rattle.iom_tool.specs.declared.language.Inquiry.{Inquiry}
 use Rattle.iom_tool.specs.declared.language.Inquiry.TheVariants as inquiry
-use Rattle.iom_account.specs.Account.{AccountView}
 
--- by what is told of the last steps, and of which steps filled the caches
-abbrev pub inquired : Console → AccountView → Inquiry → List ℕ
-inquired now account (inquiry.Stale request) = stale_text (stale_address now.state.machine request)
-inquired now account (inquiry.StaleContext i) = stale_context_text now.state.machine i
-inquired now account (inquiry.StalePage i) = stale_page_text now.state.machine i
-inquired now account (inquiry.Why i) = why_text (slice_get account.reasons i)
-inquired now account (inquiry.ContextOrigin i) = context_origin_text account.history i
-inquired now account (inquiry.PageOrigin i) = page_origin_text account.history i
-inquired now account (inquiry.Walk request i) = walk_text now.state.machine request i
-inquired now account (inquiry.Queue which) = queue_text now.state.machine.registers which
-inquired now account inquiry.Vectors = vectors_text now.state.machine.registers
-inquired now account (inquiry.Dump addr count) = bytes_text (bytes_at now.state.machine.memory addr count)
-inquired now account (inquiry.Disk dev at count) = disk_text (slice_get now.state.devices dev) at count
-inquired now account (inquiry.Device dev) = device_text (slice_get now.state.devices dev)
+-- by what is told of the last steps, of which steps filled the caches, and of what any IOMMU may hold
+abbrev pub IsInquired : State → LineAccountView → Inquiry → List ℕ → Type 0
+IsInquired state reasons (inquiry.Stale request) answer = answer ≡ stale_text (stale_address state.machine request)
+IsInquired state reasons (inquiry.StaleContext i) answer = answer ≡ stale_context_text state.machine i
+IsInquired state reasons (inquiry.StalePage i) answer = answer ≡ stale_page_text state.machine i
+IsInquired state reasons (inquiry.Why i) answer = answer ≡ why_text (slice_get reasons.account.reasons i)
+IsInquired state reasons (inquiry.ContextOrigin i) answer = answer ≡ context_origin_text reasons.account.history i
+IsInquired state reasons (inquiry.PageOrigin i) answer = answer ≡ page_origin_text reasons.account.history i
+IsInquired state reasons (inquiry.Walk request i) answer = answer ≡ walk_text state.machine request i
+IsInquired state reasons (inquiry.Queue which) answer = answer ≡ queue_text state.machine.registers which
+IsInquired state reasons inquiry.Vectors answer = answer ≡ vectors_text state.machine.registers
+IsInquired state reasons (inquiry.Dump addr count) answer = answer ≡ bytes_text (bytes_at state.machine.memory addr count)
+IsInquired state reasons (inquiry.Disk dev at count) answer = answer ≡ disk_text (slice_get state.devices dev) at count
+IsInquired state reasons (inquiry.Device dev) answer = answer ≡ device_text (slice_get state.devices dev)
+IsInquired state reasons inquiry.Owed answer = IsOwedAnswer reasons.settling state answer

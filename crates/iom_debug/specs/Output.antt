@@ -1,5 +1,5 @@
 -- What is answered to a line, and which steps it is.
-use Rattle.std.specs.Prelude.{ℕ, ◌≡◌, List, [], ◌∷◌, replicate, Option, Some}
+use Rattle.std.specs.Prelude.{ℕ, ◌≡◌, List, [], ◌∷◌, replicate}
 use Rattle.std.specs.Option.{unwrap_or}
 use Rattle.iom_core.specs.State.{State}
 use Rattle.iom_core.specs.declared.step.Step.{Step}
@@ -10,16 +10,17 @@ use Rattle.iom_tool.specs.Texts.{text_of}
 use Rattle.iom_names.specs.Reading.{line_with}
 use Rattle.iom_names.specs.declared.names.Binding.{Binding}
 use Rattle.iom_debug.specs.Taking.{last_answer, run_text, taken}
-use Rattle.iom_debug.specs.Answers.{inquired}
-use Rattle.iom_account.specs.Account.{AccountView}
+use Rattle.iom_debug.specs.Reasons.{LineAccountView}
+use Rattle.iom_debug.specs.Answers.{IsInquired}
 
--- by what is told of the last steps; None: nothing
-abbrev pub debug_reply : Console → AccountView → DebugLine → Option (List ℕ)
-debug_reply now account (Plain line) = reply now line
-debug_reply now account (Named step) = reply now (Does step)
-debug_reply now account (Inquires inquiry) = Some (inquired now account inquiry)
-debug_reply now account (Again step most) = Some (run_text now.state (replicate most step))
-debug_reply now account (Stores steps) = Some (text_of (last_answer now.state steps))
+-- This is answered, empty where nothing is, by what is told beside the platform and the trace. Of what is owed there may be several answers,
+-- since an IOMMU may lead a request in several ways; any other line has one.
+abbrev pub IsReply : Console → LineAccountView → DebugLine → List ℕ → Type 0
+IsReply now reasons (Plain line) answer = answer ≡ unwrap_or (reply now line) []
+IsReply now reasons (Named step) answer = answer ≡ unwrap_or (reply now (Does step)) []
+IsReply now reasons (Inquires inquiry) answer = IsInquired now.state reasons inquiry answer
+IsReply now reasons (Again step most) answer = answer ≡ run_text now.state (replicate most step)
+IsReply now reasons (Stores steps) answer = answer ≡ text_of (last_answer now.state steps)
 
 -- the steps that a line is
 abbrev pub debug_steps : State → DebugLine → List Step

@@ -11,16 +11,18 @@ use Rattle.iom_core.specs.declared.access.Request.{Request}
 use Rattle.iom_core.specs.declared.step.Step.{Step}
 use Rattle.iom_owed.specs.Holdings.{HoldingsView, Keeps}
 use Rattle.iom_owed.specs.Newest.{steps_of}
-use Rattle.iom_owed.specs.Settled.{AreOwed, IsJudged}
+use Rattle.iom_owed.specs.Settled.{AreOwed, IsStepJudged}
 use Rattle.iom_owed.specs.declared.settling.Owed.{Owed}
 use Rattle.iom_owed.specs.declared.settling.Unsettled.{Unsettled}
 use Rattle.iom_debug.specs.Stale.{difference_text, kind_text}
 use Rattle.iom_debug.specs.Ways.{address_of, address_text}
 use Rattle.iom_debug.specs.declared.settling.UnsettledAccess.{UnsettledAccess}
 
--- what any IOMMU may hold, the last access of a line that wasn't settled, and whether memory was refused: then no more is known
+-- What any IOMMU may hold, the access of the last step, if that wasn't settled just before it, and the last access of a line that wasn't.
+-- Where memory was refused no more is known.
 pub record SettlingView : Type 0 where
   pub holdings : HoldingsView
+  pub last : Option UnsettledAccess
   pub unsettled : Option UnsettledAccess
   pub is_lost : Bool
 
@@ -33,23 +35,23 @@ abbrev pub later_unsettled : Option UnsettledAccess → Option UnsettledAccess �
 later_unsettled found None = found
 later_unsettled found (Some access) = Some access
 
-abbrev pub access_of : Request → Unsettled → UnsettledAccess
-access_of request unsettled = record { request = request; unsettled = unsettled }
+-- the access of a step's request that isn't settled
+abbrev pub access_of : Option Request → Option Unsettled → Option UnsettledAccess
+access_of None judged = None
+access_of (Some request) judged = option_map (λ unsettled. record { request = request; unsettled = unsettled }) judged
 
--- This is found of what a step asks after these steps: None where it is settled, or asks nothing.
-abbrev pub IsFound : State → List Step → Option Request → Option UnsettledAccess → Type 0
-IsFound start steps None found = found ≡ None
-IsFound start steps (Some request) found =
-    (judged : Option Unsettled) × (found ≡ option_map (access_of request) judged) × IsJudged start steps request judged
+-- This is found of what a step asks after these steps, beside which this is held: None where it is settled, or asks nothing.
+abbrev pub IsFound : HoldingsView → State → List Step → Option Request → Option UnsettledAccess → Type 0
+IsFound held start steps request found =
+    (judged : Option Unsettled) × (found ≡ access_of request judged) × IsStepJudged held start steps request judged
 
 -- A step leaves this: its access, where that wasn't settled just before. Unless memory was refused, that is judged by what any IOMMU may
 -- hold, which is kept.
 pub record Settles (before : SettlingView) (state : State) (step : Step) (number : ℕ) (after : SettlingView) : Type 0 where
-  pub found : Option UnsettledAccess
-  pub told : after.unsettled ≡ later_unsettled before.unsettled found
+  pub told : after.unsettled ≡ later_unsettled before.unsettled after.last
   pub lost : before.is_lost ≡ true → after.is_lost ≡ true
   pub judged : after.is_lost ≡ false → (start : State) (taken : List (Step × ℕ)) → Keeps before.holdings state start taken →
-      IsFound start (steps_of taken) (request_of_step state step) found
+      IsFound before.holdings start (steps_of taken) (request_of_step state step) after.last
   pub keeps : after.is_lost ≡ false → (start : State) (taken : List (Step × ℕ)) → Keeps before.holdings state start taken →
       Keeps after.holdings (next state step).state start ((step, number) ∷ taken)
 
@@ -76,6 +78,11 @@ abbrev pub unsettled_in : Option SettlingView → Option UnsettledAccess
 unsettled_in None = None
 unsettled_in (Some settling) = settling.unsettled
 
+-- the access of the last step, if that wasn't settled just before it
+abbrev pub last_unsettled_in : Option SettlingView → Option UnsettledAccess
+last_unsettled_in None = None
+last_unsettled_in (Some settling) = settling.last
+
 -- whether memory was refused, where settledness is told
 abbrev pub is_lost_in : Option SettlingView → Bool
 is_lost_in None = false
@@ -86,23 +93,28 @@ abbrev pub AreOwedBy : Option SettlingView → State → List Owed → Type 0
 AreOwedBy None state owed = owed ≡ []
 AreOwedBy (Some settling) state owed =
     (start : State) (taken : List (Step × ℕ)) → Keeps settling.holdings state start taken →
-    AreOwed start (steps_of taken) settling.holdings.requests owed
+    AreOwed settling.holdings start (steps_of taken) owed
 
 abbrev pub may_text : Result ℕ Denial → List ℕ
 may_text (Ok addr) = codes " may still go to "
 may_text (Err denial) = codes " may still be "
 
--- as `may still go to addr=0x80011abc, the tables now say denied 13`
+-- the line whose step read an entry that alone leads there, where there is one
+abbrev pub number_text : Option ℕ → List ℕ
+number_text None = []
+number_text (Some number) = codes ", read in line " ++ numeral 10 number
+
+-- as `may still go to addr=0x80011abc, read in line 12, the tables now say denied 13`
 unfoldable pub elsewhere_text : Unsettled → ℕ → List ℕ
 elsewhere_text found iova =
-    may_text (address_of found.elsewhere iova) ++ address_text (address_of found.elsewhere iova)
+    may_text (address_of found.elsewhere iova) ++ address_text (address_of found.elsewhere iova) ++ number_text found.number
     ++ difference_text found.elsewhere found.tables iova
 
 -- as `read 0x40202000 of device 5`
 unfoldable pub request_text : Request → List ℕ
 request_text request = kind_text request.kind ++ hexadecimal request.iova ++ codes " of device " ++ numeral 10 request.did
 
--- as `read 0x40202abc may still go to addr=0x80011abc, the tables now say denied 13`
+-- as `read 0x40202abc may still go to addr=0x80011abc, read in line 12, the tables now say denied 13`
 unfoldable pub unsettled_text : UnsettledAccess → List ℕ
 unsettled_text access =
     kind_text access.request.kind ++ hexadecimal access.request.iova ++ elsewhere_text access.unsettled access.request.iova

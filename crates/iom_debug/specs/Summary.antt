@@ -25,9 +25,9 @@ is_denied_for cause outcome = is_it cause outcome.denied
 abbrev pub causes : List ℕ
 causes = 5 ∷ 7 ∷ 13 ∷ 15 ∷ 21 ∷ 23 ∷ 256 ∷ 257 ∷ 258 ∷ 259 ∷ 260 ∷ []
 
--- the numbers of the lines of those that are stale, each once where they follow each other
-abbrev pub stale_lines : List AccessOutcome → List ℕ
-stale_lines told = dedup (λ n m. n == m) (map (λ outcome. outcome.number) (filter (λ outcome. outcome.is_stale) told))
+-- the numbers of the lines of those that are so, each once where they follow each other
+abbrev pub lines_where : (AccessOutcome → Bool) → List AccessOutcome → List ℕ
+lines_where is told = dedup (λ n m. n == m) (map (λ outcome. outcome.number) (filter is told))
 
 pub record Counts : Type 0 where
   pub accesses : ℕ
@@ -36,7 +36,9 @@ pub record Counts : Type 0 where
   pub denied : List (ℕ × ℕ)
   pub cached : ℕ
   pub stale : ℕ
-  pub lines : List ℕ
+  pub stale_lines : List ℕ
+  pub unsettled : ℕ
+  pub unsettled_lines : List ℕ
 
 abbrev pub counts_of : List AccessOutcome → Counts
 counts_of told = record {
@@ -45,7 +47,9 @@ counts_of told = record {
   denied = map (λ cause. (cause, counted (is_denied_for cause) told)) causes;
   cached = counted (λ outcome. outcome.is_cached) told;
   stale = counted (λ outcome. outcome.is_stale) told;
-  lines = stale_lines told;
+  stale_lines = lines_where (λ outcome. outcome.is_stale) told;
+  unsettled = counted (λ outcome. outcome.is_unsettled) told;
+  unsettled_lines = lines_where (λ outcome. outcome.is_unsettled) told;
 }
 
 -- one more, where it counts
@@ -59,10 +63,16 @@ denied_with outcome entry = (entry.0, and_one (is_denied_for entry.0 outcome) en
 abbrev pub with_line : List ℕ → ℕ → List ℕ
 with_line lines number = if is_it number (last_item lines) then lines else lines ++ number ∷ []
 
--- the counts with the line of an access that is stale
-abbrev pub with_own_line : Counts → AccessOutcome → Counts
-with_own_line counts outcome =
-    record counts { lines = if outcome.is_stale then with_line counts.lines outcome.number else counts.lines }
+-- the same, where it counts
+abbrev pub line_if : Bool → List ℕ → ℕ → List ℕ
+line_if is lines number = if is then with_line lines number else lines
+
+-- the counts with the line of an access that is stale or isn't settled
+abbrev pub with_own_lines : Counts → AccessOutcome → Counts
+with_own_lines counts outcome = record counts {
+  stale_lines = line_if outcome.is_stale counts.stale_lines outcome.number;
+  unsettled_lines = line_if outcome.is_unsettled counts.unsettled_lines outcome.number;
+}
 
 -- the counts with one access more
 abbrev pub with_outcome : Counts → AccessOutcome → Counts
@@ -72,5 +82,7 @@ with_outcome counts outcome = record {
   denied = map (denied_with outcome) counts.denied;
   cached = and_one outcome.is_cached counts.cached;
   stale = and_one outcome.is_stale counts.stale;
-  lines = (with_own_line counts outcome).lines;
+  stale_lines = (with_own_lines counts outcome).stale_lines;
+  unsettled = and_one outcome.is_unsettled counts.unsettled;
+  unsettled_lines = (with_own_lines counts outcome).unsettled_lines;
 }

@@ -1,13 +1,12 @@
 -- What the word `debug` writes for the lines of a script, and how texts are told.
 use Rattle.std.specs.Prelude.{ℕ, ◌≡◌, ◌+◌, ◌==◌, ◌++◌, ◌&&◌, ◌||◌, Bool, nat_lt, nat_le, List, [], ◌∷◌, length, take, codes, Option, Some, None, if◌then◌else◌}
 use Rattle.std.specs.List.{flat_map}
-use Rattle.std.specs.Option.{unwrap_or}
 use Rattle.hex.specs.Hex.{encode_lower}
 use Rattle.iom_core.specs.Run.{end_of}
 use Rattle.iom_reader.specs.Answering.{Answering}
 use Rattle.iom_reader.specs.Speaking.{Speaking, by_lines}
 use Rattle.iom_tool.specs.Console.{console, trace_after}
-use Rattle.iom_debug.specs.Output.{debug_reply, debug_steps_of}
+use Rattle.iom_debug.specs.Output.{IsReply, debug_steps_of}
 use Rattle.iom_debug.specs.Comments.{comment_at, without_blanks}
 use Rattle.iom_debug.specs.Reasons.{GoesAlong, KeepsLastStale, begun}
 use Rattle.iom_text.specs.Words.{words_of}
@@ -18,9 +17,9 @@ use Rattle.iom_slips.specs.Slips.{slip_of}
 use Rattle.iom_debug.specs.Summary.{up_to_64_bits}
 use Rattle.iom_debug.specs.Taking.{Desk}
 
--- the answer to a line; empty where it has none
-abbrev pub answer_at : Desk → List ℕ → List ℕ
-answer_at desk line = unwrap_or (debug_reply (console desk.state desk.trace) desk.reasons.account (line_with desk.names line)) []
+-- this is answered to a line; empty where it has no answer
+abbrev pub IsAnswer : Desk → List ℕ → List ℕ → Type 0
+IsAnswer desk line answer = IsReply (console desk.state desk.trace) desk.reasons (line_with desk.names line) answer
 
 -- what a line of this number leaves
 pub record Leaves (before : Desk) (line : List ℕ) (number : ℕ) (after : Desk) : Type 0 where
@@ -75,7 +74,9 @@ pub record DebugSays (before : Debugged) (line said : List ℕ) (after : Debugge
   pub number : after.number ≡ up_to_64_bits (before.number + 1)
   pub left : Leaves before.desk line after.number after.desk
   pub same : after.tells_slips ≡ before.tells_slips
-  pub text : said ≡ line_told (with_slip (answer_at before.desk line) (slip_told before.tells_slips before.desk.names line))
+  pub answer : List ℕ
+  pub answered : IsAnswer before.desk line answer
+  pub text : said ≡ line_told (with_slip answer (slip_told before.tells_slips before.desk.names line))
 
 abbrev pub by_debug : Answering
 by_debug = by_lines (at_once Debugged DebugSays)

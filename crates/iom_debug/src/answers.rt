@@ -5,13 +5,13 @@ ghost use Rattle.std.specs.Option.{option_map};
 ghost use Rattle.hex.specs.Hex.{encode_lower};
 ghost use Rattle.iom_mem.specs.Memory.{bytes_at};
 ghost use Rattle.iom_blk.specs.Wants.{wanted};
-ghost use Rattle.iom_tool.specs.Console.{console};
-ghost use Rattle.iom_debug.specs.Answers.{inquired};
+ghost use Rattle.iom_debug.specs.Answers.{IsInquired};
 ghost use Rattle.iom_tool.specs.Parsed.{InRange};
 ghost use Rattle.iom_debug.specs.Texts.{ask_text, blk_text, broken_text, bytes_text, detail_text, device_text, disk_text, part_of, phase_text, queue_text, reason_text, stop_text, vectors_text, view_text, with_line};
 
-use crate::debugger::Debugger;
+use crate::owing::owed_line;
 use crate::reason::{context_origin_line, page_origin_line, why_line};
+use crate::reasons::LineAccount;
 use crate::standings::{context_standing_line, page_standing_line};
 use crate::text::{push_bytes, push_hexadecimal, push_number, push_operand, push_text, reply_of};
 use crate::walks::walk_line;
@@ -25,12 +25,10 @@ use iom_tool::{Inquiry, Reply};
 use iom_virtq::ChainFault;
 
 /// The answer to a question. Nothing is changed.
-pub fn answer_to(debugger: &Debugger<'_>, inquiry: &Inquiry) -> Reply
+pub fn answer_to(platform: &Platform, reasons: &LineAccount, inquiry: &Inquiry) -> Reply
     requires { InRange inquiry.now }
-    ensures { result.items ≡ inquired (console debugger.now.platform.now debugger.now.trace.now) debugger.now.reasons.now.account inquiry.now }
+    ensures { IsInquired platform.now reasons.now inquiry.now result.items }
 {
-    let platform = &*debugger.platform;
-    let reasons = &*debugger.reasons;
     match *inquiry {
         Inquiry::Stale(request) => stale_line(platform, &request),
         Inquiry::StaleContext(i) => context_standing_line(platform, i),
@@ -44,6 +42,7 @@ pub fn answer_to(debugger: &Debugger<'_>, inquiry: &Inquiry) -> Reply
         Inquiry::Dump(addr, count) => memory_line(platform.ram(), addr, count),
         Inquiry::Disk(dev, at, count) => disk_line(platform, dev, at, count),
         Inquiry::Device(dev) => device_line(platform, dev),
+        Inquiry::Owed => owed_line(platform, reasons),
     }
 }
 

@@ -34,16 +34,16 @@ pub struct Debugger<'a> {
 }
 
 impl<'a> Debugger<'a> {
-    ghost use Rattle.std.specs.Prelude.{◌≡◌, ◌≢◌, [], false, None, IfNone, IfSome};
-    ghost use Rattle.std.specs.Option.{unwrap_or};
+    ghost use Rattle.std.specs.Prelude.{◌≡◌, ◌≢◌, List, [], false, true, None, IfNone, IfSome, is_some};
     ghost use Rattle.iom_core.specs.Run.{end_of};
     ghost use Rattle.iom_tool.specs.Console.{console, trace_after};
     ghost use Rattle.iom_tool.specs.Parsed.{Fits, line_as};
-    ghost use Rattle.iom_names.specs.Reading.{line_with, names_after};
+    ghost use Rattle.iom_names.specs.Reading.{is_bad, line_with, names_after};
+    ghost use Rattle.iom_names.specs.declared.names.Binding.{Binding};
     ghost use Rattle.iom_tool.specs.Script.{Bad, line_of};
     ghost use Rattle.iom_debug.specs.Desks.{desk_of, names_of};
     ghost use Rattle.iom_debug.specs.Fences.{have_fence};
-    ghost use Rattle.iom_debug.specs.Output.{IsAsRun, debug_reply, debug_steps, debug_steps_of};
+    ghost use Rattle.iom_debug.specs.Output.{IsAsRun, IsReply, debug_steps, debug_steps_of};
     ghost use Rattle.iom_debug.specs.Reasons.{GoesAlong, KeepsLastStale, begun};
     ghost use Rattle.iom_debug.specs.Settling.{AreOwedBy, HoldsOn, is_lost_in, unsettled_in, unsettled_told};
     ghost use Rattle.iom_debug.specs.Stale.{stale_told};
@@ -75,8 +75,8 @@ impl<'a> Debugger<'a> {
     /// for what is no line, as for a text above 512 bytes or with a line end. A line that `run` answers otherwise than `bad` is answered so
     /// here too, and leaves the same. `let NAME NUMBER` is answered `done`: in the lines after it the name stands for the number.
     pub fn line(&mut self, number: u64, text: &[u8]) -> Reply
-        ensures reply { result.items ≡ unwrap_or
-            (debug_reply (console self.old.platform.now self.old.trace.now) self.old.reasons.now.account (line_with self.old.names text.now)) [] }
+        ensures reply { IsReply (console self.old.platform.now self.old.trace.now) self.old.reasons.now (line_with self.old.names text.now)
+            result.items }
         ensures state { self.new.platform.now
             ≡ end_of self.old.platform.now (debug_steps_of self.old.names self.old.platform.now text.now) }
         ensures trace { self.new.trace.now
@@ -105,8 +105,7 @@ impl<'a> Debugger<'a> {
     /// Carries out a line that was read, whose steps have this number, and answers its text, as `line` does.
     pub fn carry_out(&mut self, number: u64, line: Line) -> Reply
         requires { Fits line }
-        ensures reply { result.items ≡ unwrap_or
-            (debug_reply (console self.old.platform.now self.old.trace.now) self.old.reasons.now.account (line_as line)) [] }
+        ensures reply { IsReply (console self.old.platform.now self.old.trace.now) self.old.reasons.now (line_as line) result.items }
         ensures state { self.new.platform.now ≡ end_of self.old.platform.now (debug_steps self.old.platform.now (line_as line)) }
         ensures trace { self.new.trace.now
             ≡ trace_after self.old.trace.now self.old.platform.now (debug_steps self.old.platform.now (line_as line)) }
@@ -121,7 +120,7 @@ impl<'a> Debugger<'a> {
         match line {
             Line::Does(step) => self.take(number, step).text,
             Line::Named(step) => self.take(number, step).text,
-            Line::Inquires(inquiry) => answer_to(self, &inquiry),
+            Line::Inquires(inquiry) => answer_to(self.platform, self.reasons, &inquiry),
             Line::Again(actor, most) => self.take_again(number, actor, most),
             Line::Put(addr, words) => self.store_all(number, addr, words.as_slice()),
             plain => Console::new(self.platform, self.trace).reply_to(plain),
@@ -130,12 +129,19 @@ impl<'a> Debugger<'a> {
 
     /// Why a line would be answered `bad`, given without its line end, as `VALUE is missing`; empty if it would not be. Numbers stand in place
     /// of names.
-    #[tactic(auto, unfolding(crate::specs::Telling::slip_with), using(crate::proofs::Slips::too_long))]
     pub fn slip(&self, text: &[u8]) -> Reply
         ensures { result.items ≡ slip_with self.now.names text.now }
     {
-        let line = self.names.said(text);
-        if !is_bad(&line) {
+        self.slip_of(&self.names.said(text), text)
+    }
+
+    /// The same of a line that was read by these names, or by those before it, which a line that is `bad` leaves as they are.
+    #[tactic(auto, unfolding(crate::specs::Telling::slip_with), using(crate::proofs::Slips::too_long))]
+    pub fn slip_of(&self, line: &Line, text: &[u8]) -> Reply
+        ensures { (names : List Binding) → line_as line.now ≡ line_with names text.now → (is_bad (line_as line.now) ≡ true → self.now.names ≡ names) →
+            result.items ≡ slip_with names text.now }
+    {
+        if !is_bad(line) {
             return Reply::new();
         }
         if is_let(text) {
@@ -157,8 +163,8 @@ impl<'a> Debugger<'a> {
         self.reasons.has_fence()
     }
 
-    /// The last access of the last line that wasn't settled, as `read 0x40202abc may still go to addr=0x80011abc, the tables now say denied
-    /// 13`. Empty if each was, or settledness isn't told.
+    /// The last access of the last line that wasn't settled, as `read 0x40202abc may still go to addr=0x80011abc, read in line 12, the tables now
+    /// say denied 13`. Empty if each was, or settledness isn't told.
     pub fn unsettled_told(&self) -> Reply
         ensures { result.items ≡ unsettled_told (unsettled_in self.now.reasons.now.settling) }
     {
@@ -166,6 +172,13 @@ impl<'a> Debugger<'a> {
             Some(access) => unsettled_access_line(&access),
             None => Reply::new(),
         }
+    }
+
+    /// Whether settledness is told: what any IOMMU may hold is kept.
+    pub fn tells_settled(&self) -> bool
+        ensures { result ≡ is_some self.now.reasons.now.settling }
+    {
+        self.reasons.tells_settled()
     }
 
     /// Whether settledness is told, and memory was refused for that. Then nothing is known of later accesses.
@@ -180,6 +193,7 @@ impl<'a> Debugger<'a> {
     pub fn owed(&mut self) -> Option<Vec<Owed>>
         ensures owed { IfSome result (λ owed. AreOwedBy self.old.reasons.now.settling self.old.platform.now owed.items) }
         ensures none { IfNone result (is_lost_in self.new.reasons.now.settling ≡ false → self.old.reasons.now.settling ≡ None) }
+        ensures lost { is_lost_in self.old.reasons.now.settling ≡ true → is_lost_in self.new.reasons.now.settling ≡ true }
     {
         self.reasons.owed(self.platform)
     }

@@ -22,6 +22,7 @@ mod comments;
 mod debugger;
 mod debugging;
 mod fences;
+mod owing;
 mod page;
 mod parts;
 mod reason;

@@ -32,14 +32,14 @@ impl Model for LineAccount {
 }
 
 impl LineAccount {
-    ghost use Rattle.std.specs.Prelude.{◌≡◌, [], ◌∷◌, false, None, IfNone, IfSome, IsSomeAnd, slice_get};
+    ghost use Rattle.std.specs.Prelude.{◌≡◌, ◌≢◌, [], ◌∷◌, true, false, None, IfNone, IfSome, IsSomeAnd, is_some, slice_get};
     ghost use Rattle.std.specs.Option.{option_copied};
     ghost use Rattle.circular_buffer.specs.Buffer.{last_item};
     ghost use Rattle.iom_account.specs.Account.{Accounts};
     ghost use Rattle.iom_core.specs.Table.{next};
     ghost use Rattle.iom_owed.specs.Holdings.{Keeps};
     ghost use Rattle.iom_debug.specs.Reasons.{GoesAlong, KeepsFence, KeepsSettling, KeepsStale, begun, newest_origin, newest_tables, stale_in};
-    ghost use Rattle.iom_debug.specs.Settling.{AreOwedBy, is_lost_in, unsettled_in};
+    ghost use Rattle.iom_debug.specs.Settling.{AreOwedBy, is_lost_in, last_unsettled_in, unsettled_in};
 
     /// Empty reasons of this platform. No call of theirs takes memory. Origins are known only if both caches are empty now.
     pub fn new(platform: &Platform) -> LineAccount
@@ -65,6 +65,7 @@ impl LineAccount {
         ensures current { result.stale ≡ None }
         ensures fence { result.has_fence ≡ false }
         ensures keeps { IsSomeAnd result.settling (λ settling. Keeps settling.holdings platform.now platform.now []) }
+        ensures first { IsSomeAnd result.settling (λ settling. settling.last ≡ None) }
         ensures settled { IsSomeAnd result.settling (λ settling. settling.unsettled ≡ None) }
         ensures known { IsSomeAnd result.settling (λ settling. settling.is_lost ≡ false) }
     {
@@ -126,11 +127,25 @@ impl LineAccount {
         self.has_fence
     }
 
+    /// The access of the last step, if that wasn't settled just before it; None if it was, the step made none, or settledness isn't told.
+    pub fn last_unsettled(&self) -> Option<UnsettledAccess>
+        ensures { result ≡ last_unsettled_in self.now.settling }
+    {
+        self.settling.as_ref()?.last()
+    }
+
     /// The last access of the last line that wasn't settled; None if each was, or settledness isn't told.
     pub fn unsettled(&self) -> Option<UnsettledAccess>
         ensures { result ≡ unsettled_in self.now.settling }
     {
         self.settling.as_ref()?.unsettled()
+    }
+
+    /// Whether settledness is told: what any IOMMU may hold is kept.
+    pub fn tells_settled(&self) -> bool
+        ensures { result ≡ is_some self.now.settling }
+    {
+        self.settling.is_some()
     }
 
     /// Whether settledness is told, and memory was refused for that. Then nothing is known of later accesses.
@@ -150,8 +165,18 @@ impl LineAccount {
         ensures known { IfSome result (λ owed. is_lost_in self.old.settling ≡ false) }
         ensures kept { IfSome result (λ owed. self.new ≡ self.old) }
         ensures none { IfNone result (is_lost_in self.new.settling ≡ false → self.old.settling ≡ None) }
+        ensures lost { is_lost_in self.old.settling ≡ true → is_lost_in self.new.settling ≡ true }
     {
         self.settling.as_mut()?.owed(platform)
+    }
+
+    /// The same, and where memory is refused nothing changes.
+    pub fn owed_now(&self, platform: &Platform) -> Option<Vec<Owed>>
+        ensures owed { IfSome result (λ owed. AreOwedBy self.now.settling platform.now owed.items) }
+        ensures known { IfSome result (λ owed. is_lost_in self.now.settling ≡ false) }
+        ensures told { IfSome result (λ owed. self.now.settling ≢ None) }
+    {
+        self.settling.as_ref()?.owed_now(platform)
     }
 
     /// A line begins: none of its accesses was stale or unsettled yet, and it carried out no IOFENCE.C.

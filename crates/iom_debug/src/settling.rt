@@ -6,7 +6,7 @@ ghost use Rattle.iom_core.specs.State.{State};
 ghost use Rattle.iom_core.specs.Table.{next, request_of_step};
 ghost use Rattle.iom_owed.specs.Holdings.{Keeps};
 ghost use Rattle.iom_owed.specs.Newest.{steps_of};
-ghost use Rattle.iom_debug.specs.Settling.{IsFound, access_of, Settles, SettlesIf, elsewhere_text, line_begun, may_text, request_text, unsettled_text};
+ghost use Rattle.iom_debug.specs.Settling.{IsFound, access_of, Settles, SettlesIf, elsewhere_text, later_unsettled, line_begun, may_text, number_text, request_text, unsettled_text};
 
 use crate::stale::{push_difference, push_kind, way_changes};
 use crate::text::{push_hexadecimal, push_number, push_text};
@@ -26,10 +26,11 @@ pub struct UnsettledAccess {
     pub unsettled: Unsettled,
 }
 
-/// What any IOMMU may hold beside a platform, and the last access of a line that wasn't settled.
+/// What any IOMMU may hold beside a platform, the access of the last step, if that wasn't settled, and the last access of a line that wasn't.
 #[derive(Drop)]
 pub struct Settling {
     holdings: Holdings,
+    last: Option<UnsettledAccess>,
     unsettled: Option<UnsettledAccess>,
     // whether memory was refused
     is_lost: bool,
@@ -40,14 +41,15 @@ impl Model for Settling {
 
     ghost Value = { SettlingView };
 
-    ghost view = { λ s. record { holdings = s.holdings; unsettled = s.unsettled; is_lost = s.is_lost } };
+    ghost view = { λ s. record { holdings = s.holdings; last = s.last; unsettled = s.unsettled; is_lost = s.is_lost } };
 }
 
-// The access of a request that isn't settled.
-fn access_of(request: Request, found: Option<Unsettled>) -> Option<UnsettledAccess>
-    ensures { result ≡ option_map (access_of request) found }
+// The access that a step is about to make, if that isn't settled.
+fn access_of(platform: &Platform, step: &Step, found: Option<Unsettled>) -> Option<UnsettledAccess>
+    ensures { result ≡ access_of (request_of_step platform.now step.now) found }
 {
     let unsettled = found?;
+    let request = platform.request_of(step)?;
     Some(UnsettledAccess { request, unsettled })
 }
 
@@ -59,14 +61,23 @@ impl Settling {
     /// Nothing held yet: for a platform that has taken no step. It takes no memory.
     pub fn new(alloc: Global) -> Settling
         ensures keeps { (start : State) → Keeps result.holdings start start [] }
+        ensures first { result.last ≡ None }
         ensures current { result.unsettled ≡ None }
         ensures known { result.is_lost ≡ false }
     {
         Settling {
             holdings: Holdings::new(alloc),
+            last: None,
             unsettled: None,
             is_lost: false,
         }
+    }
+
+    /// The access of the last step, if that wasn't settled just before it; None if it was, or the step made none.
+    pub fn last(&self) -> Option<UnsettledAccess>
+        ensures { result ≡ self.now.last }
+    {
+        self.last
     }
 
     /// The last access of the last line that wasn't settled; None if each was.
@@ -90,20 +101,6 @@ impl Settling {
         self.unsettled = None;
     }
 
-    // The access that a step is about to make, if it isn't settled. The fault is a refused allocation.
-    fn find(&self, platform: &Platform, step: &Step) -> Result<Option<UnsettledAccess>, AllocError>
-        ensures { (start : State) (taken : List (Step × ℕ)) → Keeps self.now.holdings platform.now start taken →
-            IfOk result (IsFound start (steps_of taken) (request_of_step platform.now step.now)) }
-    {
-        let Some(request) = platform.request_of(step) else {
-            return Ok(None);
-        };
-        let found = self
-            .holdings
-            .unsettled(&platform.board, &platform.ram, &request)?;
-        Ok(access_of(request, found))
-    }
-
     // Follows a step that the platform takes next, a step of the line of this number. Answers its access if that isn't settled. The fault is
     // a refused allocation.
     fn follow(
@@ -113,43 +110,65 @@ impl Settling {
         number: u64,
     ) -> Result<Option<UnsettledAccess>, AllocError>
         ensures judged { (start : State) (taken : List (Step × ℕ)) → Keeps self.old.holdings platform.now start taken →
-            IfOk result (IsFound start (steps_of taken) (request_of_step platform.now step.now)) }
+            IfOk result (IsFound self.old.holdings start (steps_of taken) (request_of_step platform.now step.now)) }
         ensures keeps { (start : State) (taken : List (Step × ℕ)) → Keeps self.old.holdings platform.now start taken →
             OnOk result (Keeps self.new.holdings (next platform.now step.now).state start ((step.now, number) ∷ taken)) }
+        ensures last { self.new.last ≡ self.old.last }
         ensures unsettled { self.new.unsettled ≡ self.old.unsettled }
         ensures lost { self.new.is_lost ≡ self.old.is_lost }
     {
-        let found = self.find(platform, step)?;
-        self.holdings
-            .follow(&platform.board, &platform.ram, step, number)?;
-        Ok(found)
+        let found = self
+            .holdings
+            .judge_and_follow(&platform.board, &platform.ram, step, number)?;
+        Ok(access_of(platform, step, found))
+    }
+
+    // Notes what is found of a step's access.
+    fn note(&mut self, found: Option<UnsettledAccess>)
+        ensures last { self.new.last ≡ found }
+        ensures told { self.new.unsettled ≡ later_unsettled self.old.unsettled found }
+        ensures holdings { self.new.holdings ≡ self.old.holdings }
+        ensures lost { self.new.is_lost ≡ self.old.is_lost }
+    {
+        self.last = found;
+        if found.is_some() {
+            self.unsettled = found;
+        }
     }
 
     // The same where memory was not refused before: notes what is found, or that memory is refused.
     fn take_known(&mut self, platform: &Platform, step: &Step, number: u64)
-        requires { self.old.is_lost ≡ false }
+        requires known { self.old.is_lost ≡ false }
+        requires none { self.old.last ≡ None }
         ensures { Settles self.old platform.now step.now number self.new }
     {
         match self.follow(platform, step, number) {
-            Ok(None) => {}
-            Ok(found) => self.unsettled = found,
+            Ok(found) => self.note(found),
             Err(_) => self.is_lost = true,
         }
     }
 
-    /// What is owed now: the requests that were made and aren't settled on this platform. None where memory is refused, now or before, which
-    /// `is_lost` tells then.
-    pub fn owed(&mut self, platform: &Platform) -> Option<Vec<Owed>>
-        ensures owed { (start : State) (taken : List (Step × ℕ)) → Keeps self.old.holdings platform.now start taken →
-            IfSome result (λ owed. AreOwed start (steps_of taken) self.old.holdings.requests owed.items) }
-        ensures kept { IfSome result (λ owed. self.new ≡ self.old) }
-        ensures known { IfSome result (λ owed. self.old.is_lost ≡ false) }
-        ensures lost { IfNone result (self.new.is_lost ≡ true) }
+    /// What is owed now: the requests that were made and aren't settled on this platform. None where memory is refused, now or before.
+    pub fn owed_now(&self, platform: &Platform) -> Option<Vec<Owed>>
+        ensures owed { (start : State) (taken : List (Step × ℕ)) → Keeps self.now.holdings platform.now start taken →
+            IfSome result (λ owed. AreOwed self.now.holdings start (steps_of taken) owed.items) }
+        ensures known { IfSome result (λ owed. self.now.is_lost ≡ false) }
     {
         if self.is_lost {
             return None;
         }
-        let owed = self.holdings.owed(&platform.board, &platform.ram).ok();
+        self.holdings.owed(&platform.board, &platform.ram).ok()
+    }
+
+    /// The same, where `is_lost` tells from then on that memory was refused.
+    pub fn owed(&mut self, platform: &Platform) -> Option<Vec<Owed>>
+        ensures owed { (start : State) (taken : List (Step × ℕ)) → Keeps self.old.holdings platform.now start taken →
+            IfSome result (λ owed. AreOwed self.old.holdings start (steps_of taken) owed.items) }
+        ensures kept { IfSome result (λ owed. self.new ≡ self.old) }
+        ensures known { IfSome result (λ owed. self.old.is_lost ≡ false) }
+        ensures lost { IfNone result (self.new.is_lost ≡ true) }
+    {
+        let owed = self.owed_now(platform);
         self.is_lost = owed.is_none();
         owed
     }
@@ -159,6 +178,7 @@ impl Settling {
     pub fn take(&mut self, platform: &Platform, step: &Step, number: u64)
         ensures { Settles self.old platform.now step.now number self.new }
     {
+        self.last = None;
         if !self.is_lost {
             self.take_known(platform, step, number);
         }
@@ -186,6 +206,17 @@ fn push_may(out: &mut Reply, address: Result<u64, Denial>)
     }
 }
 
+// Appends the line whose step read an entry that alone leads there, where there is one.
+fn push_read_in(out: &mut Reply, number: Option<u64>)
+    requires { length out.old.items ≤ 68 }
+    ensures text { out.new.items ≡ out.old.items ++ number_text number }
+    ensures room { length out.new.items ≤ 103 }
+{
+    if let Some(number) = number {
+        push_number(out, b", read in line ", number);
+    }
+}
+
 // Appends where a request may still be led.
 #[tactic(auto, unfolding(crate::specs::Settling::elsewhere_text))]
 fn push_elsewhere(out: &mut Reply, unsettled: &Unsettled, iova: u64)
@@ -196,6 +227,7 @@ fn push_elsewhere(out: &mut Reply, unsettled: &Unsettled, iova: u64)
     let changes = way_changes(&unsettled.elsewhere, &unsettled.tables);
     push_may(out, address);
     push_address(out, address);
+    push_read_in(out, unsettled.number);
     push_difference(
         out,
         changes.as_slice(),
@@ -205,7 +237,8 @@ fn push_elsewhere(out: &mut Reply, unsettled: &Unsettled, iova: u64)
     );
 }
 
-/// Where a request for this IOVA may still be led, at most 320 bytes, as ` may still go to addr=0x80011abc, the tables now say denied 13`.
+/// Where a request for this IOVA may still be led, at most 320 bytes, as ` may still go to addr=0x80011abc, read in line 12, the tables now say
+/// denied 13`: the number is that of the step that read an entry which alone leads it there, where there is one.
 pub fn elsewhere_line(unsettled: &Unsettled, iova: u64) -> Reply
     ensures { result.items ≡ elsewhere_text unsettled.now iova }
 {
@@ -228,7 +261,7 @@ pub fn request_line(request: &Request) -> Reply
 }
 
 /// The text of an access that wasn't settled, at most 320 bytes, as
-/// `read 0x40202abc may still go to addr=0x80011abc, the tables now say denied 13`.
+/// `read 0x40202abc may still go to addr=0x80011abc, read in line 12, the tables now say denied 13`.
 #[tactic(auto, unfolding(crate::specs::Settling::unsettled_text))]
 pub fn unsettled_access_line(access: &UnsettledAccess) -> Reply
     ensures { result.items ≡ unsettled_text access.now }

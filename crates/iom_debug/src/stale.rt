@@ -1,6 +1,6 @@
 //! An access that was stale.
 
-ghost use Rattle.std.specs.Prelude.{◌≡◌, ◌+◌, ◌++◌, ◌≤◌, codes, length};
+ghost use Rattle.std.specs.Prelude.{◌≡◌, ◌+◌, ◌++◌, ◌≤◌, ◌<◌, codes, length};
 ghost use Rattle.iom_core.specs.Table.{request_of_step};
 ghost use Rattle.iom_account.specs.Following.{HistoryView};
 ghost use Rattle.iom_text.specs.Texts.{hexadecimal, numeral};
@@ -112,21 +112,32 @@ fn push_changed(out: &mut Reply, key: &[u8], before: u64, now: u64)
     }
 }
 
+// Appends an operand below 256 if it changed.
+#[tactic(auto, using(crate::proofs::Bounds::short_changed))]
+fn push_small_changed(out: &mut Reply, key: &[u8], before: u64, now: u64)
+    requires room { length out.old.items + length key.now + 20 ≤ 320 }
+    requires small { now < 256 }
+    ensures text { out.new.items ≡ out.old.items ++ changed before (key.now, now) }
+    ensures room { length out.new.items ≤ length out.old.items + length key.now + 6 }
+{
+    push_changed(out, key, before, now);
+}
+
 // The operands of a context that changed.
 fn context_changes(before: &Context, now: &Context) -> Reply
     ensures text { result.items ≡ context_changes before.now now.now }
-    ensures short { length result.items ≤ 218 }
+    ensures short { length result.items ≤ 148 }
 {
     let (before, now) = (&before.fields, &now.fields);
     let mut out = Reply::new();
-    push_changed(&mut out, b"dtf", flag(before.dtf), flag(now.dtf));
-    push_changed(
+    push_small_changed(&mut out, b"dtf", flag(before.dtf), flag(now.dtf));
+    push_small_changed(
         &mut out,
         b"custom",
         u64::from(before.custom),
         u64::from(now.custom),
     );
-    push_changed(
+    push_small_changed(
         &mut out,
         b"gmode",
         u64::from(before.gmode),
@@ -139,14 +150,14 @@ fn context_changes(before: &Context, now: &Context) -> Reply
         u64::from(before.gscid),
         u64::from(now.gscid),
     );
-    push_changed(&mut out, b"tav", flag(before.tav), flag(now.tav));
+    push_small_changed(&mut out, b"tav", flag(before.tav), flag(now.tav));
     push_changed(
         &mut out,
         b"pscid",
         u64::from(before.pscid),
         u64::from(now.pscid),
     );
-    push_changed(
+    push_small_changed(
         &mut out,
         b"mode",
         u64::from(before.mode),
@@ -159,7 +170,7 @@ fn context_changes(before: &Context, now: &Context) -> Reply
 /// The operands that changed of the contexts that two ways go by.
 pub fn way_changes(used: &Way, tables: &Way) -> Reply
     ensures text { result.items ≡ way_changes used.now tables.now }
-    ensures short { length result.items ≤ 218 }
+    ensures short { length result.items ≤ 148 }
 {
     match (used, tables) {
         (
@@ -173,7 +184,7 @@ pub fn way_changes(used: &Way, tables: &Way) -> Reply
 // What changed of a page.
 fn hit_changes(page: &Hit, now: &Hit) -> Reply
     ensures text { result.items ≡ changes (page_pairs page.now) (page_pairs now.now) }
-    ensures short { length result.items ≤ 218 }
+    ensures short { length result.items ≤ 148 }
 {
     let mut out = Reply::new();
     push_changed(
@@ -190,7 +201,7 @@ fn hit_changes(page: &Hit, now: &Hit) -> Reply
 // What changed of the pages that two ways go by.
 fn page_changes(used: &Way, tables: &Way) -> Reply
     ensures text { result.items ≡ page_changes used.now tables.now }
-    ensures short { length result.items ≤ 218 }
+    ensures short { length result.items ≤ 148 }
 {
     match (used, tables) {
         (Way::Walked(_, page), Way::Walked(_, now)) => hit_changes(page, now),
@@ -201,7 +212,7 @@ fn page_changes(used: &Way, tables: &Way) -> Reply
 // What changed of a denial.
 fn record_changes(denial: &Denial, now: &Denial) -> Reply
     ensures text { result.items ≡ changes (denial_pairs denial.now) (denial_pairs now.now) }
-    ensures short { length result.items ≤ 218 }
+    ensures short { length result.items ≤ 148 }
 {
     let mut out = Reply::new();
     push_changed(&mut out, b"iotval2", denial.iotval2, now.iotval2);
@@ -225,9 +236,9 @@ fn push_headed(out: &mut Reply, head: &[u8], text: &[u8])
 
 // Appends what changed of the contexts of two ways that lead alike, or else of their pages.
 fn push_changes(out: &mut Reply, context: &[u8], page: &[u8])
-    requires room { length out.old.items ≤ 70 }
-    requires context { length context.now ≤ 218 }
-    requires page { length page.now ≤ 218 }
+    requires room { length out.old.items ≤ 140 }
+    requires context { length context.now ≤ 148 }
+    requires page { length page.now ≤ 148 }
     ensures { out.new.items ≡ out.old.items ++ alike_text context.now page.now }
 {
     if context.is_empty() {
@@ -239,8 +250,8 @@ fn push_changes(out: &mut Reply, context: &[u8], page: &[u8])
 
 // Appends what differs of two ways that lead alike, with what changed of their contexts.
 fn push_alike(out: &mut Reply, changes: &[u8], used: &Way, tables: &Way)
-    requires room { length out.old.items ≤ 70 }
-    requires short { length changes.now ≤ 218 }
+    requires room { length out.old.items ≤ 140 }
+    requires short { length changes.now ≤ 148 }
     ensures { out.new.items ≡ out.old.items ++ alike_text changes.now (page_changes used.now tables.now) }
 {
     push_changes(out, changes, page_changes(used, tables).as_slice());
@@ -248,8 +259,8 @@ fn push_alike(out: &mut Reply, changes: &[u8], used: &Way, tables: &Way)
 
 // Appends what differs of two ways to the same address, or that are denied for the same cause.
 fn push_same(out: &mut Reply, changes: &[u8], used: &Way, tables: &Way)
-    requires room { length out.old.items ≤ 70 }
-    requires short { length changes.now ≤ 218 }
+    requires room { length out.old.items ≤ 140 }
+    requires short { length changes.now ≤ 148 }
     requires same { changes.now ≡ way_changes used.now tables.now }
     ensures { out.new.items ≡ out.old.items ++ same_text used.now tables.now }
 {
@@ -265,8 +276,8 @@ fn push_same(out: &mut Reply, changes: &[u8], used: &Way, tables: &Way)
 
 /// Appends how the tables differ from the way that an access was led.
 pub fn push_difference(out: &mut Reply, changes: &[u8], used: &Way, tables: &Way, iova: u64)
-    requires room { length out.old.items ≤ 70 }
-    requires short { length changes.now ≤ 218 }
+    requires room { length out.old.items ≤ 140 }
+    requires short { length changes.now ≤ 148 }
     requires same { changes.now ≡ way_changes used.now tables.now }
     ensures { out.new.items ≡ out.old.items ++ difference_text used.now tables.now iova }
 {

@@ -1,7 +1,7 @@
 //! How the accesses of a script went.
 
 ghost use Rattle.std.specs.Prelude.{◌≡◌, map, OnOk, OnErr};
-ghost use Rattle.iom_debug.specs.Summary.{and_one, denied_with, with_line};
+ghost use Rattle.iom_debug.specs.Summary.{and_one, denied_with, line_if, with_line};
 
 use std::alloc::{AllocError, Global};
 use std::marker::Model;
@@ -17,6 +17,8 @@ pub struct AccessOutcome {
     pub is_cached: bool,
     /// Whether the tables would have led it elsewhere.
     pub is_stale: bool,
+    /// Whether an IOMMU may have led it elsewhere than the tables.
+    pub is_unsettled: bool,
 }
 
 /// How many accesses went how.
@@ -29,7 +31,10 @@ pub struct Summary {
     cached: u64,
     stale: u64,
     // the lines of those that are stale
-    lines: Vec<u64>,
+    stale_lines: Vec<u64>,
+    unsettled: u64,
+    // the lines of those that aren't settled
+    unsettled_lines: Vec<u64>,
 }
 
 impl Model for Summary {
@@ -43,13 +48,15 @@ impl Model for Summary {
       denied = s.denied;
       cached = s.cached;
       stale = s.stale;
-      lines = s.lines.items;
+      stale_lines = s.stale_lines.items;
+      unsettled = s.unsettled;
+      unsettled_lines = s.unsettled_lines.items;
     } };
 }
 
 impl Summary {
     ghost use Rattle.std.specs.Prelude.{◌≡◌, ◌++◌, [], ◌∷◌, List, OnOk, OnErr};
-    ghost use Rattle.iom_debug.specs.Summary.{counts_of, with_outcome, with_own_line};
+    ghost use Rattle.iom_debug.specs.Summary.{counts_of, with_outcome, with_own_lines};
     ghost use Rattle.iom_debug.specs.declared.summary.AccessOutcome.{AccessOutcome};
 
     /// Of no access.
@@ -74,7 +81,9 @@ impl Summary {
             ],
             cached: 0,
             stale: 0,
-            lines: Vec::new(alloc),
+            stale_lines: Vec::new(alloc),
+            unsettled: 0,
+            unsettled_lines: Vec::new(alloc),
         }
     }
 
@@ -83,31 +92,40 @@ impl Summary {
         ensures counts { OnOk result ((told : List AccessOutcome) → self.old ≡ counts_of told → self.new ≡ counts_of (told ++ outcome.now ∷ [])) }
         ensures err { OnErr result (self.new ≡ self.old) }
     {
-        self.note_line(outcome)?;
+        self.note_lines(outcome)?;
         self.add(outcome);
         Ok(())
     }
 
-    // Notes the line of an access that was stale.
-    fn note_line(&mut self, outcome: &AccessOutcome) -> Result<(), AllocError>
-        ensures ok { OnOk result (self.new ≡ with_own_line self.old outcome.now) }
+    // Notes the line of an access that was stale or wasn't settled.
+    #[tactic(auto, using(crate::proofs::Summing::first_ones))]
+    fn note_lines(&mut self, outcome: &AccessOutcome) -> Result<(), AllocError>
+        ensures ok { OnOk result (self.new ≡ with_own_lines self.old outcome.now) }
         ensures err { OnErr result (self.new ≡ self.old) }
     {
-        if outcome.is_stale {
-            push_line(&mut self.lines, outcome.number)?;
+        let number = outcome.number;
+        let noted = self.stale_lines.len();
+        push_line_if(&mut self.stale_lines, outcome.is_stale, number)?;
+        if let Err(fault) = push_line_if(&mut self.unsettled_lines, outcome.is_unsettled, number) {
+            self.stale_lines.truncate(noted);
+            return Err(fault);
         }
         Ok(())
     }
 
     // Counts an access, whose line is noted.
     fn add(&mut self, outcome: &AccessOutcome)
-        ensures { self.new ≡ record (with_outcome self.old outcome.now) { lines = self.old.lines } }
+        ensures { self.new ≡ record (with_outcome self.old outcome.now) {
+          stale_lines = self.old.stale_lines;
+          unsettled_lines = self.old.unsettled_lines;
+        } }
     {
         self.accesses = and_one(true, self.accesses);
         self.granted = and_one(outcome.denied.is_none(), self.granted);
         count_denied(&mut self.denied, outcome);
         self.cached = and_one(outcome.is_cached, self.cached);
         self.stale = and_one(outcome.is_stale, self.stale);
+        self.unsettled = and_one(outcome.is_unsettled, self.unsettled);
     }
 
     /// How many accesses there were, at most 2^64 - 1; so are all the counts.
@@ -146,10 +164,24 @@ impl Summary {
     }
 
     /// The numbers of the lines of those that were stale.
-    pub fn lines(&self) -> &[u64]
-        ensures { result.now ≡ self.now.lines }
+    pub fn stale_lines(&self) -> &[u64]
+        ensures { result.now ≡ self.now.stale_lines }
     {
-        self.lines.as_slice()
+        self.stale_lines.as_slice()
+    }
+
+    /// How many weren't settled.
+    pub fn unsettled(&self) -> u64
+        ensures { result ≡ self.now.unsettled }
+    {
+        self.unsettled
+    }
+
+    /// The numbers of the lines of those that weren't settled.
+    pub fn unsettled_lines(&self) -> &[u64]
+        ensures { result.now ≡ self.now.unsettled_lines }
+    {
+        self.unsettled_lines.as_slice()
     }
 }
 
@@ -188,6 +220,17 @@ fn push_line(lines: &mut Vec<u64>, number: u64) -> Result<(), AllocError>
 {
     if lines.last() != Some(&number) {
         lines.push(number)?;
+    }
+    Ok(())
+}
+
+// The same, where it counts.
+fn push_line_if(lines: &mut Vec<u64>, is: bool, number: u64) -> Result<(), AllocError>
+    ensures ok { OnOk result (lines.new.items ≡ line_if is lines.old.items number) }
+    ensures err { OnErr result (lines.new.items ≡ lines.old.items) }
+{
+    if is {
+        push_line(lines, number)?;
     }
     Ok(())
 }

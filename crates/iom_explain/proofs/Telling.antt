@@ -1,5 +1,5 @@
 -- What is told of lines.
-use Rattle.std.proofs.Common.{◌≡◌, ◌∙◌, ◌++◌, ◌∷◌, [], ℕ, Bool, List, Option, Some, None, true, false, Result, Ok, Err, OnOk, ◌+◌, ◌==◌, length, take, is_some, refl, sym, subst, ap, append-nil, codes}
+use Rattle.std.proofs.Common.{◌≡◌, ◌∙◌, ◌++◌, ◌∷◌, [], ℕ, Bool, List, Option, Some, None, true, false, Result, Ok, Err, OnOk, ◌+◌, ◌==◌, ◌||◌, length, take, is_some, refl, sym, subst, ap, append-nil, codes}
 use Rattle.std.proofs.lemmas.Bool.{false≢true}
 use Rattle.std.specs.Result.{is_err}
 use Rattle.arrayvec.specs.ArrayVec.{ArrayVec}
@@ -29,13 +29,15 @@ use Rattle.iom_tool.specs.Parsed.{line_as}
 use Rattle.iom_tool.specs.declared.language.Actor.{Actor}
 use Rattle.iom_tool.specs.declared.language.Line.{Line}
 use Rattle.iom_tool.specs.declared.language.Line.TheVariants as own
-use Rattle.iom_debug.specs.Telling.{Leaves, answer_at, slip_with}
+use Rattle.iom_debug.specs.Telling.{IsAnswer, Leaves, slip_with}
 use Rattle.iom_tool.specs.Texts.{entry_text, text_of}
 use Rattle.iom_debug.specs.Reasons.{newest_origin, stale_in}
+use Rattle.iom_debug.specs.Settling.{is_lost_in, last_unsettled_in}
 use Rattle.iom_debug.specs.Stale.{filler, kept_by, led_by, stale_access}
 use Rattle.iom_debug.specs.declared.stale.Led.{Led}
+use Rattle.iom_debug.specs.declared.settling.UnsettledAccess.{UnsettledAccess}
 use Rattle.iom_debug.specs.declared.stale.StaleAccess.{StaleAccess}
-use Rattle.iom_explain.specs.Accesses.{asks_text, caches_by, stale_text, warrant_text}
+use Rattle.iom_explain.specs.Accesses.{asks_text, caches_by, stale_text, unsettled_text, warrant_text}
 use Rattle.iom_explain.specs.Walking.{walk_text}
 use Rattle.iom_debug.specs.Summary.{Counts, counts_of, up_to_64_bits}
 use Rattle.iom_debug.specs.Taking.{Desk, Took, last_answer, taken}
@@ -55,7 +57,7 @@ lawful =
 
 pub whole : (unread left : Option (List ℕ)) (old new : Progress Progressed) (holds : Option (List ℕ)) →
     Ends by_explain unread left old new (Ok tt) → new.console.is_short ≡ false →
-    Appends new.written holds (summary_text new.console.told.counts) → IsExplained old.console unread left old.written holds
+    Appends new.written holds (summary_text new.console.told) → IsExplained old.console unread left old.written holds
 whole unread left old new holds h memory wrote = record {
   script = h.text;
   took = h.took;
@@ -68,43 +70,56 @@ whole unread left old new holds h memory wrote = record {
   written = Appends-trans _ _ _ _ _ h.answered.written wrote;
 }
 
+-- what is held is known where no memory was refused
+pub known : (short lost : Bool) → (short || lost) ≡ false → lost ≡ false
+known false lost is = is
+known true lost is = absurd (cc is)
+
 -- a step with its answer, and below it what is told of its access
 pub step_is : (before : Explained) (number : ℕ) (step : Step) (request : Option Request) (answer : Answer) (entry below page : List ℕ) (told : Bool)
-    (used : Option NumberedWarrant) (after : Desk) (counts : Counts) (only : Option Only) → Took before.desk step number after →
+    (used : Option NumberedWarrant) (unsettled : Option UnsettledAccess) (after : Desk) (counts : Counts) (only : Option Only) →
+    Took before.desk step number after → is_lost_in after.reasons.settling ≡ false → unsettled ≡ last_unsettled_in after.reasons.settling →
     request ≡ request_of_step before.desk.state step → answer ≡ (next before.desk.state step).answer →
     entry ≡ entry_text (Some (record { step = step; answer = answer })) → used ≡ newest_origin after.reasons.account →
-    below ≡ access_by before.desk step request used → told ≡ is_step_told before.only (outcomes_by before.desk number step request) →
+    below ≡ access_by before.desk step request used unsettled →
+    told ≡ is_step_told before.only (outcomes_by before.desk number step request unsettled) →
     page ≡ if_told told ((numeral 10 number ++ codes ": " ++ entry ++ 10 ∷ []) ++ below) →
-    ((earlier : List AccessOutcome) → before.counts ≡ counts_of earlier → counts ≡ counts_of (earlier ++ outcomes_by before.desk number step request)) →
+    ((earlier : List AccessOutcome) → before.counts ≡ counts_of earlier → counts ≡ counts_of (earlier ++ outcomes_by before.desk number step request unsettled)) →
     only ≡ before.only → StepTold before number step page (record { desk = after; counts = counts; only = only })
-step_is before number step request answer entry below page told used after counts only took asked answered entry_is used_is below_is told_is
-    page_is counted same =
+step_is before number step request answer entry below page told used unsettled after counts only took known unsettled_is asked answered entry_is
+    used_is below_is told_is page_is counted same =
+    let last = last_unsettled_in after.reasons.settling in
+    let outcomes : outcomes_by before.desk number step request unsettled
+    ≡ outcomes_by before.desk number step (request_of_step before.desk.state step) last =
+    ap (λ (r : Option Request). outcomes_by before.desk number step r unsettled) asked
+    ∙ ap (outcomes_by before.desk number step (request_of_step before.desk.state step)) unsettled_is in
     let whole : (numeral 10 number ++ codes ": " ++ entry ++ 10 ∷ []) ++ below
-    ≡ step_told before.desk number step (newest_origin after.reasons.account) =
+    ≡ step_told before.desk number step (newest_origin after.reasons.account) last =
     ap (λ (e : List ℕ). (numeral 10 number ++ codes ": " ++ e ++ 10 ∷ []) ++ below)
     (entry_is ∙ ap (λ (a : Answer). entry_text (Some (record { step = step; answer = a }))) answered)
     ∙ ap (λ (b : List ℕ). (numeral 10 number ++ codes ": "
     ++ entry_text (Some (record { step = step; answer = (next before.desk.state step).answer })) ++ 10 ∷ []) ++ b)
-    (below_is ∙ ap (λ (r : Option Request). access_by before.desk step r used) asked
-    ∙ ap (λ (u : Option NumberedWarrant). access_by before.desk step (request_of_step before.desk.state step) u) used_is) in
-    let kept : told ≡ is_step_told before.only (outcomes_by before.desk number step (request_of_step before.desk.state step)) =
-    told_is ∙ ap (λ (r : Option Request). is_step_told before.only (outcomes_by before.desk number step r)) asked in
+    (below_is ∙ ap (λ (r : Option Request). access_by before.desk step r used unsettled) asked
+    ∙ ap (λ (u : Option NumberedWarrant). access_by before.desk step (request_of_step before.desk.state step) u unsettled) used_is
+    ∙ ap (access_by before.desk step (request_of_step before.desk.state step) (newest_origin after.reasons.account)) unsettled_is) in
+    let kept : told ≡ is_step_told before.only (outcomes_by before.desk number step (request_of_step before.desk.state step) last) =
+    told_is ∙ ap (is_step_told before.only) outcomes in
     record {
       took = took;
+      known = known;
       text = page_is ∙ ap (if_told told) whole
-          ∙ ap (λ (b : Bool). if_told b (step_told before.desk number step (newest_origin after.reasons.account))) kept;
-      counts = λ earlier is. counted earlier is
-          ∙ ap (λ (r : Option Request). counts_of (earlier ++ outcomes_by before.desk number step r)) asked;
+          ∙ ap (λ (b : Bool). if_told b (step_told before.desk number step (newest_origin after.reasons.account) last)) kept;
+      counts = λ earlier is. counted earlier is ∙ ap (λ (os : List AccessOutcome). counts_of (earlier ++ os)) outcomes;
       same = same;
     }
 
 access_is : (now : Desk) (step : Step) (request : Request) (seen : Lookup) (line : ℕ) (used : Option NumberedWarrant) (stale : Option StaleAccess)
-    (asks walk : List ℕ) → asks ≡ asks_text now.state step → seen ≡ seen_in now.state.machine request →
+    (unsettled : Option UnsettledAccess) (asks walk : List ℕ) → asks ≡ asks_text now.state step → seen ≡ seen_in now.state.machine request →
     line ≡ filler now.reasons.account.history now.state.machine request.did → walk ≡ walk_text seen now.state.machine request →
     stale ≡ stale_access now.reasons.account.history now.state (Some request) used →
-    asks ++ caches_by seen.context seen line request.iova used ++ walk ++ warrant_text used ++ stale_text stale
-    ≡ access_text now step request (seen_in now.state.machine request) used
-access_is now step request seen line used stale asks walk asks_is seen_is line_is walk_is stale_is =
+    asks ++ caches_by seen.context seen line request.iova used ++ walk ++ warrant_text used ++ stale_text stale ++ unsettled_text unsettled
+    ≡ access_text now step request (seen_in now.state.machine request) used unsettled
+access_is now step request seen line used stale unsettled asks walk asks_is seen_is line_is walk_is stale_is =
     rw (asks_is, walk_is, stale_is, line_is, seen_is) refl
 
 -- an access is kept where the tables lead it another way
@@ -113,11 +128,11 @@ some_kept led used None = refl
 some_kept led used (Some way) = refl
 
 outcome_is : (now : Desk) (number : ℕ) (step : Step) (request : Request) (seen : Lookup) (denied : Option ℕ) (used : Option NumberedWarrant)
-    (stale : Option StaleAccess) → denied ≡ denied_for (next now.state step).answer → seen ≡ seen_in now.state.machine request →
+    (stale : Option StaleAccess) (unsettled : Option UnsettledAccess) → denied ≡ denied_for (next now.state step).answer → seen ≡ seen_in now.state.machine request →
     stale ≡ stale_access now.reasons.account.history now.state (Some request) used →
-    record { number = number; denied = denied; is_cached = is_cached seen; is_stale = is_some stale } ∷ []
-    ≡ outcomes_by now number step (Some request)
-outcome_is now number step request seen denied used stale denied_is seen_is stale_is =
+    record { number = number; denied = denied; is_cached = is_cached seen; is_stale = is_some stale; is_unsettled = is_some unsettled } ∷ []
+    ≡ outcomes_by now number step (Some request) unsettled
+outcome_is now number step request seen denied used stale unsettled denied_is seen_is stale_is =
     let some : is_some stale ≡ is_some (stale_way now.state.machine request) =
     ap (λ (s : Option StaleAccess). is_some s) stale_is ∙ some_kept (record {
       request = request;
@@ -150,41 +165,49 @@ leads_none history state (Some request) found is other = absurd (other _ is)
 
 -- a step that made no access
 pub unaccessed : (before : Explained) (number : ℕ) (step : Step) (found : Option Led) (answer : Answer) (entry page : List ℕ) (after : Desk)
-    (counts : Counts) (only : Option Only) → Took before.desk step number after →
+    (counts : Counts) (only : Option Only) → Took before.desk step number after → is_lost_in after.reasons.settling ≡ false →
     found ≡ led_by before.desk.reasons.account.history before.desk.state (request_of_step before.desk.state step) →
     ((led : Led) → found ≡ Some led → ⊥) → answer ≡ (next before.desk.state step).answer →
     entry ≡ entry_text (Some (record { step = step; answer = answer })) →
-    page ≡ if_told (is_told before.only false false) (numeral 10 number ++ codes ": " ++ entry ++ 10 ∷ []) → counts ≡ before.counts →
+    page ≡ if_told (is_told before.only false false false) (numeral 10 number ++ codes ": " ++ entry ++ 10 ∷ []) → counts ≡ before.counts →
     only ≡ before.only → StepTold before number step page (record { desk = after; counts = counts; only = only })
-unaccessed before number step found answer entry page after counts only took is other answered entry_is page_is counted same =
-    step_is before number step None answer entry [] page _ _ after counts only took (leads_none before.desk.reasons.account.history before.desk.state (request_of_step before.desk.state step) found is other) answered entry_is refl refl
-    refl (page_is ∙ ap (if_told (is_told before.only false false)) (sym (append-nil (numeral 10 number ++ codes ": " ++ entry ++ 10 ∷ []))))
+unaccessed before number step found answer entry page after counts only took known is other answered entry_is page_is counted same =
+    step_is before number step None answer entry [] page _ _ _ after counts only took known refl (leads_none before.desk.reasons.account.history before.desk.state (request_of_step before.desk.state step) found is other) answered entry_is refl refl
+    refl (page_is ∙ ap (if_told (is_told before.only false false false)) (sym (append-nil (numeral 10 number ++ codes ": " ++ entry ++ 10 ∷ []))))
     (λ earlier is. counted ∙ is ∙ ap counts_of (sym (append-nil earlier))) same
 
 -- a step that made an access, by what leads that
 pub accessed : (before : Explained) (number : ℕ) (step : Step) (led : Led) (denied : Option ℕ) (used : Option NumberedWarrant)
-    (stale : Option StaleAccess) (answer : Answer) (asks walk entry page : List ℕ) (after : Desk) (counts : Counts) (only : Option Only)
-    (result : Result (Unit {0}) AllocError) → Took before.desk step number after →
+    (stale : Option StaleAccess) (unsettled : Option UnsettledAccess) (answer : Answer) (asks walk entry page : List ℕ) (after : Desk)
+    (counts : Counts) (only : Option Only) (result : Result (Unit {0}) AllocError) → Took before.desk step number after →
+    is_lost_in after.reasons.settling ≡ false → unsettled ≡ last_unsettled_in after.reasons.settling →
     Some led ≡ led_by before.desk.reasons.account.history before.desk.state (request_of_step before.desk.state step) →
     answer ≡ (next before.desk.state step).answer → entry ≡ entry_text (Some (record { step = step; answer = answer })) →
     used ≡ newest_origin after.reasons.account → asks ≡ asks_text before.desk.state step →
     walk ≡ walk_text led.seen before.desk.state.machine led.request → stale ≡ stale_in before.desk.reasons before.desk.state step after.reasons →
     denied ≡ denied_for answer → is_err result ≡ false →
     OnOk result ((earlier : List AccessOutcome) → before.counts ≡ counts_of earlier → counts ≡ counts_of (earlier
-    ++ record { number = number; denied = denied; is_cached = is_cached led.seen; is_stale = is_some stale } ∷ [])) →
-    page ≡ if_told (is_told before.only (is_some denied) (is_some stale)) ((numeral 10 number ++ codes ": " ++ entry ++ 10 ∷ [])
-    ++ (asks ++ caches_by led.seen.context led.seen led.line led.request.iova used ++ walk ++ warrant_text used ++ stale_text stale)) →
+    ++ record {
+      number = number;
+      denied = denied;
+      is_cached = is_cached led.seen;
+      is_stale = is_some stale;
+      is_unsettled = is_some unsettled;
+    } ∷ [])) →
+    page ≡ if_told (is_told before.only (is_some denied) (is_some stale) (is_some unsettled)) ((numeral 10 number ++ codes ": " ++ entry ++ 10 ∷ [])
+    ++ (asks ++ caches_by led.seen.context led.seen led.line led.request.iova used ++ walk ++ warrant_text used ++ stale_text stale
+    ++ unsettled_text unsettled)) →
     only ≡ before.only → StepTold before number step page (record { desk = after; counts = counts; only = only })
-accessed before number step led denied used stale answer asks walk entry page after counts only result took led_is answered entry_is used_is asks_is
+accessed before number step led denied used stale unsettled answer asks walk entry page after counts only result took known unsettled_is led_is answered entry_is used_is asks_is
     walk_is stale_is denied_is well counted page_is same =
     let leads = leads_it before.desk.reasons.account.history before.desk.state (request_of_step before.desk.state step) led led_is in
     let kept : stale ≡ stale_access before.desk.reasons.account.history before.desk.state (Some led.request) used =
     stale_is ∙ ap (λ (r : Option Request). stale_access before.desk.reasons.account.history before.desk.state r (newest_origin after.reasons.account))
     (sym leads.request)
     ∙ ap (λ (u : Option NumberedWarrant). stale_access before.desk.reasons.account.history before.desk.state (Some led.request) u) (sym used_is) in
-    let outcome = outcome_is before.desk number step led.request led.seen denied used stale (denied_is ∙ ap denied_for answered) leads.seen kept in
-    step_is before number step (Some led.request) answer entry _ page _ used after counts only took leads.request answered entry_is used_is
-    (access_is before.desk step led.request led.seen led.line used stale asks walk asks_is leads.seen leads.line walk_is kept)
+    let outcome = outcome_is before.desk number step led.request led.seen denied used stale unsettled (denied_is ∙ ap denied_for answered) leads.seen kept in
+    step_is before number step (Some led.request) answer entry _ page _ used unsettled after counts only took known unsettled_is leads.request answered entry_is used_is
+    (access_is before.desk step led.request led.seen led.line used stale unsettled asks walk asks_is leads.seen leads.line walk_is kept)
     (ap (is_step_told before.only) outcome) page_is
     (λ earlier is. on_ok result well counted earlier is ∙ ap (λ (os : List AccessOutcome). counts_of (earlier ++ os)) outcome) same
 
@@ -207,7 +230,7 @@ line_after (Err f) a b c short before after number line steps answer reply s w =
 
 pub line_other : (result : Result (Unit {0}) RunFault) (b c : Option (List ℕ)) (short : Bool) (before after : Explained) (number : ℕ)
     (line reply slip : List ℕ) → Leaves before.desk line number after.desk → after.counts ≡ before.counts → after.only ≡ before.only →
-    reply ≡ answer_at before.desk line → slip ≡ slip_with before.desk.names line →
+    IsAnswer before.desk line reply → slip ≡ slip_with before.desk.names line →
     Wrote result b c short (λ said. said ≡ line_told before.only number line reply slip) →
     Wrote result b c short (λ said. OtherTold before number line said after)
 line_other (Ok done) b c short before after number line reply slip leaves same alike reply_is slip_is w = (
@@ -217,8 +240,7 @@ line_other (Ok done) b c short before after number line reply slip leaves same a
     leaves,
     same,
     alike,
-    w.2 m ∙ ap (λ a. line_told before.only number line a slip) reply_is
-        ∙ ap (line_told before.only number line (answer_at before.desk line)) slip_is,
+    (reply, reply_is, w.2 m ∙ ap (line_told before.only number line reply) slip_is),
   ),
 )
 line_other (Err f) b c short before after number line reply slip leaves same alike reply_is slip_is w = tt
@@ -290,3 +312,8 @@ pub four_written : (result : Result (Unit {0}) RunFault) (a b c d e : Option (Li
 four_written (Ok done) a b c d e s t u v first second third fourth =
     Appends-trans _ _ _ _ _ (Appends-trans _ _ _ _ _ (Appends-trans _ _ _ _ _ first second) third) fourth
 four_written (Err f) a b c d e s t u v first second third fourth = tt
+
+pub two_written : (result : Result (Unit {0}) RunFault) (a b c : Option (List ℕ)) (s t : List ℕ) → Appends a b s → OnOk result (Appends b c t) →
+    OnOk result (Appends a c (s ++ t))
+two_written (Ok done) a b c s t first second = Appends-trans _ _ _ _ _ first second
+two_written (Err f) a b c s t first second = tt

@@ -23,57 +23,62 @@ use Rattle.iom_names.specs.declared.names.Binding.{Binding}
 use Rattle.iom_tool.specs.Texts.{entry_text, text_of}
 use Rattle.iom_tool.specs.declared.trace.TracedStep.{TracedStep}
 use Rattle.iom_debug.specs.Reasons.{LineAccountView, newest_origin}
+use Rattle.iom_debug.specs.Settling.{is_lost_in, last_unsettled_in}
 use Rattle.iom_debug.specs.Stale.{filler, stale_access}
 use Rattle.iom_debug.specs.Summary.{Counts, counts_of, up_to_64_bits}
 use Rattle.iom_debug.specs.Taking.{Desk, Took, desk, last_answer, run_text, taken}
-use Rattle.iom_debug.specs.Telling.{Leaves, answer_at, before_comment, escaped, slip_text, slip_with}
+use Rattle.iom_debug.specs.Telling.{IsAnswer, Leaves, before_comment, escaped, slip_text, slip_with}
+use Rattle.iom_debug.specs.declared.settling.UnsettledAccess.{UnsettledAccess}
 use Rattle.iom_debug.specs.declared.summary.AccessOutcome.{AccessOutcome}
-use Rattle.iom_explain.specs.Accesses.{asks_text, caches_by, stale_text, warrant_text}
+use Rattle.iom_explain.specs.Accesses.{asks_text, caches_by, stale_text, unsettled_text, warrant_text}
 use Rattle.iom_explain.specs.Walking.{walk_text}
 use Rattle.iom_explain.specs.declared.only.Only.{Only}
 use Rattle.iom_tables.specs.Stale.{stale_way}
 
--- what is told below a step that makes an access, by what stood before it and where the translation came from that it used
-abbrev pub access_text : Desk → Step → Request → Lookup → Option NumberedWarrant → List ℕ
-access_text now step request seen used =
+-- what is told below a step that makes an access, by what stood before it, where the translation came from that it used, and the access
+-- itself, if it wasn't settled
+abbrev pub access_text : Desk → Step → Request → Lookup → Option NumberedWarrant → Option UnsettledAccess → List ℕ
+access_text now step request seen used unsettled =
     asks_text now.state step
     ++ caches_by seen.context seen (filler now.reasons.account.history now.state.machine request.did) request.iova used
     ++ walk_text seen now.state.machine request ++ warrant_text used
-    ++ stale_text (stale_access now.reasons.account.history now.state (Some request) used)
+    ++ stale_text (stale_access now.reasons.account.history now.state (Some request) used) ++ unsettled_text unsettled
 
-abbrev pub access_by : Desk → Step → Option Request → Option NumberedWarrant → List ℕ
-access_by now step None used = []
-access_by now step (Some request) used = access_text now step request (seen_in now.state.machine request) used
+abbrev pub access_by : Desk → Step → Option Request → Option NumberedWarrant → Option UnsettledAccess → List ℕ
+access_by now step None used unsettled = []
+access_by now step (Some request) used unsettled =
+    access_text now step request (seen_in now.state.machine request) used unsettled
 
 -- a step of the line of this number, with its answer
-abbrev pub step_told : Desk → ℕ → Step → Option NumberedWarrant → List ℕ
-step_told now number step used =
+abbrev pub step_told : Desk → ℕ → Step → Option NumberedWarrant → Option UnsettledAccess → List ℕ
+step_told now number step used unsettled =
     numeral 10 number ++ codes ": " ++ entry_text (Some (record { step = step; answer = (next now.state step).answer })) ++ 10 ∷ []
-    ++ access_by now step (request_of_step now.state step) used
+    ++ access_by now step (request_of_step now.state step) used unsettled
 
 -- the cause that an answer is a denial for
 abbrev pub denied_for : Answer → Option ℕ
 denied_for (answer.Denied cause) = Some cause
 denied_for _ = None
 
--- how the access went that a step made
-abbrev pub outcomes_by : Desk → ℕ → Step → Option Request → List AccessOutcome
-outcomes_by now number step None = []
-outcomes_by now number step (Some request) = record {
+-- how the access went that a step made, and that access, if it wasn't settled
+abbrev pub outcomes_by : Desk → ℕ → Step → Option Request → Option UnsettledAccess → List AccessOutcome
+outcomes_by now number step None unsettled = []
+outcomes_by now number step (Some request) unsettled = record {
   number = number;
   denied = denied_for (next now.state step).answer;
   is_cached = is_cached (seen_in now.state.machine request);
   is_stale = is_some (stale_way now.state.machine request);
+  is_unsettled = is_some unsettled;
 } ∷ []
 
--- a step is told whose access is denied or stale, or not: each where all are told, and else one whose access is among those
-abbrev pub is_told : Option Only → Bool → Bool → Bool
-is_told None denied stale = true
-is_told (Some only) denied stale = (only.denied && denied) || (only.stale && stale)
+-- A step is told whose access is denied, stale or unsettled, or not: each where all are told, and else one whose access is among those.
+abbrev pub is_told : Option Only → Bool → Bool → Bool → Bool
+is_told None denied stale unsettled = true
+is_told (Some only) denied stale unsettled = (only.denied && denied) || (only.stale && stale) || (only.unsettled && unsettled)
 
 abbrev pub is_step_told : Option Only → List AccessOutcome → Bool
-is_step_told only [] = is_told only false false
-is_step_told only (outcome ∷ more) = is_told only (is_some outcome.denied) outcome.is_stale
+is_step_told only [] = is_told only false false false
+is_step_told only (outcome ∷ more) = is_told only (is_some outcome.denied) outcome.is_stale outcome.is_unsettled
 
 -- a text that is told or not
 abbrev pub if_told : Bool → List ℕ → List ℕ
@@ -88,15 +93,19 @@ pub record Explained : Type 0 where
 abbrev pub explained : State → List TracedStep → LineAccountView → List Binding → Counts → Option Only → Explained
 explained state trace reasons names counts only = record { desk = desk state trace reasons names; counts = counts; only = only }
 
--- A step of the line of this number was taken, counted, and told where it is to be. Where its translation came from is what the account
--- keeps of it.
+-- A step of the line of this number was taken, counted, and told where it is to be. Where its translation came from, and whether its access
+-- wasn't settled, is what is kept of it.
 pub record StepTold (before : Explained) (number : ℕ) (step : Step) (said : List ℕ) (after : Explained) : Type 0 where
   pub took : Took before.desk step number after.desk
+  -- what may be held is known, where that is kept
+  pub known : is_lost_in after.desk.reasons.settling ≡ false
   pub text : said ≡ if_told
-      (is_step_told before.only (outcomes_by before.desk number step (request_of_step before.desk.state step)))
-      (step_told before.desk number step (newest_origin after.desk.reasons.account))
+      (is_step_told before.only (outcomes_by before.desk number step (request_of_step before.desk.state step)
+      (last_unsettled_in after.desk.reasons.settling)))
+      (step_told before.desk number step (newest_origin after.desk.reasons.account) (last_unsettled_in after.desk.reasons.settling))
   pub counts : (earlier : List AccessOutcome) → before.counts ≡ counts_of earlier
-      → after.counts ≡ counts_of (earlier ++ outcomes_by before.desk number step (request_of_step before.desk.state step))
+      → after.counts ≡ counts_of (earlier ++ outcomes_by before.desk number step (request_of_step before.desk.state step)
+      (last_unsettled_in after.desk.reasons.settling))
   pub same : after.only ≡ before.only
 
 -- steps one after the other
@@ -121,11 +130,12 @@ RunTold before number line steps answer said after =
     (text : List ℕ) × StepsTold before number (taken before.desk.state steps) text after
     × (said ≡ text ++ line_told before.only number line answer [])
 
--- any other line
+-- any other line, with an answer that it may have: only `owed` may have several
 abbrev pub OtherTold : Explained → ℕ → List ℕ → List ℕ → Explained → Type 0
 OtherTold before number line said after =
     Leaves before.desk line number after.desk × (after.counts ≡ before.counts) × (after.only ≡ before.only)
-    × (said ≡ line_told before.only number line (answer_at before.desk line) (slip_with before.desk.names line))
+    × ((answer : List ℕ) × IsAnswer before.desk line answer
+    × (said ≡ line_told before.only number line answer (slip_with before.desk.names line)))
 
 -- A line of this number, by what it says. One that stores nothing is any other line: `let`, which gives a name its number.
 abbrev pub LineTold : Explained → ℕ → List ℕ → DebugLine → List ℕ → Explained → Type 0
@@ -143,7 +153,7 @@ pub record Progressed : Type 0 where
   pub number : ℕ
   pub is_short : Bool
 
--- `explain` tells each line, while there is memory for the numbers of the lines that are stale
+-- `explain` tells each line, while there is memory for the numbers of lines that it counts, and for what any IOMMU may hold
 pub record ExplainSays (before : Progressed) (line said : List ℕ) (after : Progressed) : Type 0 where
   pub short : before.is_short ≡ true → after.is_short ≡ true
   pub number : after.is_short ≡ false → after.number ≡ up_to_64_bits (before.number + 1)
@@ -162,7 +172,7 @@ abbrev pub denied_text : ℕ × ℕ → List ℕ
 denied_text entry =
     if nat_lt 0 entry.1 then codes "denied " ++ numeral 10 entry.0 ++ codes ": " ++ numeral 10 entry.1 ++ 10 ∷ [] else []
 
--- one more of the numbers of the lines that are stale, and all of them
+-- one more of the numbers of the lines of some accesses, and all of them
 abbrev pub more_text : ℕ → List ℕ
 more_text number = codes ", " ++ numeral 10 number
 
@@ -172,13 +182,22 @@ lines_text (first ∷ more) =
     (if length more == 0 then codes " (line " else codes " (lines ") ++ numeral 10 first
     ++ flat_map more_text more ++ 41 ∷ 10 ∷ []
 
--- how the accesses went
-abbrev pub summary_text : Counts → List ℕ
-summary_text counts =
+-- how the accesses went but for settledness
+abbrev pub counts_text : Counts → List ℕ
+counts_text counts =
     (codes "accesses: " ++ numeral 10 counts.accesses ++ 10 ∷ [] ++ (codes "granted: " ++ numeral 10 counts.granted ++ 10 ∷ []))
     ++ flat_map denied_text counts.denied
     ++ (codes "from the caches: " ++ numeral 10 counts.cached ++ 10 ∷ [] ++ (codes "stale: " ++ numeral 10 counts.stale))
-    ++ lines_text counts.lines
+    ++ lines_text counts.stale_lines
+
+-- how many weren't settled, with their lines, where that is told
+abbrev pub unsettled_counted : Bool → Counts → List ℕ
+unsettled_counted false counts = []
+unsettled_counted true counts = (codes "unsettled: " ++ numeral 10 counts.unsettled) ++ lines_text counts.unsettled_lines
+
+-- how the accesses went, and which weren't settled, where what any IOMMU may hold is kept
+abbrev pub summary_text : Explained → List ℕ
+summary_text told = counts_text told.counts ++ unsettled_counted (is_some told.desk.reasons.settling) told.counts
 
 -- A whole script was explained: what was written is what is told of its lines, one after the other, and how the accesses went.
 pub record IsExplained (start : Progressed) (unread left held holds : Option (List ℕ)) : Type 0 where
@@ -190,4 +209,4 @@ pub record IsExplained (start : Progressed) (unread left held holds : Option (Li
   pub end : Progressed
   pub said : Speaks explaining start (lines_of script) text end
   pub memory : end.is_short ≡ false
-  pub written : Appends held holds (text ++ summary_text end.told.counts)
+  pub written : Appends held holds (text ++ summary_text end.told)

@@ -1,14 +1,17 @@
 //! What the caches hold for an access, and why it was let through.
 
-ghost use Rattle.std.specs.Prelude.{◌≡◌, ◌+◌, ◌++◌, ◌||◌, ◌∷◌, [], ◌≤◌, codes, length};
+ghost use Rattle.std.specs.Prelude.{◌≡◌, ◌+◌, ◌++◌, ◌||◌, ◌∷◌, [], ◌≤◌, Some, codes, length};
 ghost use Rattle.iom_core.specs.Looking.{is_cached};
 ghost use Rattle.iom_debug.specs.Ways.{address_of};
-ghost use Rattle.iom_explain.specs.Accesses.{addr_text, caches_by, context_text, is_found, no_page, page_text, stale_text, used_text, walk_of, warrant_text};
+ghost use Rattle.iom_explain.specs.Accesses.{addr_text, caches_by, context_text, is_found, no_page, page_text, stale_text, unsettled_text, used_text, walk_of, warrant_text};
 
 use crate::text::put_decimal;
 use iom_account::NumberedWarrant;
 use iom_core::{Denial, Lookup, Source, Way};
-use iom_debug::{OutputPage, StaleAccess, address_of, origin_line, put, stale_access_line};
+use iom_debug::{
+    OutputPage, StaleAccess, UnsettledAccess, address_of, elsewhere_line, origin_line, put,
+    stale_access_line,
+};
 use iom_text::hexadecimal;
 
 // Appends where a context comes from.
@@ -139,11 +142,33 @@ pub fn put_warrant(out: &mut OutputPage, used: Option<NumberedWarrant>)
 /// Appends an access that was stale, as a line; nothing if it wasn't.
 pub fn put_stale(out: &mut OutputPage, stale: Option<StaleAccess>)
     requires { length out.old.items ≤ 15300 }
-    ensures { out.new.items ≡ out.old.items ++ stale_text stale }
+    ensures text { out.new.items ≡ out.old.items ++ stale_text stale }
+    ensures room { length out.new.items ≤ length out.old.items + 340 }
 {
     if let Some(stale) = stale {
         put(out, b"    stale: ");
         put(out, stale_access_line(&stale).as_slice());
         put(out, b"\n");
+    }
+}
+
+// Appends where an access may still go that wasn't settled, as a line.
+fn put_elsewhere(out: &mut OutputPage, access: &UnsettledAccess)
+    requires { length out.old.items ≤ 15700 }
+    ensures { out.new.items ≡ out.old.items ++ unsettled_text (Some access.now) }
+{
+    let elsewhere = elsewhere_line(&access.unsettled, access.request.iova);
+    put(out, b"    unsettled:");
+    put(out, elsewhere.as_slice());
+    put(out, b"\n");
+}
+
+/// Appends where an access may still go that wasn't settled, as a line; nothing if it was.
+pub fn put_unsettled(out: &mut OutputPage, unsettled: Option<UnsettledAccess>)
+    requires { length out.old.items ≤ 15700 }
+    ensures { out.new.items ≡ out.old.items ++ unsettled_text unsettled }
+{
+    if let Some(access) = unsettled {
+        put_elsewhere(out, &access);
     }
 }

@@ -401,9 +401,9 @@ impl Answerer for Explaining<'_> {
     }
 }
 
-/// Carries out the script that `reader` gives, and writes each line, the reasons of its accesses, and at the end how they went. Answers
-/// whether there was memory for the numbers of the lines that are stale; if there was none nothing more is written. The faults are those of
-/// `run`.
+/// Carries out the script that `reader` gives, and writes each line, the reasons of its accesses, and at the end how they went. Where what any
+/// IOMMU may hold is kept, it also writes which accesses weren't settled. Answers whether there was memory for that, and for the numbers of
+/// the lines that are counted; if there was none nothing more is written. The faults are those of `run`.
 #[tactic(auto, using(crate::proofs::Telling::lawful, crate::proofs::Telling::whole))]
 pub fn explain<R: Read, W: Write>(
     explaining: &mut Explaining<'_>,
@@ -419,8 +419,10 @@ pub fn explain<R: Read, W: Write>(
     if explaining.teller.is_short {
         return Ok(false);
     }
+    let tells_settled = explaining.debugger.tells_settled();
     write_summary(
         &explaining.teller.summary,
+        tells_settled,
         &mut explaining.teller.page,
         writer,
     )?;

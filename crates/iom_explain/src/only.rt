@@ -3,7 +3,7 @@
 ghost use Rattle.std.specs.Prelude.{◌≡◌, false, is_some};
 ghost use Rattle.iom_explain.specs.Explaining.{if_told, is_told};
 
-use iom_debug::{OutputPage, StaleAccess};
+use iom_debug::{OutputPage, StaleAccess, UnsettledAccess};
 
 /// The accesses that are told, where not all are.
 #[derive(Clone, Copy)]
@@ -12,15 +12,19 @@ pub struct Only {
     pub denied: bool,
     /// Those that are stale.
     pub stale: bool,
+    /// Those that aren't settled.
+    pub unsettled: bool,
 }
 
-// Whether a step is told whose access is denied or stale, or not; of a step without an access neither.
-fn is_told(only: Option<Only>, denied: bool, stale: bool) -> bool
-    ensures { result ≡ is_told only denied stale }
+// Whether a step is told whose access is denied, stale or unsettled, or not; of a step without an access none.
+fn is_told(only: Option<Only>, denied: bool, stale: bool, unsettled: bool) -> bool
+    ensures { result ≡ is_told only denied stale unsettled }
 {
     match only {
         None => true,
-        Some(only) => (only.denied && denied) || (only.stale && stale),
+        Some(only) => {
+            (only.denied && denied) || (only.stale && stale) || (only.unsettled && unsettled)
+        }
     }
 }
 
@@ -35,9 +39,9 @@ fn keep_if(out: &mut OutputPage, told: bool)
 
 /// Empties a page that has a step without an access, if accesses alone are told.
 pub fn keep_line(out: &mut OutputPage, only: Option<Only>)
-    ensures { out.new.items ≡ if_told (is_told only false false) out.old.items }
+    ensures { out.new.items ≡ if_told (is_told only false false false) out.old.items }
 {
-    keep_if(out, is_told(only, false, false));
+    keep_if(out, is_told(only, false, false, false));
 }
 
 /// Empties a page that has a step with its access, if accesses alone are told and this isn't one of them.
@@ -46,8 +50,10 @@ pub fn keep_access(
     only: Option<Only>,
     denied: &Option<u16>,
     stale: &Option<StaleAccess>,
+    unsettled: &Option<UnsettledAccess>,
 )
-    ensures { out.new.items ≡ if_told (is_told only (is_some denied.now) (is_some stale.now)) out.old.items }
+    ensures { out.new.items ≡ if_told (is_told only (is_some denied.now) (is_some stale.now) (is_some unsettled.now)) out.old.items }
 {
-    keep_if(out, is_told(only, denied.is_some(), stale.is_some()));
+    let told = is_told(only, denied.is_some(), stale.is_some(), unsettled.is_some());
+    keep_if(out, told);
 }

@@ -1,6 +1,6 @@
 //! The output for a step: its answer, and the reasons of its access.
 
-ghost use Rattle.std.specs.Prelude.{◌≡◌, ◌++◌, ◌∷◌, [], ◌≤◌, List, false, true, codes, is_some, length, IfSome, OnOk};
+ghost use Rattle.std.specs.Prelude.{◌≡◌, ◌++◌, ◌||◌, ◌∷◌, [], ◌≤◌, List, false, true, codes, is_some, length, IfSome, OnOk};
 ghost use Rattle.iom_core.specs.Looking.{is_cached};
 ghost use Rattle.iom_core.specs.Table.{next, request_of_step};
 ghost use Rattle.iom_text.specs.Texts.{numeral};
@@ -9,18 +9,20 @@ ghost use Rattle.iom_debug.specs.Desks.{names_of};
 ghost use Rattle.iom_debug.specs.Stale.{led_by};
 ghost use Rattle.iom_debug.specs.Summary.{counts_of};
 ghost use Rattle.iom_debug.specs.declared.summary.AccessOutcome.{AccessOutcome};
-ghost use Rattle.iom_explain.specs.Accesses.{asks_text, caches_by, stale_text, warrant_text};
+ghost use Rattle.iom_explain.specs.Accesses.{asks_text, caches_by, stale_text, unsettled_text, warrant_text};
 ghost use Rattle.iom_explain.specs.Explaining.{StepTold, denied_for, explained, if_told, is_told};
 ghost use Rattle.iom_explain.specs.Walking.{walk_text};
 
-use crate::accesses::{put_caches, put_stale, put_warrant};
+use crate::accesses::{put_caches, put_stale, put_unsettled, put_warrant};
 use crate::asking::put_asks;
 use crate::only::{Only, keep_access, keep_line};
 use crate::text::put_decimal;
 use crate::walk::Walk;
 use iom_account::NumberedWarrant;
 use iom_core::{Answer, Step};
-use iom_debug::{AccessOutcome, Debugger, Led, OutputPage, StaleAccess, Summary, led_by, put};
+use iom_debug::{
+    AccessOutcome, Debugger, Led, OutputPage, StaleAccess, Summary, UnsettledAccess, led_by, put,
+};
 use iom_tool::{ReplyDraft, TracedStep, put_traced_step};
 use std::alloc::{AllocError, Global};
 
@@ -51,6 +53,13 @@ fn denied_for(answer: &Answer) -> Option<u16>
         Answer::Denied(cause) => Some(*cause),
         _ => None,
     }
+}
+
+// Whether memory was refused, for what is counted or for what any IOMMU may hold.
+fn is_refused(is_short: bool, is_lost: bool) -> bool
+    ensures { result ≡ (is_short || is_lost) }
+{
+    is_short || is_lost
 }
 
 // What leads the access that a step is about to make, and puts what is told of that before it is made.
@@ -98,18 +107,20 @@ fn put_access(
     led: &Led,
     used: Option<NumberedWarrant>,
     stale: Option<StaleAccess>,
+    unsettled: Option<UnsettledAccess>,
 )
     requires room { length out.old.items ≤ 343 }
     requires asks { length asks.now ≤ 200 }
     requires walk { length walk.now ≤ 13900 }
     ensures { out.new.items ≡ out.old.items ++ (asks.now ++ caches_by led.now.seen.context led.now.seen led.now.line led.now.request.iova used
-        ++ walk.now ++ warrant_text used ++ stale_text stale) }
+        ++ walk.now ++ warrant_text used ++ stale_text stale ++ unsettled_text unsettled) }
 {
     put(out, asks);
     put_caches(out, &led.seen, led.line, led.request.iova, used);
     put(out, walk);
     put_warrant(out, used);
     put_stale(out, stale);
+    put_unsettled(out, unsettled);
 }
 
 impl Teller {
@@ -144,19 +155,21 @@ fn tell_access(
     denied: Option<u16>,
     used: Option<NumberedWarrant>,
     stale: Option<StaleAccess>,
+    unsettled: Option<UnsettledAccess>,
 ) -> Result<(), AllocError>
     requires room { length teller.old.page.items ≤ 343 }
     requires asks { length teller.old.asks.items ≤ 200 }
     requires walk { length teller.old.walk.items ≤ 13900 }
-    ensures text { teller.new.page.items ≡ if_told (is_told teller.old.only (is_some denied) (is_some stale)) (teller.old.page.items
+    ensures text { teller.new.page.items ≡ if_told (is_told teller.old.only (is_some denied) (is_some stale) (is_some unsettled)) (teller.old.page.items
         ++ (teller.old.asks.items ++ caches_by led.now.seen.context led.now.seen led.now.line led.now.request.iova used
-        ++ teller.old.walk.items ++ warrant_text used ++ stale_text stale)) }
+        ++ teller.old.walk.items ++ warrant_text used ++ stale_text stale ++ unsettled_text unsettled)) }
     ensures counts { OnOk result ((earlier : List AccessOutcome) → teller.old.summary ≡ counts_of earlier
         → teller.new.summary ≡ counts_of (earlier ++ record {
           number = number;
           denied = denied;
           is_cached = is_cached led.now.seen;
           is_stale = is_some stale;
+          is_unsettled = is_some unsettled;
         } ∷ [])) }
     ensures short { teller.new.is_short ≡ teller.old.is_short }
     ensures only { teller.new.only ≡ teller.old.only }
@@ -168,19 +181,22 @@ fn tell_access(
         led,
         used,
         stale,
+        unsettled,
     );
     let only = teller.only;
-    keep_access(&mut teller.page, only, &denied, &stale);
+    keep_access(&mut teller.page, only, &denied, &stale, &unsettled);
     teller.summary.count(&AccessOutcome {
         number,
         denied,
         is_cached: led.seen.is_cached(),
         is_stale: stale.is_some(),
+        is_unsettled: unsettled.is_some(),
     })
 }
 
 /// Carries out a step of the line of this number, writes its answer to its entry, and puts the output, if it is told: the step, and the
-/// reasons of its access if it makes one. The trace doesn't have it yet.
+/// reasons of its access if it makes one. The trace doesn't have it yet. Nothing more is told where memory is refused, also for what any IOMMU
+/// may hold.
 pub fn take(debugger: &mut Debugger<'_>, teller: &mut Teller, number: u64, entry: &mut TracedStep)
     ensures step { entry.new.step ≡ entry.old.step }
     ensures answer { entry.new.answer ≡ (next debugger.old.platform.now entry.old.step).answer }
@@ -206,6 +222,7 @@ pub fn take(debugger: &mut Debugger<'_>, teller: &mut Teller, number: u64, entry
     let stale = debugger
         .reasons
         .step(debugger.platform, &entry.step, number, &mut entry.answer);
+    teller.is_short = is_refused(teller.is_short, debugger.reasons.is_lost());
     put_traced_step(&mut teller.draft, entry);
     teller.page.clear();
     put_step(&mut teller.page, number, teller.draft.as_slice());
@@ -216,7 +233,8 @@ pub fn take(debugger: &mut Debugger<'_>, teller: &mut Teller, number: u64, entry
     };
     let denied = denied_for(&entry.answer);
     let used = debugger.reasons.newest_origin();
-    if tell_access(teller, number, &led, denied, used, stale).is_err() {
+    let unsettled = debugger.reasons.last_unsettled();
+    if tell_access(teller, number, &led, denied, used, stale, unsettled).is_err() {
         teller.is_short = true;
     }
 }

@@ -1,12 +1,12 @@
 //! The output for the summary of a script's accesses.
 
-ghost use Rattle.std.specs.Prelude.{◌≡◌, ◌+◌, ◌*◌, ◌++◌, ◌∷◌, [], ◌≤◌, ◌==◌, List, false, codes, length, IfErr, OnOk, if◌then◌else◌};
+ghost use Rattle.std.specs.Prelude.{◌≡◌, ◌+◌, ◌*◌, ◌++◌, ◌∷◌, [], ◌≤◌, ◌==◌, List, false, true, codes, length, IfErr, OnOk, if◌then◌else◌};
 ghost use Rattle.std.specs.List.{flat_map};
 ghost use Rattle.std.specs.Io.KnownBytes.{Appends};
 ghost use Rattle.iom_text.specs.Texts.{numeral};
 ghost use Rattle.iom_reader.specs.Running.{is_write};
 ghost use Rattle.iom_reader.specs.Watching.{write_failed};
-ghost use Rattle.iom_explain.specs.Explaining.{denied_text, lines_text, more_text, summary_text};
+ghost use Rattle.iom_explain.specs.Explaining.{counts_text, denied_text, lines_text, more_text, unsettled_counted};
 
 use crate::text::put_decimal;
 use iom_debug::{OutputPage, Summary, put, write_told};
@@ -115,7 +115,7 @@ fn put_first(out: &mut OutputPage, first: u64, is_only: bool)
     }
 }
 
-// Writes the numbers of the lines that are stale, and a line end.
+// Writes the numbers of lines, and a line end.
 fn write_lines<W: Write>(
     lines: &[u64],
     page: &mut OutputPage,
@@ -137,14 +137,14 @@ fn write_lines<W: Write>(
     write_told(writer, b")\n")
 }
 
-/// Writes how the accesses went. The fault is `Write`.
-pub fn write_summary<W: Write>(
+// Writes how the accesses went but for settledness.
+fn write_counts<W: Write>(
     summary: &Summary,
     page: &mut OutputPage,
     writer: &mut WatchedWriter<'_, W>,
 ) -> Result<(), RunFault>
     requires { write_failed writer.old ≡ false }
-    ensures ok { OnOk result (Appends (W.contents writer.old.inner.now) (W.contents writer.new.inner.now) (summary_text summary.now)) }
+    ensures ok { OnOk result (Appends (W.contents writer.old.inner.now) (W.contents writer.new.inner.now) (counts_text summary.now)) }
     ensures fault { IfErr result (λ fault. fault ≡ RunFault.Write) }
     ensures told { write_failed writer.new ≡ is_write result }
     ensures same_writer { writer.new.inner.ghost_name ≡ writer.old.inner.ghost_name }
@@ -156,5 +156,55 @@ pub fn write_summary<W: Write>(
     page.clear();
     put_stale(page, summary);
     write_told(writer, page.as_slice())?;
-    write_lines(summary.lines(), page, writer)
+    write_lines(summary.stale_lines(), page, writer)
+}
+
+// Puts how many accesses weren't settled.
+fn put_unsettled(out: &mut OutputPage, summary: &Summary)
+    requires { length out.old.items ≡ 0 }
+    ensures text { out.new.items ≡ out.old.items ++ (codes "unsettled: " ++ numeral 10 summary.now.unsettled) }
+    ensures room { length out.new.items ≤ 100 }
+{
+    put_decimal(out, b"unsettled: ", summary.unsettled());
+}
+
+// Writes how many accesses weren't settled, and their lines.
+fn write_unsettled<W: Write>(
+    summary: &Summary,
+    page: &mut OutputPage,
+    writer: &mut WatchedWriter<'_, W>,
+) -> Result<(), RunFault>
+    requires { write_failed writer.old ≡ false }
+    ensures ok { OnOk result (Appends (W.contents writer.old.inner.now) (W.contents writer.new.inner.now)
+        (unsettled_counted true summary.now)) }
+    ensures fault { IfErr result (λ fault. fault ≡ RunFault.Write) }
+    ensures told { write_failed writer.new ≡ is_write result }
+    ensures same_writer { writer.new.inner.ghost_name ≡ writer.old.inner.ghost_name }
+{
+    page.clear();
+    put_unsettled(page, summary);
+    write_told(writer, page.as_slice())?;
+    write_lines(summary.unsettled_lines(), page, writer)
+}
+
+/// Writes how the accesses went, and if `tells_settled` which weren't settled. The fault is `Write`.
+pub fn write_summary<W: Write>(
+    summary: &Summary,
+    tells_settled: bool,
+    page: &mut OutputPage,
+    writer: &mut WatchedWriter<'_, W>,
+) -> Result<(), RunFault>
+    requires { write_failed writer.old ≡ false }
+    ensures ok { OnOk result (Appends (W.contents writer.old.inner.now) (W.contents writer.new.inner.now)
+        (counts_text summary.now ++ unsettled_counted tells_settled summary.now)) }
+    ensures fault { IfErr result (λ fault. fault ≡ RunFault.Write) }
+    ensures told { write_failed writer.new ≡ is_write result }
+    ensures same_writer { writer.new.inner.ghost_name ≡ writer.old.inner.ghost_name }
+{
+    write_counts(summary, page, writer)?;
+    if tells_settled {
+        write_unsettled(summary, page, writer)
+    } else {
+        Ok(())
+    }
 }

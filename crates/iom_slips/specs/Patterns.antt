@@ -147,6 +147,7 @@ patterns =
     ∷ (Word (codes "origin") ∷ Among (codes "context") choice.Cache ∷ place ∷ [])
     ∷ (Word (codes "origin") ∷ Among (codes "page") choice.Cache ∷ place ∷ [])
     ∷ (Word (codes "why") ∷ place ∷ [])
+    ∷ (Word (codes "owed") ∷ [])
     ∷ []
 
 -- what the code's pieces stand for

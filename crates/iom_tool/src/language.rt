@@ -55,6 +55,8 @@ pub enum Inquiry {
     Disk(u64, u64, u64),
     /// What a block device does next.
     Device(u64),
+    /// What is owed now: the requests that were made and aren't settled.
+    Owed,
 }
 
 /// Who goes on by itself.

@@ -250,6 +250,7 @@ fn line_by(form: Form, values: Values) -> Option<Line>
         Form::Dump if is_count(second) => Inquiry::Dump(first, second),
         Form::Disk if is_count(third) => Inquiry::Disk(first, second, third),
         Form::DevShow => Inquiry::Device(first),
+        Form::Owed => Inquiry::Owed,
         _ => return None,
     };
     Some(Line::Inquires(inquiry))

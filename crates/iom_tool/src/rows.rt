@@ -98,6 +98,8 @@ pub enum Form {
     CmdRun,
     /// The words of an item, stored.
     Put,
+    /// What is owed.
+    Owed,
 }
 
 /// A row of the table: the scripts that may use it, what it says, and its words and operands.
@@ -106,7 +108,7 @@ pub struct Row(pub Language, pub Form, pub &'static [Part]);
 
 /// The table.
 #[rattlefmt::skip]
-pub const ROWS: [Row; 43] = [
+pub const ROWS: [Row; 44] = [
     Row(Run, Does(Load), &[Word(b"load"), Number, Number]),
     Row(Run, Does(Store), &[Word(b"store"), Number, Number, Number]),
     Row(Run, Does(RegRead), &[Word(b"reg"), Word(b"read"), Number, Number]),
@@ -150,4 +152,5 @@ pub const ROWS: [Row; 43] = [
     Row(Debug, OriginContext, &[Word(b"origin"), Word(b"context"), Number]),
     Row(Debug, OriginPage, &[Word(b"origin"), Word(b"page"), Number]),
     Row(Debug, Why, &[Word(b"why"), Number]),
+    Row(Debug, Owed, &[Word(b"owed")]),
 ];

@@ -4,6 +4,7 @@
 use fault::Fault;
 use iom_asm::Item;
 use iom_cli::{Checks, How, Task, WordsFault, check_status, task_of};
+use iom_core::Platform;
 use iom_debug::{Debugger, Debugging, LineAccount, debug};
 use iom_explain::{Explaining, Only, explain};
 use iom_include::Including;
@@ -41,11 +42,34 @@ struct Streams<I, O> {
     output_is_terminal: bool,
 }
 
+// How a script is explained.
+#[derive(Clone, Copy)]
+struct Explained {
+    // The accesses that are told; None if all is.
+    only: Option<Only>,
+    // Whether it is told which accesses aren't settled.
+    tells_settled: bool,
+}
+
+// What is kept beside a platform whose script is debugged, or is explained. What any IOMMU may hold takes memory and time, so it is kept for
+// `debug`, where a line may ask what is owed, and where `explain` is to tell it.
+fn account(platform: &Platform, alloc: Global, explained: Option<Explained>) -> LineAccount {
+    let keeps_holdings = match explained {
+        Some(explained) => explained.tells_settled,
+        None => true,
+    };
+    if keeps_holdings {
+        LineAccount::with_holdings(platform, alloc)
+    } else {
+        LineAccount::new(platform)
+    }
+}
+
 // Debugs or explains the script that an input gives. Tells whether there was memory for what is told.
 fn tell<'a, R: Read, W: Write>(
     alloc: Global,
     image: &[u8],
-    only: Option<Option<Only>>,
+    explained: Option<Explained>,
     tells_slips: bool,
     input: &mut R,
     output: &mut W,
@@ -54,10 +78,10 @@ fn tell<'a, R: Read, W: Write>(
     let mut writer = WatchedWriter::new(output);
     let mut platform = iom_asm::load(alloc, image)?;
     let mut trace = Trace::new(alloc)?;
-    let mut reasons = LineAccount::new(&platform);
+    let mut reasons = account(&platform, alloc, explained);
     let debugger = Debugger::new(&mut platform, &mut trace, &mut reasons);
-    if let Some(only) = only {
-        let mut explaining = Explaining::new(alloc, debugger, only)?;
+    if let Some(explained) = explained {
+        let mut explaining = Explaining::new(alloc, debugger, explained.only)?;
         return Ok(explain(&mut explaining, &mut reader, &mut writer)?);
     }
     debug(
@@ -73,14 +97,14 @@ fn tell_all<'a, R: Read, W: Write>(
     rt: &impl Files,
     alloc: Global,
     image: &[u8],
-    only: Option<Option<Only>>,
+    explained: Option<Explained>,
     tells_slips: bool,
     input: &mut R,
     output: &mut W,
 ) -> Result<(), Fault<'a>> {
     let library = Library::new(rt, alloc);
     let mut script = Including::new(alloc, &library, "", &mut *input);
-    match tell(alloc, image, only, tells_slips, &mut script, output) {
+    match tell(alloc, image, explained, tells_slips, &mut script, output) {
         Ok(true) => Ok(()),
         Ok(false) => Err(Fault::OutOfMemory),
         Err(Fault::Run(fault)) => Err(Fault::of_run(fault, script.take_fault())),
@@ -98,19 +122,26 @@ fn play<'a, R: Read, W: Write>(
     input: &mut R,
     output: &mut W,
 ) -> Result<(), Fault<'a>> {
-    let only = match how {
+    let explained = match how {
         How::Run => {
             let mut reader = WatchedReader::new(input);
             let mut writer = WatchedWriter::new(output);
             return Ok(iom_play::play(alloc, image, &mut reader, &mut writer)?.ended?);
         }
         How::Debug => None,
-        How::Explain { only } => Some(only.map(|it| Only {
-            denied: it.denied,
-            stale: it.stale,
-        })),
+        How::Explain {
+            only,
+            tells_settled,
+        } => Some(Explained {
+            only: only.map(|it| Only {
+                denied: it.denied,
+                stale: it.stale,
+                unsettled: it.unsettled,
+            }),
+            tells_settled,
+        }),
     };
-    tell_all(rt, alloc, image, only, tells_slips, input, output)
+    tell_all(rt, alloc, image, explained, tells_slips, input, output)
 }
 
 // Plays a script on an image. Its answers are written by blocks, but before it waits for input.

@@ -1,3 +1,4 @@
+use Rattle.iom_debug.proofs.Owed.{inquired_before}
 use Rattle.iom_debug.proofs.Remaining.{one_kept}
 use Rattle.iom_debug.proofs.debugger.Debugger.carry_out.Goals as goal
 
@@ -26,3 +27,8 @@ returns-in-Again-clause-stale c = rw c.in-Again.is (rw c.begin_line.ensures at c
 pub returns-in-Put-clause-stale : goal.returns-in-Put-clause-stale
 returns-in-Put-clause-stale c =
     rw c.in-Put.is (rw (c.begin_line.ensures, c.as_slice.ensures.value) at c.store_all.ensures.took.stale)
+
+pub returns-in-Inquires-clause-reply : goal.returns-in-Inquires-clause-reply
+returns-in-Inquires-clause-reply c =
+    rw c.in-Inquires.is (inquired_before _ c.args.self.now.reasons.now c.in-Inquires.inquiry _
+    (rw c.begin_line.ensures at c.answer_to.ensures))

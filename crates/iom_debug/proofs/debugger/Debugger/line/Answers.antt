@@ -17,5 +17,5 @@ returns-clause-holds c = held c.args.self.now.reasons.now _ _ _ _ (rw c.read-lin
 
 pub returns-clause-as_run : goal.returns-clause-as_run
 returns-clause-as_run c = λ other.
-    as_run _ _ _ _ _ _ _ other (rw c.read-line.ensures.line at c.carry_out.ensures.reply) (rw c.read-line.ensures.line at c.carry_out.ensures.state)
+    as_run _ _ c.args.self.now.reasons.now _ _ _ _ other (rw c.read-line.ensures.line at c.carry_out.ensures.reply) (rw c.read-line.ensures.line at c.carry_out.ensures.state)
     (rw c.read-line.ensures.line at c.carry_out.ensures.trace)

@@ -2,4 +2,4 @@ use Rattle.iom_debug.proofs.Summing.{summed_by}
 use Rattle.iom_debug.proofs.summary.Summary.count.Goals as goal
 
 pub returns-clause-counts : goal.returns-clause-counts
-returns-clause-counts c = summed_by _ _ _ _ c.in_ok-note_line.ensures.ok c.add.ensures
+returns-clause-counts c = summed_by _ _ _ _ c.in_ok-note_lines.ensures.ok c.add.ensures

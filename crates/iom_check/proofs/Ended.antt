@@ -1,0 +1,167 @@
+-- A checked script in whose count none failed: no line failed, and nothing is owed at its end.
+use Rattle.std.proofs.Common.{◌≡◌, ◌∙◌, ◌⊎◌, ℕ, Bool, true, false, List, [], ◌∷◌, map, Option, Some, None, if◌then◌else◌, refl, sym, ap, subst, inl, inr}
+use Rattle.std.specs.Prelude.{codes}
+use Rattle.std.specs.Option.{option_map}
+use Rattle.std.proofs.lemmas.Bool.{cases_eq}
+use Rattle.iom_bits.specs.declared.causes.Kind.{Kind}
+use Rattle.iom_bits.specs.declared.causes.Kind.TheVariants as kind
+use Rattle.iom_choices.specs.Models.{end_of as reached}
+use Rattle.iom_choices.specs.Systems.{IsAmong}
+use Rattle.iom_core.specs.State.{State}
+use Rattle.iom_core.specs.Table.{request_of_step}
+use Rattle.iom_core.specs.declared.access.Request.{Request}
+use Rattle.iom_core.specs.declared.step.Step.{Step}
+use Rattle.iom_every.specs.Every.{platform}
+use Rattle.iom_reader.specs.Lines.{lines_of}
+use Rattle.iom_owed.specs.Holdings.{Makes, at_page}
+use Rattle.iom_owed.specs.Newest.{IsNewest, steps_of}
+use Rattle.iom_owed.specs.Settled.{AreOwed, IsSettledNow}
+use Rattle.iom_owed.specs.declared.noting.Made.{Made}
+use Rattle.iom_owed.specs.declared.settling.Owed.{Owed}
+use Rattle.iom_debug.specs.Settling.{AreOwedBy, SettlingView, is_lost_in}
+use Rattle.iom_check.specs.Checking.{Checked, IsChecked, end_told, places_told}
+use Rattle.iom_check.specs.Owing.{all_owed, owed_at}
+use Rattle.iom_check.specs.Scoring.{Score, Told, ended, noted, quiet}
+use Rattle.iom_check.specs.Scripts.{BeginsSettled, IsMade, PassesSettled, newest_first}
+use Rattle.iom_check.specs.declared.rules.Rules.{Rules}
+use Rattle.iom_check.specs.declared.rules.Tally.{Tally}
+use Rattle.iom_check.proofs.Accessed.{Stands}
+use Rattle.iom_check.proofs.Scored.{GoesOn, both, failed_on, looked_by_on, noted_on, one_more, picked, still}
+use Rattle.iom_check.proofs.Scripts.{Went, lines_rules, taken_is, went}
+
+-- at the end
+ended_on : (s : Score) (number : ℕ) → GoesOn s (ended s number).after
+ended_on s number =
+    picked s s.has_wish (quiet s) (noted s number (codes "no line has a wish")) (still s) (noted_on s number (codes "no line has a wish"))
+
+owed_on : (line : ℕ) (s : Score) (owed : List Owed) → GoesOn s (all_owed line s owed).after
+unfolding all_owed
+owed_on line s [] = still s
+owed_on line s (first ∷ more) =
+    let next = (owed_at s line first).after in
+    both s next _ (failed_on s) (owed_on line next more)
+
+-- where none failed, nothing was owed
+none_owed : (line : ℕ) (s : Score) (owed : List Owed) → (all_owed line s owed).after.tally.failed ≡ 0 → owed ≡ []
+unfolding all_owed
+none_owed line s [] none = refl
+none_owed line s (first ∷ more) none =
+    let next = (owed_at s line first).after in
+    absurd (one_more s.tally.failed ((owed_on line next more).passed none))
+
+told_on : (end : Checked) (owed : List Owed) → GoesOn end.score (end_told end owed).after
+told_on end owed =
+    let places = (places_told end).after in
+    both end.score places _ (looked_by_on end.desk.state.machine end.number end.score)
+    (picked places places.rules.fails_if_unsettled (all_owed end.number places owed) (quiet places) (owed_on end.number places owed) (still places))
+
+owed_none : (b : Bool) (s : Score) (all : Told) (owed : List Owed) → (all.after.tally.failed ≡ 0 → owed ≡ []) → b ≡ true →
+    (if b then all else quiet s).after.tally.failed ≡ 0 → owed ≡ []
+owed_none true s all owed empty judged none = empty none
+owed_none false s all owed empty judged none = absurd (cc judged)
+
+told_none : (end : Checked) (owed : List Owed) → end.score.rules.fails_if_unsettled ≡ true → (end_told end owed).after.tally.failed ≡ 0 → owed ≡ []
+told_none end owed judged none =
+    let places = (places_told end).after in
+    let rules : places.rules ≡ end.score.rules = (looked_by_on end.desk.state.machine end.number end.score).rules in
+    owed_none places.rules.fails_if_unsettled places (all_owed end.number places owed) owed (none_owed end.number places owed)
+    (ap (λ (r : Rules). r.fails_if_unsettled) rules ∙ judged) none
+
+not_lost : (lost is_lost : Bool) → (lost ≡ true → is_lost ≡ true) → is_lost ≡ false → lost ≡ false
+not_lost false is_lost still known = refl
+not_lost true is_lost still known =
+    let is : true ≡ false = sym (still refl) ∙ known in absurd (cc is)
+
+-- whether a step makes a request
+same_kind : (a b : Kind) → (a ≡ b) ⊎ (a ≡ b → ⊥)
+same_kind kind.Read kind.Read = inl refl
+same_kind kind.Write kind.Write = inl refl
+same_kind kind.Read kind.Write = inr (λ is. cc)
+same_kind kind.Write kind.Read = inr (λ is. cc)
+
+same_parts : (a b : Request) → (a.did ≡ b.did) ⊎ (a.did ≡ b.did → ⊥) → (a.iova ≡ b.iova) ⊎ (a.iova ≡ b.iova → ⊥) →
+    (a.kind ≡ b.kind) ⊎ (a.kind ≡ b.kind → ⊥) → (a ≡ b) ⊎ (a ≡ b → ⊥)
+same_parts a b (inl did) (inl iova) (inl kind) = inl (
+    ap (λ d. record { did = d; iova = a.iova; kind = a.kind }) did ∙ ap (λ i. record { did = b.did; iova = i; kind = a.kind }) iova
+    ∙ ap (λ k. record { did = b.did; iova = b.iova; kind = k }) kind
+    )
+same_parts a b (inr other) iova kind = inr (λ is. other (ap (λ (r : Request). r.did) is))
+same_parts a b (inl did) (inr other) kind = inr (λ is. other (ap (λ (r : Request). r.iova) is))
+same_parts a b (inl did) (inl iova) (inr other) = inr (λ is. other (ap (λ (r : Request). r.kind) is))
+
+some_is : {X : Type 0} {a b : X} → Some a ≡ Some b → a ≡ b
+some_is is = search is
+
+same_some : (a b : Request) → (a ≡ b) ⊎ (a ≡ b → ⊥) → (Some a ≡ Some b) ⊎ (Some a ≡ Some b → ⊥)
+same_some a b (inl is) = inl (ap (λ (r : Request). Some r) is)
+same_some a b (inr other) = inr (λ is. other (some_is is))
+
+same : (a : Option Request) (b : Request) → (a ≡ Some b) ⊎ (a ≡ Some b → ⊥)
+same None b = inr (λ is. cc)
+same (Some a) b = same_some a b (same_parts a b (cases_eq a.did b.did) (cases_eq a.iova b.iova) (same_kind a.kind b.kind))
+
+-- the newest step that makes a request
+newest_of : (start : State) (last : Step × ℕ) (taken : List (Step × ℕ)) (request : Request) →
+    (Makes start (steps_of taken) last.0 request) ⊎ (Makes start (steps_of taken) last.0 request → ⊥) →
+    (IsMade start (steps_of taken) request → (number : ℕ) × IsNewest (Makes start) taken request number) →
+    Makes start (steps_of taken) last.0 request ⊎ IsMade start (steps_of taken) request →
+    (number : ℕ) × IsNewest (Makes start) (last ∷ taken) request number
+newest_of start last taken request (inl makes) older made = (last.1, inl (makes, refl))
+newest_of start last taken request (inr other) older (inl makes) = absurd (other makes)
+newest_of start last taken request (inr other) older (inr before) =
+    let found = older before in (found.0, inr (other, found.1))
+
+newest : (start : State) (taken : List (Step × ℕ)) (request : Request) → IsMade start (steps_of taken) request →
+    (number : ℕ) × IsNewest (Makes start) taken request number
+newest start [] request made = absurd made
+newest start (last ∷ taken) request made =
+    let before = reached platform start (steps_of taken) in
+    newest_of start last taken request (same (option_map at_page (request_of_step before last.0)) request)
+    (newest start taken request) made
+
+settled_or : (owed : List Owed) (each : Made) (P : Type 0) → owed ≡ [] → IsAmong (map (λ (told : Owed). told.made) owed) each ⊎ P → P
+settled_or owed each P none (inr is) = is
+settled_or owed each P none (inl among) = absurd (subst (λ (o : List Owed). IsAmong (map (λ (told : Owed). told.made) o) each) none among)
+
+-- where nothing is owed, each request that was made is settled
+settled_by : (settling : Option SettlingView) (start : State) (taken : List (Step × ℕ)) (state : State) (owed : List Owed) → AreOwedBy settling state owed →
+    Stands start taken state settling → owed ≡ [] → (request : Request) → IsMade start (steps_of taken) request → IsSettledNow start (steps_of taken) request
+settled_by None start taken state owed are stands none request made = absurd stands
+settled_by (Some settling) start taken state owed are stands none request made =
+    let found = newest start taken request made in
+    let each : Made = record { request = request; number = found.0 } in
+    let among : IsAmong settling.holdings.requests each = (stands.0.requests each).1 found.1 in
+    let owes : AreOwed settling.holdings start (steps_of taken) owed = are start taken stands.0 in
+    settled_or owed each (IsSettledNow start (steps_of taken) request) none (owes.settled each among)
+
+module _ (start : Checked) (unread left held holds : Option (List ℕ)) (tally : Tally) (done : IsChecked start unread left held holds false tally)
+    (begins : BeginsSettled start) (none : tally.failed ≡ 0) where
+  abbrev lines : List (List ℕ)
+  lines = lines_of done.script
+
+  -- none failed before the sum of the script
+  told_before : (end_told done.end done.owed).after.tally.failed ≡ 0
+  told_before =
+      let last = (end_told done.end done.owed).after in
+      (ended_on last done.end.number).passed (sym (ap (λ (t : Tally). t.failed) done.counts) ∙ none)
+
+  pub passes : PassesSettled start lines done.text done.end
+  passes = record {
+    begins = begins;
+    said = done.said;
+    passed = (told_on done.end done.owed).passed told_before;
+    known = not_lost (is_lost_in done.end.desk.reasons.settling) false done.lost refl;
+  }
+
+  end_judged : done.end.score.rules.fails_if_unsettled ≡ true
+  end_judged = ap (λ (r : Rules). r.fails_if_unsettled) (lines_rules lines start done.text done.end done.said) ∙ begins.judged
+
+  pub unowed : (request : Request) → IsMade start.desk.state (newest_first start lines) request →
+      IsSettledNow start.desk.state (newest_first start lines) request
+  unowed request made =
+      let first = start.desk.state in
+      let all : Went first [] start lines done.end = went start lines done.text done.end passes in
+      let is : steps_of all.all ≡ newest_first start lines = taken_is start lines done.text done.end passes in
+      subst (λ (steps : List Step). IsSettledNow first steps request) is
+      (settled_by done.end.desk.reasons.settling first all.all done.end.desk.state done.owed (done.owes refl) all.stands
+      (told_none done.end done.owed end_judged told_before) request (subst (λ (steps : List Step). IsMade first steps request) (sym is) made))

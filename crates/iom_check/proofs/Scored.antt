@@ -1,0 +1,166 @@
+-- The count of failures only grows, so where it is 0 at the end no line failed.
+use Rattle.std.proofs.Common.{◌≡◌, ◌∙◌, ◌++◌, ◌&&◌, ◌||◌, ◌+◌, not, ℕ, zero, suc, Bool, true, false, List, [], ◌∷◌, length, Option, Some, None, if◌then◌else◌, refl, sym, ap, subst, arith}
+use Rattle.std.specs.Prelude.{nat_lt}
+use Rattle.std.proofs.lemmas.Bool.{ltb-true}
+use Rattle.iom_core.specs.State.{Machine}
+use Rattle.iom_debug.specs.Settling as settling
+use Rattle.iom_debug.specs.Settling.{unsettled_in, unsettled_text, unsettled_told}
+use Rattle.iom_debug.specs.Stale.{kind_text}
+use Rattle.iom_debug.specs.Telling.{slip_with}
+use Rattle.iom_debug.specs.declared.settling.UnsettledAccess.{UnsettledAccess}
+use Rattle.iom_bits.specs.declared.causes.Kind.{Kind}
+use Rattle.iom_bits.specs.declared.causes.Kind.TheVariants as kind
+use Rattle.iom_check.specs.Checking.{Checked, LineSays, line_told, places_if, places_told}
+use Rattle.iom_check.specs.Judging.{allows_stale, elsewhere_told, fails, meets, message, passes, remark, tables_told, title}
+use Rattle.iom_check.specs.Looking.{all_looked, is_current, looked, looked_at, looked_by, place_message, place_title, standing_at}
+use Rattle.iom_check.specs.Reporting.{note_told}
+use Rattle.iom_check.specs.Scoring.{Score, Told, failed, judged, more, noted, one_failed, passed, quiet, remarked, with_wish}
+use Rattle.iom_check.specs.Wanted.{wanted}
+use Rattle.iom_check.specs.declared.looking.Cache.{Cache}
+use Rattle.iom_check.specs.declared.looking.Cache.TheVariants as cache
+use Rattle.iom_check.proofs.Answered.{IsSaid, said}
+
+-- the rules stay, and where none failed after it none failed before
+pub record GoesOn (before after : Score) : Type 0 where
+  pub rules : after.rules ≡ before.rules
+  pub passed : after.tally.failed ≡ 0 → before.tally.failed ≡ 0
+
+-- one more failed
+pub one_more : (n : ℕ) → more n ≡ 0 → ⊥
+one_more n is = absurd (omega arith)
+
+pub still : (s : Score) → GoesOn s s
+still s = record { rules = refl; passed = λ none. none }
+
+pub both : (a b c : Score) → GoesOn a b → GoesOn b c → GoesOn a c
+both a b c first second = record {
+  rules = second.rules ∙ first.rules;
+  passed = λ none. first.passed (second.passed none);
+}
+
+pub failed_on : (s : Score) → GoesOn s (one_failed s)
+failed_on s = record { rules = refl; passed = λ none. absurd (one_more s.tally.failed none) }
+
+-- either of two
+pub picked : (s : Score) (b : Bool) (x y : Told) → GoesOn s x.after → GoesOn s y.after → GoesOn s (if b then x else y).after
+picked s true x y first second = first
+picked s false x y first second = second
+
+judged_on : (s : Score) (number : ℕ) (line answer slip tables elsewhere : List ℕ) →
+    GoesOn s (judged s number line answer slip tables elsewhere).after
+judged_on s number line answer slip tables elsewhere =
+    let is = s.rules.fails_if_stale in
+    let wish = wanted line in
+    let good = passed s number (title line) in
+    let passing = passes is wish answer tables elsewhere in
+    picked s (fails is wish answer tables elsewhere) (failed s number (title line) (message is line answer slip tables elsewhere))
+    (if passing then good else quiet s) (failed_on s)
+    (picked s passing good (quiet s) (record { rules = refl; passed = λ none. none }) (still s))
+
+pub noted_on : (s : Score) (number : ℕ) (text : List ℕ) → GoesOn s (noted s number text).after
+noted_on s number text =
+    picked s s.rules.is_strict (failed s number text text) (record { said = note_told s.rules.style s.name number text; after = s })
+    (failed_on s) (still s)
+
+remarked_on : (s : Score) (number : ℕ) (line answer : List ℕ) → GoesOn s (remarked s number line answer).after
+remarked_on s number line answer =
+    let text = remark line answer in
+    picked s (nat_lt 0 (length text)) (noted s number text) (quiet s) (noted_on s number text) (still s)
+
+line_on : (s : Score) (number : ℕ) (line answer slip tables elsewhere : List ℕ) →
+    GoesOn s (line_told s number line answer slip tables elsewhere).after
+line_on s number line answer slip tables elsewhere =
+    let first = (judged s number line answer slip tables elsewhere).after in
+    let second = (remarked first number line answer).after in
+    both s second (with_wish second line) (both s first second (judged_on s number line answer slip tables elsewhere) (remarked_on first number line answer))
+    (record { rules = refl; passed = λ none. none })
+
+-- places that are looked at
+place_on : (s : Score) (line : ℕ) (which : Cache) (i : ℕ) (answer : List ℕ) → GoesOn s (looked_at s line which i answer).after
+place_on s line which i answer =
+    picked s (is_current answer) (quiet s) (failed s line (place_title which i) (place_message (place_title which i) answer)) (still s) (failed_on s)
+
+looked_on : (m : Machine) (which : Cache) (line : ℕ) (s : Score) (i count : ℕ) → GoesOn s (looked m which line s i count).after
+unfolding looked
+looked_on m which line s i zero = still s
+looked_on m which line s i (suc count) =
+    let first = (looked_at s line which i (standing_at m which i)).after in
+    both s first _ (place_on s line which i (standing_at m which i)) (looked_on m which line first (i + 1) count)
+
+all_on : (m : Machine) (line : ℕ) (s : Score) → GoesOn s (all_looked m line s).after
+unfolding all_looked
+all_on m line s =
+    let contexts = (looked m cache.Contexts line s 0 16).after in
+    both s contexts _ (looked_on m cache.Contexts line s 0 16) (looked_on m cache.Pages line contexts 0 64)
+
+pub looked_by_on : (m : Machine) (line : ℕ) (s : Score) → GoesOn s (looked_by m line s).after
+looked_by_on m line s = picked s s.rules.fails_if_stale (all_looked m line s) (quiet s) (all_on m line s) (still s)
+
+pub places_on : (looks : Bool) (after : Checked) → GoesOn after.score (places_if looks after).after
+places_on looks after =
+    picked after.score looks (places_told after) (quiet after.score) (looked_by_on after.desk.state.machine after.number after.score) (still after.score)
+
+-- an access that wasn't settled is told
+said_kind : (which : Kind) → IsSaid (kind_text which)
+said_kind kind.Read = said _ _
+said_kind kind.Write = said _ _
+
+-- something stands there still with more behind it
+longer : (text rest : List ℕ) → IsSaid text → IsSaid (text ++ rest)
+longer [] rest is = absurd (omega (arith, ltb-true 0 0 is.some))
+longer (c ∷ text) rest is = said c (text ++ rest)
+
+said_access : (access : UnsettledAccess) → IsSaid (unsettled_text access)
+unfolding settling.unsettled_text
+said_access access = longer _ _ (longer _ _ (said_kind access.request.kind))
+
+untold : (access : Option UnsettledAccess) → nat_lt 0 (length (unsettled_told access)) ≡ false → access ≡ None
+untold None none = refl
+untold (Some access) none =
+    let is : true ≡ false = sym (said_access access).some ∙ none in absurd (cc is)
+
+-- a line with an answer that doesn't fail has no such access
+last_part : (a b c d : Bool) → a && (b || (c || d)) ≡ false → a ≡ true → d ≡ false
+last_part true true c d is said = absurd (cc is)
+last_part true false true d is said = absurd (cc is)
+last_part true false false d is said = is
+last_part false b c d is said = absurd (cc said)
+
+passing : (b : Bool) (s : Score) (x : Told) (y : Told) → x.after ≡ one_failed s → (if b then x else y).after.tally.failed ≡ 0 → b ≡ false
+passing true s x y failed none = absurd (one_more s.tally.failed (sym (ap (λ (s : Score). s.tally.failed) failed) ∙ none))
+passing false s x y failed none = refl
+
+judged_passing : (s : Score) (number : ℕ) (line answer slip tables elsewhere : List ℕ) → (judged s number line answer slip tables elsewhere).after.tally.failed ≡ 0 →
+    IsSaid answer → nat_lt 0 (length elsewhere) ≡ false
+judged_passing s number line answer slip tables elsewhere none said =
+    let is = s.rules.fails_if_stale in
+    let wish = wanted line in
+    let fine : Told = if passes is wish answer tables elsewhere then passed s number (title line) else quiet s in
+    let good : fails is wish answer tables elsewhere ≡ false =
+    passing (fails is wish answer tables elsewhere) s (failed s number (title line) (message is line answer slip tables elsewhere)) fine refl none in
+    last_part (nat_lt 0 (length answer)) (not (meets is wish answer tables)) (nat_lt 0 (length tables) && not (allows_stale wish))
+    (nat_lt 0 (length elsewhere)) good said.some
+
+-- a line by itself goes on, and where none failed after it
+pub alone_on : (before : Checked) (line text : List ℕ) (after : Checked) → LineSays before line text after → GoesOn before.score after.score
+alone_on before line text after h =
+    subst (GoesOn before.score) (sym h.score)
+    (line_on before.score after.number line h.answer (slip_with before.desk.names line)
+    (tables_told before.score.rules.fails_if_stale after.desk.reasons.stale)
+    (elsewhere_told before.score.rules.fails_if_unsettled (unsettled_in after.desk.reasons.settling)))
+
+pub alone_quiet : (before : Checked) (line text : List ℕ) (after : Checked) (h : LineSays before line text after) →
+    before.score.rules.fails_if_unsettled ≡ true → after.score.tally.failed ≡ 0 → IsSaid h.answer → unsettled_in after.desk.reasons.settling ≡ None
+alone_quiet before line text after h rules none said =
+    let s = before.score in
+    let answer = h.answer in
+    let slip = slip_with before.desk.names line in
+    let tables = tables_told s.rules.fails_if_stale after.desk.reasons.stale in
+    let access = unsettled_in after.desk.reasons.settling in
+    let elsewhere = elsewhere_told s.rules.fails_if_unsettled access in
+    let told = (line_told s after.number line answer slip tables elsewhere).after in
+    let first = (judged s after.number line answer slip tables elsewhere).after in
+    let all : told.tally.failed ≡ 0 = sym (ap (λ (s : Score). s.tally.failed) h.score) ∙ none in
+    let one : first.tally.failed ≡ 0 = (remarked_on first after.number line answer).passed all in
+    let is : elsewhere ≡ unsettled_told access = ap (λ b. elsewhere_told b access) rules in
+    untold access (subst (λ (e : List ℕ). nat_lt 0 (length e) ≡ false) is (judged_passing s after.number line answer slip tables elsewhere one said))

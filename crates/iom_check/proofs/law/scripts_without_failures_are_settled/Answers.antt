@@ -1,0 +1,39 @@
+use Rattle.std.proofs.Common.{◌∙◌, List, reverse, sym, ap, subst}
+use Rattle.std.proofs.lemmas.List.{reverse-reverse}
+use Rattle.iom_choices.specs.Choices.{steps_of}
+use Rattle.iom_core.specs.Run.{answers}
+use Rattle.iom_core.specs.declared.step.Step.{Step}
+use Rattle.iom_every.specs.Every.{platform}
+use Rattle.iom_every.specs.Rows.{bare}
+use Rattle.iom_choices.specs.Models.{end_of, replies}
+use Rattle.iom_owed.specs.Settled.{IsEachSettled}
+use Rattle.iom_check.specs.Scripts.{newest_first, script_steps}
+use Rattle.iom_check.proofs.Ended.{passes, unowed}
+use Rattle.iom_check.proofs.Scripts.{each_settled, end_reached}
+use Rattle.iom_check.proofs.law.scripts_without_failures_are_settled.Goals as goal
+
+pub returns-clause-whole : goal.returns-clause-whole
+returns-clause-whole c = λ start unread left held holds tally done begins none. passes start unread left held holds tally done begins none
+
+pub returns-clause-unowed : goal.returns-clause-unowed
+returns-clause-unowed c = λ start unread left held holds tally done begins none. unowed start unread left held holds tally done begins none
+
+pub returns-clause-settled : goal.returns-clause-settled
+returns-clause-settled c = λ start end lines text h. each_settled start lines text end h
+
+pub returns-clause-state : goal.returns-clause-state
+returns-clause-state c = λ start end lines text chosen h is.
+    let first = start.desk.state in
+    let settled : IsEachSettled first (steps_of chosen) = subst (IsEachSettled first) (sym is) (each_settled start lines text end h) in
+    c.settled_steps_are_answered_alike.ensures.state first chosen h.begins.uncached settled
+    ∙ ap (λ (steps : List Step). bare (end_of platform first steps)) is
+    ∙ ap bare (sym (end_reached start lines text end h))
+
+pub returns-clause-answers : goal.returns-clause-answers
+returns-clause-answers c = λ start end lines text chosen h is.
+    let first = start.desk.state in
+    let settled : IsEachSettled first (steps_of chosen) = subst (IsEachSettled first) (sym is) (each_settled start lines text end h) in
+    c.settled_steps_are_answered_alike.ensures.answers first chosen h.begins.uncached settled
+    ∙ ap (replies platform first) is
+    ∙ c.runs_are_this_models.ensures.answers first (newest_first start lines)
+    ∙ ap (λ (steps : List Step). reverse (answers first steps)) (reverse-reverse (script_steps start lines))

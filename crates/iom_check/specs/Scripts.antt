@@ -1,0 +1,53 @@
+-- The steps of a script, and a script of which no line fails while settledness is judged: RISC-V IOMMU Architecture 1.0, "Caching in-memory
+-- data structures".
+use Rattle.std.specs.Prelude.{ℕ, ◌≡◌, ◌⊎◌, ◌++◌, true, false, List, [], ◌∷◌, take, reverse, IsSomeAnd}
+use Rattle.iom_core.specs.Run.{end_of}
+use Rattle.iom_core.specs.State.{State}
+use Rattle.iom_core.specs.Warrants.{IsUncached}
+use Rattle.iom_core.specs.declared.access.Request.{Request}
+use Rattle.iom_core.specs.declared.step.Step.{Step}
+use Rattle.iom_reader.specs.Speaking.{Speaks}
+use Rattle.iom_names.specs.Reading.{names_after}
+use Rattle.iom_names.specs.declared.names.Binding.{Binding}
+use Rattle.iom_owed.specs.Holdings.{Keeps, Makes}
+use Rattle.iom_owed.specs.Settled.{IsSettledNow}
+use Rattle.iom_debug.specs.Output.{debug_steps_of}
+use Rattle.iom_debug.specs.Settling.{is_lost_in}
+use Rattle.iom_check.specs.Checking.{Checked, checking}
+
+-- the steps of lines, one line after the other, each by the names and the state before it; the first 513 bytes of a line tell its steps
+abbrev pub steps_in : List Binding → State → List (List ℕ) → List Step
+steps_in names state [] = []
+steps_in names state (text ∷ lines) =
+    let line = take 513 text in
+    let steps = debug_steps_of names state line in
+    steps ++ steps_in (names_after names line) (end_of state steps) lines
+
+-- those of a script from where its check begins
+abbrev pub script_steps : Checked → List (List ℕ) → List Step
+script_steps start lines = steps_in start.desk.names start.desk.state lines
+
+abbrev pub newest_first : Checked → List (List ℕ) → List Step
+newest_first start lines = reverse (script_steps start lines)
+
+-- A check begins where nothing is cached and no step was taken, and by its rules an access fails that isn't settled.
+pub record BeginsSettled (start : Checked) : Type 0 where
+  pub uncached : IsUncached start.desk.state
+  pub untaken : IsSomeAnd start.desk.reasons.settling (λ settling. Keeps settling.holdings start.desk.state start.desk.state [])
+  pub judged : start.score.rules.fails_if_unsettled ≡ true
+
+-- From there lines were carried out and told. None failed, and memory wasn't refused for what is told of settledness.
+pub record PassesSettled (start : Checked) (lines : List (List ℕ)) (text : List ℕ) (end : Checked) : Type 0 where
+  pub begins : BeginsSettled start
+  pub said : Speaks checking start lines text end
+  pub passed : end.score.tally.failed ≡ 0
+  pub known : is_lost_in end.desk.reasons.settling ≡ false
+
+-- a step of these, newest first, makes the request, which is for the first byte of its page
+abbrev pub IsMade : State → List Step → Request → Type 0
+IsMade start [] request = ⊥
+IsMade start (last ∷ steps) request = Makes start steps last request ⊎ IsMade start steps request
+
+-- nothing is owed after these steps, newest first: each request that they made is settled
+abbrev pub IsNothingOwed : State → List Step → Type 0
+IsNothingOwed start steps = (request : Request) → IsMade start steps request → IsSettledNow start steps request

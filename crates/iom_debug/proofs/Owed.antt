@@ -1,0 +1,43 @@
+-- What the line `owed` is answered.
+use Rattle.std.proofs.Common.{◌≡◌, ◌≢◌, ℕ, false, List, codes, Option, Some, None, inl, inr, refl}
+use Rattle.std.specs.Option.{option_map}
+use Rattle.iom_core.specs.State.{State}
+use Rattle.iom_owed.specs.declared.settling.Owed.{Owed}
+use Rattle.iom_tool.specs.declared.language.Inquiry.{Inquiry}
+use Rattle.iom_tool.specs.declared.language.Inquiry.TheVariants as inquiry
+use Rattle.iom_debug.specs.Answers.{IsInquired}
+use Rattle.iom_debug.specs.Owing.{IsOwedAnswer, owed_text}
+use Rattle.iom_debug.specs.Reasons.{LineAccountView, begun}
+use Rattle.iom_debug.specs.Settling.{AreOwedBy, SettlingView, is_lost_in, line_begun}
+
+pub unknown_told : (settling : Option SettlingView) (state : State) (answer : List ℕ) → answer ≡ codes "unknown" → IsOwedAnswer settling state answer
+unknown_told None state answer is = is
+unknown_told (Some settling) state answer is = inl is
+
+pub owed_told : (settling : Option SettlingView) (state : State) (owed : List Owed) (answer : List ℕ) → settling ≢ None →
+    is_lost_in settling ≡ false → AreOwedBy settling state owed → answer ≡ owed_text owed → IsOwedAnswer settling state answer
+owed_told None state owed answer kept known are is = absurd (kept refl)
+owed_told (Some settling) state owed answer kept known are is = inr (known, owed, is, are)
+
+-- what is owed is the same when a line has begun
+as_before : (settling : Option SettlingView) (state : State) (answer : List ℕ) → IsOwedAnswer (option_map line_begun settling) state answer →
+    IsOwedAnswer settling state answer
+as_before None state answer h = h
+as_before (Some settling) state answer h = h
+
+-- and so is any answer to a question
+pub inquired_before : (state : State) (reasons : LineAccountView) (asked : Inquiry) (answer : List ℕ) →
+    IsInquired state (begun reasons) asked answer → IsInquired state reasons asked answer
+inquired_before state reasons (inquiry.Stale request) answer h = h
+inquired_before state reasons (inquiry.StaleContext i) answer h = h
+inquired_before state reasons (inquiry.StalePage i) answer h = h
+inquired_before state reasons (inquiry.Why i) answer h = h
+inquired_before state reasons (inquiry.ContextOrigin i) answer h = h
+inquired_before state reasons (inquiry.PageOrigin i) answer h = h
+inquired_before state reasons (inquiry.Walk request i) answer h = h
+inquired_before state reasons (inquiry.Queue which) answer h = h
+inquired_before state reasons inquiry.Vectors answer h = h
+inquired_before state reasons (inquiry.Dump addr count) answer h = h
+inquired_before state reasons (inquiry.Disk dev at count) answer h = h
+inquired_before state reasons (inquiry.Device dev) answer h = h
+inquired_before state reasons inquiry.Owed answer h = as_before reasons.settling state answer h

@@ -1,0 +1,28 @@
+-- What the line `owed` is answered: the requests that the steps made and that aren't settled now, so that an invalidation is owed. RISC-V IOMMU
+-- Architecture 1.0, "Caching in-memory data structures".
+use Rattle.std.specs.Prelude.{ℕ, ◌≡◌, ◌⊎◌, ◌++◌, false, List, [], ◌∷◌, codes, length, take, Option, Some, None}
+use Rattle.iom_text.specs.Texts.{numeral}
+use Rattle.iom_core.specs.State.{State}
+use Rattle.iom_owed.specs.declared.noting.Made.{Made}
+use Rattle.iom_owed.specs.declared.settling.Owed.{Owed}
+use Rattle.iom_debug.specs.Settling.{AreOwedBy, SettlingView, elsewhere_text, request_text}
+
+-- a request and the line that made it, as `read 0x40202000 of device 5, as in line 12,`
+unfoldable pub made_text : Made → List ℕ
+made_text made = request_text made.request ++ codes ", as in line " ++ numeral 10 made.number ++ codes ","
+
+-- how many there are and the first, as `2, the first read 0x40202000 of device 5, as in line 12, may still go to addr=0x80011000, read in line 3,
+-- the tables now say denied 13`, of which at most 320 bytes are told; `none` where there is none
+unfoldable pub owed_text : List Owed → List ℕ
+owed_text [] = codes "none"
+owed_text (first ∷ more) =
+    take 320 ((numeral 10 (length (first ∷ more)) ++ codes ", the first " ++ made_text first.made)
+    ++ elsewhere_text first.unsettled first.made.request.iova)
+
+-- The answer is `unknown` where what any IOMMU may hold isn't kept. Where it is kept, what is owed is told, or the answer is `unknown`, since
+-- memory was refused.
+abbrev pub IsOwedAnswer : Option SettlingView → State → List ℕ → Type 0
+IsOwedAnswer None state answer = answer ≡ codes "unknown"
+IsOwedAnswer (Some settling) state answer =
+    (answer ≡ codes "unknown")
+    ⊎ ((settling.is_lost ≡ false) × (owed : List Owed) × (answer ≡ owed_text owed) × AreOwedBy (Some settling) state owed)
