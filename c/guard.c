@@ -59,6 +59,8 @@ STANDING iom_c_stale_context(rviommu_t *, uint64_t, struct rviommu_located *);
 STATUS iom_c_why(rviommu_t *, uint64_t, struct rviommu_why *);
 STATUS iom_c_page_origin(rviommu_t *, uint64_t, uint64_t *, uint64_t *);
 STATUS iom_c_context_origin(rviommu_t *, uint64_t, uint64_t *);
+STATUS iom_c_settled(rviommu_t *, const uint64_t *, size_t, uint64_t, uint64_t, bool, struct rviommu_unsettled *);
+STATUS iom_c_owed(rviommu_t *, const uint64_t *, size_t, struct rviommu_owed *, size_t, size_t *);
 STATUS iom_c_assemble(const char *, size_t, uint8_t *, size_t, size_t *, uint64_t *);
 STATUS iom_c_text(enum rviommu_status, char *, size_t, size_t *);
 
@@ -265,6 +267,28 @@ STATUS rviommu_context_origin(const rviommu_t *handle, uint64_t place, uint64_t 
     LOOK(handle)
     WANTED(uint64_t, number)
     return iom_c_context_origin(&look, place, number);
+}
+
+STATUS rviommu_settled_lent(const rviommu_t *handle, const uint64_t *words, size_t count, uint64_t did, uint64_t iova, bool is_write,
+                            struct rviommu_unsettled *unsettled) {
+    LOOK(handle)
+    WANTED(struct rviommu_unsettled, unsettled)
+    return iom_c_settled(&look, words, count, did, iova, is_write, unsettled);
+}
+
+STATUS rviommu_settled(const rviommu_t *handle, uint64_t did, uint64_t iova, bool is_write, struct rviommu_unsettled *unsettled) {
+    return rviommu_settled_lent(handle, OWN, did, iova, is_write, unsettled);
+}
+
+STATUS rviommu_owed_lent(const rviommu_t *handle, const uint64_t *words, size_t count, struct rviommu_owed *owed, size_t room, size_t *found) {
+    struct rviommu_owed none[1];
+    LOOK(handle)
+    WANTED(size_t, found)
+    return iom_c_owed(&look, words, count, owed != NULL ? owed : none, owed != NULL ? room : 0, found);
+}
+
+STATUS rviommu_owed(const rviommu_t *handle, struct rviommu_owed *owed, size_t room, size_t *found) {
+    return rviommu_owed_lent(handle, OWN, owed, room, found);
 }
 
 STATUS rviommu_assemble(const char *text, size_t text_length, uint8_t *image, size_t room, size_t *length, uint64_t *line) {

@@ -1,12 +1,13 @@
 /*
  * rviommu: a proved platform model of the RISC-V IOMMU, for tests of drivers and of hardware.
  *
- * A handle owns three things:
+ * A handle owns these things:
  * - a platform: one IOMMU (RISC-V IOMMU Architecture 1.0) and up to eight virtio 1.2 block devices, with physical memory of its own or in
  *   front of memory that the caller lends for each call ("Lent memory", below);
  * - a trace of its last 32 steps;
  * - an account of its steps: why the last ones had their answers, and which steps filled the caches. It numbers the steps of the handle
- *   from 1 on.
+ *   from 1 on;
+ * - only if it is asked for ("Settled requests", below): what any IOMMU may hold in its caches.
  * Each function is proved to do the same as the library call that it makes, if its caller keeps the rules below and those beside the
  * function. Four things are only tested: the checks for NULL outputs, the checks for closed handles, how an access is cut into pieces, and that
  * looks may run at once.
@@ -20,7 +21,8 @@
  * - One thread at a time uses a handle, but for the functions under "Looking": any number of them may run at once on one handle while no
  *   other function uses it. Two handles share nothing.
  * - No function is called from a signal handler, nor in the forked child of a process with threads.
- * Only rviommu_open*, rviommu_copy, rviommu_save, rviommu_restore, rviommu_keep_reasons, rviommu_close and rviommu_assemble call malloc and free.
+ * Only rviommu_open*, rviommu_copy, rviommu_save, rviommu_restore, rviommu_keep_reasons, rviommu_close, rviommu_assemble and rviommu_keep_holdings
+ * call malloc and free; and on a handle that keeps holdings, also each step, rviommu_reset, rviommu_settled* and rviommu_owed*.
  *
  * Addresses and lengths are in bytes, and numbers in memory are little-endian. The length of a buffer is a size_t; the number of a device,
  * a place or a step is a uint64_t. Functions of different kinds return different enums, each with numbers from 0 on.
@@ -79,7 +81,9 @@ enum rviommu_status {
     RVIOMMU_BAD_CAPABILITIES = 14, /* image of version 3: an unknown capability, or a bad number of vectors */
     RVIOMMU_STATUS_OTHER_MEMORY = 15, /* the memory isn't the handle's own, or the words aren't what it is lent; nothing was done */
     RVIOMMU_BAD_SAVE = 16,     /* the bytes aren't those of a saved handle */
-    RVIOMMU_OTHER_VERSION = 17 /* the bytes were saved by a library that writes another form */
+    RVIOMMU_OTHER_VERSION = 17, /* the bytes were saved by a library that writes another form */
+    RVIOMMU_NOT_KEPT = 18,     /* the handle doesn't keep what any IOMMU may hold */
+    RVIOMMU_UNSETTLED = 19     /* an IOMMU may lead the request elsewhere than the tables do */
 };
 
 /* What is at a place of a cache. */
@@ -245,6 +249,25 @@ struct rviommu_why {
     uint64_t reserved[3];   /* room for more members; 0 */
 };
 
+/* Where a request may be led that isn't settled. */
+struct rviommu_unsettled {
+    struct rviommu_way elsewhere; /* a way by entries that an IOMMU may hold */
+    struct rviommu_way tables;    /* the way that the tables give, which is another one */
+    uint64_t number;              /* has_number: the number of the last step that could read this entry */
+    bool has_number;              /* a single entry leads the request elsewhere, if all else is read from memory */
+    uint64_t reserved[3];         /* room for more members; 0 */
+};
+
+/* A request that steps made and that isn't settled now. */
+struct rviommu_owed {
+    struct rviommu_unsettled unsettled; /* where it may be led */
+    uint64_t iova;                      /* the first byte of its page: it stands for the requests of this device, page and kind */
+    uint64_t number;                    /* the number of the last step that made one of them */
+    uint32_t did;                       /* the device id */
+    bool is_write;                      /* it is a write, else a read */
+    uint64_t reserved[3];               /* room for more members; 0 */
+};
+
 /* The version of the library in use: its three numbers in bits 23:16, 15:8 and 7:0. */
 uint32_t rviommu_version(void);
 
@@ -273,7 +296,7 @@ enum rviommu_status rviommu_open_lent_image(const uint8_t *image, size_t length,
 
 /* Opens `copy` with an equal platform and an equal account. From then on the two handles are independent. The copy continues the count of
  * steps, but its trace is empty and it has no reasons yet, so rviommu_why and the line `trace` are about its own steps only. It keeps the
- * same number of reasons as `handle`. If the memory is lent, the copy is lent the same memory, or another one of the same place. `handle` is open and does not change. Returns RVIOMMU_OK; or RVIOMMU_OUT_OF_MEMORY, and `copy` is
+ * same number of reasons as `handle`, and no holdings. If the memory is lent, the copy is lent the same memory, or another one of the same place. `handle` is open and does not change. Returns RVIOMMU_OK; or RVIOMMU_OUT_OF_MEMORY, and `copy` is
  * closed. */
 enum rviommu_status rviommu_copy(const rviommu_t *handle, rviommu_t *copy);
 
@@ -283,14 +306,14 @@ enum rviommu_status rviommu_copy(const rviommu_t *handle, rviommu_t *copy);
 enum rviommu_status rviommu_keep_reasons(rviommu_t *handle, size_t most, bool accesses_only);
 
 /* Saves an open handle as bytes: its memory, registers, caches, block devices with their disks and requests, the count of its steps, and which
- * steps filled the caches. Writes them to `bytes`, and their number to `length`. The bytes are the same on every machine. They have no trace and no
- * reasons, and no memory that is lent: its owner saves that. The handle does not change; looks may run at once. Returns RVIOMMU_OK;
+ * steps filled the caches. Writes them to `bytes`, and their number to `length`. The bytes are the same on every machine. They have no trace, no
+ * reasons and no holdings, and no memory that is lent: its owner saves that. The handle does not change; looks may run at once. Returns RVIOMMU_OK;
  * RVIOMMU_LITTLE_ROOM, and `length` is the room that is needed (`bytes` may be NULL if `room` is 0); or RVIOMMU_OUT_OF_MEMORY. `bytes` is
  * unchanged unless RVIOMMU_OK is returned. */
 enum rviommu_status rviommu_save(const rviommu_t *handle, uint8_t *bytes, size_t room, size_t *length);
 
 /* Opens a handle that continues where the saved one stood: each later step has the same answer. The count of steps continues, the trace is
- * empty, and it has no reasons yet; it keeps as many as the saved one. If the saved one was lent its memory, this one is lent a memory of the
+ * empty, and it has no reasons yet; it keeps as many as the saved one, and no holdings. If the saved one was lent its memory, this one is lent a memory of the
  * same place. Returns RVIOMMU_OK; or RVIOMMU_BAD_SAVE, RVIOMMU_OTHER_VERSION or RVIOMMU_OUT_OF_MEMORY, and the handle is closed. */
 enum rviommu_status rviommu_restore(const uint8_t *bytes, size_t length, rviommu_t *handle);
 
@@ -298,7 +321,7 @@ enum rviommu_status rviommu_restore(const uint8_t *bytes, size_t length, rviommu
 void rviommu_close(rviommu_t *handle);
 
 /* Resets the IOMMU: its registers are as at reset, and both caches are empty. Memory and block devices stay as they are. It is no step: the
- * count of steps goes on, and the trace and the reasons stay. The handle is open. */
+ * count of steps goes on, and the trace and the reasons stay. Holdings begin anew, where they are kept. The handle is open. */
 void rviommu_reset(rviommu_t *handle);
 
 /* Writes `length` bytes, any number of them, to the handle's own memory. It is no step, so neither the trace nor the account has it. The
@@ -316,7 +339,8 @@ enum rviommu_status rviommu_memory_write(rviommu_t *handle, uint64_t address, co
  *   caches are worth nothing from then on.
  * - A call of the wrong form does nothing: one without words on a handle that is lent memory, one with words on a handle with memory of its
  *   own, or one with another count. It returns RVIOMMU_OTHER_MEMORY, RVIOMMU_STATUS_OTHER_MEMORY or RVIOMMU_STANDING_OTHER_MEMORY.
- * - What others write between calls is no step and has no number, and it changes no origin: an origin's numbers are those of steps.
+ * - What others write between calls is no step and has no number, and it changes no origin: an origin's numbers are those of steps. It changes
+ *   no holdings either.
  */
 
 /*
@@ -478,6 +502,31 @@ enum rviommu_status rviommu_why(const rviommu_t *handle, uint64_t step, struct r
  * there are fewer places, and the outputs are unchanged. */
 enum rviommu_status rviommu_page_origin(const rviommu_t *handle, uint64_t place, uint64_t *context, uint64_t *walk);
 enum rviommu_status rviommu_context_origin(const rviommu_t *handle, uint64_t place, uint64_t *number);
+
+/*
+ * Settled requests. A request is settled if each IOMMU that the standard allows leads it where the tables do, whatever entries it keeps of those
+ * that it could read and wasn't told to drop ("Caching in-memory data structures"). If a driver forgets an invalidation, requests aren't
+ * settled any more, even where the caches of this model have lost the entry; rviommu_stale asks about these caches alone. The handle is open.
+ */
+
+/* Keeps from now on the holdings of the handle, if `keeps` is true: which entries any IOMMU may hold, and which requests the steps make. They
+ * begin with none. What is cached already isn't among them, so call this on a newly opened handle, or right behind rviommu_reset. Each step
+ * then takes more time, and memory. A step that is refused that memory is carried out all the same, and from then on nothing is known until
+ * holdings begin anew, by this function or rviommu_reset. If `keeps` is false, ends this and frees the memory, as on a newly opened handle. */
+void rviommu_keep_holdings(rviommu_t *handle, bool keeps);
+
+/* Whether a request is settled now. Returns RVIOMMU_OK if it is; or RVIOMMU_UNSETTLED, and writes to `unsettled` where it may be led. Else
+ * nothing is said: RVIOMMU_NOT_KEPT; RVIOMMU_OUT_OF_MEMORY if memory is refused, or was at a step; RVIOMMU_NOT_THERE if the device id isn't
+ * below 2^24; or RVIOMMU_STATUS_OTHER_MEMORY. `unsettled` is unchanged unless RVIOMMU_UNSETTLED is returned. It is a look ("Looking"). */
+enum rviommu_status rviommu_settled(const rviommu_t *handle, uint64_t did, uint64_t iova, bool is_write, struct rviommu_unsettled *unsettled);
+enum rviommu_status rviommu_settled_lent(const rviommu_t *handle, const uint64_t *words, size_t count, uint64_t did, uint64_t iova, bool is_write,
+                                         struct rviommu_unsettled *unsettled);
+
+/* What is owed now: the requests that steps made, since holdings are kept, and that aren't settled. Writes as many of them to `owed` as there is
+ * `room` for, and to `found` how many there are, which may be more (`owed` may be NULL if `room` is 0). Returns RVIOMMU_OK; or
+ * RVIOMMU_NOT_KEPT, RVIOMMU_OUT_OF_MEMORY or RVIOMMU_STATUS_OTHER_MEMORY, and the outputs are unchanged. It is a look, too. */
+enum rviommu_status rviommu_owed(const rviommu_t *handle, struct rviommu_owed *owed, size_t room, size_t *found);
+enum rviommu_status rviommu_owed_lent(const rviommu_t *handle, const uint64_t *words, size_t count, struct rviommu_owed *owed, size_t room, size_t *found);
 
 /*
  * Texts.

@@ -12,9 +12,9 @@ from .forms import Context, FaultRecord, Fence, Gvma, Iodir, Pte, Vma
 from .platform import Platform, assemble
 from .reasons import LocatedKind, PartKind, Ruling, WayKind, WhyKind
 from .values import Context as CachedContext
-from .values import Located, Page, Part, Way, Why
+from .values import Located, Owed, Page, Part, Unsettled, Way, Why
 
 __all__ = ["AssemblyError", "BadAccess", "BusError", "CachedContext", "Context", "Denied", "FaultRecord", "Fence", "Gvma", "ImageError",
-           "Iodir", "Located", "LocatedKind", "Misuse", "NoDevice", "Outside", "Page", "Part", "PartKind", "Platform", "Pte", "QueueStopped",
-           "Refusal", "Ruling", "SaveError", "Vma", "Way", "WayKind", "Why", "WhyKind", "assemble", "forms"]
+           "Iodir", "Located", "LocatedKind", "Misuse", "NoDevice", "Outside", "Owed", "Page", "Part", "PartKind", "Platform", "Pte",
+           "QueueStopped", "Refusal", "Ruling", "SaveError", "Unsettled", "Vma", "Way", "WayKind", "Why", "WhyKind", "assemble", "forms"]
 __version__ = "0.4.0"

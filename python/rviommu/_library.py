@@ -7,7 +7,7 @@ import os
 
 from ctypes import POINTER, Structure, c_bool, c_char_p, c_size_t, c_uint8, c_uint32, c_uint64, c_void_p
 
-from .values import Context, Located, Page, Part, Way, Why
+from .values import Context, Located, Owed, Page, Part, Unsettled, Way, Why
 
 HERE = os.path.dirname(os.path.abspath(__file__))
 
@@ -63,14 +63,17 @@ FUNCTIONS = {
     "why": (HANDLE, c_uint64, POINTER(Why)),
     "page_origin": (HANDLE, c_uint64, NUMBER, NUMBER),
     "context_origin": (HANDLE, c_uint64, NUMBER),
+    "keep_holdings": (HANDLE, c_bool),
+    "settled": (HANDLE, c_uint64, c_uint64, c_bool, POINTER(Unsettled)),
+    "owed": (HANDLE, POINTER(Owed), c_size_t, SIZE),
     "assemble": (c_char_p, c_size_t, BYTES, c_size_t, SIZE, NUMBER),
     "text": (c_uint32, c_char_p, c_size_t, SIZE),
 }
 # Those with a form NAME_lent: it takes the words of a lent memory and their count after the handle.
 LENT = ("load", "store", "reg_read", "reg_write", "dma_read", "dma_write", "dma_read_all", "dma_write_all", "translate", "command", "dev_read",
-        "dev_write", "dev_step", "way_now")
+        "dev_write", "dev_step", "way_now", "settled", "owed")
 FUNCTIONS |= {f"{name}_lent": (HANDLE, NUMBER, c_size_t, *FUNCTIONS[name][1:]) for name in LENT}
-NOTHING = ("close", "memory_place", "reset")
+NOTHING = ("close", "keep_holdings", "memory_place", "reset")
 WIDE = ("interrupt", "steps")
 
 

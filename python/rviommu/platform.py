@@ -13,7 +13,7 @@ from . import forms
 from ._library import LENT, LIBRARY, Handle
 from .errors import AssemblyError, BadAccess, BusError, Denied, ImageError, Misuse, NoDevice, Outside, QueueStopped, Refusal, SaveError
 from .reasons import WayKind
-from .values import Context, Located, Page, Part, Value, Way, Why
+from .values import Context, Located, Owed, Page, Part, Unsettled, Value, Way, Why
 
 Memory = Union[bytearray, memoryview, mmap.mmap, ctypes.Array[Any]]
 Bytes = Union[bytes, Memory]
@@ -21,6 +21,7 @@ Entry = TypeVar("Entry", bound=Value)
 
 _VALUE, _DONE, _BYTES, _IDLE, _DENIED, _BUS_ERROR, _BAD_ACCESS, _NO_DEVICE, _MISUSE = range(9)
 _OK, _OUT_OF_MEMORY, _OUTSIDE, _LITTLE_ROOM, _NO_DISK, _OTHER_MEMORY = 0, 7, 10, 11, 12, 15
+_NOT_KEPT, _UNSETTLED = 18, 19
 _LIVE, _EMPTY = 0, 1
 _STALE = 3
 _MOST_STEPS = 32
@@ -207,7 +208,7 @@ class Platform:
     def copy(self) -> Platform:
         """A new platform equal to this one; from now on the two are independent, but a memory that is lent to this one is lent to both. The
         copy continues the count of steps. Its trace and its reasons are about its own steps only, and it keeps as many reasons as this
-        one."""
+        one, and no holdings."""
         made = Platform.__new__(Platform)
         made._begin()
         made._memory, made._words = self._memory, self._words
@@ -223,7 +224,7 @@ class Platform:
         return made
 
     def save(self) -> bytes:
-        """The platform as bytes, for `restore`: all but its trace, its reasons, its record, and a memory that is lent to it."""
+        """The platform as bytes, for `restore`: all but its trace, its reasons, its holdings, its record, and a memory that is lent to it."""
         length = ctypes.c_size_t()
         with self._lock:
             self._call("save", None, 0, length)
@@ -287,6 +288,12 @@ class Platform:
         with self._lock:
             if self._call("keep_reasons", count, accesses_only) != _OK:
                 raise MemoryError
+
+    def keep_holdings(self, keeps: bool = True) -> None:
+        """Keeps from now on what any IOMMU may hold, for `settled` and `owed`; if `keeps` is false, ends that. It doesn't know what is cached
+        already, so call it on a new platform, or right behind `reset`. Each step then takes more time, and memory; if that is refused,
+        `settled` and `owed` raise `MemoryError` until this is called again."""
+        self._call("keep_holdings", keeps)
 
     def line(self, text: Union[str, Bytes]) -> str:
         """Carries out a line of the script, and returns its answer, which is empty for a blank line."""
@@ -574,6 +581,31 @@ class Platform:
     def stale_context(self, place: SupportsIndex) -> Optional[Located]:
         """What ddtp and the directory give instead of the entry at a place of the context cache, if it is stale. Else None."""
         return self._stale_place("stale_context", place, Located())
+
+    def _is_told(self, status: int) -> bool:
+        """Whether an IOMMU may lead a request elsewhere, by the answer to `settled` or `owed`."""
+        if status == _OUT_OF_MEMORY:
+            raise MemoryError
+        if status == _NOT_KEPT:
+            raise ValueError("what any IOMMU may hold isn't kept: call keep_holdings first")
+        return status == _UNSETTLED
+
+    def settled(self, did: SupportsIndex, iova: SupportsIndex, is_write: bool = False) -> Optional[Unsettled]:
+        """None if a request is settled: if each IOMMU leads it where the tables do, whatever it keeps of what it could read and wasn't told to
+        drop. Else where it may be led. Needs `keep_holdings`."""
+        unsettled = Unsettled()
+        return unsettled if self._is_told(self._call("settled", self._device(did), _number(iova), is_write, unsettled)) else None
+
+    def owed(self) -> list[Owed]:
+        """The requests that steps made and that aren't settled now. Needs `keep_holdings`."""
+        found, room = ctypes.c_size_t(), 16
+        with self._lock:
+            while True:
+                owed = (Owed * room)()
+                self._is_told(self._call("owed", owed, room, found))
+                if found.value <= room:
+                    return owed[: found.value]
+                room = found.value
 
     def why(self, step: Optional[SupportsIndex] = None) -> Optional[Why]:
         """One of the kept reasons, the oldest 0: why a step had its answer. Without `step`, the newest one. None if there is none."""

@@ -126,6 +126,31 @@ class Part(Value):
                 *_all(c_bool, "has_word has_read_at is_napot"), ("way", Way), ("_reserved", c_uint64 * 4)]
 
 
+class Unsettled(Value):
+    """Where a request may be led that isn't settled, `struct rviommu_unsettled`: `elsewhere`, by entries that an IOMMU may hold, and `tables`. If
+    a single entry leads it there, `has_number` is true, and `number` that of the last step that could read it; else `number` is 0."""
+
+    elsewhere: Way
+    tables: Way
+    number: int
+    has_number: bool
+
+    _fields_ = [("elsewhere", Way), ("tables", Way), ("number", c_uint64), ("has_number", c_bool), ("_reserved", c_uint64 * 3)]
+
+
+class Owed(Value):
+    """A request that steps made and that isn't settled, `struct rviommu_owed`. `iova` is that of the first byte of its page, `number` that of
+    the last step that made such a request."""
+
+    unsettled: Unsettled
+    iova: int
+    number: int
+    did: int
+    is_write: bool
+
+    _fields_ = [("unsettled", Unsettled), *_all(c_uint64, "iova number"), ("did", c_uint32), ("is_write", c_bool), ("_reserved", c_uint64 * 3)]
+
+
 class Why(Value):
     """Why a step had its answer, `struct rviommu_why`; `kind` is a `WhyKind`. `address` is the physical address that its access was led
     to, or 0."""

@@ -569,7 +569,7 @@ class Values(unittest.TestCase):
         module = os.path.dirname(os.path.dirname(rviommu.__file__))
         with open(os.path.join(os.path.dirname(__file__), os.pardir, "README.md"), encoding="utf-8") as file:
             examples = re.findall(r"```python\n(.*?)```", file.read(), re.DOTALL)
-        self.assertEqual(len(examples), 2)
+        self.assertEqual(len(examples), 3)
         for example in examples:
             done = subprocess.run([sys.executable, "-B", "-c", example], env={**os.environ, "PYTHONPATH": module}, capture_output=True, text=True)
             self.assertEqual(done.returncode, 0, done.stderr)
@@ -629,6 +629,66 @@ class Reasons(unittest.TestCase):
         self.assertIsNone(platform.stale_context(1))
         platform.reg_write(DDTP, 1)
         self.assertEqual((platform.stale_context(0).kind, platform.stale_page(0).kind), (LocatedKind.NO_DIRECTORY, WayKind.REGISTER))
+
+
+class Settled(unittest.TestCase):
+    def test_page(self):
+        platform = Platform()
+        platform.keep_holdings()
+        with_queues(mapped(platform, pscid=9))
+        platform.dma_read(DID, IOVA + 5, 1)
+        read = platform.steps
+        self.assertEqual((platform.settled(DID, IOVA), platform.owed()), (None, []))
+        platform.put(0x80004008, Pte(0x80020, "vrwuad"))
+        unsettled = platform.settled(DID, IOVA)
+        self.assertEqual((unsettled.elsewhere.frame, unsettled.tables.frame), (DATA >> 12, 0x80020))
+        self.assertEqual((unsettled.elsewhere.kind, unsettled.elsewhere.context.pscid), (WayKind.WALK, 9))
+        self.assertEqual((unsettled.has_number, unsettled.number), (True, read))
+        (owed,) = platform.owed()
+        self.assertEqual((owed.did, owed.iova, owed.is_write, owed.number, owed.unsettled), (DID, IOVA, False, read, unsettled))
+        self.assertIn("is_write=False", repr(owed))
+        self.assertIsNotNone(platform.settled(DID, IOVA, is_write=True))
+        platform.send(Vma(page=IOVA >> 12, pscid=9), Fence())
+        self.assertEqual((platform.settled(DID, IOVA), platform.owed()), (None, []))
+
+    def test_many(self):
+        platform = Platform()
+        platform.keep_holdings(True)
+        mapped(platform)
+        for page in range(1, 41):
+            platform.put(0x80004000 + 8 * page, Pte(0x80010 + page, "vrwuad"))
+            platform.translate(DID, 0x40200000 + 4096 * page)
+        for page in range(1, 41):
+            platform.store(0x80004000 + 8 * page, 0)
+        owed = platform.owed()
+        self.assertEqual(sorted(it.iova for it in owed), [0x40200000 + 4096 * page for page in range(1, 41)])
+        self.assertEqual({it.unsettled.tables.cause for it in owed}, {13})
+        self.assertTrue(all(it.unsettled.elsewhere.frame == 0x80010 + (it.iova >> 12) % 512 for it in owed))
+        platform.reset()
+        self.assertEqual(platform.owed(), [])
+
+    def test_not_kept(self):
+        platform = mapped()
+        for ask in (platform.owed, lambda: platform.settled(DID, IOVA)):
+            self.assertRaisesRegex(ValueError, "keep_holdings", ask)
+        platform.keep_holdings()
+        self.assertEqual(platform.owed(), [])
+        for other in (platform.copy(), Platform.restore(platform.save())):
+            self.assertRaises(ValueError, other.owed)
+        platform.keep_holdings(False)
+        self.assertRaises(ValueError, platform.owed)
+        self.assertRaises(ValueError, platform.settled, 1 << 24, IOVA)
+
+    def test_lent(self):
+        memory = bytearray(SIZE)
+        platform = Platform.over(memory)
+        platform.keep_holdings()
+        mapped(platform)
+        platform.dma_read(DID, IOVA, 1)
+        memory[0x4008:0x4010] = bytes(8)
+        self.assertEqual((platform.settled(DID, IOVA).tables.cause, [it.number for it in platform.owed()]), (13, [platform.steps]))
+        memory[0x4008:0x4010] = Pte(DATA >> 12, "vrwuad").bytes()
+        self.assertEqual((platform.settled(DID, IOVA), platform.owed()), (None, []))
 
 
 class Accounts(unittest.TestCase):

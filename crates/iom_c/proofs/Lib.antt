@@ -2,3 +2,5 @@ pub mod AsBox
 pub mod Lengths
 pub mod Saves
 pub mod Telling
+pub mod Filling
+pub mod Stores

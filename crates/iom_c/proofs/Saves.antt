@@ -16,6 +16,7 @@ use Rattle.iom_c.specs.Saves.{HasWholeParts, held_words, IsFresh, IsSavedAs, own
 use Rattle.iom_c.specs.declared.held.Held.{Held}
 use Rattle.iom_c.specs.declared.held.Held.TheVariants as held
 use Rattle.iom_c.specs.declared.owned.Owned.{Owned}
+use Rattle.iom_c.specs.declared.settling.Settling.TheVariants as settling
 use Rattle.iom_c.specs.declared.told.Told.{Told}
 
 flag_same : (a b : Bool) → flag a ≡ flag b → a ≡ b
@@ -48,7 +49,7 @@ told_same a b r s same =
     let most : a.kept.ring.capacity ≡ b.kept.ring.capacity = ap (λ (l : List ℕ). get_or l 0 0) same in
     let only : a.kept.accesses_only ≡ b.kept.accesses_only = flag_same _ _ (ap (λ (l : List ℕ). get_or l 1 0) same) in
     let history : (a.history ≡ b.history) × (r ≡ s) = one_history a.history b.history r s (ap (λ (l : List ℕ). drop 2 l) same) in
-    (ap₂ (λ (h : HistoryView) (k : ℕ × Bool). record { history = h; kept = none_kept k.0 k.1 }) history.0 (ap₂ (λ x y. (x, y)) most only), history.1)
+    (ap₂ (λ (h : HistoryView) (k : ℕ × Bool). record { history = h; kept = none_kept k.0 k.1; settling = settling.NotKept }) history.0 (ap₂ (λ x y. (x, y)) most only), history.1)
 
 owned_same : (a b : Owned) → HasWholeParts a.held → HasWholeParts b.held → owned_words a ≡ owned_words b → copied a ≡ copied b
 owned_same a b first second same =

@@ -46,6 +46,14 @@ bad_save = 16
 abbrev pub other_version : ℕ
 other_version = 17
 
+-- what any IOMMU may hold isn't kept
+abbrev pub not_kept : ℕ
+not_kept = 18
+
+-- an IOMMU may lead the request elsewhere than the tables do
+abbrev pub unsettled : ℕ
+unsettled = 19
+
 -- why an image is refused
 abbrev pub load_number : LoadFault → ℕ
 load_number load.BadMagic = 1
@@ -77,7 +85,7 @@ all_words =
     codes "ok" ∷ codes "bad magic" ∷ codes "truncated" ∷ codes "trailing bytes" ∷ codes "bad memory" ∷ codes "bad chunk"
     ∷ codes "bad device" ∷ codes "out of memory" ∷ codes "bad line" ∷ codes "overlap" ∷ codes "outside memory"
     ∷ codes "too little room" ∷ codes "no such disk" ∷ codes "not there" ∷ codes "bad capabilities" ∷ codes "other memory"
-    ∷ codes "not a saved platform" ∷ codes "other version" ∷ []
+    ∷ codes "not a saved platform" ∷ codes "other version" ∷ codes "holdings not kept" ∷ codes "unsettled" ∷ []
 
 abbrev pub words_for : ℕ → List ℕ
 words_for number = unwrap_or (slice_get all_words number) (codes "no such number")

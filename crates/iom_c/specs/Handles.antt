@@ -16,10 +16,12 @@ use Rattle.iom_tool.specs.Console.{traced}
 use Rattle.iom_tool.specs.Script.{Asks, Bad, Blank, Does, Line}
 use Rattle.iom_core.specs.Warrants.{IsUncached}
 use Rattle.iom_c.specs.Keeping.{copied as told_copied, GoesOn, none_kept}
+use Rattle.iom_c.specs.Settling.{BeginsAnew}
 use Rattle.iom_c.specs.contracts.owned.Owned.{the_row}
 use Rattle.iom_c.specs.declared.held.Held.{Held}
 use Rattle.iom_c.specs.declared.held.Held.TheVariants as held
 use Rattle.iom_c.specs.declared.owned.Owned.{Owned}
+use Rattle.iom_c.specs.declared.settling.Settling.TheVariants as settling
 
 -- an open handle owns a box's block of the heap with the value in it, a closed one nothing
 abbrev pub handle_owns : Global → Ptr → Option the_row.Denot → Fml
@@ -89,16 +91,17 @@ BeginsAt history board = (memory : Memory) → IsUncached (state_on memory board
 abbrev pub board_at_reset : Board → Board
 board_at_reset board = record board { iommu = (board_with board.iommu.registers.features board.devices).iommu }
 
--- What a handle owns that begins at a platform: no step was kept, and the history begins there.
+-- What a handle owns that begins at a platform: no step was kept, the history begins there, and what any IOMMU may hold isn't kept.
 pub record Begins (start : Held) (own : Owned) : Type 0 where
   pub held : own.held ≡ start
   pub trace : own.trace ≡ []
   pub count : own.count ≡ 0
   pub kept : own.told.kept ≡ none_kept 32 false
+  pub settling : own.told.settling ≡ settling.NotKept
   pub history : BeginsAt own.told.history (board_of start)
 
--- What a reset leaves: registers and caches as at reset, all else of the platform as it was, and a history that begins there. Steps go on
--- being counted, and those that were kept stay.
+-- What a reset leaves: registers and caches as at reset, all else of the platform as it was, and a history that begins there. Nothing is held
+-- any more. Steps go on being counted, and those that were kept stay.
 pub record IsReset (own after : Owned) : Type 0 where
   pub board : board_of after.held ≡ board_at_reset (board_of own.held)
   pub memory : (words : List ℕ) → (state_in after.held words).machine.memory ≡ (state_in own.held words).machine.memory
@@ -107,6 +110,7 @@ pub record IsReset (own after : Owned) : Type 0 where
   pub count : after.count ≡ own.count
   pub kept : after.told.kept ≡ own.told.kept
   pub history : BeginsAt after.told.history (board_of after.held)
+  pub settling : BeginsAnew own.told.settling after.told.settling
 
 -- an equal platform with an equal history and as many steps, of which none was kept; as many reasons of such steps will be
 abbrev pub copied : Owned → Owned

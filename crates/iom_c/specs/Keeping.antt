@@ -7,16 +7,22 @@ use Rattle.iom_core.specs.declared.step.Step.{Step}
 use Rattle.iom_account.specs.Account.{IsReasonOf}
 use Rattle.iom_account.specs.Following.{ComesFrom, Follows, HistoryView}
 use Rattle.iom_account.specs.declared.reason.Reason.{Reason}
+use Rattle.iom_c.specs.Settling.{HoldsOn}
 use Rattle.iom_c.specs.declared.kept.Kept.{Kept}
+use Rattle.iom_c.specs.declared.settling.Settling.TheVariants as settling
 use Rattle.iom_c.specs.declared.told.Told.{Told}
 
 -- no reason yet, of the last `most` steps, or of the last `most` that make an access
 abbrev pub none_kept : ℕ → Bool → Kept
 none_kept most accesses_only = record { ring = buffer [] most; accesses_only = accesses_only }
 
--- an equal history, with no reason yet, and room for as many of such steps
+-- an equal history, with no reason yet, and room for as many of such steps; what any IOMMU may hold isn't kept
 abbrev pub copied : Told → Told
-copied told = record { history = told.history; kept = none_kept told.kept.ring.capacity told.kept.accesses_only }
+copied told = record {
+  history = told.history;
+  kept = none_kept told.kept.ring.capacity told.kept.accesses_only;
+  settling = settling.NotKept;
+}
 
 abbrev pub has_no_room : Kept → Bool
 has_no_room kept = kept.ring.capacity == 0
@@ -52,3 +58,4 @@ pub record GoesOn (old : Told) (state : State) (step : Step) (number : ℕ) (new
   pub follows : (start : State) (steps : List Step) (numbers : List ℕ) → Follows old.history state start steps numbers →
       Follows new.history after start (steps ++ step ∷ []) (numbers ++ number ∷ [])
   pub kept : KeepsIf (has_no_room old.kept) old.kept (IsWhy old.history state step number) new.kept
+  pub settling : HoldsOn old.settling state step number new.settling

@@ -10,3 +10,5 @@ pub mod Reasons
 pub mod Version
 pub mod Why
 pub mod Saves
+pub mod Settling
+pub mod Judging

@@ -14,7 +14,8 @@ use crate::owned::{Owned, reset};
 use std::alloc::Global;
 
 /// Resets the IOMMU: its registers are as at reset, and both caches are empty. Memory and block devices stay. It is no step; the account
-/// begins anew, the number of steps goes on, and the trace and the reasons that are kept stay.
+/// begins anew, and so does what any IOMMU may hold, where that is kept; the number of steps goes on, and the trace and the reasons that
+/// are kept stay.
 #[unsafe(no_mangle)]
 pub extern "C" fn rviommu_reset(alloc: Global, handle: &mut Handle)
     ghost own: { Owned }
@@ -22,7 +23,7 @@ pub extern "C" fn rviommu_reset(alloc: Global, handle: &mut Handle)
     ensures { IsSomeAnd handle.new.held (IsReset own) }
 {
     let mut owned = handle.take(alloc);
-    reset(&mut owned);
+    reset(alloc, &mut owned);
     *handle = Handle::of(owned);
 }
 

@@ -5,6 +5,7 @@ ghost use Rattle.iom_c.specs.Keeping.{GoesOn};
 
 use crate::held::Held;
 use crate::kept::{Kept, MOST};
+use crate::settling::Settling;
 use crate::told::Told;
 use iom_core::{Answer, Step};
 use iom_tool::Trace;
@@ -23,7 +24,7 @@ pub struct Owned {
     pub count: u64,
 }
 
-/// A platform put on the heap, with a trace that has no step and a history that begins here.
+/// A platform put on the heap, with a trace that has no step and a history that begins here. What any IOMMU may hold isn't kept.
 pub fn begun(alloc: Global, held: Held) -> Result<Box<Owned>, AllocError>
     ensures { IfOk result (λ own. Begins held own.value) }
 {
@@ -35,7 +36,11 @@ pub fn begun(alloc: Global, held: Held) -> Result<Box<Owned>, AllocError>
         Owned {
             held,
             trace,
-            told: Told { history, kept },
+            told: Told {
+                history,
+                kept,
+                settling: Settling::NotKept,
+            },
             count: 0,
         },
     )?)
@@ -78,10 +83,12 @@ pub fn carry_out(own: &mut Owned, words: &mut [u64], step: &Step) -> Answer
     answer
 }
 
-/// Resets the registers and the caches. The history begins anew; the number of steps, the trace and the reasons that are kept stay.
-pub fn reset(own: &mut Owned)
+/// Resets the registers and the caches. The history begins anew, and so does what any IOMMU may hold, where that is kept; the number of
+/// steps, the trace and the reasons that are kept stay.
+pub fn reset(alloc: Global, own: &mut Owned)
     ensures { IsReset own.old own.new }
 {
     own.held.reset();
     own.told.history = own.held.history();
+    own.told.settling.begin_anew(alloc);
 }

@@ -12,6 +12,7 @@ use crate::held::Held;
 use crate::kept::Kept;
 use crate::owned::Owned;
 use crate::saving::{SAVE_MAGIC, SAVE_VERSION};
+use crate::settling::Settling;
 use crate::told::Told;
 use iom_core::Platform;
 use iom_mem::is_lendable;
@@ -97,7 +98,11 @@ fn take_told(alloc: Global, words: &mut SavedWords<'_>) -> Result<Told, SavedFau
         return Err(SavedFault::Bad);
     };
     let kept = Kept::new(alloc, most as usize, accesses_only)?;
-    Ok(Told { history, kept })
+    Ok(Told {
+        history,
+        kept,
+        settling: Settling::NotKept,
+    })
 }
 
 // What the next words are, and nothing may be left of them.
@@ -173,8 +178,8 @@ fn restore_number(fault: RestoreFault) -> u32
     }
 }
 
-/// Opens a handle on what was saved: it owns the same but for the trace, which has no step, and the reasons, of which none is kept yet. It
-/// answers 0; 16 if the bytes are no saved platform; 17 if they were saved in another form; or 7 if there is no memory for it. The handle
+/// Opens a handle on what was saved: it owns the same but for the trace, which has no step, the reasons, of which none is kept yet, and
+/// what any IOMMU may hold, which isn't kept. It answers 0; 16 if the bytes are no saved platform; 17 if they were saved in another form; or 7 if there is no memory for it. The handle
 /// is closed then.
 #[unsafe(no_mangle)]
 pub extern "C" fn rviommu_restore(alloc: Global, bytes: &[u8], handle: &mut Handle) -> u32

@@ -138,6 +138,8 @@ fn words_for(number: u32) -> &'static [u8]
         15 => b"other memory",
         16 => b"not a saved platform",
         17 => b"other version",
+        18 => b"holdings not kept",
+        19 => b"unsettled",
         _ => b"no such number",
     }
 }

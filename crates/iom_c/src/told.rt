@@ -5,6 +5,7 @@ ghost use Rattle.iom_core.specs.Table.{next};
 ghost use Rattle.iom_c.specs.Keeping.{copied, GoesOn};
 
 use crate::kept::Kept;
+use crate::settling::Settling;
 use iom_account::History;
 use iom_core::{Answer, Board, Step};
 use iom_mem::WritableRegion;
@@ -17,21 +18,25 @@ pub struct Told {
     pub history: History,
     /// Why the last steps went as they did, as many and such as were asked for.
     pub kept: Kept,
+    /// What any IOMMU may hold, where that is kept.
+    pub settling: Settling,
 }
 
 impl Told {
-    /// An equal history, with no reason yet, and room for as many of the same steps.
+    /// An equal history, with no reason yet, and room for as many of the same steps. What any IOMMU may hold isn't kept.
     pub fn copied(&self, alloc: Global) -> Result<Told, AllocError>
         ensures { IfOk result (λ copy. copy ≡ copied self.now) }
     {
         Ok(Told {
             history: self.history.copied(),
             kept: self.kept.emptied(alloc)?,
+            settling: Settling::NotKept,
         })
     }
 
-    /// Carries out a step of a board in front of a memory, under its number, and puts its answer. The history goes along with it, and its
-    /// reason is kept. If there is no room for one, none is made, and the tables are not walked for it.
+    /// Carries out a step of a board in front of a memory, under its number, and puts its answer. The history goes along with it, and so does
+    /// what any IOMMU may hold, where that is kept. Its reason is kept. If there is no room for one, none is made, and the tables are not
+    /// walked for it.
     #[tactic(auto, using(iom_core::proofs::Reaches::reaches))]
     pub fn step<M: WritableRegion>(
         &mut self,
@@ -48,6 +53,7 @@ impl Told {
         ensures goes { GoesOn self.old (state_on (M.memory ram.old) board.old) step.now number
             self.new (state_on (M.memory ram.new) board.new) }
     {
+        self.settling.follow(board, ram, step, number);
         if self.kept.has_no_room() {
             self.history.follow(board, ram, step, number, answer);
         } else {

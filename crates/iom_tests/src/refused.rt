@@ -12,6 +12,8 @@ use iom_bits::{Features, Kind};
 use iom_blk::Blk;
 use iom_cache::{ContextCache, Place, TransCache};
 use iom_core::{Answer, Platform, Request, Step};
+use iom_every::Entry;
+use iom_held::{HeldEntries, Kept};
 use iom_mem::Ram;
 use iom_owed::Holdings;
 use iom_saved::{
@@ -417,6 +419,20 @@ fn followed(alloc: Global, platform: &mut Platform) -> Result<Holdings, AllocErr
     Ok(holdings)
 }
 
+// How many entries may be held.
+fn entry_count(holdings: &Holdings) -> usize {
+    let mut count: usize = 0;
+    for shelf in holdings.entries().shelves() {
+        count = count.saturating_add(shelf.len());
+    }
+    count
+}
+
+// Whether the step of this number is the newest that could read each of these.
+fn are_numbered(kept: &[Kept], number: u64) -> bool {
+    kept.iter().all(|each| each.number == number)
+}
+
 // The context, two pointers, a leaf and the whole translation; the unmapped page is owed, and another isn't.
 fn are_followed(holdings: &Holdings, platform: &Platform) -> Result<Option<usize>, AllocError> {
     let Platform { board, ram } = platform;
@@ -431,9 +447,13 @@ fn are_followed(holdings: &Holdings, platform: &Platform) -> Result<Option<usize
         _ => None,
     };
     let facts = [
-        holdings.entries().len() == 5,
-        holdings.entries().iter().all(|kept| kept.number == 1),
-        holdings.requests().len() == 1,
+        entry_count(holdings) == 5,
+        holdings
+            .entries()
+            .shelves()
+            .iter()
+            .all(|shelf| are_numbered(shelf, 1)),
+        holdings.request_count() == 1,
         numbers == Some((1, 0x4020_1000)),
         holdings.is_settled(board, ram, &other)?,
     ];
@@ -447,5 +467,19 @@ fn steps_are_followed(rt: HostRuntime) -> Result<(), Fail> {
     let mut platform = started(rt.alloc(), &MAPPED)?;
     let holdings = followed(rt.alloc(), &mut platform)?;
     assert_eq!(rt; are_followed(&holdings, &platform)?, None);
+    Ok(())
+}
+
+#[test]
+fn entry_is_held_alone(rt: HostRuntime) -> Result<(), Fail> {
+    spend(rt.alloc(), 12)?;
+    let entry = Entry::Directory {
+        level: 1,
+        part: 0,
+        word: 1,
+    };
+    let held = HeldEntries::one(rt.alloc(), Kept { entry, number: 7 })?;
+    assert!(rt; held.shelves().iter().all(|shelf| are_numbered(shelf, 7)));
+    assert_eq!(rt; held.shelves().len(), 1);
     Ok(())
 }
