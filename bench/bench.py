@@ -1,16 +1,19 @@
 #!/usr/bin/env -S python3 -B
-"""bench.py [--instructions] PROGRAM [OTHER]    Times PROGRAM, and OTHER beside it, on scripts, images and texts.
+"""bench.py [--instructions | --words] PROGRAM [OTHER]    Times PROGRAM, and OTHER beside it, on scripts, images and texts.
 
 - Six scripts: mode Bare, one stage and both, with 24 pages (all found in the translation cache once it is warm) and
   with 176 (most of them not), of 1,000,000 lines each; and one of 32 lines, on which each program is started a
   thousand times.
-- `explain` of PROGRAM beside its run, on 300,000 device reads, in seconds of the processor.
+- `explain` of PROGRAM beside its run, on 300,000 device reads, and `check --settled` beside it, on 300,000 lines, in
+  seconds of the processor.
 - An image of 64 MiB that is loaded, texts of 10,000 to 200,000 data lines that are assembled, and items that are
   listed.
 
 The programs take turns. The best time counts; a ratio is the median over the turns of their speeds, the first to the
 second, since a host's speed changes from one second to the next. What they write must be the same, byte for byte, and
 have a line for each line of a script. The status is 1 if it differs or a run fails.
+
+With --words it times `explain` and `check --settled` alone.
 
 With --instructions no clock is read: callgrind, of valgrind, counts them. The instructions of a line are the difference
 of two lengths of a script, divided by the lines between them, so that the start falls out; with them those of the C
@@ -41,6 +44,7 @@ STAGED = [
     for pages in (24, 176)
 ]
 LINES, SHORT, STARTS, READS = 1_000_000, 32, 1000, 300_000
+CHECKED = 300_000
 # Of the scripts whose instructions are counted.
 FEWER, MORE = 2_000, 22_000
 BASE, SIZE, LISTED = 0x80000000, 1 << 26, 1 << 23
@@ -123,6 +127,17 @@ class Bench:
         if told != lines:
             sys.exit(f"{name}: {told:,} lines are told of {lines:,}")
 
+    def settled(self, name, stages, pages):
+        """All lines of a script."""
+        script, program = self.written(stages, pages, CHECKED), self.programs[0]
+        runs = [[program, "check", "--settled"], [program]]
+        self.measured(f"check --settled and run, {name}", runs, CHECKED, "lines", 9, by_processor=True, given=script)
+
+    def words(self):
+        for script in STAGED:
+            self.explained(*script)
+            self.settled(*script)
+
     def used(self, name, words, count, unit, made=()):
         """A use of an image or a text; `made` names what each program writes, where that is a file."""
         runs = [[program, *words, *made[at : at + 1]] for at, program in enumerate(self.programs)]
@@ -187,18 +202,19 @@ def write_text(path, count):
 
 
 def main(*words):
-    programs = [os.path.abspath(word) for word in words if word != "--instructions"]
+    programs = [os.path.abspath(word) for word in words if not word.startswith("--")]
     if len(programs) not in (1, 2) or not all(os.access(it, os.X_OK) for it in programs):
         sys.exit(__doc__)
     with tempfile.TemporaryDirectory(prefix="rviommu-bench-") as room:
         bench = Bench(programs, room)
         if "--instructions" in words:
             return bench.instructions()
+        if "--words" in words:
+            return bench.words()
         for script in (BARE, *STAGED):
             bench.script(*script, LINES, 1, 25)
         bench.script("32 lines, a thousand starts", 0, 256, SHORT, STARTS, 5)
-        for script in STAGED:
-            bench.explained(*script)
+        bench.words()
         bench.images()
 
 

@@ -14,7 +14,7 @@ _rviommu() {
     fi
     case ${COMP_WORDS[1]}:${COMP_WORDS[COMP_CWORD - 1]} in
         explain:--only)
-            mapfile -t COMPREPLY < <(compgen -W "denied stale denied,stale" -- "$current")
+            mapfile -t COMPREPLY < <(compgen -W "denied stale unsettled denied,stale denied,unsettled stale,unsettled denied,stale,unsettled" -- "$current")
             return
             ;;
     esac
@@ -24,7 +24,7 @@ _rviommu() {
             return
             ;;
         explain:-*)
-            mapfile -t COMPREPLY < <(compgen -W "--only --help" -- "$current")
+            mapfile -t COMPREPLY < <(compgen -W "--settled --only --help" -- "$current")
             return
             ;;
         asm:-* | run:-* | debug:-* | list:-* | upgrade:-*)

@@ -143,6 +143,14 @@ class OfC(Library):
         self.needs("valgrind")
         self.passes(*VALGRIND, self.compiled("gcc", "saved", ["tests/c/saved.c"], wrapped))
 
+    def test_settled(self):
+        """requests that aren't settled are told with what leads them elsewhere, over own and lent memory, with each allocation refused; nothing is
+        found by the sanitizer or valgrind"""
+        wrapped = "-Wl,--wrap=malloc,--wrap=realloc"
+        self.passes(self.compiled("gcc", "settled-sanitized", ["tests/c/settled.c"], wrapped, *SANITIZER))
+        self.needs("valgrind")
+        self.passes(*VALGRIND, self.compiled("gcc", "settled", ["tests/c/settled.c"], wrapped))
+
     def test_readme(self):
         """the program in c/README.md"""
         code = text_of("c/README.md").split("```c\n")[1].split("```")[0]

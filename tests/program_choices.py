@@ -8,10 +8,15 @@ import random
 import re
 from itertools import combinations
 
-from frame import Case, run
+from frame import EXAMPLES, Case, run, scripts
 
 DEVICES, PAGES, TABLES = range(2), range(3), range(2)
 RUNS, MOST_ENTRIES = 80, 8
+# The examples that show an access behind a store for which no invalidation, or the wrong one, was carried out.
+FAULTY = {
+    *("both_stages", "four_levels", "freed_table", "full_invalidation", "guest_fault", "missing_invalidation"),
+    *("seventy_pages", "stale_context", "stale_translation", "stopped_queue"),
+}
 # Causes: no context, no page.
 NO_CONTEXT, NO_PAGE = 258, 13
 IMAGE = b"ram 0x80000000 0x100000\ncapabilities nl=1\n"
@@ -198,3 +203,11 @@ class Choices(Case):
                 self.assertEqual(out.splitlines()[-1].split(", ")[1], f"{len(found) + len(left)} failed")
                 differing += len(found) + len(left)
         self.assertGreater(differing, RUNS // 3)
+
+    def test_examples(self):
+        """each access of the examples is settled, but for those that show what a missing invalidation does"""
+        found = set()
+        for path, script, text in scripts():
+            if path.parent == EXAMPLES and b", unsettled: " in run(["check", "--settled", *self.on_image(text)], script)[1]:
+                found.add(path.stem)
+        self.assertEqual(found, FAULTY)

@@ -41,6 +41,8 @@ FOREIGN = "page_libc"
 
 # Types with an allocator, and how a file of a crate names them.
 TYPES = {"Vec": r"\bVec(<|::)", "Box": r"\bBox(<|::)", "String": r"\bString(::new|>|,|\))"}
+# Others, and the library that a file takes each of.
+HEAPED = [("std::collections", "BTreeMap"), ("circular_buffer", "HeapCircularBuffer"), ("indexmap", "IndexMap")]
 
 ALIASES = """
 pub type Vec<T, A = Global> = std_alloc::vec::Vec<T, A>;
@@ -52,6 +54,8 @@ pub type String<A = Global> = std_alloc::string::String<A>;
 pub type BTreeMap<K, V, A = Global> = std_collections::btree_map::BTreeMap<K, V, A>;
 
 pub type HeapCircularBuffer<T, A = Global> = circular_buffer::HeapCircularBuffer<T, A>;
+
+pub type IndexMap<K, V, A = Global> = indexmap::IndexMap<K, V, core::hash::BuildHasherDefault<core::hash::FoldHasher>, A>;
 """
 
 
@@ -72,7 +76,7 @@ def with_heap(text):
         names.append("Global")
         text = re.sub(r"^use std::alloc::Global;\n", "", text, flags=re.M)
         text = re.sub(r"^(use std::alloc::)\{AllocError, Global\};$", r"\1AllocError;", text, flags=re.M)
-    for place, name in (("std::collections", "BTreeMap"), ("circular_buffer", "HeapCircularBuffer")):
+    for place, name in HEAPED:
         line = f"use {place}::{name};\n"
         if line in text:
             names.append(name)
@@ -133,7 +137,7 @@ def make_copy():
     own = [it for it in listed if it in wanted]
     files = {FOREIGN: page_libc(rattle), "page_heap": page_heap(rattle), **{name: copied(name) for name in own}}
     files["iom_page"] = texts(OWN, ".page")
-    lines = [f"{FOREIGN}: core libc", f"page_heap: core libc std_alloc std_collections circular_buffer {FOREIGN}"]
+    lines = [f"{FOREIGN}: core libc", f"page_heap: core libc std_alloc std_collections circular_buffer indexmap {FOREIGN}"]
     for name in own:
         over_heap = any("page_heap" in text for text in files[name].values())
         lines.append(f"{name}: {' '.join([*listed[name][1], *['page_heap'] * over_heap])}")

@@ -56,13 +56,16 @@ static void *look(void *given) {
     struct rviommu_way way;
     struct rviommu_why why;
     uint64_t address = 0, value = 0, base = 0, size = 0;
+    size_t owed = 1;
     bool is_right = true;
     for (long round = 0; is_right && round < rounds; round++) {
         rviommu_memory_place(&seen, &base, &size);
         is_right = base == BASE && size == 8 * COUNT && rviommu_page(&seen, 0, &page) == RVIOMMU_LIVE && page.did == 5 &&
                    rviommu_way_now_lent(&seen, shared, COUNT, 5, IOVA + 5, false, &way, &address) == RVIOMMU_OK && address == BASE + 0x10005 &&
                    rviommu_reg_look(&seen, 0x10, 8, &value) == RVIOMMU_OK && value == 0x20000402 && rviommu_interrupt(&seen) == 0 &&
-                   rviommu_why(&seen, 1, &why) == RVIOMMU_OK && why.address == BASE + 0x10000 && rviommu_steps(&seen) == 2;
+                   rviommu_why(&seen, 1, &why) == RVIOMMU_OK && why.address == BASE + 0x10000 && rviommu_steps(&seen) == 2 &&
+                   rviommu_settled_lent(&seen, shared, COUNT, 5, IOVA, false, NULL) == RVIOMMU_OK &&
+                   rviommu_owed_lent(&seen, shared, COUNT, NULL, 0, &owed) == RVIOMMU_OK && owed == 0;
     }
     return is_right ? NULL : given;
 }
@@ -86,7 +89,9 @@ static bool all_right(void *(*work)(void *)) {
 int main(int count, char **names) {
     uint64_t address = 0;
     rounds = count > 1 ? atol(names[1]) : 1000;
-    bool is_right = is_opened(&seen, shared) && rviommu_translate_lent(&seen, shared, COUNT, 5, IOVA, false, &address) == RVIOMMU_VALUE;
+    bool is_right = is_opened(&seen, shared);
+    rviommu_keep_holdings(&seen, true);
+    is_right = is_right && rviommu_translate_lent(&seen, shared, COUNT, 5, IOVA, false, &address) == RVIOMMU_VALUE;
     is_right = is_right && all_right(use_own) && all_right(look);
     rviommu_close(&seen);
     printf(is_right ? "passed\n" : "failed\n");

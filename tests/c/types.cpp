@@ -48,6 +48,9 @@ static_assert(answers<rviommu_standing>(rviommu_stale), "");
 static_assert(answers<rviommu_standing>(rviommu_stale_page), "");
 static_assert(answers<rviommu_standing>(rviommu_stale_context), "");
 static_assert(answers<rviommu_status>(rviommu_why), "");
+static_assert(answers<rviommu_status>(rviommu_settled), "");
+static_assert(answers<rviommu_status>(rviommu_settled_lent), "");
+static_assert(answers<rviommu_status>(rviommu_owed_lent), "");
 static_assert(answers<rviommu_status>(rviommu_assemble), "");
 static_assert(takes<rviommu_status>(rviommu_text), "");
 
@@ -60,6 +63,8 @@ static_assert(takes<const rviommu_t *>(rviommu_part), "");
 static_assert(takes<const rviommu_t *>(rviommu_why), "");
 static_assert(takes<const rviommu_t *>(rviommu_way_now), "");
 static_assert(takes<const rviommu_t *>(rviommu_way_now_lent), "");
+static_assert(takes<const rviommu_t *>(rviommu_settled), "");
+static_assert(takes<const rviommu_t *>(rviommu_owed_lent), "");
 
 // A member that is added takes its room from `reserved`.
 static_assert(sizeof(rviommu_page_place) == 56, "");
@@ -68,6 +73,8 @@ static_assert(sizeof(rviommu_way) == 112, "");
 static_assert(sizeof(rviommu_located) == 88, "");
 static_assert(sizeof(rviommu_walk_part) == 224, "");
 static_assert(sizeof(struct rviommu_why) == 200, "");
+static_assert(sizeof(rviommu_unsettled) == 264, "");
+static_assert(sizeof(struct rviommu_owed) == 312, "");
 
 int main() {
     rviommu_t platform = {nullptr};

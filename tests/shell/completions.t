@@ -22,10 +22,10 @@ bash offers the words that may follow at the end of a line, and no other.
   $ offered check -; offered debug -; offered explain -; offered run -
   [--stale --at-fences --settled --strict --tap --junit --image --help]
   [--help]
-  [--only --help]
+  [--settled --only --help]
   [--help]
   $ offered explain --only ''
-  [denied stale denied,stale]
+  [denied stale unsettled denied,stale denied,unsettled stale,unsettled denied,stale,unsettled]
   $ offered help ''
   [asm run check debug explain list upgrade]
 

@@ -30,21 +30,21 @@ isn't used again is told at the end.
   $ echo "$begin
   > store 0x80004008 8 0
   > dma read 5 0x40201abc 4 # => 11223344" | settled
-  line 6: dma read 5 0x40201abc 4 -> 11223344, unsettled: read 0x40201abc may still go to addr=0x80010abc, the tables now say denied 13
-  line 6: read 0x40201000 of device 5, as in line 6, may still go to addr=0x80010000, the tables now say denied 13
+  line 6: dma read 5 0x40201abc 4 -> 11223344, unsettled: read 0x40201abc may still go to addr=0x80010abc, read in line 4, the tables now say denied 13
+  line 6: read 0x40201000 of device 5, as in line 6, may still go to addr=0x80010000, read in line 6, the tables now say denied 13
   1 passed, 2 failed
   [1]
   $ echo "$begin
   > store 0x80004008 8 0
   > dma read 5 0x40201abc 4 # => 11223344" | settled --stale
-  line 6: dma read 5 0x40201abc 4 -> 11223344, stale: read 0x40201abc served by line 4, the tables now say denied 13, unsettled: read 0x40201abc may still go to addr=0x80010abc, the tables now say denied 13
+  line 6: dma read 5 0x40201abc 4 -> 11223344, stale: read 0x40201abc served by line 4, the tables now say denied 13, unsettled: read 0x40201abc may still go to addr=0x80010abc, read in line 4, the tables now say denied 13
   line 6: place page 0 is stale: the tables now say denied 13
-  line 6: read 0x40201000 of device 5, as in line 6, may still go to addr=0x80010000, the tables now say denied 13
+  line 6: read 0x40201000 of device 5, as in line 6, may still go to addr=0x80010000, read in line 6, the tables now say denied 13
   1 passed, 3 failed
   [1]
   $ echo "$begin
   > store 0x80004008 8 0" | settled
-  line 5: read 0x40201000 of device 5, as in line 4, may still go to addr=0x80010000, the tables now say denied 13
+  line 5: read 0x40201000 of device 5, as in line 4, may still go to addr=0x80010000, read in line 4, the tables now say denied 13
   1 passed, 1 failed
   [1]
   $ echo "$begin
@@ -53,7 +53,7 @@ isn't used again is told at the end.
   ok 1 - line 4: dma read 5 0x40201abc 4
   not ok 2 - line 5: read 0x40201000 of device 5
     ---
-    message: "line 5: read 0x40201000 of device 5, as in line 4, may still go to addr=0x80010000, the tables now say denied 13"
+    message: "line 5: read 0x40201000 of device 5, as in line 4, may still go to addr=0x80010000, read in line 4, the tables now say denied 13"
     ...
   1..2
   [1]
@@ -74,8 +74,8 @@ Seventy other pages push the translation out of the cache of this platform, but 
   $ rviommu check --stale seventy < seventy_pages
   2 passed, 0 failed
   $ rviommu check --settled seventy < seventy_pages
-  line 76: dma read 5 0x40201abc 4 -> denied 13, unsettled: read 0x40201abc may still go to addr=0x80010abc, the tables now say denied 13
-  line 76: read 0x40201000 of device 5, as in line 76, may still go to addr=0x80010000, the tables now say denied 13
+  line 76: dma read 5 0x40201abc 4 -> denied 13, unsettled: read 0x40201abc may still go to addr=0x80010abc, read in line 4, the tables now say denied 13
+  line 76: read 0x40201000 of device 5, as in line 76, may still go to addr=0x80010000, read in line 76, the tables now say denied 13
   1 passed, 2 failed
   [1]
 
@@ -89,22 +89,99 @@ A table is freed, and its page used for other things, behind invalidations of th
   > cmd run 9 # => 0x3 idle
   > store 0x80004008 8 0x200050d7
   > dma read 5 0x40201abc 4 # => denied 13"
+  $ echo "$freed" > freed_table
   $ echo "$freed" | rviommu check --stale image
   3 passed, 0 failed
   $ echo "$freed" | settled
-  line 11: dma read 5 0x40201abc 4 -> denied 13, unsettled: read 0x40201abc may still go to addr=0x80014abc, the tables now say denied 13
-  line 11: read 0x40201000 of device 5, as in line 11, may still go to addr=0x80014000, the tables now say denied 13
+  line 11: dma read 5 0x40201abc 4 -> denied 13, unsettled: read 0x40201abc may still go to addr=0x80014abc, read in line 4, the tables now say denied 13
+  line 11: read 0x40201000 of device 5, as in line 11, may still go to addr=0x80014000, read in line 11, the tables now say denied 13
   2 passed, 2 failed
   [1]
+
+The line owed asks what is owed anywhere: a test says it behind its flush. Where it isn't kept, it is unknown.
+
+  $ owing="$begin
+  > owed # => none
+  > store 0x80004008 8 0
+  > owed
+  > put 0x80090000 cmd vma av=1 pscv=1 pscid=3 page=0x40201
+  > reg write cqt 1
+  > cmd # => done
+  > owed # => none"
+  $ echo "$owing" | settled
+  4 passed, 0 failed
+  $ echo "$owing" | rviommu debug image
+  done
+  done
+  done
+  11223344
+  none
+  done
+  1, the first read 0x40201000 of device 5, as in line 4, may still go to addr=0x80010000, read in line 4, the tables now say denied 13
+  done
+  done
+  done
+  none
+  $ echo "$owing" | rviommu check image
+  line 5: owed -> unknown, wanted none
+  line 11: owed -> unknown, wanted none
+  2 passed, 2 failed
+  [1]
+  $ echo "owed now" | rviommu debug image
+  bad
+  $ echo owed | rviommu run image
+  bad
+
+With --settled explain tells it below an access, and counts such accesses.
+
+  $ echo "$begin
+  > store 0x80004008 8 0
+  > dma read 5 0x40201abc 4" > used
+  $ rviommu explain --settled --only stale,unsettled image < used
+  6: dma read 0x5 0x40201abc 0x4 -> 11223344
+      caches: context of line 4, page of line 4, addr=0x80010abc
+      warrant: walked context=4 walk=4 current=4
+      stale: read 0x40201abc served by line 4, the tables now say denied 13
+      unsettled: may still go to addr=0x80010abc, read in line 4, the tables now say denied 13
+  accesses: 2
+  granted: 2
+  from the caches: 1
+  stale: 1 (line 6)
+  unsettled: 1 (line 6)
+  $ rviommu explain --only unsettled image < freed_table
+  11: dma read 0x5 0x40201abc 0x4 -> denied 13
+      caches: context of line 4, no page
+      walk: ddtp mode=0x2 root=0x80001
+      walk: context at=0x800010a0 context dtf=0x0 custom=0x0 gmode=0x0 gppn=0x0 gscid=0x0 tav=0x0 pscid=0x3 mode=0x8 ppn=0x80002
+      walk: first level=0x2 at=0x80002008 in=0x80002008 pte ppn=0x80003 flags=0x1 pointer
+      walk: first level=0x1 at=0x80003008 in=0x80003008 pte ppn=0x0 flags=0x0 V=0
+      walk: denied 13 iotval2=0x0
+      warrant: none, it is denied
+      unsettled: may still go to addr=0x80014abc, read in line 4, the tables now say denied 13
+  accesses: 2
+  granted: 1
+  denied 13: 1
+  from the caches: 0
+  stale: 0
+  unsettled: 1 (line 11)
+  $ rviommu explain --only stale image < used
+  6: dma read 0x5 0x40201abc 0x4 -> 11223344
+      caches: context of line 4, page of line 4, addr=0x80010abc
+      warrant: walked context=4 walk=4 current=4
+      stale: read 0x40201abc served by line 4, the tables now say denied 13
+  accesses: 2
+  granted: 2
+  from the caches: 1
+  stale: 1 (line 6)
 
 A wish for a stale access is about --stale alone.
 
   $ echo "$begin
   > store 0x80004008 8 0
   > dma read 5 0x40201abc 4 # => 11223344 stale" | settled --stale
-  line 6: dma read 5 0x40201abc 4 -> 11223344, stale: read 0x40201abc served by line 4, the tables now say denied 13, unsettled: read 0x40201abc may still go to addr=0x80010abc, the tables now say denied 13
+  line 6: dma read 5 0x40201abc 4 -> 11223344, stale: read 0x40201abc served by line 4, the tables now say denied 13, unsettled: read 0x40201abc may still go to addr=0x80010abc, read in line 4, the tables now say denied 13
   line 6: place page 0 is stale: the tables now say denied 13
-  line 6: read 0x40201000 of device 5, as in line 6, may still go to addr=0x80010000, the tables now say denied 13
+  line 6: read 0x40201000 of device 5, as in line 6, may still go to addr=0x80010000, read in line 6, the tables now say denied 13
   1 passed, 3 failed
   [1]
 
