@@ -1,7 +1,7 @@
 -- What the ways over what may be held say of a request.
-use Rattle.std.proofs.Common.{◌≡◌, ◌∙◌, ◌⊎◌, ◌++◌, ◌≢◌, ◌+◌, ◌≤◌, ℕ, zero, suc, arith, drop, length, false, List, [], ◌∷◌, map, Option, Some, None, refl, sym, ap, subst, inl, inr}
+use Rattle.std.proofs.Common.{◌≡◌, ◌∙◌, ◌⊎◌, ◌++◌, ◌≢◌, ◌+◌, ◌≤◌, ℕ, zero, suc, arith, drop, length, false, List, [], ◌∷◌, Option, Some, None, refl, sym, ap, subst, inl, inr}
 use Rattle.std.specs.Prelude.{Bool, true, not, IsTrue, ◌↔◌, is_some, slice_get}
-use Rattle.std.proofs.lemmas.List.{drop_all, drop_more, map-append}
+use Rattle.std.proofs.lemmas.List.{append-nil, append_assoc, drop_all, drop_more, map-append}
 use Rattle.std.proofs.lemmas.Option.{get_or_from_slice_get, slice_get_within}
 use Rattle.iom_choices.specs.Models.{end_of}
 use Rattle.iom_choices.specs.Systems.{ModelWalk, IsAmong}
@@ -24,7 +24,7 @@ use Rattle.iom_owed.specs.Alone.{IsStepTold, IsTold}
 use Rattle.iom_held.specs.Kept.{entries_in}
 use Rattle.iom_owed.specs.Holdings.{HoldingsView, Keeps}
 use Rattle.iom_owed.specs.Newest.{steps_of}
-use Rattle.iom_owed.specs.Settled.{AreOwed, IsJudged, IsOwedAt, IsServed, IsSettledNow, IsStepJudged, LeadsElsewhere}
+use Rattle.iom_owed.specs.Settled.{AreOwed, AreSomeOf, IsJudged, IsOwedAt, IsServed, IsSettledNow, IsStepJudged, LeadsElsewhere, requests_owed}
 use Rattle.iom_owed.specs.declared.noting.Made.{Made}
 use Rattle.iom_owed.specs.declared.settling.Owed.{Owed}
 use Rattle.iom_owed.specs.declared.settling.Unsettled.{Unsettled}
@@ -100,12 +100,18 @@ not_both held start steps request found elsewhere settled =
 -- what is owed of some requests, but for those that remain to be looked at
 pub record IsOwedBut (held : HoldingsView) (start : State) (steps : List Step) (rest : List Made) (owed : List Owed) : Type 0 where
   pub told : (each : Owed) → IsAmong owed each → IsAmong held.requests each.made × LeadsElsewhere held start steps each.made.request each.unsettled
-  pub settled : (each : Made) → IsAmong held.requests each → IsAmong (map (λ (told : Owed). told.made) owed) each ⊎ (IsSettledNow start steps each.request ⊎ IsAmong rest each)
+  pub settled : (each : Made) → IsAmong held.requests each → IsAmong (requests_owed owed) each ⊎ (IsSettledNow start steps each.request ⊎ IsAmong rest each)
+  pub in_order : (more : List Made) → AreSomeOf more rest → AreSomeOf (requests_owed owed ++ more) held.requests
+
+but_one : {X : Type 0} (some all : List X) (x : X) → AreSomeOf some all → AreSomeOf some (x ∷ all)
+but_one [] all x are = tt
+but_one (y ∷ some) all x are = inr are
 
 pub owed_none : (held : HoldingsView) (start : State) (steps : List Step) → IsOwedBut held start steps held.requests []
 owed_none held start steps = record {
   told = λ each h. absurd h;
   settled = λ each h. inr (inr h);
+  in_order = λ more are. are;
 }
 
 pub owed_settled : (held : HoldingsView) (start : State) (steps : List Step) (rest : List Made) (owed : List Owed) (one : Made) → IsOwedBut held start steps (one ∷ rest) owed →
@@ -122,6 +128,7 @@ owed_settled held start steps rest owed one k settled = record {
       ]
     ]
   ];
+  in_order = λ more are. k.in_order more (but_one more rest one are);
 }
 
 abbrev pub owed_of : Made → Unsettled → Owed
@@ -130,8 +137,7 @@ owed_of made unsettled = record { made = made; unsettled = unsettled }
 pub owed_more : (held : HoldingsView) (start : State) (steps : List Step) (rest : List Made) (owed : List Owed) (one : Made) (found : Unsettled) → IsOwedBut held start steps (one ∷ rest) owed →
     IsAmong held.requests one → LeadsElsewhere held start steps one.request found → IsOwedBut held start steps rest (owed ++ owed_of one found ∷ [])
 owed_more held start steps rest owed one found k among elsewhere =
-    let made_in : List Owed → List Made = λ owed. map (λ (told : Owed). told.made) owed in
-    let keys : made_in (owed ++ owed_of one found ∷ []) ≡ made_in owed ++ one ∷ [] = map-append (λ (told : Owed). told.made) owed (owed_of one found ∷ []) in record {
+    let keys : requests_owed (owed ++ owed_of one found ∷ []) ≡ requests_owed owed ++ one ∷ [] = map-append (λ (told : Owed). told.made) owed (owed_of one found ∷ []) in record {
       told = λ each h. elim (among_either owed (owed_of one found ∷ []) each h) [
         | inl before ↦ k.told each before
         | inr last ↦ elim last [
@@ -140,15 +146,17 @@ owed_more held start steps rest owed one found k among elsewhere =
         ]
       ];
       settled = λ each h. elim (k.settled each h) [
-        | inl told ↦ inl (subst (λ (xs : List Made). IsAmong xs each) (sym keys) (among-left (made_in owed) (one ∷ []) each told))
+        | inl told ↦ inl (subst (λ (xs : List Made). IsAmong xs each) (sym keys) (among-left (requests_owed owed) (one ∷ []) each told))
         | inr other ↦ elim other [
           | inl it ↦ inr (inl it)
           | inr remains ↦ elim remains [
-            | inl same ↦ inl (subst (λ (xs : List Made). IsAmong xs each) (sym keys) (among-right (made_in owed) (one ∷ []) each (inl same)))
+            | inl same ↦ inl (subst (λ (xs : List Made). IsAmong xs each) (sym keys) (among-right (requests_owed owed) (one ∷ []) each (inl same)))
             | inr later ↦ inr (inr later)
           ]
         ]
       ];
+      in_order = λ more are. subst (λ (xs : List Made). AreSomeOf xs held.requests)
+          (sym (ap (λ (xs : List Made). xs ++ more) keys ∙ append_assoc (requests_owed owed) (one ∷ []) more)) (k.in_order (one ∷ more) (inl (refl, are)));
     }
 
 pub owed_all : (held : HoldingsView) (start : State) (steps : List Step) (owed : List Owed) → IsOwedBut held start steps [] owed → AreOwed held start steps owed
@@ -161,6 +169,7 @@ owed_all held start steps owed k = record {
       | inr none ↦ absurd none
     ]
   ];
+  in_order = subst (λ (xs : List Made). AreSomeOf xs held.requests) (append-nil (requests_owed owed)) (k.in_order [] tt);
 }
 
 -- a judgement of None tells that it is settled

@@ -68,10 +68,21 @@ IsOwedAt held start steps None found = found ≡ None
 IsOwedAt held start steps (Some made) None = IsSettledNow start steps made.request
 IsOwedAt held start steps (Some made) (Some owed) = (owed.made ≡ made) × LeadsElsewhere held start steps made.request owed.unsettled
 
--- these are what is owed: the requests that were made and aren't settled, each with a way that leads elsewhere
+-- some of these, in their order
+abbrev pub AreSomeOf : {X : Type 0} → List X → List X → Type 0
+AreSomeOf [] all = Unit {0}
+AreSomeOf (x ∷ some) [] = ⊥
+AreSomeOf (x ∷ some) (y ∷ all) = ((x ≡ y) × AreSomeOf some all) ⊎ AreSomeOf (x ∷ some) all
+
+abbrev pub requests_owed : List Owed → List Made
+requests_owed owed = map (λ (each : Owed). each.made) owed
+
+-- These are what is owed: the requests that were made and aren't settled, in the order of what is kept, each once and with a way that leads
+-- elsewhere.
 pub record AreOwed (held : HoldingsView) (start : State) (steps : List Step) (owed : List Owed) : Type 0 where
   pub told : (each : Owed) → IsAmong owed each → IsAmong held.requests each.made × LeadsElsewhere held start steps each.made.request each.unsettled
-  pub settled : (each : Made) → IsAmong held.requests each → IsAmong (map (λ (told : Owed). told.made) owed) each ⊎ IsSettledNow start steps each.request
+  pub settled : (each : Made) → IsAmong held.requests each → IsAmong (requests_owed owed) each ⊎ IsSettledNow start steps each.request
+  pub in_order : AreSomeOf (requests_owed owed) held.requests
 
 -- what a step requests, if it makes an access, is settled before the step
 abbrev pub IsSettledBefore : State → List Step → Option Request → Type 0
