@@ -1,13 +1,17 @@
 -- The entries that a command leaves.
-use Rattle.std.proofs.Common.{◌≡◌, not, Bool, true, false, List, [], ◌∷◌, Option, Some, None, if◌then◌else◌, refl, sym, subst}
+use Rattle.std.proofs.Common.{◌≡◌, not, ℕ, Bool, true, false, List, [], ◌∷◌, Option, Some, None, if◌then◌else◌, refl, sym, ap, subst}
 use Rattle.std.specs.Prelude.{filter}
 use Rattle.iom_choices.specs.Systems.{IsAmong}
 use Rattle.iom_choices.proofs.Alike.{fails}
 use Rattle.iom_choices.proofs.Lists.{IsPassed, passed}
 use Rattle.iom_choices.proofs.Trees.{among_filter}
+use Rattle.iom_cache.specs.Drops as cached
+use Rattle.iom_every.specs.Drops as drops
 use Rattle.iom_every.specs.Drops.{drops_by, drops_entry}
 use Rattle.iom_every.specs.declared.entry.Entry.{Entry}
+use Rattle.iom_every.specs.declared.entry.Entry.TheVariants.{Directory as OfDirectory, Device as OfDevice, First as OfFirst, Second as OfSecond, Page as OfPage}
 use Rattle.iom_queue.specs.declared.command.Command.{Command}
+use Rattle.iom_queue.specs.declared.command.Command.TheVariants.{Fence}
 use Rattle.iom_held.specs.Kept.{entries_in, entry_of}
 use Rattle.iom_held.specs.Kept.{HasNoneTwice}
 use Rattle.iom_held.specs.Kept.{left_by}
@@ -55,3 +59,16 @@ once_some command (each ∷ kept) once =
 pub left_once : (command : Option Command) (kept : List Kept) → HasNoneTwice (entries_in kept) → HasNoneTwice (entries_in (left_by command kept))
 left_once None kept once = once
 left_once (Some command) kept once = once_some command kept once
+
+pub fence_drops_none : (av wsi pr pw : Bool) (value addr : ℕ) (entry : Entry) → drops_entry (Fence av wsi pr pw value addr) entry ≡ false
+unfolding drops.drops_entry cached.drops_device cached.drops_page
+fence_drops_none av wsi pr pw value addr (OfDirectory level part word) = refl
+fence_drops_none av wsi pr pw value addr (OfDevice did said) = refl
+fence_drops_none av wsi pr pw value addr (OfFirst gscid pscid held) = refl
+fence_drops_none av wsi pr pw value addr (OfSecond gscid held) = refl
+fence_drops_none av wsi pr pw value addr (OfPage key hit) = refl
+
+-- a command that drops nothing leaves all
+pub all_left : (command : Command) (kept : List Kept) → ((entry : Entry) → drops_entry command entry ≡ false) → left_by (Some command) kept ≡ kept
+all_left command [] none = refl
+all_left command (each ∷ kept) none = rw (none each.entry) (ap (λ (rest : List Kept). each ∷ rest) (all_left command kept none))

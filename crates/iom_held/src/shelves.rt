@@ -1,7 +1,8 @@
 //! Shelves of entries: each entry stands on the shelf that follows from its tag.
 
-ghost use Rattle.std.specs.Prelude.{◌≡◌, ◌⊎◌, ◌<◌, ◌≤◌, ◌+◌, ◌∷◌, [], ℕ, List, length, map, vec_len, vec_capacity, slice_get, IfNone, IfOk, IfSome, OnErr, OnOk, Some};
+ghost use Rattle.std.specs.Prelude.{◌≡◌, ◌⊎◌, ◌<◌, ◌≤◌, ◌+◌, ◌∷◌, [], ℕ, List, false, length, map, vec_len, vec_capacity, slice_get, IfNone, IfOk, IfSome, OnErr, OnOk, Some};
 ghost use Rattle.iom_choices.specs.Systems.{IsAmong};
+ghost use Rattle.iom_every.specs.Drops.{drops_entry};
 ghost use Rattle.iom_every.specs.declared.entry.Entry.{Entry};
 ghost use Rattle.iom_held.specs.Kept.{Renews, entries_in, entry_of, kept_of, left_by};
 ghost use Rattle.iom_held.specs.Shelves.{HasRoom, HaveGrown, HaveRoom, StandInPlace, entries_on, slot_of};
@@ -164,18 +165,40 @@ fn place_of(kept: &[Kept], entry: &Entry) -> Option<usize>
     None
 }
 
-/// Takes the entries out that this command drops.
+/// Takes the entries out that this command drops. A fence drops none.
 pub(crate) fn forget_all(shelves: &mut [Vec<Kept>], command: Option<Command>)
     requires in_place { StandInPlace shelves.old }
     ensures in_place { StandInPlace shelves.new }
     ensures left { entries_on shelves.new ≡ left_by command (entries_on shelves.old) }
 {
+    let Some(command) = &command else {
+        return;
+    };
+    if may_drop(command) {
+        forget_each(shelves, command);
+    }
+}
+
+// Whether a command is of a kind that drops entries.
+fn may_drop(command: &Command) -> bool
+    ensures { result ≡ false → (entry : Entry) → drops_entry command.now entry ≡ false }
+{
+    match command {
+        Command::Fence { .. } => false,
+        Command::Vma { .. } | Command::Gvma { .. } | Command::Iodir { .. } => true,
+    }
+}
+
+// The same, each shelf looked at.
+fn forget_each(shelves: &mut [Vec<Kept>], command: &Command)
+    requires in_place { StandInPlace shelves.old }
+    ensures in_place { StandInPlace shelves.new }
+    ensures left { entries_on shelves.new ≡ left_by (Some command.now) (entries_on shelves.old) }
+{
     let _: Option<Result<Context, Cause>> = None;
     let _: Option<Entry> = None;
-    if let Some(command) = &command {
-        for i in 0..shelves.len() {
-            forget(&mut shelves[i], command);
-        }
+    for i in 0..shelves.len() {
+        forget(&mut shelves[i], command);
     }
 }
 

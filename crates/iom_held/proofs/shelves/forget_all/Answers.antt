@@ -1,17 +1,8 @@
-use Rattle.std.proofs.Common.{arith, get_or}
-use Rattle.std.proofs.lemmas.Option.{slice_get-get_or}
-use Rattle.iom_held.proofs.Forgotten.{left_all, left_in_place, left_step}
+use Rattle.std.proofs.Common.{sym}
+use Rattle.iom_held.proofs.Left.{all_left}
+use Rattle.iom_held.specs.Shelves.{entries_on}
 use Rattle.iom_held.proofs.shelves.forget_all.Goals as goal
 
-pub loop-i-preserved : goal.loop-i-preserved
-loop-i-preserved c =
-    left_step c.in-Some.command c.loop-i.i c.args.shelves.now c.loop-i.shelves (get_or c.loop-i.shelves c.loop-i.i c.index-shelves-i.result) c.forget.new.kept
-    c.loop-i.invariant (slice_get-get_or c.loop-i.shelves c.loop-i.i c.index-shelves-i.result (omega (arith, c.loop-i-test.true, c.loop-i.auto.shelves))) c.forget.ensures
-
-pub returns-after-loop-i-clause-in_place : goal.returns-after-loop-i-clause-in_place
-returns-after-loop-i-clause-in_place c =
-    left_in_place c.in-Some.command c.loop-i.i c.args.shelves.now c.loop-i.shelves c.loop-i.invariant c.requires.in_place
-
-pub returns-after-loop-i-clause-left : goal.returns-after-loop-i-clause-left
-returns-after-loop-i-clause-left c =
-    rw c.in-Some.is (left_all c.in-Some.command c.loop-i.i c.args.shelves.now c.loop-i.shelves c.loop-i.invariant c.loop-i-test.false)
+pub returns-else-may_drop-clause-left : goal.returns-else-may_drop-clause-left
+returns-else-may_drop-clause-left c =
+    rw c.in-Some.is (sym (all_left c.in-Some.command (entries_on c.args.shelves.now) (c.may_drop.ensures c.if-may_drop.false)))
