@@ -21,6 +21,7 @@ use Rattle.iom_owed.specs.declared.settling.Owed.{Owed}
 use Rattle.iom_debug.specs.Settling.{AreOwedBy, SettlingView, is_lost_in}
 use Rattle.iom_check.specs.Checking.{Checked, IsChecked, end_told, places_told}
 use Rattle.iom_check.specs.Owing.{all_owed, owed_at}
+use Rattle.iom_check.specs.Places.{PlaceView}
 use Rattle.iom_check.specs.Scoring.{Score, Told, ended, noted, quiet}
 use Rattle.iom_check.specs.Scripts.{BeginsSettled, IsMade, PassesSettled, newest_first}
 use Rattle.iom_check.specs.declared.rules.Rules.{Rules}
@@ -30,30 +31,30 @@ use Rattle.iom_check.proofs.Scored.{GoesOn, both, failed_on, looked_by_on, noted
 use Rattle.iom_check.proofs.Scripts.{Went, lines_rules, taken_is, went}
 
 -- at the end
-ended_on : (s : Score) (number : ℕ) → GoesOn s (ended s number).after
-ended_on s number =
-    picked s s.has_wish (quiet s) (noted s number (codes "no line has a wish")) (still s) (noted_on s number (codes "no line has a wish"))
+ended_on : (s : Score) (place : PlaceView) → GoesOn s (ended s place).after
+ended_on s place =
+    picked s s.has_wish (quiet s) (noted s place (codes "no line has a wish")) (still s) (noted_on s place (codes "no line has a wish"))
 
-owed_on : (line : ℕ) (s : Score) (owed : List Owed) → GoesOn s (all_owed line s owed).after
+owed_on : (place : PlaceView) (s : Score) (owed : List Owed) → GoesOn s (all_owed place s owed).after
 unfolding all_owed
-owed_on line s [] = still s
-owed_on line s (first ∷ more) =
-    let next = (owed_at s line first).after in
-    both s next _ (failed_on s) (owed_on line next more)
+owed_on place s [] = still s
+owed_on place s (first ∷ more) =
+    let next = (owed_at s place first).after in
+    both s next _ (failed_on s) (owed_on place next more)
 
 -- where none failed, nothing was owed
-none_owed : (line : ℕ) (s : Score) (owed : List Owed) → (all_owed line s owed).after.tally.failed ≡ 0 → owed ≡ []
+none_owed : (place : PlaceView) (s : Score) (owed : List Owed) → (all_owed place s owed).after.tally.failed ≡ 0 → owed ≡ []
 unfolding all_owed
-none_owed line s [] none = refl
-none_owed line s (first ∷ more) none =
-    let next = (owed_at s line first).after in
-    absurd (one_more s.tally.failed ((owed_on line next more).passed none))
+none_owed place s [] none = refl
+none_owed place s (first ∷ more) none =
+    let next = (owed_at s place first).after in
+    absurd (one_more s.tally.failed ((owed_on place next more).passed none))
 
 told_on : (end : Checked) (owed : List Owed) → GoesOn end.score (end_told end owed).after
 told_on end owed =
     let places = (places_told end).after in
-    both end.score places _ (looked_by_on end.desk.state.machine end.number end.score)
-    (picked places places.rules.fails_if_unsettled (all_owed end.number places owed) (quiet places) (owed_on end.number places owed) (still places))
+    both end.score places _ (looked_by_on end.desk.state.machine end.place end.score)
+    (picked places places.rules.fails_if_unsettled (all_owed end.place places owed) (quiet places) (owed_on end.place places owed) (still places))
 
 owed_none : (b : Bool) (s : Score) (all : Told) (owed : List Owed) → (all.after.tally.failed ≡ 0 → owed ≡ []) → b ≡ true →
     (if b then all else quiet s).after.tally.failed ≡ 0 → owed ≡ []
@@ -63,8 +64,8 @@ owed_none false s all owed empty judged none = absurd (cc judged)
 told_none : (end : Checked) (owed : List Owed) → end.score.rules.fails_if_unsettled ≡ true → (end_told end owed).after.tally.failed ≡ 0 → owed ≡ []
 told_none end owed judged none =
     let places = (places_told end).after in
-    let rules : places.rules ≡ end.score.rules = (looked_by_on end.desk.state.machine end.number end.score).rules in
-    owed_none places.rules.fails_if_unsettled places (all_owed end.number places owed) owed (none_owed end.number places owed)
+    let rules : places.rules ≡ end.score.rules = (looked_by_on end.desk.state.machine end.place end.score).rules in
+    owed_none places.rules.fails_if_unsettled places (all_owed end.place places owed) owed (none_owed end.place places owed)
     (ap (λ (r : Rules). r.fails_if_unsettled) rules ∙ judged) none
 
 not_lost : (lost is_lost : Bool) → (lost ≡ true → is_lost ≡ true) → is_lost ≡ false → lost ≡ false
@@ -143,7 +144,7 @@ module _ (start : Checked) (unread left held holds : Option (List ℕ)) (tally :
   told_before : (end_told done.end done.owed).after.tally.failed ≡ 0
   told_before =
       let last = (end_told done.end done.owed).after in
-      (ended_on last done.end.number).passed (sym (ap (λ (t : Tally). t.failed) done.counts) ∙ none)
+      (ended_on last done.end.place).passed (sym (ap (λ (t : Tally). t.failed) done.counts) ∙ none)
 
   pub passes : PassesSettled start lines done.text done.end
   passes = record {

@@ -13,6 +13,7 @@ use Rattle.iom_bits.specs.declared.causes.Kind.TheVariants as kind
 use Rattle.iom_check.specs.Checking.{Checked, LineSays, line_told, places_if, places_told}
 use Rattle.iom_check.specs.Judging.{allows_stale, elsewhere_told, fails, meets, message, passes, remark, tables_told, title}
 use Rattle.iom_check.specs.Looking.{all_looked, is_current, looked, looked_at, looked_by, place_message, place_title, standing_at}
+use Rattle.iom_check.specs.Places.{PlaceView}
 use Rattle.iom_check.specs.Reporting.{note_told}
 use Rattle.iom_check.specs.Scoring.{Score, Told, failed, judged, more, noted, one_failed, passed, quiet, remarked, with_wish}
 use Rattle.iom_check.specs.Wanted.{wanted}
@@ -46,59 +47,59 @@ pub picked : (s : Score) (b : Bool) (x y : Told) → GoesOn s x.after → GoesOn
 picked s true x y first second = first
 picked s false x y first second = second
 
-judged_on : (s : Score) (number : ℕ) (line answer slip tables elsewhere : List ℕ) →
-    GoesOn s (judged s number line answer slip tables elsewhere).after
-judged_on s number line answer slip tables elsewhere =
+judged_on : (s : Score) (place : PlaceView) (line answer slip tables elsewhere : List ℕ) →
+    GoesOn s (judged s place line answer slip tables elsewhere).after
+judged_on s place line answer slip tables elsewhere =
     let is = s.rules.fails_if_stale in
     let wish = wanted line in
-    let good = passed s number (title line) in
+    let good = passed s place (title line) in
     let passing = passes is wish answer tables elsewhere in
-    picked s (fails is wish answer tables elsewhere) (failed s number (title line) (message is line answer slip tables elsewhere))
+    picked s (fails is wish answer tables elsewhere) (failed s place (title line) (message is line answer slip tables elsewhere))
     (if passing then good else quiet s) (failed_on s)
     (picked s passing good (quiet s) (record { rules = refl; passed = λ none. none }) (still s))
 
-pub noted_on : (s : Score) (number : ℕ) (text : List ℕ) → GoesOn s (noted s number text).after
-noted_on s number text =
-    picked s s.rules.is_strict (failed s number text text) (record { said = note_told s.rules.style s.name number text; after = s })
+pub noted_on : (s : Score) (place : PlaceView) (text : List ℕ) → GoesOn s (noted s place text).after
+noted_on s place text =
+    picked s s.rules.is_strict (failed s place text text) (record { said = note_told s.rules.style s.name place text; after = s })
     (failed_on s) (still s)
 
-remarked_on : (s : Score) (number : ℕ) (line answer : List ℕ) → GoesOn s (remarked s number line answer).after
-remarked_on s number line answer =
+remarked_on : (s : Score) (place : PlaceView) (line answer : List ℕ) → GoesOn s (remarked s place line answer).after
+remarked_on s place line answer =
     let text = remark line answer in
-    picked s (nat_lt 0 (length text)) (noted s number text) (quiet s) (noted_on s number text) (still s)
+    picked s (nat_lt 0 (length text)) (noted s place text) (quiet s) (noted_on s place text) (still s)
 
-line_on : (s : Score) (number : ℕ) (line answer slip tables elsewhere : List ℕ) →
-    GoesOn s (line_told s number line answer slip tables elsewhere).after
-line_on s number line answer slip tables elsewhere =
-    let first = (judged s number line answer slip tables elsewhere).after in
-    let second = (remarked first number line answer).after in
-    both s second (with_wish second line) (both s first second (judged_on s number line answer slip tables elsewhere) (remarked_on first number line answer))
+line_on : (s : Score) (place : PlaceView) (line answer slip tables elsewhere : List ℕ) →
+    GoesOn s (line_told s place line answer slip tables elsewhere).after
+line_on s place line answer slip tables elsewhere =
+    let first = (judged s place line answer slip tables elsewhere).after in
+    let second = (remarked first place line answer).after in
+    both s second (with_wish second line) (both s first second (judged_on s place line answer slip tables elsewhere) (remarked_on first place line answer))
     (record { rules = refl; passed = λ none. none })
 
 -- places that are looked at
-place_on : (s : Score) (line : ℕ) (which : Cache) (i : ℕ) (answer : List ℕ) → GoesOn s (looked_at s line which i answer).after
-place_on s line which i answer =
-    picked s (is_current answer) (quiet s) (failed s line (place_title which i) (place_message (place_title which i) answer)) (still s) (failed_on s)
+place_on : (s : Score) (place : PlaceView) (which : Cache) (i : ℕ) (answer : List ℕ) → GoesOn s (looked_at s place which i answer).after
+place_on s place which i answer =
+    picked s (is_current answer) (quiet s) (failed s place (place_title which i) (place_message (place_title which i) answer)) (still s) (failed_on s)
 
-looked_on : (m : Machine) (which : Cache) (line : ℕ) (s : Score) (i count : ℕ) → GoesOn s (looked m which line s i count).after
+looked_on : (m : Machine) (which : Cache) (place : PlaceView) (s : Score) (i count : ℕ) → GoesOn s (looked m which place s i count).after
 unfolding looked
-looked_on m which line s i zero = still s
-looked_on m which line s i (suc count) =
-    let first = (looked_at s line which i (standing_at m which i)).after in
-    both s first _ (place_on s line which i (standing_at m which i)) (looked_on m which line first (i + 1) count)
+looked_on m which place s i zero = still s
+looked_on m which place s i (suc count) =
+    let first = (looked_at s place which i (standing_at m which i)).after in
+    both s first _ (place_on s place which i (standing_at m which i)) (looked_on m which place first (i + 1) count)
 
-all_on : (m : Machine) (line : ℕ) (s : Score) → GoesOn s (all_looked m line s).after
+all_on : (m : Machine) (place : PlaceView) (s : Score) → GoesOn s (all_looked m place s).after
 unfolding all_looked
-all_on m line s =
-    let contexts = (looked m cache.Contexts line s 0 16).after in
-    both s contexts _ (looked_on m cache.Contexts line s 0 16) (looked_on m cache.Pages line contexts 0 64)
+all_on m place s =
+    let contexts = (looked m cache.Contexts place s 0 16).after in
+    both s contexts _ (looked_on m cache.Contexts place s 0 16) (looked_on m cache.Pages place contexts 0 64)
 
-pub looked_by_on : (m : Machine) (line : ℕ) (s : Score) → GoesOn s (looked_by m line s).after
-looked_by_on m line s = picked s s.rules.fails_if_stale (all_looked m line s) (quiet s) (all_on m line s) (still s)
+pub looked_by_on : (m : Machine) (place : PlaceView) (s : Score) → GoesOn s (looked_by m place s).after
+looked_by_on m place s = picked s s.rules.fails_if_stale (all_looked m place s) (quiet s) (all_on m place s) (still s)
 
 pub places_on : (looks : Bool) (after : Checked) → GoesOn after.score (places_if looks after).after
 places_on looks after =
-    picked after.score looks (places_told after) (quiet after.score) (looked_by_on after.desk.state.machine after.number after.score) (still after.score)
+    picked after.score looks (places_told after) (quiet after.score) (looked_by_on after.desk.state.machine after.place after.score) (still after.score)
 
 -- an access that wasn't settled is told
 said_kind : (which : Kind) → IsSaid (kind_text which)
@@ -130,14 +131,14 @@ passing : (b : Bool) (s : Score) (x : Told) (y : Told) → x.after ≡ one_faile
 passing true s x y failed none = absurd (one_more s.tally.failed (sym (ap (λ (s : Score). s.tally.failed) failed) ∙ none))
 passing false s x y failed none = refl
 
-judged_passing : (s : Score) (number : ℕ) (line answer slip tables elsewhere : List ℕ) → (judged s number line answer slip tables elsewhere).after.tally.failed ≡ 0 →
+judged_passing : (s : Score) (place : PlaceView) (line answer slip tables elsewhere : List ℕ) → (judged s place line answer slip tables elsewhere).after.tally.failed ≡ 0 →
     IsSaid answer → nat_lt 0 (length elsewhere) ≡ false
-judged_passing s number line answer slip tables elsewhere none said =
+judged_passing s place line answer slip tables elsewhere none said =
     let is = s.rules.fails_if_stale in
     let wish = wanted line in
-    let fine : Told = if passes is wish answer tables elsewhere then passed s number (title line) else quiet s in
+    let fine : Told = if passes is wish answer tables elsewhere then passed s place (title line) else quiet s in
     let good : fails is wish answer tables elsewhere ≡ false =
-    passing (fails is wish answer tables elsewhere) s (failed s number (title line) (message is line answer slip tables elsewhere)) fine refl none in
+    passing (fails is wish answer tables elsewhere) s (failed s place (title line) (message is line answer slip tables elsewhere)) fine refl none in
     last_part (nat_lt 0 (length answer)) (not (meets is wish answer tables)) (nat_lt 0 (length tables) && not (allows_stale wish))
     (nat_lt 0 (length elsewhere)) good said.some
 
@@ -145,7 +146,7 @@ judged_passing s number line answer slip tables elsewhere none said =
 pub alone_on : (before : Checked) (line text : List ℕ) (after : Checked) → LineSays before line text after → GoesOn before.score after.score
 alone_on before line text after h =
     subst (GoesOn before.score) (sym h.score)
-    (line_on before.score after.number line h.answer (slip_with before.desk.names line)
+    (line_on before.score after.place line h.answer (slip_with before.desk.names line)
     (tables_told before.score.rules.fails_if_stale after.desk.reasons.stale)
     (elsewhere_told before.score.rules.fails_if_unsettled (unsettled_in after.desk.reasons.settling)))
 
@@ -158,9 +159,9 @@ alone_quiet before line text after h rules none said =
     let tables = tables_told s.rules.fails_if_stale after.desk.reasons.stale in
     let access = unsettled_in after.desk.reasons.settling in
     let elsewhere = elsewhere_told s.rules.fails_if_unsettled access in
-    let told = (line_told s after.number line answer slip tables elsewhere).after in
-    let first = (judged s after.number line answer slip tables elsewhere).after in
+    let told = (line_told s after.place line answer slip tables elsewhere).after in
+    let first = (judged s after.place line answer slip tables elsewhere).after in
     let all : told.tally.failed ≡ 0 = sym (ap (λ (s : Score). s.tally.failed) h.score) ∙ none in
-    let one : first.tally.failed ≡ 0 = (remarked_on first after.number line answer).passed all in
+    let one : first.tally.failed ≡ 0 = (remarked_on first after.place line answer).passed all in
     let is : elsewhere ≡ unsettled_told access = ap (λ b. elsewhere_told b access) rules in
-    untold access (subst (λ (e : List ℕ). nat_lt 0 (length e) ≡ false) is (judged_passing s after.number line answer slip tables elsewhere one said))
+    untold access (subst (λ (e : List ℕ). nat_lt 0 (length e) ≡ false) is (judged_passing s after.place line answer slip tables elsewhere one said))

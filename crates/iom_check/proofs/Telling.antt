@@ -1,4 +1,5 @@
 -- What is told of lines.
+use Rattle.std.specs.Prelude.{IfSome}
 use Rattle.std.proofs.Common.{◌≡◌, ◌+◌, ◌++◌, ℕ, Bool, false, List, [], take, codes, Option, Result, Ok, Err, OnOk, OnErr, ◌∙◌, ap, subst, sym, refl, append_assoc}
 use Rattle.std.specs.Io.KnownBytes.{Appends}
 use Rattle.std.proofs.KnownBytes.{Appends-trans}
@@ -13,6 +14,7 @@ use Rattle.iom_debug.specs.Settling.{unsettled_in}
 use Rattle.iom_check.specs.Checking.{Checked, CheckBreaks, CheckSays, IsChecked, LineSays, by_check, checking, closing, TellsOwed, end_told, line_told, looks_behind, places_if, places_told, told_at}
 use Rattle.iom_check.specs.Judging.{elsewhere_told, tables_told}
 use Rattle.iom_check.specs.Owing.{owed_if}
+use Rattle.iom_check.specs.Places.{PlaceView}
 use Rattle.iom_check.specs.Scoring.{Score, Told, ended, judged, noted, remarked, with_wish}
 use Rattle.iom_check.specs.declared.rules.Tally.{Tally}
 
@@ -24,12 +26,12 @@ pub checked : (unread left : Option (List ℕ)) (old new : Progress Checked) (mi
     (score after : Score) →
     Ends by_check unread left old new (Ok tt) → Appends new.written mid (places_told new.console).said →
     score ≡ (places_told new.console).after → TellsOwed (record new.console { score = score }) is_lost mid told after →
-    Appends told holds (closing (ended after new.console.number)) → tally ≡ (ended after new.console.number).after.tally →
+    Appends told holds (closing (ended after new.console.place)) → tally ≡ (ended after new.console.place).after.tally →
     IsChecked old.console unread left old.written holds is_lost tally
 checked unread left old new mid told holds is_lost tally score after h placed scored owing wrote is =
     let end = new.console in
     let places = places_told end in
-    let rest = λ (s : Score). owed_if end.number s owing.owed in
+    let rest = λ (s : Score). owed_if end.place s owing.owed in
     let left_is : after ≡ (end_told end owing.owed).after = owing.left ∙ ap (λ (s : Score). (rest s).after) scored in
     record {
       script = h.text;
@@ -45,25 +47,28 @@ checked unread left old new mid told holds is_lost tally score after h placed sc
       written = Appends-trans _ _ _ _ _ h.answered.written
           (Appends-trans _ _ _ _ _
           (Appends-trans _ _ _ _ _ placed (subst (λ (s : Score). Appends mid told (rest s).said) scored owing.written))
-          (subst (λ (s : Score). Appends told holds (closing (ended s end.number))) left_is wrote));
-      counts = is ∙ ap (λ (s : Score). (ended s end.number).after.tally) left_is;
+          (subst (λ (s : Score). Appends told holds (closing (ended s end.place))) left_is wrote));
+      counts = is ∙ ap (λ (s : Score). (ended s end.place).after.tally) left_is;
     }
 
-pub line_says : (before : Checked) (after : Desk) (line said answer slip tables elsewhere : List ℕ) (number : ℕ) (score : Score) →
-    number ≡ up_to_64_bits (before.number + 1) → Leaves before.desk line number after → IsAnswer before.desk line answer →
+pub line_says : (before : Checked) (after : Desk) (line said answer slip tables elsewhere : List ℕ) (number : ℕ) (place : PlaceView)
+    (score : Score) → number ≡ up_to_64_bits (before.number + 1) → IfSome before.places (λ place_of. place ≡ place_of number) →
+    Leaves before.desk line number after → IsAnswer before.desk line answer →
     slip ≡ slip_with before.desk.names line → tables ≡ tables_told before.score.rules.fails_if_stale after.reasons.stale →
     elsewhere ≡ elsewhere_told before.score.rules.fails_if_unsettled (unsettled_in after.reasons.settling) →
-    said ≡ (line_told before.score number line answer slip tables elsewhere).said →
-    score ≡ (line_told before.score number line answer slip tables elsewhere).after →
-    LineSays before line said (record { desk = after; number = number; score = score })
-line_says before after line said answer slip tables elsewhere number score count left is why stale unsettled told scored =
-    let said_of = λ (t e : List ℕ). line_told before.score number line answer (slip_with before.desk.names line) t e in
+    said ≡ (line_told before.score place line answer slip tables elsewhere).said →
+    score ≡ (line_told before.score place line answer slip tables elsewhere).after →
+    LineSays before line said (record { desk = after; number = number; places = before.places; place = place; score = score })
+line_says before after line said answer slip tables elsewhere number place score count known left is why stale unsettled told scored =
+    let said_of = λ (t e : List ℕ). line_told before.score place line answer (slip_with before.desk.names line) t e in
     let tables_now = tables_told before.score.rules.fails_if_stale after.reasons.stale in
-    let all : line_told before.score number line answer slip tables elsewhere ≡ told_at before number line answer after.reasons =
-    ap (λ w. line_told before.score number line answer w tables elsewhere) why
+    let all : line_told before.score place line answer slip tables elsewhere ≡ told_at before place line answer after.reasons =
+    ap (λ w. line_told before.score place line answer w tables elsewhere) why
     ∙ ap (λ t. said_of t elsewhere) stale ∙ ap (λ e. said_of tables_now e) unsettled in
     record {
       number = count;
+      places = refl;
+      placed = known;
       left = left;
       answer = answer;
       answered = is;
@@ -71,21 +76,28 @@ line_says before after line said answer slip tables elsewhere number score count
       score = scored ∙ ap (λ (t : Told). t.after) all;
     }
 
-with_score : (a b : Checked) (score : Score) → a.desk ≡ b.desk → a.number ≡ b.number → record a { score = score } ≡ record b { score = score }
-with_score a b score desk number =
-    ap (λ (d : Desk). record { desk = d; number = a.number; score = score }) desk
-    ∙ ap (λ n. record { desk = b.desk; number = n; score = score }) number
+-- all but the score is the same
+pub record IsAlike (a b : Checked) : Type 0 where
+  pub desk : a.desk ≡ b.desk
+  pub number : a.number ≡ b.number
+  pub places : a.places ≡ b.places
+  pub place : a.place ≡ b.place
+
+with_score : (a b : Checked) (score : Score) → IsAlike a b → record a { score = score } ≡ record b { score = score }
+with_score a b score alike = rw (alike.desk, alike.number, alike.places, alike.place) refl
+
+alike_itself : (a : Checked) → IsAlike a a
+alike_itself a = record { desk = refl; number = refl; places = refl; place = refl }
 
 -- a line is told, and the places behind it
 both_say : (before mid after : Checked) (line first : List ℕ) (looks : Bool) → LineSays before line first mid → looks ≡ looks_behind before line →
-    after.desk ≡ mid.desk → after.number ≡ mid.number →
-    CheckSays before line (first ++ (places_if looks mid).said) (record after { score = (places_if looks mid).after })
-both_say before mid after line first looks alone is desk number = record {
+    IsAlike after mid → CheckSays before line (first ++ (places_if looks mid).said) (record after { score = (places_if looks mid).after })
+both_say before mid after line first looks alone is alike = record {
   first = first;
   mid = mid;
   alone = alone;
   text = ap (λ b. first ++ (places_if b mid).said) is;
-  left = with_score after mid (places_if looks mid).after desk number ∙ ap (λ b. record mid { score = (places_if b mid).after }) is;
+  left = with_score after mid (places_if looks mid).after alike ∙ ap (λ b. record mid { score = (places_if b mid).after }) is;
 }
 
 -- without places the score is that of the line
@@ -98,21 +110,21 @@ pub told_behind : (line kept first : List ℕ) (looks : Bool) (old new : Progres
     (result : Result (Unit {0}) RunFault) → kept ≡ take 513 line → LineSays old.console kept first mid → looks ≡ looks_behind old.console kept →
     Appends old.written b first → OnOk result (Appends b new.written (places_if looks mid).said) →
     OnErr result (WritesFront b new.written (places_if looks mid).said) → OnOk result (new.console.score ≡ (places_if looks mid).after) →
-    (looks ≡ false → new.console.score ≡ mid.score) → new.console.desk ≡ mid.desk → new.console.number ≡ mid.number →
+    (looks ≡ false → new.console.score ≡ mid.score) → IsAlike new.console mid →
     AnswersNext by_check line old new result
-told_behind line kept first looks old new mid b (Ok done) cut alone is wrote more front score same desk number =
+told_behind line kept first looks old new mid b (Ok done) cut alone is wrote more front score same alike =
     let text = first ++ (places_if looks mid).said in
     let says : CheckSays old.console kept text new.console =
     subst (λ (s : Score). CheckSays old.console kept text (record new.console { score = s })) (sym score)
-    (both_say old.console mid new.console kept first looks alone is desk number) in
+    (both_say old.console mid new.console kept first looks alone is alike) in
     spoken checking line text old new (subst (λ l. CheckSays old.console l text new.console) cut says) (Appends-trans _ _ _ _ _ wrote more)
-told_behind line kept first looks old new mid b (Err f) cut alone is wrote more front score same desk number =
+told_behind line kept first looks old new mid b (Err f) cut alone is wrote more front score same alike =
     let breaks : CheckBreaks old.console kept (first ++ front.front) new.console = record {
       text = first ++ (places_if looks mid).said;
       rest = front.rest;
       score = (places_if looks mid).after;
       whole = append_assoc first front.front front.rest ∙ ap (λ t. first ++ t) front.whole;
-      said = both_say old.console mid new.console kept first looks alone is desk number;
+      said = both_say old.console mid new.console kept first looks alone is alike;
       same = λ none. same (is ∙ none) ∙ none_added old.console mid kept looks is none;
     } in
     broken checking line (first ++ front.front) f old new (subst (λ l. CheckBreaks old.console l (first ++ front.front) new.console) cut breaks)
@@ -129,22 +141,22 @@ breaks_alone line kept first old new f cut alone front =
       rest = front.rest ++ places;
       score = (places_if looks new.console).after;
       whole = sym (append_assoc front.front front.rest places) ∙ ap (λ t. t ++ places) front.whole;
-      said = both_say old.console new.console new.console kept first looks alone refl refl refl;
+      said = both_say old.console new.console new.console kept first looks alone refl (alike_itself new.console);
       same = none_added old.console new.console kept looks refl;
     } in
     broken checking line front.front f old new (subst (λ l. CheckBreaks old.console l front.front new.console) cut breaks) front.written
 
 -- a line is judged, and then its remark is told
-pub told_line : (s mid after : Score) (number : ℕ) (line answer slip tables elsewhere empty first all : List ℕ) → empty ≡ [] →
-    first ≡ empty ++ (judged s number line answer slip tables elsewhere).said → mid ≡ (judged s number line answer slip tables elsewhere).after →
-    all ≡ first ++ (remarked mid number line answer).said → after ≡ with_wish (remarked mid number line answer).after line →
-    (all ≡ (line_told s number line answer slip tables elsewhere).said) × (after ≡ (line_told s number line answer slip tables elsewhere).after)
-told_line s mid after number line answer slip tables elsewhere empty first all none one moved two ended =
-    let begun = judged s number line answer slip tables elsewhere in (
-      two ∙ ap (λ m. first ++ (remarked m number line answer).said) moved
-          ∙ ap (λ p. p ++ (remarked begun.after number line answer).said) (one ∙ ap (λ p. p ++ begun.said) none),
-      ended ∙ ap (λ m. with_wish (remarked m number line answer).after line) moved,
+pub told_line : (s mid after : Score) (place : PlaceView) (line answer slip tables elsewhere empty first all : List ℕ) → empty ≡ [] →
+    first ≡ empty ++ (judged s place line answer slip tables elsewhere).said → mid ≡ (judged s place line answer slip tables elsewhere).after →
+    all ≡ first ++ (remarked mid place line answer).said → after ≡ with_wish (remarked mid place line answer).after line →
+    (all ≡ (line_told s place line answer slip tables elsewhere).said) × (after ≡ (line_told s place line answer slip tables elsewhere).after)
+told_line s mid after place line answer slip tables elsewhere empty first all none one moved two ended =
+    let begun = judged s place line answer slip tables elsewhere in (
+      two ∙ ap (λ m. first ++ (remarked m place line answer).said) moved
+          ∙ ap (λ p. p ++ (remarked begun.after place line answer).said) (one ∙ ap (λ p. p ++ begun.said) none),
+      ended ∙ ap (λ m. with_wish (remarked m place line answer).after line) moved,
     )
 
-pub ended_noted : (s : Score) (number : ℕ) → s.has_wish ≡ false → ended s number ≡ noted s number (codes "no line has a wish")
-ended_noted s number none = rw none refl
+pub ended_noted : (s : Score) (place : PlaceView) → s.has_wish ≡ false → ended s place ≡ noted s place (codes "no line has a wish")
+ended_noted s place none = rw none refl

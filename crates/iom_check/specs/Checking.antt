@@ -1,5 +1,5 @@
 -- What the word `check` writes for the lines of a script, and counts.
-use Rattle.std.specs.Prelude.{ℕ, ◌≡◌, ◌+◌, ◌++◌, ◌&&◌, Bool, true, false, List, Option, if◌then◌else◌}
+use Rattle.std.specs.Prelude.{ℕ, ◌≡◌, ◌+◌, ◌++◌, ◌&&◌, Bool, true, false, List, Option, IfSome, if◌then◌else◌}
 use Rattle.std.specs.Io.KnownBytes.{Appends, Consumes, IsAtEnd}
 use Rattle.iom_reader.specs.Answering.{Answering}
 use Rattle.iom_reader.specs.Lines.{lines_of}
@@ -16,42 +16,47 @@ use Rattle.iom_debug.specs.Settling.{AreOwedBy, is_lost_in, unsettled_in}
 use Rattle.iom_check.specs.Judging.{elsewhere_told, tables_told}
 use Rattle.iom_check.specs.Looking.{looked_by}
 use Rattle.iom_check.specs.Owing.{owed_if}
+use Rattle.iom_check.specs.Places.{PlaceView}
 use Rattle.iom_check.specs.Reporting.{tally_told}
 use Rattle.iom_check.specs.Scoring.{Score, Told, ended, judged, quiet, remarked, with_wish}
 use Rattle.iom_check.specs.declared.rules.Tally.{Tally}
 
--- a desk, how many lines were read, and the score
+-- a desk, how many lines were read, where each line stands, where that is known, where the last one does, and the score
 pub record Checked : Type 0 where
   pub desk : Desk
   pub number : ℕ
+  pub places : Option (ℕ → PlaceView)
+  pub place : PlaceView
   pub score : Score
 
 -- a line's test point, and what would go unnoticed
-abbrev pub line_told : Score → ℕ → List ℕ → List ℕ → List ℕ → List ℕ → List ℕ → Told
-line_told s number line answer slip tables elsewhere =
-    let first = judged s number line answer slip tables elsewhere in
-    let second = remarked first.after number line answer in
+abbrev pub line_told : Score → PlaceView → List ℕ → List ℕ → List ℕ → List ℕ → List ℕ → Told
+line_told s place line answer slip tables elsewhere =
+    let first = judged s place line answer slip tables elsewhere in
+    let second = remarked first.after place line answer in
     record { said = first.said ++ second.said; after = with_wish second.after line }
 
 -- by its answer, the names before the line, its last access that was stale, and its last one that wasn't settled
-abbrev pub told_at : Checked → ℕ → List ℕ → List ℕ → LineAccountView → Told
-told_at before number line answer reasons =
-    line_told before.score number line answer (slip_with before.desk.names line)
+abbrev pub told_at : Checked → PlaceView → List ℕ → List ℕ → LineAccountView → Told
+told_at before place line answer reasons =
+    line_told before.score place line answer (slip_with before.desk.names line)
     (tables_told before.score.rules.fails_if_stale reasons.stale)
     (elsewhere_told before.score.rules.fails_if_unsettled (unsettled_in reasons.settling))
 
--- a line by itself is told
+-- a line by itself is told, at its place
 pub record LineSays (before : Checked) (line said : List ℕ) (after : Checked) : Type 0 where
   pub number : after.number ≡ up_to_64_bits (before.number + 1)
+  pub places : after.places ≡ before.places
+  pub placed : IfSome before.places (λ place_of. after.place ≡ place_of after.number)
   pub left : Leaves before.desk line after.number after.desk
   pub answer : List ℕ
   pub answered : IsAnswer before.desk line answer
-  pub text : said ≡ (told_at before after.number line answer after.desk.reasons).said
-  pub score : after.score ≡ (told_at before after.number line answer after.desk.reasons).after
+  pub text : said ≡ (told_at before after.place line answer after.desk.reasons).said
+  pub score : after.score ≡ (told_at before after.place line answer after.desk.reasons).after
 
 -- the places of the caches, behind a line
 abbrev pub places_told : Checked → Told
-places_told end = looked_by end.desk.state.machine end.number end.score
+places_told end = looked_by end.desk.state.machine end.place end.score
 
 -- the same, where they are looked at
 abbrev pub places_if : Bool → Checked → Told
@@ -95,7 +100,7 @@ closing last = last.said ++ tally_told last.after.rules.style last.after.name la
 abbrev pub end_told : Checked → List Owed → Told
 end_told end owed =
     let places = places_told end in
-    let rest = owed_if end.number places.after owed in
+    let rest = owed_if end.place places.after owed in
     record { said = places.said ++ rest.said; after = rest.after }
 
 -- this is owed at the end, unless memory was refused
@@ -112,8 +117,8 @@ pub record TellsOwed (end : Checked) (is_lost : Bool) (held holds : Option (List
   pub owed : List Owed
   pub owes : AreOwedAt end is_lost owed
   pub lost : StaysLost end is_lost
-  pub written : Appends held holds (owed_if end.number end.score owed).said
-  pub left : after ≡ (owed_if end.number end.score owed).after
+  pub written : Appends held holds (owed_if end.place end.score owed).said
+  pub left : after ≡ (owed_if end.place end.score owed).after
 
 -- A whole script was checked: what was written is what is told of its lines, one after the other, and of its end. `is_lost` says whether memory
 -- was refused for what is told of settledness, at the lines or at the end.
@@ -128,5 +133,5 @@ pub record IsChecked (start : Checked) (unread left held holds : Option (List �
   pub owed : List Owed
   pub owes : AreOwedAt end is_lost owed
   pub lost : StaysLost end is_lost
-  pub written : Appends held holds (text ++ ((end_told end owed).said ++ closing (ended (end_told end owed).after end.number)))
-  pub counts : tally ≡ (ended (end_told end owed).after end.number).after.tally
+  pub written : Appends held holds (text ++ ((end_told end owed).said ++ closing (ended (end_told end owed).after end.place)))
+  pub counts : tally ≡ (ended (end_told end owed).after end.place).after.tally

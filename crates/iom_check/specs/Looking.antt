@@ -4,6 +4,7 @@ use Rattle.iom_text.specs.Texts.{numeral}
 use Rattle.iom_core.specs.State.{Machine}
 use Rattle.iom_debug.specs.Telling.{escaped}
 use Rattle.iom_debug.specs.Ways.{stale_context_text, stale_page_text}
+use Rattle.iom_check.specs.Places.{PlaceView}
 use Rattle.iom_check.specs.Scoring.{Score, Told, failed, quiet}
 use Rattle.iom_check.specs.declared.looking.Cache.{Cache}
 use Rattle.iom_check.specs.declared.looking.Cache.TheVariants as cache
@@ -27,24 +28,24 @@ place_title cache i = cache_told cache ++ numeral 10 i
 unfoldable pub place_message : List ℕ → List ℕ → List ℕ
 place_message title answer = title ++ (codes " is stale: the tables now say " ++ escaped answer)
 
-abbrev pub looked_at : Score → ℕ → Cache → ℕ → List ℕ → Told
-looked_at s line cache i answer =
-    if is_current answer then quiet s else failed s line (place_title cache i) (place_message (place_title cache i) answer)
+abbrev pub looked_at : Score → PlaceView → Cache → ℕ → List ℕ → Told
+looked_at s place cache i answer =
+    if is_current answer then quiet s else failed s place (place_title cache i) (place_message (place_title cache i) answer)
 
 -- so many places from place i on
-unfoldable pub looked : Machine → Cache → ℕ → Score → ℕ → ℕ → Told
-looked m cache line s i zero = quiet s
-looked m cache line s i (suc count) =
-    let first = looked_at s line cache i (standing_at m cache i) in
-    let rest = looked m cache line first.after (i + 1) count in
+unfoldable pub looked : Machine → Cache → PlaceView → Score → ℕ → ℕ → Told
+looked m cache place s i zero = quiet s
+looked m cache place s i (suc count) =
+    let first = looked_at s place cache i (standing_at m cache i) in
+    let rest = looked m cache place first.after (i + 1) count in
     record { said = first.said ++ rest.said; after = rest.after }
 
 -- a context cache of 16 places, and a translation cache of 64
-unfoldable pub all_looked : Machine → ℕ → Score → Told
-all_looked m line s =
-    let contexts = looked m cache.Contexts line s 0 16 in
-    let pages = looked m cache.Pages line contexts.after 0 64 in
+unfoldable pub all_looked : Machine → PlaceView → Score → Told
+all_looked m place s =
+    let contexts = looked m cache.Contexts place s 0 16 in
+    let pages = looked m cache.Pages place contexts.after 0 64 in
     record { said = contexts.said ++ pages.said; after = pages.after }
 
-abbrev pub looked_by : Machine → ℕ → Score → Told
-looked_by m line s = if s.rules.fails_if_stale then all_looked m line s else quiet s
+abbrev pub looked_by : Machine → PlaceView → Score → Told
+looked_by m place s = if s.rules.fails_if_stale then all_looked m place s else quiet s

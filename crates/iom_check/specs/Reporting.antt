@@ -3,6 +3,7 @@ use Rattle.std.specs.Prelude.{ℕ, ◌==◌, ◌||◌, ◌++◌, List, [], ◌�
 use Rattle.std.specs.List.{flat_map}
 use Rattle.iom_text.specs.Texts.{numeral}
 use Rattle.iom_debug.specs.Telling.{escaped}
+use Rattle.iom_check.specs.Places.{PlaceView}
 use Rattle.iom_check.specs.declared.pages.Quoting.{Quoting}
 use Rattle.iom_check.specs.declared.pages.Quoting.TheVariants as quoting
 use Rattle.iom_check.specs.declared.rules.Style.{Style}
@@ -35,50 +36,58 @@ abbrev pub class_told : Option (List ℕ) → List ℕ
 class_told None = codes "script"
 class_told (Some name) = name_told name
 
--- a line's place
-abbrev pub place_told : Option (List ℕ) → ℕ → List ℕ
-place_told None line = codes "line " ++ numeral 10 line
-place_told (Some name) line = name_told name ++ codes ":" ++ numeral 10 line
+-- what a line is told by: the text that it stands in, if the script includes it, or else the script's file
+abbrev pub file_of : Option (List ℕ) → Option (List ℕ) → Option (List ℕ)
+file_of name None = name
+file_of name (Some text) = Some text
 
-unfoldable pub headed : Option (List ℕ) → ℕ → List ℕ → List ℕ
-headed name line text = place_told name line ++ codes ": " ++ text
+abbrev pub line_in : Option (List ℕ) → ℕ → List ℕ
+line_in None line = codes "line " ++ numeral 10 line
+line_in (Some name) line = name_told name ++ codes ":" ++ numeral 10 line
+
+-- a line's place
+abbrev pub place_told : Option (List ℕ) → PlaceView → List ℕ
+place_told name place = line_in (file_of name place.text) place.line
+
+unfoldable pub headed : Option (List ℕ) → PlaceView → List ℕ → List ℕ
+headed name place text = place_told name place ++ codes ": " ++ text
 
 -- a test point of TAP, without its head
-unfoldable pub tap_point : ℕ → Option (List ℕ) → ℕ → List ℕ → List ℕ
-tap_point number name line title = numeral 10 number ++ codes " - " ++ quoted quoting.Tap (headed name line title) ++ 10 ∷ []
+unfoldable pub tap_point : ℕ → Option (List ℕ) → PlaceView → List ℕ → List ℕ
+tap_point number name place title = numeral 10 number ++ codes " - " ++ quoted quoting.Tap (headed name place title) ++ 10 ∷ []
 
 -- its report
-unfoldable pub tap_report : Option (List ℕ) → ℕ → List ℕ → List ℕ
-tap_report name line message =
-    codes "  ---\n  message: \"" ++ quoted quoting.Yaml (headed name line message) ++ codes "\"\n  ...\n"
+unfoldable pub tap_report : Option (List ℕ) → PlaceView → List ℕ → List ℕ
+tap_report name place message =
+    codes "  ---\n  message: \"" ++ quoted quoting.Yaml (headed name place message) ++ codes "\"\n  ...\n"
 
 -- a test of JUnit, up to its end
-unfoldable pub junit_test : Option (List ℕ) → ℕ → List ℕ → List ℕ
-junit_test name line title =
-    codes "<testcase classname=\"" ++ quoted quoting.Xml (class_told name) ++ codes "\" name=\"" ++ quoted quoting.Xml (headed None line title)
+unfoldable pub junit_test : Option (List ℕ) → PlaceView → List ℕ → List ℕ
+junit_test name place title =
+    codes "<testcase classname=\"" ++ quoted quoting.Xml (class_told name) ++ codes "\" name=\"" ++ quoted quoting.Xml (headed None place title)
     ++ codes "\""
 
 unfoldable pub junit_failure : List ℕ → List ℕ
 junit_failure message = codes "><failure message=\"" ++ quoted quoting.Xml message ++ codes "\"/></testcase>\n"
 
 -- a test point that passed, of a number and a title
-abbrev pub passed_told : Style → ℕ → Option (List ℕ) → ℕ → List ℕ → List ℕ
-passed_told style.Text number name line title = []
-passed_told style.Tap number name line title = codes "ok " ++ tap_point number name line title
-passed_told style.Junit number name line title = junit_test name line title ++ codes "/>\n"
+abbrev pub passed_told : Style → ℕ → Option (List ℕ) → PlaceView → List ℕ → List ℕ
+passed_told style.Text number name place title = []
+passed_told style.Tap number name place title = codes "ok " ++ tap_point number name place title
+passed_told style.Junit number name place title = junit_test name place title ++ codes "/>\n"
 
 -- one that failed
-abbrev pub failed_told : Style → ℕ → Option (List ℕ) → ℕ → List ℕ → List ℕ → List ℕ
-failed_told style.Text number name line title message = headed name line message ++ 10 ∷ []
-failed_told style.Tap number name line title message =
-    codes "not ok " ++ tap_point number name line title ++ tap_report name line message
-failed_told style.Junit number name line title message = junit_test name line title ++ junit_failure message
+abbrev pub failed_told : Style → ℕ → Option (List ℕ) → PlaceView → List ℕ → List ℕ → List ℕ
+failed_told style.Text number name place title message = headed name place message ++ 10 ∷ []
+failed_told style.Tap number name place title message =
+    codes "not ok " ++ tap_point number name place title ++ tap_report name place message
+failed_told style.Junit number name place title message = junit_test name place title ++ junit_failure message
 
 -- a note, which is no test point
-abbrev pub note_told : Style → Option (List ℕ) → ℕ → List ℕ → List ℕ
-note_told style.Text name line text = headed name line (codes "note: " ++ text) ++ 10 ∷ []
-note_told style.Tap name line text = codes "# " ++ headed name line (codes "note: " ++ text) ++ 10 ∷ []
-note_told style.Junit name line text = []
+abbrev pub note_told : Style → Option (List ℕ) → PlaceView → List ℕ → List ℕ
+note_told style.Text name place text = headed name place (codes "note: " ++ text) ++ 10 ∷ []
+note_told style.Tap name place text = codes "# " ++ headed name place (codes "note: " ++ text) ++ 10 ∷ []
+note_told style.Junit name place text = []
 
 -- the sum of a script
 abbrev pub sum_told : ℕ → ℕ → List ℕ

@@ -2,6 +2,7 @@
 use Rattle.std.specs.Prelude.{ℕ, ◌+◌, ◌||◌, Bool, nat_lt, List, [], length, codes, Option, is_some, if◌then◌else◌}
 use Rattle.iom_debug.specs.Summary.{up_to_64_bits}
 use Rattle.iom_check.specs.Judging.{fails, message, passes, remark, title}
+use Rattle.iom_check.specs.Places.{PlaceView}
 use Rattle.iom_check.specs.Reporting.{failed_told, note_told, passed_told}
 use Rattle.iom_check.specs.Wanted.{wanted}
 use Rattle.iom_check.specs.declared.rules.Rules.{Rules}
@@ -35,40 +36,40 @@ abbrev pub one_failed : Score → Score
 one_failed s = record s { points = more s.points; tally = record s.tally { failed = more s.tally.failed } }
 
 -- a test point at a line, by its title
-abbrev pub passed : Score → ℕ → List ℕ → Told
-passed s line title = record {
-  said = passed_told s.rules.style (more s.points) s.name line title;
+abbrev pub passed : Score → PlaceView → List ℕ → Told
+passed s place title = record {
+  said = passed_told s.rules.style (more s.points) s.name place title;
   after = one_passed s;
 }
 
-abbrev pub failed : Score → ℕ → List ℕ → List ℕ → Told
-failed s line title message = record {
-  said = failed_told s.rules.style (more s.points) s.name line title message;
+abbrev pub failed : Score → PlaceView → List ℕ → List ℕ → Told
+failed s place title message = record {
+  said = failed_told s.rules.style (more s.points) s.name place title message;
   after = one_failed s;
 }
 
 -- a note fails where the rules are strict
-abbrev pub noted : Score → ℕ → List ℕ → Told
-noted s line text =
-    if s.rules.is_strict then failed s line text text
-    else record { said = note_told s.rules.style s.name line text; after = s }
+abbrev pub noted : Score → PlaceView → List ℕ → Told
+noted s place text =
+    if s.rules.is_strict then failed s place text text
+    else record { said = note_told s.rules.style s.name place text; after = s }
 
--- a line of this number, its answer, and why it is bad
-abbrev pub judged : Score → ℕ → List ℕ → List ℕ → List ℕ → List ℕ → List ℕ → Told
-judged s number line answer slip tables elsewhere =
+-- a line at its place, its answer, and why it is bad
+abbrev pub judged : Score → PlaceView → List ℕ → List ℕ → List ℕ → List ℕ → List ℕ → Told
+judged s place line answer slip tables elsewhere =
     if fails s.rules.fails_if_stale (wanted line) answer tables elsewhere
-    then failed s number (title line) (message s.rules.fails_if_stale line answer slip tables elsewhere)
-    else if passes s.rules.fails_if_stale (wanted line) answer tables elsewhere then passed s number (title line) else quiet s
+    then failed s place (title line) (message s.rules.fails_if_stale line answer slip tables elsewhere)
+    else if passes s.rules.fails_if_stale (wanted line) answer tables elsewhere then passed s place (title line) else quiet s
 
-abbrev pub noted_at : Score → ℕ → List ℕ → Told
-noted_at s number text = if nat_lt 0 (length text) then noted s number text else quiet s
+abbrev pub noted_at : Score → PlaceView → List ℕ → Told
+noted_at s place text = if nat_lt 0 (length text) then noted s place text else quiet s
 
-abbrev pub remarked : Score → ℕ → List ℕ → List ℕ → Told
-remarked s number line answer = noted_at s number (remark line answer)
+abbrev pub remarked : Score → PlaceView → List ℕ → List ℕ → Told
+remarked s place line answer = noted_at s place (remark line answer)
 
 abbrev pub with_wish : Score → List ℕ → Score
 with_wish s line = record s { has_wish = s.has_wish || is_some (wanted line) }
 
 -- at a script's end, behind its last line
-abbrev pub ended : Score → ℕ → Told
-ended s number = if s.has_wish then quiet s else noted s number (codes "no line has a wish")
+abbrev pub ended : Score → PlaceView → Told
+ended s place = if s.has_wish then quiet s else noted s place (codes "no line has a wish")

@@ -8,6 +8,7 @@ ghost use Rattle.iom_check.specs.Drives.{checked_by};
 
 use crate::looking::{Cache, standing_at};
 use crate::pages::ReportPage;
+use crate::places::{Place, Places};
 use crate::rules::{Rules, Tally};
 use crate::scoring::Scoring;
 use crate::wanting::wish_of;
@@ -19,36 +20,47 @@ use std::io::{Read, Write};
 
 /// A script whose lines name the answers that they want.
 #[derive(Drop)]
-pub struct Checking<'a> {
+pub struct Checking<'a, P> {
     /// What its lines drive.
     pub debugger: Debugger<'a>,
+    // where they stand
+    places: &'a P,
     // how many lines were read
     number: u64,
+    // where the last one stands
+    place: Place,
     scoring: Scoring<'a>,
 }
 
-impl<'a> Checking<'a> {
+impl<'a, P: Places> Checking<'a, P> {
     ghost use Rattle.std.specs.Prelude.{◌≡◌};
     ghost use Rattle.std.specs.Option.{option_map};
     ghost use Rattle.iom_debug.specs.Settling.{is_lost_in, unsettled_in};
     ghost use Rattle.iom_check.specs.Judging.{elsewhere_told, tables_told};
+    ghost use Rattle.iom_check.specs.Placed.{placed};
+    ghost use Rattle.iom_check.specs.Places.{own};
     ghost use Rattle.iom_check.specs.Scores.{begun, score_of};
 
-    /// A check of what this debugger drives, by these rules, of no line yet. `name` is the script's file, if it has one, and `points` the
-    /// number of test points before it.
+    /// A check of what this debugger drives, by these rules, of no line yet. `places` tells where its lines stand, `name` is the script's file,
+    /// if it has one, and `points` the number of test points before it.
     pub fn new(
         debugger: Debugger<'a>,
+        places: &'a P,
         rules: Rules,
         name: Option<&'a str>,
         points: u64,
-    ) -> Checking<'a>
+    ) -> Checking<'a, P>
         ensures debugger { result.debugger ≡ debugger.entry }
+        ensures places { result.places.now ≡ places.now }
         ensures number { result.number ≡ 0 }
+        ensures place { placed result.place ≡ own 0 }
         ensures score { score_of result.scoring ≡ begun rules (option_map (λ name. name.now) name.entry) points }
     {
         Checking {
             debugger,
+            places,
             number: 0,
+            place: Place::own(0),
             scoring: Scoring {
                 rules,
                 name,
@@ -100,7 +112,7 @@ impl<'a> Checking<'a> {
     }
 }
 
-impl Checking<'_> {
+impl<P: Places> Checking<'_, P> {
     ghost use Rattle.std.specs.Prelude.{◌≡◌, ◌≤◌, false, length, IfErr, OnErr, OnOk};
     ghost use Rattle.std.specs.Io.KnownBytes.{Appends};
     ghost use Rattle.iom_reader.specs.Running.{WritesFront, is_write};
@@ -109,16 +121,18 @@ impl Checking<'_> {
     ghost use Rattle.iom_check.specs.Checking.{LineSays, looks_behind, places_if};
     ghost use Rattle.iom_check.specs.Drives.{checked_by};
     ghost use Rattle.iom_check.specs.Looking.{all_looked, looked, looked_at, looked_by, standing_at};
+    ghost use Rattle.iom_check.specs.Placed.{placed};
     ghost use Rattle.iom_check.specs.Scores.{score_of};
 
     // Carries out a line, and puts what is told of it on the page. Answers whether the caches are looked at behind it.
     fn judge_line(&mut self, line: &[u8]) -> bool
         requires { length line.now ≤ 513 }
-        ensures said { LineSays (checked_by self.old) line.now self.new.scoring.page.items (checked_by self.new) }
-        ensures looks { result ≡ looks_behind (checked_by self.old) line.now }
+        ensures said { LineSays (checked_by P.known self.old) line.now self.new.scoring.page.items (checked_by P.known self.new) }
+        ensures looks { result ≡ looks_behind (checked_by P.known self.old) line.now }
         ensures same { names_of self.new.debugger ≡ names_of self.old.debugger }
     {
         self.number = self.number.saturating_add(1);
+        self.place = self.places.place(self.number);
         let read = self.debugger.names.read(line);
         let slip = self.debugger.slip_of(&read, line);
         let answer = self.debugger.carry_out(self.number, read);
@@ -128,7 +142,7 @@ impl Checking<'_> {
         let wish = wish_of(line);
         self.scoring.page.clear();
         self.scoring.judge(
-            self.number,
+            &self.place,
             line,
             wish,
             answer.as_slice(),
@@ -137,7 +151,7 @@ impl Checking<'_> {
             elsewhere.as_slice(),
         );
         self.scoring
-            .remark(self.number, line, wish, answer.as_slice());
+            .remark(&self.place, line, wish, answer.as_slice());
         looks
     }
 
@@ -150,20 +164,22 @@ impl Checking<'_> {
     ) -> Result<(), RunFault>
         requires { write_failed writer.old ≡ false }
         ensures ok { OnOk result (Appends (W.contents writer.old.inner.now) (W.contents writer.new.inner.now)
-            (looked_at (score_of self.old.scoring) self.old.number cache i (standing_at self.old.debugger.platform.now.machine cache i)).said) }
+            (looked_at (score_of self.old.scoring) (placed self.old.place) cache i (standing_at self.old.debugger.platform.now.machine cache i)).said) }
         ensures front { OnErr result (WritesFront (W.contents writer.old.inner.now) (W.contents writer.new.inner.now)
-            (looked_at (score_of self.old.scoring) self.old.number cache i (standing_at self.old.debugger.platform.now.machine cache i)).said) }
+            (looked_at (score_of self.old.scoring) (placed self.old.place) cache i (standing_at self.old.debugger.platform.now.machine cache i)).said) }
         ensures score { score_of self.new.scoring
-            ≡ (looked_at (score_of self.old.scoring) self.old.number cache i (standing_at self.old.debugger.platform.now.machine cache i)).after }
+            ≡ (looked_at (score_of self.old.scoring) (placed self.old.place) cache i (standing_at self.old.debugger.platform.now.machine cache i)).after }
         ensures fault { IfErr result (λ fault. fault ≡ RunFault.Write) }
         ensures told { write_failed writer.new ≡ is_write result }
         ensures same_writer { writer.new.inner.ghost_name ≡ writer.old.inner.ghost_name }
         ensures number { self.new.number ≡ self.old.number }
+        ensures places { self.new.places ≡ self.old.places }
+        ensures place { self.new.place ≡ self.old.place }
         ensures debugger { self.new.debugger ≡ self.old.debugger }
     {
         let answer = standing_at(&self.debugger, cache, i);
         self.scoring.page.clear();
-        self.scoring.look(self.number, cache, i, answer.as_slice());
+        self.scoring.look(&self.place, cache, i, answer.as_slice());
         write_told(writer, self.scoring.page.as_slice())
     }
 
@@ -176,15 +192,17 @@ impl Checking<'_> {
     ) -> Result<(), RunFault>
         requires { write_failed writer.old ≡ false }
         ensures ok { OnOk result (Appends (W.contents writer.old.inner.now) (W.contents writer.new.inner.now)
-            (looked self.old.debugger.platform.now.machine cache self.old.number (score_of self.old.scoring) 0 count).said) }
+            (looked self.old.debugger.platform.now.machine cache (placed self.old.place) (score_of self.old.scoring) 0 count).said) }
         ensures front { OnErr result (WritesFront (W.contents writer.old.inner.now) (W.contents writer.new.inner.now)
-            (looked self.old.debugger.platform.now.machine cache self.old.number (score_of self.old.scoring) 0 count).said) }
+            (looked self.old.debugger.platform.now.machine cache (placed self.old.place) (score_of self.old.scoring) 0 count).said) }
         ensures score { OnOk result (score_of self.new.scoring
-            ≡ (looked self.old.debugger.platform.now.machine cache self.old.number (score_of self.old.scoring) 0 count).after) }
+            ≡ (looked self.old.debugger.platform.now.machine cache (placed self.old.place) (score_of self.old.scoring) 0 count).after) }
         ensures fault { IfErr result (λ fault. fault ≡ RunFault.Write) }
         ensures told { write_failed writer.new ≡ is_write result }
         ensures same_writer { writer.new.inner.ghost_name ≡ writer.old.inner.ghost_name }
         ensures number { self.new.number ≡ self.old.number }
+        ensures places { self.new.places ≡ self.old.places }
+        ensures place { self.new.place ≡ self.old.place }
         ensures debugger { self.new.debugger ≡ self.old.debugger }
     {
         for i in 0..count {
@@ -200,15 +218,17 @@ impl Checking<'_> {
     ) -> Result<(), RunFault>
         requires { write_failed writer.old ≡ false }
         ensures ok { OnOk result (Appends (W.contents writer.old.inner.now) (W.contents writer.new.inner.now)
-            (looked_by self.old.debugger.platform.now.machine self.old.number (score_of self.old.scoring)).said) }
+            (looked_by self.old.debugger.platform.now.machine (placed self.old.place) (score_of self.old.scoring)).said) }
         ensures front { OnErr result (WritesFront (W.contents writer.old.inner.now) (W.contents writer.new.inner.now)
-            (looked_by self.old.debugger.platform.now.machine self.old.number (score_of self.old.scoring)).said) }
+            (looked_by self.old.debugger.platform.now.machine (placed self.old.place) (score_of self.old.scoring)).said) }
         ensures score { OnOk result (score_of self.new.scoring
-            ≡ (looked_by self.old.debugger.platform.now.machine self.old.number (score_of self.old.scoring)).after) }
+            ≡ (looked_by self.old.debugger.platform.now.machine (placed self.old.place) (score_of self.old.scoring)).after) }
         ensures fault { IfErr result (λ fault. fault ≡ RunFault.Write) }
         ensures told { write_failed writer.new ≡ is_write result }
         ensures same_writer { writer.new.inner.ghost_name ≡ writer.old.inner.ghost_name }
         ensures number { self.new.number ≡ self.old.number }
+        ensures places { self.new.places ≡ self.old.places }
+        ensures place { self.new.place ≡ self.old.place }
         ensures debugger { self.new.debugger ≡ self.old.debugger }
     {
         if self.scoring.rules.fails_if_stale {
@@ -226,15 +246,17 @@ impl Checking<'_> {
     ) -> Result<(), RunFault>
         requires { write_failed writer.old ≡ false }
         ensures ok { OnOk result (Appends (W.contents writer.old.inner.now) (W.contents writer.new.inner.now)
-            (places_if looks (checked_by self.old)).said) }
+            (places_if looks (checked_by P.known self.old)).said) }
         ensures front { OnErr result (WritesFront (W.contents writer.old.inner.now) (W.contents writer.new.inner.now)
-            (places_if looks (checked_by self.old)).said) }
-        ensures score { OnOk result (score_of self.new.scoring ≡ (places_if looks (checked_by self.old)).after) }
+            (places_if looks (checked_by P.known self.old)).said) }
+        ensures score { OnOk result (score_of self.new.scoring ≡ (places_if looks (checked_by P.known self.old)).after) }
         ensures same { looks ≡ false → score_of self.new.scoring ≡ score_of self.old.scoring }
         ensures fault { IfErr result (λ fault. fault ≡ RunFault.Write) }
         ensures told { write_failed writer.new ≡ is_write result }
         ensures same_writer { writer.new.inner.ghost_name ≡ writer.old.inner.ghost_name }
         ensures number { self.new.number ≡ self.old.number }
+        ensures places { self.new.places ≡ self.old.places }
+        ensures place { self.new.place ≡ self.old.place }
         ensures debugger { self.new.debugger ≡ self.old.debugger }
     {
         if looks {
@@ -244,7 +266,7 @@ impl Checking<'_> {
     }
 }
 
-impl Checking<'_> {
+impl<P: Places> Checking<'_, P> {
     ghost use Rattle.std.specs.Prelude.{◌≡◌, false, OnOk};
     ghost use Rattle.std.specs.Io.KnownBytes.{Appends};
     ghost use Rattle.iom_reader.specs.Running.{is_write};
@@ -253,6 +275,7 @@ impl Checking<'_> {
     ghost use Rattle.iom_check.specs.Checking.{TellsOwed};
     ghost use Rattle.iom_check.specs.Drives.{checked_by};
     ghost use Rattle.iom_check.specs.Owing.{all_owed, owed_at, owed_if};
+    ghost use Rattle.iom_check.specs.Placed.{placed};
     ghost use Rattle.iom_check.specs.Scores.{score_of};
 
     // Tells of a request that is owed.
@@ -263,15 +286,17 @@ impl Checking<'_> {
     ) -> Result<(), RunFault>
         requires { write_failed writer.old ≡ false }
         ensures ok { OnOk result (Appends (W.contents writer.old.inner.now) (W.contents writer.new.inner.now)
-            (owed_at (score_of self.old.scoring) self.old.number owed.now).said) }
-        ensures score { score_of self.new.scoring ≡ (owed_at (score_of self.old.scoring) self.old.number owed.now).after }
+            (owed_at (score_of self.old.scoring) (placed self.old.place) owed.now).said) }
+        ensures score { score_of self.new.scoring ≡ (owed_at (score_of self.old.scoring) (placed self.old.place) owed.now).after }
         ensures told { write_failed writer.new ≡ is_write result }
         ensures same_writer { writer.new.inner.ghost_name ≡ writer.old.inner.ghost_name }
         ensures number { self.new.number ≡ self.old.number }
+        ensures places { self.new.places ≡ self.old.places }
+        ensures place { self.new.place ≡ self.old.place }
         ensures debugger { self.new.debugger ≡ self.old.debugger }
     {
         self.scoring.page.clear();
-        self.scoring.owe(self.number, owed);
+        self.scoring.owe(&self.place, owed);
         write_told(writer, self.scoring.page.as_slice())
     }
 
@@ -283,11 +308,13 @@ impl Checking<'_> {
     ) -> Result<(), RunFault>
         requires { write_failed writer.old ≡ false }
         ensures ok { OnOk result (Appends (W.contents writer.old.inner.now) (W.contents writer.new.inner.now)
-            (all_owed self.old.number (score_of self.old.scoring) owed.now).said) }
-        ensures score { OnOk result (score_of self.new.scoring ≡ (all_owed self.old.number (score_of self.old.scoring) owed.now).after) }
+            (all_owed (placed self.old.place) (score_of self.old.scoring) owed.now).said) }
+        ensures score { OnOk result (score_of self.new.scoring ≡ (all_owed (placed self.old.place) (score_of self.old.scoring) owed.now).after) }
         ensures told { OnOk result (write_failed writer.new ≡ false) }
         ensures same_writer { writer.new.inner.ghost_name ≡ writer.old.inner.ghost_name }
         ensures number { self.new.number ≡ self.old.number }
+        ensures places { self.new.places ≡ self.old.places }
+        ensures place { self.new.place ≡ self.old.place }
         ensures debugger { self.new.debugger ≡ self.old.debugger }
     {
         for each in owed {
@@ -304,11 +331,13 @@ impl Checking<'_> {
     ) -> Result<(), RunFault>
         requires { write_failed writer.old ≡ false }
         ensures ok { OnOk result (Appends (W.contents writer.old.inner.now) (W.contents writer.new.inner.now)
-            (owed_if self.old.number (score_of self.old.scoring) owed.now).said) }
-        ensures score { OnOk result (score_of self.new.scoring ≡ (owed_if self.old.number (score_of self.old.scoring) owed.now).after) }
+            (owed_if (placed self.old.place) (score_of self.old.scoring) owed.now).said) }
+        ensures score { OnOk result (score_of self.new.scoring ≡ (owed_if (placed self.old.place) (score_of self.old.scoring) owed.now).after) }
         ensures told { OnOk result (write_failed writer.new ≡ false) }
         ensures same_writer { writer.new.inner.ghost_name ≡ writer.old.inner.ghost_name }
         ensures number { self.new.number ≡ self.old.number }
+        ensures places { self.new.places ≡ self.old.places }
+        ensures place { self.new.place ≡ self.old.place }
         ensures debugger { self.new.debugger ≡ self.old.debugger }
     {
         if self.scoring.rules.fails_if_unsettled {
@@ -320,11 +349,13 @@ impl Checking<'_> {
     // Tells of what is owed, where that is told.
     fn tell_owed<W: Write>(&mut self, writer: &mut WatchedWriter<'_, W>) -> Result<(), RunFault>
         requires { write_failed writer.old ≡ false }
-        ensures told { OnOk result (TellsOwed (checked_by self.old) (is_lost_in self.new.debugger.reasons.now.settling)
+        ensures told { OnOk result (TellsOwed (checked_by P.known self.old) (is_lost_in self.new.debugger.reasons.now.settling)
             (W.contents writer.old.inner.now) (W.contents writer.new.inner.now) (score_of self.new.scoring)) }
         ensures can_write { OnOk result (write_failed writer.new ≡ false) }
         ensures same_writer { writer.new.inner.ghost_name ≡ writer.old.inner.ghost_name }
         ensures number { self.new.number ≡ self.old.number }
+        ensures places { self.new.places ≡ self.old.places }
+        ensures place { self.new.place ≡ self.old.place }
     {
         if let Some(owed) = self.debugger.owed() {
             self.tell_if(&owed, writer)?;
@@ -333,14 +364,14 @@ impl Checking<'_> {
     }
 }
 
-impl Answerer for Checking<'_> {
+impl<P: Places> Answerer for Checking<'_, P> {
     ghost use Rattle.iom_debug.specs.Desks.{names_of};
     ghost use Rattle.iom_check.specs.Checking.{by_check};
     ghost use Rattle.iom_check.specs.Drives.{checked_by};
 
     ghost answering = { by_check };
 
-    ghost state = { checked_by };
+    ghost state = { checked_by P.known };
 
     ghost names = { λ c. names_of c.debugger };
 
@@ -359,14 +390,14 @@ impl Answerer for Checking<'_> {
 /// Checks the script that `reader` gives, and tells each line that fails, in the style of its rules, and at the end how many passed and how
 /// many failed, which it answers. The faults are those of `run`.
 #[tactic(auto, using(crate::proofs::Telling::lawful, crate::proofs::Telling::checked))]
-pub fn check<R: Read, W: Write>(
-    checking: &mut Checking<'_>,
+pub fn check<P: Places, R: Read, W: Write>(
+    checking: &mut Checking<'_, P>,
     reader: &mut WatchedReader<'_, R>,
     writer: &mut WatchedWriter<'_, W>,
 ) -> Result<Tally, RunFault>
     requires can_read { read_failed reader.old ≡ false }
     requires can_write { write_failed writer.old ≡ false }
-    ensures checked { IfOk result (λ tally. IsChecked (checked_by checking.old)
+    ensures checked { IfOk result (λ tally. IsChecked (checked_by P.known checking.old)
         (R.remaining reader.old.inner.now) (R.remaining reader.new.inner.now)
         (W.contents writer.old.inner.now) (W.contents writer.new.inner.now)
         (is_lost_in checking.new.debugger.reasons.now.settling) tally) }
@@ -375,7 +406,7 @@ pub fn check<R: Read, W: Write>(
     checking.look_at_caches(writer)?;
     checking.tell_owed(writer)?;
     checking.scoring.page.clear();
-    checking.scoring.end(checking.number);
+    checking.scoring.end(&checking.place);
     write_told(writer, checking.scoring.page.as_slice())?;
     Ok(checking.scoring.tally)
 }

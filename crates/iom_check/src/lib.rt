@@ -3,6 +3,7 @@
 
 pub use checking::{Checking, check};
 pub use law::scripts_without_failures_are_settled;
+pub use places::{Alone, Place, Places};
 pub use rules::{Rules, Style, Tally};
 pub use wanting::{answer_of, has_arrow, wants_stale, wish_of};
 
@@ -12,6 +13,7 @@ mod law;
 mod looking;
 mod owing;
 mod pages;
+mod places;
 mod points;
 mod rules;
 mod scoring;

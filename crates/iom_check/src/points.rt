@@ -3,31 +3,33 @@
 ghost use Rattle.std.specs.Prelude.{◌≡◌, ◌+◌, ◌*◌, ◌++◌, ◌≤◌, codes, length};
 ghost use Rattle.std.specs.Option.{option_map};
 ghost use Rattle.iom_text.specs.Texts.{numeral};
+ghost use Rattle.iom_check.specs.Placed.{placed};
 ghost use Rattle.iom_check.specs.Reporting.{class_told, failed_told, headed, junit_failure, junit_test, name_told, note_told, passed_told, place_told, sum_told, tally_told, tap_point, tap_report};
 
 use crate::pages::{Quoting, ReportPage, push, push_quoted};
+use crate::places::Place;
 use crate::rules::{Style, Tally};
 use iom_debug::{OutputPage, first_bytes, put, put_escaped, put_number};
 use iom_text::decimal;
 
 /// A line of a script, and the number that a test point of it has.
 #[derive(Clone, Copy)]
-pub struct Point<'a> {
+pub struct Point<'n, 'p> {
     /// The script's file, if it has one.
-    pub name: Option<&'a str>,
-    /// The line's number.
-    pub line: u64,
+    pub name: Option<&'n str>,
+    /// Where the line stands.
+    pub place: &'p Place,
     /// The point's.
     pub number: u64,
 }
 
 // Puts the first 513 bytes of a file's name.
-fn put_name(out: &mut OutputPage, name: &str)
+fn put_name(out: &mut OutputPage, name: &[u8])
     requires { length out.old.items ≡ 0 }
     ensures text { out.new.items ≡ out.old.items ++ name_told name.now }
     ensures room { length out.new.items ≤ 2052 }
 {
-    put_escaped(out, first_bytes(name.as_bytes()));
+    put_escaped(out, first_bytes(name));
 }
 
 // The file, for a test of JUnit.
@@ -37,37 +39,45 @@ fn class_told(name: Option<&str>) -> OutputPage
 {
     let mut out = OutputPage::new();
     match name {
-        Some(name) => put_name(&mut out, name),
+        Some(name) => put_name(&mut out, name.as_bytes()),
         None => put(&mut out, b"script"),
     }
     out
 }
 
+// Puts a file's name before the number of a line.
+fn put_file(out: &mut OutputPage, name: &[u8])
+    requires { length out.old.items ≡ 0 }
+    ensures text { out.new.items ≡ out.old.items ++ (name_told name.now ++ codes ":") }
+    ensures room { length out.new.items ≤ 2053 }
+{
+    put_name(out, name);
+    put(out, b":");
+}
+
 // The place of a line.
-fn place_told(name: Option<&str>, line: u64) -> OutputPage
-    ensures text { result.items ≡ place_told (option_map (λ name. name.now) name.entry) line }
+fn place_told(name: Option<&str>, place: &Place) -> OutputPage
+    ensures text { result.items ≡ place_told (option_map (λ name. name.now) name.entry) (placed place.now) }
     ensures room { length result.items ≤ 2080 }
 {
     let mut out = OutputPage::new();
-    match name {
-        Some(name) => {
-            put_name(&mut out, name);
-            put(&mut out, b":");
-        }
-        None => put(&mut out, b"line "),
+    match (&place.text, name) {
+        (Some(text), _) => put_file(&mut out, text.as_slice()),
+        (None, Some(name)) => put_file(&mut out, name.as_bytes()),
+        (None, None) => put(&mut out, b"line "),
     }
-    put_number(&mut out, line);
+    put_number(&mut out, place.line);
     out
 }
 
 // What is said of a line, behind its place.
 #[tactic(auto, unfolding(crate::specs::Reporting::headed))]
-fn headed(name: Option<&str>, line: u64, text: &[u8]) -> OutputPage
+fn headed(name: Option<&str>, place: &Place, text: &[u8]) -> OutputPage
     requires { length text.now ≤ 12288 }
-    ensures text { result.items ≡ headed (option_map (λ name. name.now) name.entry) line text.now }
+    ensures text { result.items ≡ headed (option_map (λ name. name.now) name.entry) (placed place.now) text.now }
     ensures room { length result.items ≤ 2082 + length text.now }
 {
-    let mut out = place_told(name, line);
+    let mut out = place_told(name, place);
     put(&mut out, b": ");
     put(&mut out, text);
     out
@@ -75,10 +85,10 @@ fn headed(name: Option<&str>, line: u64, text: &[u8]) -> OutputPage
 
 // Appends a test point of TAP, without its head.
 #[tactic(auto, unfolding(crate::specs::Reporting::tap_point))]
-fn push_tap_point(out: &mut ReportPage, point: Point<'_>, title: &[u8])
+fn push_tap_point(out: &mut ReportPage, point: Point<'_, '_>, title: &[u8])
     requires room { length out.old.items + 6 * length title.now + 12600 ≤ 131072 }
     requires short { length title.now ≤ 12288 }
-    ensures text { out.new.items ≡ out.old.items ++ tap_point point.entry.number (option_map (λ name. name.now) point.entry.name) point.entry.line title.now }
+    ensures text { out.new.items ≡ out.old.items ++ tap_point point.entry.number (option_map (λ name. name.now) point.entry.name) (placed point.entry.place.now) title.now }
     ensures room { length out.new.items ≤ length out.old.items + 6 * length title.now + 12600 }
 {
     push(out, decimal(point.number).as_slice());
@@ -86,34 +96,34 @@ fn push_tap_point(out: &mut ReportPage, point: Point<'_>, title: &[u8])
     push_quoted(
         out,
         Quoting::Tap,
-        headed(point.name, point.line, title).as_slice(),
+        headed(point.name, point.place, title).as_slice(),
     );
     push(out, b"\n");
 }
 
 // Appends the report of a test point of TAP.
 #[tactic(auto, unfolding(crate::specs::Reporting::tap_report))]
-fn push_tap_report(out: &mut ReportPage, point: Point<'_>, message: &[u8])
+fn push_tap_report(out: &mut ReportPage, point: Point<'_, '_>, message: &[u8])
     requires room { length out.old.items + 6 * length message.now + 12600 ≤ 131072 }
     requires short { length message.now ≤ 12288 }
-    ensures text { out.new.items ≡ out.old.items ++ tap_report (option_map (λ name. name.now) point.entry.name) point.entry.line message.now }
+    ensures text { out.new.items ≡ out.old.items ++ tap_report (option_map (λ name. name.now) point.entry.name) (placed point.entry.place.now) message.now }
     ensures room { length out.new.items ≤ length out.old.items + 6 * length message.now + 12600 }
 {
     push(out, b"  ---\n  message: \"");
     push_quoted(
         out,
         Quoting::Yaml,
-        headed(point.name, point.line, message).as_slice(),
+        headed(point.name, point.place, message).as_slice(),
     );
     push(out, b"\"\n  ...\n");
 }
 
 // Appends a test of JUnit, up to its end.
 #[tactic(auto, unfolding(crate::specs::Reporting::junit_test))]
-fn push_junit_test(out: &mut ReportPage, point: Point<'_>, title: &[u8])
+fn push_junit_test(out: &mut ReportPage, point: Point<'_, '_>, title: &[u8])
     requires room { length out.old.items + 6 * length title.now + 25200 ≤ 131072 }
     requires short { length title.now ≤ 12288 }
-    ensures text { out.new.items ≡ out.old.items ++ junit_test (option_map (λ name. name.now) point.entry.name) point.entry.line title.now }
+    ensures text { out.new.items ≡ out.old.items ++ junit_test (option_map (λ name. name.now) point.entry.name) (placed point.entry.place.now) title.now }
     ensures room { length out.new.items ≤ length out.old.items + 6 * length title.now + 25200 }
 {
     push(out, b"<testcase classname=\"");
@@ -122,7 +132,7 @@ fn push_junit_test(out: &mut ReportPage, point: Point<'_>, title: &[u8])
     push_quoted(
         out,
         Quoting::Xml,
-        headed(None, point.line, title).as_slice(),
+        headed(None, point.place, title).as_slice(),
     );
     push(out, b"\"");
 }
@@ -140,11 +150,11 @@ fn push_junit_failure(out: &mut ReportPage, message: &[u8])
 }
 
 /// Appends a test point that passed.
-pub fn push_pass(out: &mut ReportPage, style: Style, point: Point<'_>, title: &[u8])
+pub fn push_pass(out: &mut ReportPage, style: Style, point: Point<'_, '_>, title: &[u8])
     requires room { length out.old.items + 6 * length title.now + 25300 ≤ 131072 }
     requires short { length title.now ≤ 12288 }
     ensures text { out.new.items ≡ out.old.items
-        ++ passed_told style point.entry.number (option_map (λ name. name.now) point.entry.name) point.entry.line title.now }
+        ++ passed_told style point.entry.number (option_map (λ name. name.now) point.entry.name) (placed point.entry.place.now) title.now }
     ensures room { length out.new.items ≤ length out.old.items + 6 * length title.now + 25300 }
 {
     match style {
@@ -164,7 +174,7 @@ pub fn push_pass(out: &mut ReportPage, style: Style, point: Point<'_>, title: &[
 pub fn push_failure(
     out: &mut ReportPage,
     style: Style,
-    point: Point<'_>,
+    point: Point<'_, '_>,
     title: &[u8],
     message: &[u8],
 )
@@ -172,12 +182,12 @@ pub fn push_failure(
     requires title { length title.now ≤ 12288 }
     requires message { length message.now ≤ 12288 }
     ensures text { out.new.items ≡ out.old.items
-        ++ failed_told style point.entry.number (option_map (λ name. name.now) point.entry.name) point.entry.line title.now message.now }
+        ++ failed_told style point.entry.number (option_map (λ name. name.now) point.entry.name) (placed point.entry.place.now) title.now message.now }
     ensures room { length out.new.items ≤ length out.old.items + 6 * length title.now + 6 * length message.now + 25300 }
 {
     match style {
         Style::Text => {
-            push(out, headed(point.name, point.line, message).as_slice());
+            push(out, headed(point.name, point.place, message).as_slice());
             push(out, b"\n");
         }
         Style::Tap => {
@@ -205,20 +215,20 @@ fn noted(text: &[u8]) -> OutputPage
 }
 
 /// Appends a note.
-pub fn push_note(out: &mut ReportPage, style: Style, name: Option<&str>, line: u64, text: &[u8])
+pub fn push_note(out: &mut ReportPage, style: Style, name: Option<&str>, place: &Place, text: &[u8])
     requires room { length out.old.items + 2200 ≤ 131072 }
     requires short { length text.now ≤ 64 }
-    ensures text { out.new.items ≡ out.old.items ++ note_told style (option_map (λ name. name.now) name.entry) line text.now }
+    ensures text { out.new.items ≡ out.old.items ++ note_told style (option_map (λ name. name.now) name.entry) (placed place.now) text.now }
     ensures room { length out.new.items ≤ length out.old.items + 2200 }
 {
     match style {
         Style::Text => {
-            push(out, headed(name, line, noted(text).as_slice()).as_slice());
+            push(out, headed(name, place, noted(text).as_slice()).as_slice());
             push(out, b"\n");
         }
         Style::Tap => {
             push(out, b"# ");
-            push(out, headed(name, line, noted(text).as_slice()).as_slice());
+            push(out, headed(name, place, noted(text).as_slice()).as_slice());
             push(out, b"\n");
         }
         Style::Junit => {}

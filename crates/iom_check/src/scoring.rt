@@ -4,6 +4,7 @@ use crate::judging::{fails, message, passes, remark, title};
 use crate::looking::{Cache, is_current, place_message, place_title};
 use crate::owing::owed_message;
 use crate::pages::ReportPage;
+use crate::places::Place;
 use crate::points::{Point, push_failure, push_note, push_pass, push_tally};
 use crate::rules::{Rules, Style, Tally};
 use iom_debug::{elsewhere_line, request_line};
@@ -35,30 +36,31 @@ impl<'a> Scoring<'a> {
     ghost use Rattle.iom_check.specs.Judging.{message, title};
     ghost use Rattle.iom_check.specs.Looking.{looked_at};
     ghost use Rattle.iom_check.specs.Owing.{owed_at};
+    ghost use Rattle.iom_check.specs.Placed.{placed};
     ghost use Rattle.iom_check.specs.Wanted.{wanted};
 
     // The next test point, at a line.
-    fn point(&self, line: u64) -> Point<'a>
+    fn point<'p>(&self, place: &'p Place) -> Point<'a, 'p>
         ensures name { result.name ≡ self.now.name }
-        ensures line { result.line ≡ line }
+        ensures place { result.place.now ≡ place.now }
         ensures number { result.number ≡ more self.now.points }
     {
         Point {
             name: self.name,
-            line,
+            place,
             number: self.points.saturating_add(1),
         }
     }
 
     // A test point of a line passes.
-    fn pass(&mut self, line: u64, title: &[u8])
+    fn pass(&mut self, place: &Place, title: &[u8])
         requires short { length title.now ≤ 2052 }
         requires room { length self.old.page.items + 40000 ≤ 131072 }
-        ensures text { self.new.page.items ≡ self.old.page.items ++ (passed (score_of self.old) line title.now).said }
+        ensures text { self.new.page.items ≡ self.old.page.items ++ (passed (score_of self.old) (placed place.now) title.now).said }
         ensures room { length self.new.page.items ≤ length self.old.page.items + 40000 }
-        ensures score { score_of self.new ≡ (passed (score_of self.old) line title.now).after }
+        ensures score { score_of self.new ≡ (passed (score_of self.old) (placed place.now) title.now).after }
     {
-        let point = self.point(line);
+        let point = self.point(place);
         push_pass(&mut self.page, self.rules.style, point, title);
         self.points = self.points.saturating_add(1);
         self.tally.passed = self.tally.passed.saturating_add(1);
@@ -66,30 +68,30 @@ impl<'a> Scoring<'a> {
 
     // A test point passes, at a line. As text nothing is told of it.
     #[inline(never)]
-    fn pass_line(&mut self, number: u64, line: &[u8])
+    fn pass_line(&mut self, place: &Place, line: &[u8])
         requires line { length line.now ≤ 513 }
         requires empty { length self.old.page.items ≡ 0 }
-        ensures text { self.new.page.items ≡ self.old.page.items ++ (passed (score_of self.old) number (title line.now)).said }
+        ensures text { self.new.page.items ≡ self.old.page.items ++ (passed (score_of self.old) (placed place.now) (title line.now)).said }
         ensures room { length self.new.page.items ≤ 90000 }
-        ensures score { score_of self.new ≡ (passed (score_of self.old) number (title line.now)).after }
+        ensures score { score_of self.new ≡ (passed (score_of self.old) (placed place.now) (title line.now)).after }
     {
         match self.rules.style {
-            Style::Text => self.pass(number, b""),
-            Style::Tap | Style::Junit => self.pass(number, title(line).as_slice()),
+            Style::Text => self.pass(place, b""),
+            Style::Tap | Style::Junit => self.pass(place, title(line).as_slice()),
         }
     }
 
     // A test point of a line fails.
     #[inline(never)]
-    fn fail(&mut self, line: u64, title: &[u8], message: &[u8])
+    fn fail(&mut self, place: &Place, title: &[u8], message: &[u8])
         requires title { length title.now ≤ 2052 }
         requires message { length message.now ≤ 8400 }
         requires room { length self.old.page.items + 6 * length title.now + 6 * length message.now + 25300 ≤ 131072 }
-        ensures text { self.new.page.items ≡ self.old.page.items ++ (failed (score_of self.old) line title.now message.now).said }
+        ensures text { self.new.page.items ≡ self.old.page.items ++ (failed (score_of self.old) (placed place.now) title.now message.now).said }
         ensures room { length self.new.page.items ≤ length self.old.page.items + 6 * length title.now + 6 * length message.now + 25300 }
-        ensures score { score_of self.new ≡ (failed (score_of self.old) line title.now message.now).after }
+        ensures score { score_of self.new ≡ (failed (score_of self.old) (placed place.now) title.now message.now).after }
     {
-        let point = self.point(line);
+        let point = self.point(place);
         push_failure(&mut self.page, self.rules.style, point, title, message);
         self.points = self.points.saturating_add(1);
         self.tally.failed = self.tally.failed.saturating_add(1);
@@ -99,7 +101,7 @@ impl<'a> Scoring<'a> {
     #[inline(never)]
     fn fail_line(
         &mut self,
-        number: u64,
+        place: &Place,
         line: &[u8],
         answer: &[u8],
         slip: &[u8],
@@ -112,15 +114,15 @@ impl<'a> Scoring<'a> {
         requires tables { length tables.now ≤ 320 }
         requires elsewhere { length elsewhere.now ≤ 320 }
         requires empty { length self.old.page.items ≡ 0 }
-        ensures text { self.new.page.items ≡ self.old.page.items ++ (failed (score_of self.old) number (title line.now)
+        ensures text { self.new.page.items ≡ self.old.page.items ++ (failed (score_of self.old) (placed place.now) (title line.now)
             (message self.old.rules.fails_if_stale line.now answer.now slip.now tables.now elsewhere.now)).said }
         ensures room { length self.new.page.items ≤ 90000 }
-        ensures score { score_of self.new ≡ (failed (score_of self.old) number (title line.now)
+        ensures score { score_of self.new ≡ (failed (score_of self.old) (placed place.now) (title line.now)
             (message self.old.rules.fails_if_stale line.now answer.now slip.now tables.now elsewhere.now)).after }
     {
         let is_judged = self.rules.fails_if_stale;
         self.fail(
-            number,
+            place,
             title(line).as_slice(),
             message(is_judged, line, answer, slip, tables, elsewhere).as_slice(),
         );
@@ -128,25 +130,25 @@ impl<'a> Scoring<'a> {
 
     // Notes what would go unnoticed: it fails where the rules are strict.
     #[inline(never)]
-    fn note(&mut self, line: u64, text: &[u8])
+    fn note(&mut self, place: &Place, text: &[u8])
         requires short { length text.now ≤ 64 }
         requires room { length self.old.page.items ≤ 90000 }
-        ensures text { self.new.page.items ≡ self.old.page.items ++ (noted (score_of self.old) line text.now).said }
+        ensures text { self.new.page.items ≡ self.old.page.items ++ (noted (score_of self.old) (placed place.now) text.now).said }
         ensures room { length self.new.page.items ≤ 120000 }
-        ensures score { score_of self.new ≡ (noted (score_of self.old) line text.now).after }
+        ensures score { score_of self.new ≡ (noted (score_of self.old) (placed place.now) text.now).after }
     {
         if self.rules.is_strict {
-            self.fail(line, text, text);
+            self.fail(place, text, text);
         } else {
-            push_note(&mut self.page, self.rules.style, self.name, line, text);
+            push_note(&mut self.page, self.rules.style, self.name, place, text);
         }
     }
 
-    /// Judges a line of this number, which has this wish, by its answer. `slip` is why it is bad, and empty if it isn't; `tables` is empty where no stale access is
+    /// Judges a line, which stands at `place` and has this wish, by its answer. `slip` is why it is bad, and empty if it isn't; `tables` is empty where no stale access is
     /// to be told, and `elsewhere` where none that isn't settled.
     pub fn judge(
         &mut self,
-        number: u64,
+        place: &Place,
         line: &[u8],
         wish: Option<&[u8]>,
         answer: &[u8],
@@ -161,84 +163,84 @@ impl<'a> Scoring<'a> {
         requires tables { length tables.now ≤ 320 }
         requires elsewhere { length elsewhere.now ≤ 320 }
         requires empty { length self.old.page.items ≡ 0 }
-        ensures text { self.new.page.items ≡ self.old.page.items ++ (judged (score_of self.old) number line.now answer.now slip.now tables.now elsewhere.now).said }
+        ensures text { self.new.page.items ≡ self.old.page.items ++ (judged (score_of self.old) (placed place.now) line.now answer.now slip.now tables.now elsewhere.now).said }
         ensures room { length self.new.page.items ≤ 90000 }
-        ensures score { score_of self.new ≡ (judged (score_of self.old) number line.now answer.now slip.now tables.now elsewhere.now).after }
+        ensures score { score_of self.new ≡ (judged (score_of self.old) (placed place.now) line.now answer.now slip.now tables.now elsewhere.now).after }
     {
         let is_judged = self.rules.fails_if_stale;
         if fails(is_judged, wish, answer, tables, elsewhere) {
-            self.fail_line(number, line, answer, slip, tables, elsewhere);
+            self.fail_line(place, line, answer, slip, tables, elsewhere);
         } else if passes(is_judged, wish, answer, tables, elsewhere) {
-            self.pass_line(number, line);
+            self.pass_line(place, line);
         }
     }
 
-    /// Notes what a line of this number has that would go unnoticed, and whether it has a wish.
+    /// Notes what a line at `place` has that would go unnoticed, and whether it has a wish.
     #[tactic(auto, unfolding(crate::specs::Judging::remark))]
-    pub fn remark(&mut self, number: u64, line: &[u8], wish: Option<&[u8]>, answer: &[u8])
+    pub fn remark(&mut self, place: &Place, line: &[u8], wish: Option<&[u8]>, answer: &[u8])
         requires wish { option_map (λ wish. wish.now) wish ≡ wanted line.now }
         requires room { length self.old.page.items ≤ 90000 }
-        ensures text { self.new.page.items ≡ self.old.page.items ++ (remarked (score_of self.old) number line.now answer.now).said }
-        ensures score { score_of self.new ≡ with_wish (remarked (score_of self.old) number line.now answer.now).after line.now }
+        ensures text { self.new.page.items ≡ self.old.page.items ++ (remarked (score_of self.old) (placed place.now) line.now answer.now).said }
+        ensures score { score_of self.new ≡ with_wish (remarked (score_of self.old) (placed place.now) line.now answer.now).after line.now }
     {
         let text = remark(wish, line, answer);
         if !text.is_empty() {
-            self.note(number, text);
+            self.note(place, text);
         }
         self.has_wish = self.has_wish || wish.is_some();
     }
 
-    /// Judges place `i` of a cache by its answer, at a line of this number.
-    pub fn look(&mut self, number: u64, cache: Cache, i: u64, answer: &[u8])
+    /// Judges place `i` of a cache by its answer, behind the line at `place`.
+    pub fn look(&mut self, place: &Place, cache: Cache, i: u64, answer: &[u8])
         requires answer { length answer.now ≤ 320 }
         requires empty { length self.old.page.items ≡ 0 }
-        ensures text { self.new.page.items ≡ self.old.page.items ++ (looked_at (score_of self.old) number cache i answer.now).said }
-        ensures score { score_of self.new ≡ (looked_at (score_of self.old) number cache i answer.now).after }
+        ensures text { self.new.page.items ≡ self.old.page.items ++ (looked_at (score_of self.old) (placed place.now) cache i answer.now).said }
+        ensures score { score_of self.new ≡ (looked_at (score_of self.old) (placed place.now) cache i answer.now).after }
     {
         if !is_current(answer) {
             let title = place_title(cache, i);
             self.fail(
-                number,
+                place,
                 title.as_slice(),
                 place_message(title.as_slice(), answer).as_slice(),
             );
         }
     }
 
-    /// Tells of a request that is owed, at a line of this number.
-    pub fn owe(&mut self, number: u64, owed: &Owed)
+    /// Tells of a request that is owed, behind the line at `place`.
+    pub fn owe(&mut self, place: &Place, owed: &Owed)
         requires { length self.old.page.items ≡ 0 }
-        ensures text { self.new.page.items ≡ self.old.page.items ++ (owed_at (score_of self.old) number owed.now).said }
-        ensures score { score_of self.new ≡ (owed_at (score_of self.old) number owed.now).after }
+        ensures text { self.new.page.items ≡ self.old.page.items ++ (owed_at (score_of self.old) (placed place.now) owed.now).said }
+        ensures score { score_of self.new ≡ (owed_at (score_of self.old) (placed place.now) owed.now).after }
     {
         let title = request_line(&owed.made.request);
         let elsewhere = elsewhere_line(&owed.unsettled, owed.made.request.iova);
         self.fail(
-            number,
+            place,
             title.as_slice(),
             owed_message(title.as_slice(), owed.made.number, elsewhere.as_slice()).as_slice(),
         );
     }
 
-    // Notes at a script's end, of so many lines, that none had a wish.
-    fn note_end(&mut self, number: u64)
+    // Notes at a script's end that no line had a wish. `place` is that of the last one.
+    fn note_end(&mut self, place: &Place)
         requires { length self.old.page.items ≡ 0 }
-        ensures text { self.new.page.items ≡ self.old.page.items ++ (ended (score_of self.old) number).said }
+        ensures text { self.new.page.items ≡ self.old.page.items ++ (ended (score_of self.old) (placed place.now)).said }
         ensures room { length self.new.page.items ≤ 120000 }
-        ensures score { score_of self.new ≡ (ended (score_of self.old) number).after }
+        ensures score { score_of self.new ≡ (ended (score_of self.old) (placed place.now)).after }
     {
         if !self.has_wish {
-            self.note(number, b"no line has a wish");
+            self.note(place, b"no line has a wish");
         }
     }
 
-    /// Notes at a script's end, of so many lines, that none had a wish, and tells its sum.
-    pub fn end(&mut self, number: u64)
+    /// Notes at a script's end that no line had a wish, and tells its sum. `place` is that of the last line.
+    pub fn end(&mut self, place: &Place)
         requires { length self.old.page.items ≡ 0 }
-        ensures text { self.new.page.items ≡ self.old.page.items ++ closing (ended (score_of self.old) number) }
-        ensures score { score_of self.new ≡ (ended (score_of self.old) number).after }
+        ensures text { self.new.page.items ≡ self.old.page.items ++ closing (ended (score_of self.old) (placed place.now)) }
+        ensures score { score_of self.new ≡ (ended (score_of self.old) (placed place.now)).after }
     {
-        self.note_end(number);
+        self.note_end(place);
         push_tally(&mut self.page, self.rules.style, self.name, self.tally);
     }
 }

@@ -3,7 +3,6 @@
 use crate::fault::Fault;
 use crate::files;
 use crate::library::Library;
-use crate::placing::Placing;
 use crate::progress::{Progress, size_of_input};
 use iom_check::{Checking, Rules, Style, Tally, check};
 use iom_cli::{
@@ -58,11 +57,10 @@ fn judge<'f, R: Read, W: Write>(
     input: &mut R,
     output: &mut W,
 ) -> Result<Judged<'f>, Fault<'f>> {
-    let library = Library::new(rt, alloc);
+    let library = Library::new(rt, alloc, name.unwrap_or(""));
     let mut script = Including::new(alloc, &library, name.unwrap_or(""), &mut *input);
-    let mut placing = Placing::new(alloc, &library, rules.style, name, &mut *output);
     let mut reader = WatchedReader::new(&mut script);
-    let mut writer = WatchedWriter::new(&mut placing);
+    let mut writer = WatchedWriter::new(&mut *output);
     let mut platform = iom_asm::load(alloc, image)?;
     let mut trace = Trace::new(alloc)?;
     let mut reasons = if rules.fails_if_unsettled {
@@ -71,13 +69,12 @@ fn judge<'f, R: Read, W: Write>(
         LineAccount::new(&platform)
     };
     let debugger = Debugger::new(&mut platform, &mut trace, &mut reasons);
-    let mut checking = Checking::new(debugger, rules, name, points);
+    let mut checking = Checking::new(debugger, &library, rules, name, points);
     let ended = check(&mut checking, &mut reader, &mut writer);
     let (tally, is_lost) = (checking.tally(), checking.is_lost());
     let fault = match ended {
         Ok(_) if is_lost => Some(Fault::OutOfMemory),
         Ok(_) => None,
-        Err(_) if placing.is_short() => Some(Fault::OutOfMemory),
         Err(fault) => Some(Fault::of_run(fault, script.take_fault())),
     };
     Ok(Judged { tally, fault })

@@ -1,6 +1,7 @@
 //! The files that the lines of a script include, and where its lines stand.
 
 use crate::files;
+use iom_check::{Place, Places};
 use iom_include::{TextFault, Texts};
 use std::alloc::{AllocError, Global};
 use std::cell::RefCell;
@@ -16,60 +17,39 @@ struct Mark {
     line: u64,
 }
 
-/// A line of a file.
-#[derive(Drop)]
-pub struct FileLine {
-    /// The file's name.
-    pub name: String,
-    /// The line, counted from 1.
-    pub line: u64,
-}
-
 /// The files that a script includes.
 #[derive(Drop)]
-pub struct Library<'r, R> {
+pub struct Library<'r, 'n, R> {
     rt: &'r R,
     alloc: Global,
+    // of the script; if it has none, empty
+    name: &'n str,
     marks: RefCell<Vec<Mark>>,
 }
 
-impl<'r, R: Files> Library<'r, R> {
-    /// The files of a script of which no line was read.
-    pub fn new(rt: &'r R, alloc: Global) -> Library<'r, R> {
+impl<'r, 'n, R: Files> Library<'r, 'n, R> {
+    /// The files of a script of which no line was read. `name` is its own file; if it has none, empty.
+    pub fn new(rt: &'r R, alloc: Global, name: &'n str) -> Library<'r, 'n, R> {
         Library {
             rt,
             alloc,
+            name,
             marks: RefCell::new(Vec::new(alloc)),
         }
     }
 
-    /// Whether no line was read that includes a file.
-    pub fn is_empty(&self) -> bool {
-        match self.marks.try_borrow() {
-            Ok(marks) => marks.as_slice().is_empty(),
-            Err(_) => false,
-        }
-    }
-
-    /// Where a line of the script with its files stands, if a line before it includes a file.
-    pub fn line_at(&self, number: u64) -> Result<Option<FileLine>, AllocError> {
-        let Ok(marks) = self.marks.try_borrow() else {
-            return Ok(None);
-        };
-        let count = marks
-            .as_slice()
-            .partition_point(|mark| mark.first <= number);
-        match marks.as_slice()[..count].last() {
-            Some(mark) => Ok(Some(FileLine {
-                name: mark.name.clone()?,
-                line: mark.line.saturating_add(number.saturating_sub(mark.first)),
-            })),
-            None => Ok(None),
+    // Where a line stands, of the last mark before it.
+    fn place_by(&self, mark: &Mark, number: u64) -> Place {
+        let line = mark.line.saturating_add(number.saturating_sub(mark.first));
+        if mark.name.as_str() == self.name {
+            Place::own(line)
+        } else {
+            Place::of_text(mark.name.as_bytes(), line)
         }
     }
 }
 
-impl<R: Files> Texts for Library<'_, R> {
+impl<R: Files> Texts for Library<'_, '_, R> {
     fn text(&self, alloc: Global, name: &str) -> Result<Vec<u8>, TextFault> {
         files::read_text(self.rt, alloc, name)
     }
@@ -82,5 +62,20 @@ impl<R: Files> Texts for Library<'_, R> {
         marks
             .push(Mark { first, name, line })
             .map_err(AllocError::from)
+    }
+}
+
+impl<R: Files> Places for Library<'_, '_, R> {
+    fn place(&self, number: u64) -> Place {
+        let Ok(marks) = self.marks.try_borrow() else {
+            return Place::own(number);
+        };
+        let count = marks
+            .as_slice()
+            .partition_point(|mark| mark.first <= number);
+        match marks.as_slice()[..count].last() {
+            Some(mark) => self.place_by(mark, number),
+            None => Place::own(number),
+        }
     }
 }

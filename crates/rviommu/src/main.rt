@@ -25,7 +25,6 @@ mod checks;
 mod fault;
 mod files;
 mod library;
-mod placing;
 mod progress;
 
 /// The status of `check` where something couldn't be read, judged or written.
@@ -102,7 +101,7 @@ fn tell_all<'a, R: Read, W: Write>(
     input: &mut R,
     output: &mut W,
 ) -> Result<(), Fault<'a>> {
-    let library = Library::new(rt, alloc);
+    let library = Library::new(rt, alloc, "");
     let mut script = Including::new(alloc, &library, "", &mut *input);
     match tell(alloc, image, explained, tells_slips, &mut script, output) {
         Ok(true) => Ok(()),

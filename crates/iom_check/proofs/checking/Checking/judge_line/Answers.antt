@@ -1,23 +1,24 @@
 use Rattle.std.proofs.Common.{◌∙◌}
 use Rattle.iom_check.proofs.Reading.{same_names}
 use Rattle.iom_check.proofs.Telling.{line_says, told_line}
+use Rattle.iom_check.specs.Placed.{placed}
 use Rattle.iom_check.specs.Scores.{score_of}
 use Rattle.iom_check.proofs.checking.Checking.judge_line.Goals as goal
 use Rattle.iom_check.proofs.checking.Checking.judge_line.Goals.{then-self, else-self}
 use Rattle.iom_debug.proofs.Fenced.{noted}
 
 pub returns-clause-said : goal.returns-clause-said
-returns-clause-said c =
+returns-clause-said g c =
     let answer = c.carry_out-answer.result.items in
     let slip = c.slip_of-slip.result.items in
-    let both = told_line (score_of c.args.self.now.scoring) (score_of c.judge.new.self) (score_of c.remark.new.self) c.saturating_add-self.result
+    let both = told_line (score_of c.args.self.now.scoring) (score_of c.judge.new.self) (score_of c.remark.new.self) (placed c.place-self.result)
     c.args.line.now answer slip c.tables-tables.result.items c.elsewhere-elsewhere.result.items _ _ _ c.clear.ensures
     (rw (c.as_slice.ensures.value, c.as_slice-2.ensures.value, c.as_slice-3.ensures.value, c.as_slice-4.ensures.value) at c.judge.ensures.text)
     (rw (c.as_slice.ensures.value, c.as_slice-2.ensures.value, c.as_slice-3.ensures.value, c.as_slice-4.ensures.value) at c.judge.ensures.score)
     (rw c.as_slice-5.ensures.value at c.remark.ensures.text)
     (rw c.as_slice-5.ensures.value at c.remark.ensures.score) in
     line_says _ _ c.args.line.now _ answer slip c.tables-tables.result.items c.elsewhere-elsewhere.result.items c.saturating_add-self.result
-    (score_of c.remark.new.self) c.saturating_add-self.ensures
+    (placed c.place-self.result) (score_of c.remark.new.self) c.saturating_add-self.ensures c.place-self.ensures
     (record {
       state = rw c.read-read.ensures.line at c.carry_out-answer.ensures.state;
       trace = rw c.read-read.ensures.line at c.carry_out-answer.ensures.trace;
@@ -30,7 +31,7 @@ returns-clause-said c =
     c.tables-tables.ensures c.elsewhere-elsewhere.ensures both.0 both.1
 
 pub returns-clause-looks : goal.returns-clause-looks
-returns-clause-looks c =
+returns-clause-looks g c =
     let fence = noted c.args.self.now.debugger.reasons.now _ _ _ _ (rw c.read-read.ensures.line at c.carry_out-answer.ensures.stale) in
     elim c.if-self.branch [
       | then-self w ↦ rw w.if-self.true (w.looks-is ∙ w.has_fence-looks.ensures ∙ fence)

@@ -9,17 +9,19 @@ loop-i-preserved g c = record {
   can = c.in_ok-look_at.ensures.told;
   same_writer = c.in_ok-look_at.ensures.same_writer ∙ c.loop-i.invariant.same_writer;
   number = c.in_ok-look_at.ensures.number ∙ c.loop-i.invariant.number;
+  places = c.in_ok-look_at.ensures.places ∙ c.loop-i.invariant.places;
+  place = c.in_ok-look_at.ensures.place ∙ c.loop-i.invariant.place;
   debugger = c.in_ok-look_at.ensures.debugger ∙ c.loop-i.invariant.debugger;
   on = goes_on _ _ _ _ _ _ _ _ _ _ _ c.loop-i.invariant.on c.loop-i-test.true
-      (rw (c.loop-i.invariant.number, c.loop-i.invariant.debugger) at c.in_ok-look_at.ensures.ok)
-      (rw (c.loop-i.invariant.number, c.loop-i.invariant.debugger) at c.in_ok-look_at.ensures.score);
+      (rw (c.loop-i.invariant.place, c.loop-i.invariant.debugger) at c.in_ok-look_at.ensures.ok)
+      (rw (c.loop-i.invariant.place, c.loop-i.invariant.debugger) at c.in_ok-look_at.ensures.score);
 }
 
 pub returns-in_err-look_at-clause-front : goal.returns-in_err-look_at-clause-front
 returns-in_err-look_at-clause-front g c =
     let p = err_from_is_err_and c.from_residual.result c.from_residual.ensures.1 in
     rw p.1 (breaks_off _ _ _ _ _ _ _ _ _ _ c.loop-i.invariant.on c.loop-i-test.true
-    (rw (c.loop-i.invariant.number, c.loop-i.invariant.debugger) at c.in_err-look_at.ensures.front))
+    (rw (c.loop-i.invariant.place, c.loop-i.invariant.debugger) at c.in_err-look_at.ensures.front))
 
 pub returns-clause-ok : goal.returns-clause-ok
 returns-clause-ok g c = (finishes _ _ _ _ _ _ _ _ _ c.loop-i.invariant.on (omega arith)).0

@@ -7,9 +7,11 @@ loop-each-preserved g c = record {
   can = c.in_ok-tell_one.ensures.told;
   same_writer = c.in_ok-tell_one.ensures.same_writer ∙ c.loop-each.invariant.same_writer;
   number = c.in_ok-tell_one.ensures.number ∙ c.loop-each.invariant.number;
+  places = c.in_ok-tell_one.ensures.places ∙ c.loop-each.invariant.places;
+  place = c.in_ok-tell_one.ensures.place ∙ c.loop-each.invariant.place;
   debugger = c.in_ok-tell_one.ensures.debugger ∙ c.loop-each.invariant.debugger;
   on = goes_on _ _ _ _ _ _ _ _ _ _ c.loop-each.invariant.on c.loop-each-test.true c.each-item.is
-      (rw c.loop-each.invariant.number at c.in_ok-tell_one.ensures.ok)
+      (rw c.loop-each.invariant.place at c.in_ok-tell_one.ensures.ok)
       c.in_ok-tell_one.ensures.score;
 }
 
