@@ -13,3 +13,4 @@ pub mod Desks
 pub mod Comments
 pub mod Summary
 pub mod Telling
+pub mod Ending

@@ -1,9 +1,9 @@
 //! The word `debug`: each line is answered.
 
-ghost use Rattle.std.specs.Prelude.{◌≡◌, ◌≤◌, ◌++◌, false, length};
+ghost use Rattle.std.specs.Prelude.{◌≡◌, ◌≤◌, ◌++◌, false, true, length};
 ghost use Rattle.iom_reader.specs.Answering.{progress};
-ghost use Rattle.iom_reader.specs.Running.{Ends};
-ghost use Rattle.iom_reader.specs.Watching.{read_failed, write_failed};
+ghost use Rattle.iom_reader.specs.Running.{Ends, is_read, is_write, stops_at_a_read};
+ghost use Rattle.iom_reader.specs.Watching.{is_flushed, read_failed, write_failed};
 ghost use Rattle.iom_debug.specs.Desks.{desk_of};
 ghost use Rattle.iom_debug.specs.Telling.{by_debug, line_told, slip_told, with_slip};
 
@@ -109,7 +109,7 @@ fn put_line(out: &mut OutputPage, answer: &[u8], slip: &[u8])
     }
 }
 
-/// Answers each line of the script that `reader` gives, as `run` does. The faults are those of `run`.
+/// Answers each line of the script that `reader` gives, as `run` does. The faults are those of `run`, each only if it happened.
 #[tactic(auto, using(crate::proofs::Telling::lawful))]
 pub fn debug<R: Read, W: Write>(
     debugging: &mut Debugging<'_>,
@@ -129,6 +129,9 @@ pub fn debug<R: Read, W: Write>(
           number = debugging.new.number;
           tells_slips = debugging.new.tells_slips;
         })) result }
+    ensures read_told { read_failed reader.new ≡ is_read result }
+    ensures write_told { write_failed writer.new ≡ is_write result }
+    ensures flushed { stops_at_a_read result ≡ true → is_flushed writer.new ≡ true }
 {
     answer_all(debugging, reader, writer)
 }

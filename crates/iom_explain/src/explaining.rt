@@ -2,10 +2,12 @@
 
 ghost use Rattle.std.specs.Prelude.{◌≡◌, ◌≤◌, ℕ, List, false, true, length, IfErr, IfOk, OnOk};
 ghost use Rattle.std.specs.Io.KnownBytes.{Appends};
-ghost use Rattle.iom_reader.specs.Running.{is_write};
+ghost use Rattle.iom_reader.specs.Answering.{progress};
+ghost use Rattle.iom_reader.specs.Running.{is_read, is_write};
 ghost use Rattle.iom_reader.specs.Watching.{read_failed, write_failed};
+ghost use Rattle.iom_debug.specs.Ending.{Stops};
 ghost use Rattle.iom_explain.specs.Drives.{progressed};
-ghost use Rattle.iom_explain.specs.Explaining.{IsExplained, line_told};
+ghost use Rattle.iom_explain.specs.Explaining.{IsExplained, by_explain, line_told};
 
 use crate::only::Only;
 use crate::steps::{Teller, take};
@@ -403,7 +405,7 @@ impl Answerer for Explaining<'_> {
 
 /// Carries out the script that `reader` gives, and writes each line, the reasons of its accesses, and at the end how they went. Where what any
 /// IOMMU may hold is kept, it also writes which accesses weren't settled. Answers whether there was memory for that, and for the numbers of
-/// the lines that are counted; if there was none nothing more is written. The faults are those of `run`.
+/// the lines that are counted; if there was none nothing more is written. The faults are those of `run`, each only if it happened.
 #[tactic(auto, using(crate::proofs::Telling::lawful, crate::proofs::Telling::whole))]
 pub fn explain<R: Read, W: Write>(
     explaining: &mut Explaining<'_>,
@@ -414,6 +416,10 @@ pub fn explain<R: Read, W: Write>(
     requires can_write { write_failed writer.old ≡ false }
     ensures explained { IfOk result (λ all. all ≡ true → IsExplained (progressed explaining.old) (R.remaining reader.old.inner.now) (R.remaining reader.new.inner.now)
         (W.contents writer.old.inner.now) (W.contents writer.new.inner.now)) }
+    ensures stops { IfErr result (Stops by_explain (R.remaining reader.old.inner.now) (R.remaining reader.new.inner.now)
+        (progress (W.contents writer.old.inner.now) (progressed explaining.old)) (progress (W.contents writer.new.inner.now) (progressed explaining.new))) }
+    ensures read_told { read_failed reader.new ≡ is_read result }
+    ensures write_told { write_failed writer.new ≡ is_write result }
 {
     answer_all(explaining, reader, writer)?;
     if explaining.teller.is_short {
