@@ -1,9 +1,12 @@
 //! The word `check`: lines that name the answers that they want.
 
-ghost use Rattle.std.specs.Prelude.{◌≡◌, false, IfOk};
+ghost use Rattle.std.specs.Prelude.{◌≡◌, false, IfErr, IfOk};
+ghost use Rattle.iom_reader.specs.Answering.{progress};
+ghost use Rattle.iom_reader.specs.Running.{is_read, is_write};
 ghost use Rattle.iom_reader.specs.Watching.{read_failed, write_failed};
+ghost use Rattle.iom_debug.specs.Ending.{Stops};
 ghost use Rattle.iom_debug.specs.Settling.{is_lost_in};
-ghost use Rattle.iom_check.specs.Checking.{IsChecked};
+ghost use Rattle.iom_check.specs.Checking.{IsChecked, by_check};
 ghost use Rattle.iom_check.specs.Drives.{checked_by};
 
 use crate::looking::{Cache, standing_at};
@@ -267,7 +270,7 @@ impl<P: Places> Checking<'_, P> {
 }
 
 impl<P: Places> Checking<'_, P> {
-    ghost use Rattle.std.specs.Prelude.{◌≡◌, false, OnOk};
+    ghost use Rattle.std.specs.Prelude.{◌≡◌, false, IfErr, OnOk};
     ghost use Rattle.std.specs.Io.KnownBytes.{Appends};
     ghost use Rattle.iom_reader.specs.Running.{is_write};
     ghost use Rattle.iom_reader.specs.Watching.{write_failed};
@@ -288,6 +291,7 @@ impl<P: Places> Checking<'_, P> {
         ensures ok { OnOk result (Appends (W.contents writer.old.inner.now) (W.contents writer.new.inner.now)
             (owed_at (score_of self.old.scoring) (placed self.old.place) owed.now).said) }
         ensures score { score_of self.new.scoring ≡ (owed_at (score_of self.old.scoring) (placed self.old.place) owed.now).after }
+        ensures fault { IfErr result (λ fault. fault ≡ RunFault.Write) }
         ensures told { write_failed writer.new ≡ is_write result }
         ensures same_writer { writer.new.inner.ghost_name ≡ writer.old.inner.ghost_name }
         ensures number { self.new.number ≡ self.old.number }
@@ -310,7 +314,8 @@ impl<P: Places> Checking<'_, P> {
         ensures ok { OnOk result (Appends (W.contents writer.old.inner.now) (W.contents writer.new.inner.now)
             (all_owed (placed self.old.place) (score_of self.old.scoring) owed.now).said) }
         ensures score { OnOk result (score_of self.new.scoring ≡ (all_owed (placed self.old.place) (score_of self.old.scoring) owed.now).after) }
-        ensures told { OnOk result (write_failed writer.new ≡ false) }
+        ensures fault { IfErr result (λ fault. fault ≡ RunFault.Write) }
+        ensures told { write_failed writer.new ≡ is_write result }
         ensures same_writer { writer.new.inner.ghost_name ≡ writer.old.inner.ghost_name }
         ensures number { self.new.number ≡ self.old.number }
         ensures places { self.new.places ≡ self.old.places }
@@ -333,7 +338,8 @@ impl<P: Places> Checking<'_, P> {
         ensures ok { OnOk result (Appends (W.contents writer.old.inner.now) (W.contents writer.new.inner.now)
             (owed_if (placed self.old.place) (score_of self.old.scoring) owed.now).said) }
         ensures score { OnOk result (score_of self.new.scoring ≡ (owed_if (placed self.old.place) (score_of self.old.scoring) owed.now).after) }
-        ensures told { OnOk result (write_failed writer.new ≡ false) }
+        ensures fault { IfErr result (λ fault. fault ≡ RunFault.Write) }
+        ensures told { write_failed writer.new ≡ is_write result }
         ensures same_writer { writer.new.inner.ghost_name ≡ writer.old.inner.ghost_name }
         ensures number { self.new.number ≡ self.old.number }
         ensures places { self.new.places ≡ self.old.places }
@@ -351,7 +357,8 @@ impl<P: Places> Checking<'_, P> {
         requires { write_failed writer.old ≡ false }
         ensures told { OnOk result (TellsOwed (checked_by P.known self.old) (is_lost_in self.new.debugger.reasons.now.settling)
             (W.contents writer.old.inner.now) (W.contents writer.new.inner.now) (score_of self.new.scoring)) }
-        ensures can_write { OnOk result (write_failed writer.new ≡ false) }
+        ensures fault { IfErr result (λ fault. fault ≡ RunFault.Write) }
+        ensures write_told { write_failed writer.new ≡ is_write result }
         ensures same_writer { writer.new.inner.ghost_name ≡ writer.old.inner.ghost_name }
         ensures number { self.new.number ≡ self.old.number }
         ensures places { self.new.places ≡ self.old.places }
@@ -388,7 +395,7 @@ impl<P: Places> Answerer for Checking<'_, P> {
 }
 
 /// Checks the script that `reader` gives, and tells each line that fails, in the style of its rules, and at the end how many passed and how
-/// many failed, which it answers. The faults are those of `run`.
+/// many failed, which it answers. The faults are those of `run`, each only if it happened.
 #[tactic(auto, using(crate::proofs::Telling::lawful, crate::proofs::Telling::checked))]
 pub fn check<P: Places, R: Read, W: Write>(
     checking: &mut Checking<'_, P>,
@@ -401,6 +408,11 @@ pub fn check<P: Places, R: Read, W: Write>(
         (R.remaining reader.old.inner.now) (R.remaining reader.new.inner.now)
         (W.contents writer.old.inner.now) (W.contents writer.new.inner.now)
         (is_lost_in checking.new.debugger.reasons.now.settling) tally) }
+    ensures stops { IfErr result (Stops by_check (R.remaining reader.old.inner.now) (R.remaining reader.new.inner.now)
+        (progress (W.contents writer.old.inner.now) (checked_by P.known checking.old))
+        (progress (W.contents writer.new.inner.now) (checked_by P.known checking.new))) }
+    ensures read_told { read_failed reader.new ≡ is_read result }
+    ensures write_told { write_failed writer.new ≡ is_write result }
 {
     answer_all(checking, reader, writer)?;
     checking.look_at_caches(writer)?;
