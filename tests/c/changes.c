@@ -7,18 +7,10 @@
 #include <string.h>
 
 #include "rviommu.h"
+#include "want.h"
 
 #define RAM 0x80000000u
 #define IOVA 0x40201000u
-
-static int failed;
-
-static void want(const char *what, uint64_t seen, uint64_t wanted) {
-    if (seen != wanted) {
-        printf("%s: 0x%" PRIx64 ", wanted 0x%" PRIx64 "\n", what, seen, wanted);
-        failed = 1;
-    }
-}
 
 /* 1 MiB of memory and a disk; device 5 is led by Sv39 from IOVA to 0x80010000. */
 static void open_mapped(rviommu_t *platform) {

@@ -8,31 +8,12 @@
 #include <stdlib.h>
 #include <string.h>
 
+#include "refusable.h"
 #include "rviommu.h"
+#include "want.h"
 
 #define RAM 0x80000000u
 #define SIZE 0x100000u
-
-void *__real_malloc(size_t size);
-void *__real_realloc(void *old, size_t size);
-void *__wrap_malloc(size_t size);
-void *__wrap_realloc(void *old, size_t size);
-
-static int failed;
-static long refused = -1; /* how many allocations there are before the one that is refused */
-
-static bool is_refused(void) { return refused >= 0 && refused-- == 0; }
-
-void *__wrap_malloc(size_t size) { return is_refused() ? NULL : __real_malloc(size); }
-
-void *__wrap_realloc(void *old, size_t size) { return is_refused() ? NULL : __real_realloc(old, size); }
-
-static void want(const char *what, uint64_t seen, uint64_t wanted) {
-    if (seen != wanted) {
-        printf("%s: 0x%" PRIx64 ", wanted 0x%" PRIx64 "\n", what, seen, wanted);
-        failed = 1;
-    }
-}
 
 static uint64_t state = 1;
 

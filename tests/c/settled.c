@@ -8,7 +8,9 @@
 #include <stdlib.h>
 #include <string.h>
 
+#include "refusable.h"
 #include "rviommu.h"
+#include "want.h"
 
 #define RAM 0x80000000u
 #define SIZE 0x100000u
@@ -22,31 +24,6 @@
 #define VMA 1
 /* Of one page, whose number stands in the second word; NL (no leaf) is 0, so pointers stay. */
 #define VMA_OF_PAGE (VMA | 1 << 10)
-
-void *__real_malloc(size_t size);
-void *__real_realloc(void *old, size_t size);
-void *__wrap_malloc(size_t size);
-void *__wrap_realloc(void *old, size_t size);
-
-static int failed;
-static long allocations;
-static long refused = -1; /* how many allocations there are before the one that is refused */
-
-static bool is_refused(void) {
-    allocations++;
-    return refused >= 0 && refused-- == 0;
-}
-
-void *__wrap_malloc(size_t size) { return is_refused() ? NULL : __real_malloc(size); }
-
-void *__wrap_realloc(void *old, size_t size) { return is_refused() ? NULL : __real_realloc(old, size); }
-
-static void want(const char *what, uint64_t seen, uint64_t wanted) {
-    if (seen != wanted) {
-        printf("%s: 0x%" PRIx64 ", wanted 0x%" PRIx64 "\n", what, seen, wanted);
-        failed = 1;
-    }
-}
 
 static uint64_t leaf(uint64_t frame) { return frame << 10 | 0xd7; }
 
