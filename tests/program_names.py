@@ -226,3 +226,13 @@ class Names(Case):
         for path in [*paths, *names_there("web/iom_page/src/**/*.page")]:
             text = re.sub(r"(?m)^ *#\[.*\n", "", text_of(path))
             self.assertEqual(re.findall(UNDOCUMENTED, text), [], path)
+
+    def test_page(self):
+        """the page's own crate, which only `make page` proves: each definition and lemma of another crate that it uses is there"""
+        used = r"\buse Rattle\.(iom_\w+)\.(specs|proofs)\.([\w.]+)\.\{(.*?)\}"
+        for path in names_there("web/iom_page/**/*.page"):
+            for crate, part, file, names in re.findall(used, text_of(path)):
+                if crate in CRATES:
+                    is_type = file.startswith("declared.")
+                    there = names_of(crate) if is_type else defined(f"crates/{crate}/{part}/{file.replace('.', '/')}.antt")
+                    self.want_within(names.split(", "), there, path)
