@@ -66,6 +66,18 @@ impl<'a> Scoring<'a> {
         self.tally.passed = self.tally.passed.saturating_add(1);
     }
 
+    // A test point passes, at a line, whose title is told.
+    #[inline(never)]
+    fn pass_titled(&mut self, place: &Place, line: &[u8])
+        requires line { length line.now ≤ 513 }
+        requires empty { length self.old.page.items ≡ 0 }
+        ensures text { self.new.page.items ≡ self.old.page.items ++ (passed (score_of self.old) (placed place.now) (title line.now)).said }
+        ensures room { length self.new.page.items ≤ 90000 }
+        ensures score { score_of self.new ≡ (passed (score_of self.old) (placed place.now) (title line.now)).after }
+    {
+        self.pass(place, title(line).as_slice());
+    }
+
     // A test point passes, at a line. As text nothing is told of it.
     #[inline(never)]
     fn pass_line(&mut self, place: &Place, line: &[u8])
@@ -77,7 +89,7 @@ impl<'a> Scoring<'a> {
     {
         match self.rules.style {
             Style::Text => self.pass(place, b""),
-            Style::Tap | Style::Junit => self.pass(place, title(line).as_slice()),
+            Style::Tap | Style::Junit => self.pass_titled(place, line),
         }
     }
 
