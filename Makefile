@@ -2,6 +2,8 @@
 #
 #   make run < FILE           runs a script on standard input, on the built-in image; if needed, it first proves and builds the program that
 #                             does so (iom_player), on all cores
+#   make try < FILE           runs a script so without any proof, in half a minute; with WORDS="check --settled", the whole program with
+#                             these words, on the files of FILES=".."
 #   make build                proves and builds the whole program, if needed
 #   make test                 every proof from nothing, the edits that must be refused, every test
 #   make edits [CRATES=..]    tries the edits of crates/*/edits, or those of the named crates, many in one check
@@ -24,6 +26,8 @@ SEED = 1
 CASES = 5000
 OPERATIONS = 3000
 CRATES =
+WORDS =
+FILES =
 program = crates/rviommu/out/rviommu
 player = crates/iom_player/out/iom_player
 library = c/out/lib/librviommu.so
@@ -33,7 +37,7 @@ sources = $(shell find crates -name out -prune -o -type f \( -name '*.rt' -o -na
 has_rt = command -v rt >/dev/null || { echo "rt, the command of the Rattle kit, is not on the path" >&2; exit 1; }
 has_python = command -v python3 >/dev/null || { echo "python3 is not on the path" >&2; exit 1; }
 
-.PHONY: run build test edits rows bench fuzz peer linux boot library page install dist deb wheel
+.PHONY: run try build test edits rows bench fuzz peer linux boot library page install dist deb wheel
 
 $(program): crates.txt $(sources)
 	@$(has_rt)
@@ -57,6 +61,11 @@ build: $(program)
 
 run: $(player)
 	@$(player)
+
+try:
+	@$(has_rt)
+	@$(has_python)
+	@packaging/try.py $(WORDS) -- $(FILES)
 
 test:
 	@$(has_rt)

@@ -1,6 +1,6 @@
 /*
  * What the header promises beside the proved functions: an output that isn't wanted may be NULL, a closed handle may be closed again, an access
- * of any length is made in pieces, and looks may run at once. A function that is called iom_c_NAME here is the one of the crate iom_c that is
+ * of any length is made in pieces, looks may run at once, and two calls have an earlier name too. A function that is called iom_c_NAME here is the one of the crate iom_c that is
  * called rviommu_NAME there: c/build.py gives it this name. Nothing else stands between.
  */
 #include "rviommu.h"
@@ -63,6 +63,7 @@ STATUS iom_c_settled(rviommu_t *, const uint64_t *, size_t, uint64_t, uint64_t, 
 STATUS iom_c_owed(rviommu_t *, const uint64_t *, size_t, struct rviommu_owed *, size_t, size_t *);
 STATUS iom_c_assemble(const char *, size_t, uint8_t *, size_t, size_t *, uint64_t *);
 STATUS iom_c_text(enum rviommu_status, char *, size_t, size_t *);
+STATUS iom_c_cause_text(uint64_t, char *, size_t, size_t *);
 
 void rviommu_close(rviommu_t *handle) {
     if (handle != NULL && handle->own != NULL) {
@@ -250,11 +251,13 @@ STANDING rviommu_stale_context(const rviommu_t *handle, uint64_t place, struct r
     return iom_c_stale_context(&look, place, located);
 }
 
-STATUS rviommu_why(const rviommu_t *handle, uint64_t step, struct rviommu_why *why) {
+STATUS rviommu_reason(const rviommu_t *handle, uint64_t step, struct rviommu_why *why) {
     LOOK(handle)
     WANTED(struct rviommu_why, why)
     return iom_c_why(&look, step, why);
 }
+
+STATUS rviommu_why(const rviommu_t *handle, uint64_t step, struct rviommu_why *why) { return rviommu_reason(handle, step, why); }
 
 STATUS rviommu_page_origin(const rviommu_t *handle, uint64_t place, uint64_t *context, uint64_t *walk) {
     LOOK(handle)
@@ -287,9 +290,11 @@ STATUS rviommu_owed_lent(const rviommu_t *handle, const uint64_t *words, size_t 
     return iom_c_owed(&look, words, count, owed != NULL ? owed : none, owed != NULL ? room : 0, found);
 }
 
-STATUS rviommu_owed(const rviommu_t *handle, struct rviommu_owed *owed, size_t room, size_t *found) {
+STATUS rviommu_all_owed(const rviommu_t *handle, struct rviommu_owed *owed, size_t room, size_t *found) {
     return rviommu_owed_lent(handle, OWN, owed, room, found);
 }
+
+STATUS rviommu_owed(const rviommu_t *handle, struct rviommu_owed *owed, size_t room, size_t *found) { return rviommu_all_owed(handle, owed, room, found); }
 
 STATUS rviommu_assemble(const char *text, size_t text_length, uint8_t *image, size_t room, size_t *length, uint64_t *line) {
     WANTED(size_t, length)
@@ -300,6 +305,11 @@ STATUS rviommu_assemble(const char *text, size_t text_length, uint8_t *image, si
 STATUS rviommu_text(enum rviommu_status status, char *words, size_t room, size_t *length) {
     WANTED(size_t, length)
     return iom_c_text(status, words, room, length);
+}
+
+STATUS rviommu_cause_text(uint64_t cause, char *words, size_t room, size_t *length) {
+    WANTED(size_t, length)
+    return iom_c_cause_text(cause, words, room, length);
 }
 
 /* How long the next piece of an access is: at most 64 bytes, and none in the next page. */

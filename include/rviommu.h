@@ -9,8 +9,13 @@
  *   from 1 on;
  * - only if it is asked for ("Settled requests", below): what any IOMMU may hold in its caches.
  * Each function is proved to do the same as the library call that it makes, if its caller keeps the rules below and those beside the
- * function. Four things are only tested: the checks for NULL outputs, the checks for closed handles, how an access is cut into pieces, and that
- * looks may run at once.
+ * function. These are only tested:
+ * - that an output may be NULL, that a closed handle may be closed, how an access is cut into pieces, that looks may run at once, and that an
+ *   earlier name of a function is the same call;
+ * - that what was saved is restored and not refused, that damaged bytes are, and that these take at most twice the memory;
+ * - that memory is refused for holdings only if malloc refused it, and that a handle which keeps none calls malloc at no step;
+ * - that nothing leaks;
+ * - rviommu_record.h and rviommu_events.h.
  *
  * Rules for the caller of every function:
  * - No pointer is NULL, except one to an output that isn't wanted: a number, a length, a struct, or the bytes that a device reads. A
@@ -22,7 +27,7 @@
  *   other function uses it. Two handles share nothing.
  * - No function is called from a signal handler, nor in the forked child of a process with threads.
  * Only rviommu_open*, rviommu_copy, rviommu_save, rviommu_restore, rviommu_keep_reasons, rviommu_close, rviommu_assemble and rviommu_keep_holdings
- * call malloc and free; and on a handle that keeps holdings, also each step, rviommu_reset, rviommu_settled* and rviommu_owed*.
+ * call malloc and free; and on a handle that keeps holdings, also each step, rviommu_reset, rviommu_settled*, rviommu_owed* and rviommu_all_owed.
  *
  * Addresses and lengths are in bytes, and numbers in memory are little-endian. The length of a buffer is a size_t; the number of a device,
  * a place or a step is a uint64_t. Functions of different kinds return different enums, each with numbers from 0 on.
@@ -54,7 +59,7 @@ enum rviommu_answer {
     RVIOMMU_DONE = 1,       /* the step was carried out */
     RVIOMMU_BYTES = 2,      /* the bytes that a device read */
     RVIOMMU_IDLE = 3,       /* there was nothing to do */
-    RVIOMMU_DENIED = 4,     /* the IOMMU denied the device's access, with a cause ("Fault/Event-Queue (FQ)", CAUSE) */
+    RVIOMMU_DENIED = 4,     /* the IOMMU denied the device's access, with a cause ("Fault/Event-Queue (FQ)", CAUSE): rviommu_cause_text */
     RVIOMMU_BUS_ERROR = 5,  /* a byte of the hart's access, or of the device's translated access, is outside memory */
     RVIOMMU_BAD_ACCESS = 6, /* the registers have no access of this offset and size */
     RVIOMMU_NO_DEVICE = 7,  /* there is no such block device */
@@ -83,7 +88,8 @@ enum rviommu_status {
     RVIOMMU_BAD_SAVE = 16,     /* the bytes aren't those of a saved handle */
     RVIOMMU_OTHER_VERSION = 17, /* the bytes were saved by a library that writes another form */
     RVIOMMU_NOT_KEPT = 18,     /* the handle doesn't keep what any IOMMU may hold */
-    RVIOMMU_UNSETTLED = 19     /* an IOMMU may lead the request elsewhere than the tables do */
+    RVIOMMU_UNSETTLED = 19,    /* an IOMMU may lead the request elsewhere than the tables do */
+    RVIOMMU_CACHED = 20        /* something was cached since the handle was opened or reset; nothing was done */
 };
 
 /* What is at a place of a cache. */
@@ -295,12 +301,12 @@ enum rviommu_status rviommu_open_lent(uint64_t base, uint64_t size, rviommu_t *h
 enum rviommu_status rviommu_open_lent_image(const uint8_t *image, size_t length, uint64_t base, uint64_t size, rviommu_t *handle);
 
 /* Opens `copy` with an equal platform and an equal account. From then on the two handles are independent. The copy continues the count of
- * steps, but its trace is empty and it has no reasons yet, so rviommu_why and the line `trace` are about its own steps only. It keeps the
+ * steps, but its trace is empty and it has no reasons yet, so rviommu_reason and the line `trace` are about its own steps only. It keeps the
  * same number of reasons as `handle`, and no holdings. If the memory is lent, the copy is lent the same memory, or another one of the same place. `handle` is open and does not change. Returns RVIOMMU_OK; or RVIOMMU_OUT_OF_MEMORY, and `copy` is
  * closed. */
 enum rviommu_status rviommu_copy(const rviommu_t *handle, rviommu_t *copy);
 
-/* Sets how many reasons are kept for rviommu_why: those of the last `most` steps or, if `accesses_only` is true, of the last `most` steps
+/* Sets how many reasons are kept for rviommu_reason: those of the last `most` steps or, if `accesses_only` is true, of the last `most` steps
  * that make an access of a device. A newly opened handle keeps those of the last 32 steps. If `most` is 0, accesses are faster, since the
  * tables aren't walked to see whether they are stale. The reasons kept so far are dropped. The handle is open. Returns RVIOMMU_OK; or RVIOMMU_OUT_OF_MEMORY, and nothing changes. */
 enum rviommu_status rviommu_keep_reasons(rviommu_t *handle, size_t most, bool accesses_only);
@@ -313,8 +319,13 @@ enum rviommu_status rviommu_keep_reasons(rviommu_t *handle, size_t most, bool ac
 enum rviommu_status rviommu_save(const rviommu_t *handle, uint8_t *bytes, size_t room, size_t *length);
 
 /* Opens a handle that continues where the saved one stood: each later step has the same answer. The count of steps continues, the trace is
- * empty, and it has no reasons yet; it keeps as many as the saved one, and no holdings. If the saved one was lent its memory, this one is lent a memory of the
- * same place. Returns RVIOMMU_OK; or RVIOMMU_BAD_SAVE, RVIOMMU_OTHER_VERSION or RVIOMMU_OUT_OF_MEMORY, and the handle is closed. */
+ * empty, and it has no reasons yet; it keeps as many as the saved one, and no holdings. If the saved one was lent its memory, this one is lent a
+ * memory of the same place. Returns RVIOMMU_OK; or else why not, and the handle is closed. The first of these checks that fails decides:
+ * - RVIOMMU_BAD_SAVE: the length is no multiple of 8, or below 16; the first eight bytes aren't "RVIOMMUS".
+ * - RVIOMMU_OTHER_VERSION: the next eight, a number, aren't the version of this library's form, which is 2; that of version 1 had no check word.
+ * - RVIOMMU_BAD_SAVE: the next eight aren't the check word of the bytes after them, or these aren't those of a handle. So damage is noticed, but
+ *   not what somebody made on purpose.
+ * RVIOMMU_OUT_OF_MEMORY is returned only after the first two; damaged bytes ask for no more memory than the saved ones. */
 enum rviommu_status rviommu_restore(const uint8_t *bytes, size_t length, rviommu_t *handle);
 
 /* Closes an open handle and frees its memory. Does nothing to a handle whose member is NULL, as that of a closed handle is. */
@@ -495,7 +506,7 @@ enum rviommu_standing rviommu_stale_context(const rviommu_t *handle, uint64_t pl
 
 /* Writes to `why` one of the kept reasons; the oldest is 0. Returns RVIOMMU_OK; or RVIOMMU_NOT_THERE if fewer are kept, and `why` is
  * unchanged. */
-enum rviommu_status rviommu_why(const rviommu_t *handle, uint64_t step, struct rviommu_why *why);
+enum rviommu_status rviommu_reason(const rviommu_t *handle, uint64_t step, struct rviommu_why *why);
 
 /* The number of the step that filled a place of a cache, even if the entry was dropped since. For the translation cache that is `walk`, and
  * `context` is the number of the step that filled the context under which the page was walked. Returns RVIOMMU_OK; or RVIOMMU_NOT_THERE if
@@ -505,15 +516,15 @@ enum rviommu_status rviommu_context_origin(const rviommu_t *handle, uint64_t pla
 
 /*
  * Settled requests. A request is settled if each IOMMU that the standard allows leads it where the tables do, whatever entries it keeps of those
- * that it could read and wasn't told to drop ("Caching in-memory data structures"). If a driver forgets an invalidation, requests aren't
+ * that it could read and no command dropped ("Caching in-memory data structures"). If a driver forgets an invalidation, requests aren't
  * settled any more, even where the caches of this model have lost the entry; rviommu_stale asks about these caches alone. The handle is open.
  */
 
 /* Keeps from now on the holdings of the handle, if `keeps` is true: which entries any IOMMU may hold, and which requests the steps make. They
- * begin with none. What is cached already isn't among them, so call this on a newly opened handle, or right behind rviommu_reset. Each step
- * then takes more time, and memory. A step that is refused that memory is carried out all the same, and from then on nothing is known until
- * holdings begin anew, by this function or rviommu_reset. If `keeps` is false, ends this and frees the memory, as on a newly opened handle. */
-void rviommu_keep_holdings(rviommu_t *handle, bool keeps);
+ * begin with none, so call this on a newly opened handle, or right after rviommu_reset. Each step then takes more time, and memory. A step that is refused that memory is carried out all the same, and from then on nothing is known until holdings begin anew, by
+ * this function or rviommu_reset. If `keeps` is false, ends this and frees the memory, as on a newly opened handle. Returns RVIOMMU_OK; or
+ * RVIOMMU_CACHED if `keeps` is true and a cache has a place (rviommu_page, rviommu_context), live or empty, and nothing changes. */
+enum rviommu_status rviommu_keep_holdings(rviommu_t *handle, bool keeps);
 
 /* Whether a request is settled now. Returns RVIOMMU_OK if it is; or RVIOMMU_UNSETTLED, and writes to `unsettled` where it may be led. Else
  * nothing is said: RVIOMMU_NOT_KEPT; RVIOMMU_OUT_OF_MEMORY if memory is refused, or was at a step; RVIOMMU_NOT_THERE if the device id isn't
@@ -525,7 +536,7 @@ enum rviommu_status rviommu_settled_lent(const rviommu_t *handle, const uint64_t
 /* What is owed now: the requests that steps made, since holdings are kept, and that aren't settled. Writes as many of them to `owed` as there is
  * `room` for, and to `found` how many there are, which may be more (`owed` may be NULL if `room` is 0). Returns RVIOMMU_OK; or
  * RVIOMMU_NOT_KEPT, RVIOMMU_OUT_OF_MEMORY or RVIOMMU_STATUS_OTHER_MEMORY, and the outputs are unchanged. It is a look, too. */
-enum rviommu_status rviommu_owed(const rviommu_t *handle, struct rviommu_owed *owed, size_t room, size_t *found);
+enum rviommu_status rviommu_all_owed(const rviommu_t *handle, struct rviommu_owed *owed, size_t room, size_t *found);
 enum rviommu_status rviommu_owed_lent(const rviommu_t *handle, const uint64_t *words, size_t count, struct rviommu_owed *owed, size_t room, size_t *found);
 
 /*
@@ -534,13 +545,32 @@ enum rviommu_status rviommu_owed_lent(const rviommu_t *handle, const uint64_t *w
 
 /* Assembles a text (rviommu(1), "IMAGE TEXTS") into the bytes of an image, and writes their number to `length`. Returns RVIOMMU_OK;
  * RVIOMMU_LITTLE_ROOM, and `length` is the room that is needed; RVIOMMU_OUT_OF_MEMORY; or RVIOMMU_BAD_LINE, RVIOMMU_OVERLAP or
- * RVIOMMU_OUTSIDE, and `line` is the first faulty line, counted from 1, or 0 if the text has no statement. `image` is unchanged unless
- * RVIOMMU_OK is returned. */
+ * RVIOMMU_OUTSIDE, and `line` is the first faulty line, counted from 1, or 0 if the text has no statement. An output is unchanged with any
+ * answer that doesn't name it: `image` unless RVIOMMU_OK is returned, `length` unless that or RVIOMMU_LITTLE_ROOM is, and `line` unless one of the
+ * last three is. */
 enum rviommu_status rviommu_assemble(const char *text, size_t text_length, uint8_t *image, size_t room, size_t *length, uint64_t *line);
 
 /* Writes the words for an enum rviommu_status to `words`, with a 0 after them, and their length without the 0 to `length`. Returns
  * RVIOMMU_OK; or RVIOMMU_LITTLE_ROOM if `room` is below 32, and nothing is written. */
 enum rviommu_status rviommu_text(enum rviommu_status status, char *words, size_t room, size_t *length);
+
+/* Writes the name of a cause of a denial ("Fault/Event-Queue (FQ)", CAUSE) to `words`, likewise: "read page fault" for 13, and "no such cause"
+ * for a number of which this model has no denial. Returns RVIOMMU_OK; or RVIOMMU_LITTLE_ROOM if `room` is below 48, and nothing is written. */
+enum rviommu_status rviommu_cause_text(uint64_t cause, char *words, size_t room, size_t *length);
+
+/*
+ * Earlier names: rviommu_why is rviommu_reason, and rviommu_owed is rviommu_all_owed. In C++ each hides the constructor of the struct of its
+ * name, of which g++ warns with -Wshadow; that warning is off here.
+ */
+#if defined(__cplusplus) && defined(__GNUC__)
+#pragma GCC diagnostic push
+#pragma GCC diagnostic ignored "-Wshadow"
+#endif
+enum rviommu_status rviommu_why(const rviommu_t *handle, uint64_t step, struct rviommu_why *why);
+enum rviommu_status rviommu_owed(const rviommu_t *handle, struct rviommu_owed *owed, size_t room, size_t *found);
+#if defined(__cplusplus) && defined(__GNUC__)
+#pragma GCC diagnostic pop
+#endif
 
 #ifdef __cplusplus
 }

@@ -43,11 +43,11 @@ def size(name):
     return BYTES_OF_A_START + sum(path.stat().st_size for path in paths if path.is_file())
 
 
-def ways(stands_on):
+def ways(stands_on, size_of):
     """For each crate the bytes from it up to the top, along the longest way: the longest way is built first."""
     found = {}
     for name in reversed(stands_on):
-        found[name] = size(name) + max((found[it] for it in stands_on if name in stands_on[it]), default=0)
+        found[name] = size_of(name) + max((found[it] for it in stands_on if name in stands_on[it]), default=0)
     return found
 
 
@@ -65,9 +65,23 @@ def say(text):
     print(f"build: {text}", file=sys.stderr, flush=True)
 
 
-def minutes_left(passed, part):
-    """About how long it still takes, after so many seconds for this part of it."""
-    return f", about {max(1, round(passed * (1 - part) / part / 60))} minutes left" if part and part < 1 else ""
+def minutes_left(seconds):
+    """About how long it still takes, as text; nothing if that is over."""
+    count = max(1, round(seconds / 60))
+    return f", about {count} minute{'s' if count > 1 else ''} left" if seconds > 0 else ""
+
+
+def run(words, folder, name=None):
+    """Runs a command in a folder; returns what it wrote if it failed. Of a crate that is named it says how far the check is."""
+    lines, started = [], time.monotonic()
+    with subprocess.Popen(words, cwd=folder, encoding="utf-8", errors="replace", **HOW) as made:
+        for line in made.stdout:
+            lines.append(line)
+            far = re.match(r"so far: ([1-9]\d*) of (\d+) functions", line)
+            if far and name:
+                left = (time.monotonic() - started) * (int(far[2]) / int(far[1]) - 1)
+                say(f"{name}: {far[1]} of {far[2]} functions{minutes_left(left)}")
+    return "".join(lines) if made.returncode else None
 
 
 class Tree:
@@ -91,15 +105,6 @@ class Tree:
             shutil.rmtree(self.kept, ignore_errors=True)
             self.kept.parent.mkdir(parents=True, exist_ok=True)
             (self.folder / "out").rename(self.kept)
-
-    def run(self, words, tell=lambda line: None):
-        """Runs rt in the crate's folder, and tells each line that it writes; returns all of them if it failed."""
-        lines = []
-        with subprocess.Popen(words, cwd=self.folder, encoding="utf-8", errors="replace", **HOW) as rt:
-            for line in rt.stdout:
-                lines.append(line)
-                tell(line)
-        return "".join(lines) if rt.returncode else None
 
     def close(self):
         self.keep()
@@ -130,16 +135,18 @@ class Build:
         stands_on = crates.stands_on()
         self.crates = crates.below(stands_on, top)
         self.lower = {name: [it for it in crates.below(stands_on, name) if it != name] for name in self.crates}
-        self.ways = ways(self.crates)
+        self.ways = ways(self.crates, size)
         self.ready, self.running, self.failed = set(), {}, {}
-        self.started = time.monotonic()
+        # Those that cost a few seconds; of the others when each was begun, and how long those took that are ready.
+        self.current = {it for it in self.crates if crates.is_current(it)}
+        self.begun, self.took = {}, {}
 
     def build_one(self, name, words):
         """Builds a crate; returns its name and what rt wrote if it failed."""
         try:
             write = lambda folder: link_all(folder, name, self.lower[name])
             tree = Tree(name, crates.FOLDER / name / "out", write)
-            fault = tree.run(words)
+            fault = run(words, tree.folder)
             tree.close()
             return name, fault
         except OSError as error:
@@ -157,15 +164,24 @@ class Build:
             return [*words, "--jobs", str(max(1, (at_once() - len(near)) // len(first)))]
         return [*([] if name in near else ["nice"]), *words, "--jobs", "1"]
 
+    def seconds_left(self):
+        """About how long it still takes: all that isn't ready, shared by as many as are built at once, or the longest way
+        if that is more, as fast as those were built that are ready. 0 if none is yet."""
+        if not self.took:
+            return 0
+        speed, now = sum(map(size, self.took)) / sum(self.took.values()), time.monotonic()
+        rest = {it: max(0, size(it) - speed * (now - self.begun.get(it, now))) for it in self.crates}
+        rest |= {it: 0 for it in self.ready | self.current}
+        return max(sum(rest.values()) / at_once(), *ways(self.crates, rest.get).values()) / speed
+
     def done(self, name, fault):
         if fault is not None:
             self.failed[name] = fault
             return
         self.ready.add(name)
-        passed = time.monotonic() - self.started
-        longest = max((self.ways[it] for it in self.crates if it not in self.ready), default=0)
-        part = 1 - longest / max(self.ways.values())
-        say(f"{len(self.ready)} of {len(self.crates)}: {name}{minutes_left(passed, part)}")
+        if name not in self.current:
+            self.took[name] = time.monotonic() - self.begun[name]
+        say(f"{len(self.ready)} of {len(self.crates)}: {name}{minutes_left(self.seconds_left())}")
 
     def next_ones(self):
         begun = {*self.ready, *self.running.values()}
@@ -176,7 +192,7 @@ class Build:
         with ThreadPoolExecutor(at_once()) as pool:
             while len(self.ready) < len(self.crates):
                 for name in self.next_ones()[: at_once() - len(self.running)] if not self.failed else []:
-                    words = self.words(name)
+                    words, self.begun[name] = self.words(name), time.monotonic()
                     self.running[pool.submit(self.build_one, name, words)] = name
                 if not self.running:
                     break
@@ -190,15 +206,10 @@ class Build:
 
 def build_whole(top):
     """Builds a crate and all below it as one crate, and says how far it is."""
-    started, out = time.monotonic(), crates.FOLDER / top / "out"
+    out = crates.FOLDER / top / "out"
     tree = Tree(top, out / "whole", lambda folder: whole.Whole(top).write(folder, crates.listed()[top][0]))
-
-    def tell(line):
-        if far := re.match(r"so far: (\d+) of (\d+) functions", line):
-            left = minutes_left(time.monotonic() - started, int(far[1]) / int(far[2]))
-            say(f"{top}: {far[1]} of {far[2]} functions{left}")
-
-    fault = tree.run(["rt", "run" if crates.is_program(top) else "lib", "--jobs", str(at_once())], tell)
+    words = ["rt", "run" if crates.is_program(top) else "lib", "--jobs", str(at_once())]
+    fault = run(words, tree.folder, top)
     tree.close()
     if fault is None:
         made = top if crates.is_program(top) else f"lib{top}.a"
@@ -212,8 +223,9 @@ def build_over_the_gate(top):
     folder, kit = crates.FOLDER / top, crates.kit()
     (folder / "out").mkdir(exist_ok=True)
     words = [*crates.words("build", top, kit), "--toolchain", f"{kit}/toolchain", "--jobs", str(at_once())]
-    done = subprocess.run([*words, "-o", f"out/lib{top}.a"], cwd=folder, **HOW)
-    return done.stdout.decode(errors="replace") if done.returncode else None
+    # Such a check doesn't say how far it is.
+    say(f"{top}, over the libraries that are there: some minutes")
+    return run([*words, "-o", f"out/lib{top}.a"], folder)
 
 
 def are_built(names):

@@ -112,12 +112,12 @@ class OfC(Library):
                 self.passes(*checker, self.compiled(compiler, "driver", DRIVER))
 
     def test_cpp(self):
-        """the header is used from C++, and its types are those that are promised, with g++ and with clang++"""
+        """the header is used from C++, and its types are those that are promised, with g++ and with clang++; no name of it hides another"""
         for compiler in ("g++", "clang++"):
             with self.subTest(compiler):
-                used = called([self.compiled(compiler, "header", ["examples/c/header.cpp"])])
+                used = called([self.compiled(compiler, "header", ["examples/c/header.cpp"], "-Wshadow")])
                 self.assertEqual(used, b"0x3810060610\n")
-                self.passes(self.compiled(compiler, "types", ["tests/c/types.cpp"]))
+                self.passes(self.compiled(compiler, "types", ["tests/c/types.cpp"], "-Wshadow"))
 
     def test_calls(self):
         """refusals, refused memory and copies, and valgrind finds nothing in them"""
@@ -156,6 +156,16 @@ class OfC(Library):
         code = text_of("c/README.md").split("```c\n")[1].split("```")[0]
         made = self.compiled("gcc", "readme", [self.put("readme.c", code)])
         self.assertEqual(called([made]), b"ddtp 0x20000402\ndenied 258\n")
+
+    def test_shared(self):
+        """the command of c/README.md makes a program that finds the shared object, wherever it is run"""
+        self.needs("pkg-config")
+        (line,) = re.findall(r"(?m)^    (gcc .*-Wl,-rpath,.*)$", text_of("c/README.md"))
+        self.put("test.c", text_of("c/README.md").split("```c\n")[1].split("```")[0])
+        env = {name: value for name, value in os.environ.items() if name != "LD_LIBRARY_PATH"}
+        called(["sh", "-c", line], cwd=self.folder, env={**env, "PKG_CONFIG_PATH": str(PREFIX / "lib/pkgconfig")})
+        self.assertEqual(called([self.path("a.out")], cwd="/", env=env), b"ddtp 0x20000402\ndenied 258\n")
+        self.assertIn(b"librviommu.so", called(["ldd", self.path("a.out")], env=env))
 
     def test_top_readme(self):
         """the lines of C in README.md, in a main; if a comment names the answer to a call, that is its answer"""

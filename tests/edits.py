@@ -13,8 +13,8 @@ If a function that this one calls isn't proved, this one wasn't tried: it is tri
 edit of a definition, or of a constant that a clause names, is tried by itself: over the whole crate, or at the
 functions that lines `at:` before its changes name. In each crate an edit without meaning goes along with the first
 check, and must not be refused: so the check can say so. The libraries that a crate stands on are taken as `rt ci` or
-`rt lib` left them; one that is missing or older than its sources is built first. The last line counts the edits; the
-status is 1 if one was not refused.
+`rt lib` left them; one that is missing or older than its sources is built first. At the end stand the processor seconds
+of each crate's checks, and the edits are counted; the status is 1 if one was not refused.
 """
 import os
 import re
@@ -219,7 +219,7 @@ class Crate:
     def __init__(self, name, kit):
         self.name, self.words = name, crates.words("check", name, kit)
         self.sources = Sources({**crates.texts(CRATES / name), **answers(name)})
-        self.told, self.edits = [], []
+        self.told, self.edits, self.seconds = [], [], 0
         for path in edits_in(name):
             try:
                 self.edits.append(read_edit(path, self.sources))
@@ -240,7 +240,11 @@ class Crate:
             words = [*self.words, "--incremental", kept, "--jobs", "1", *(f"--only={it}" for it in sorted(only))]
             # The check ends with this program.
             words = ["setpriv", "--pdeathsig", "KILL", *words]
-            return subprocess.run(words, cwd=room, encoding="utf-8", errors="replace", **build.HOW).stdout
+            with subprocess.Popen(words, cwd=room, encoding="utf-8", errors="replace", **build.HOW) as check:
+                said = check.stdout.read()
+                _, check.returncode, used = os.wait4(check.pid, 0)
+            self.seconds += used.ru_utime + used.ru_stime
+            return said
 
     def batch(self, left):
         """Edits that change functions of their own, as many as there are; one that changes something else alone."""
@@ -325,6 +329,7 @@ def main():
     tried.sort(key=lambda it: -len(it.edits) * build.size(it.name))
     with ThreadPoolExecutor(build.at_once()) as pool:
         told = [it for one in pool.map(Crate.try_all, tried) for it in one]
+    print("seconds:", ", ".join(f"{it.name} {it.seconds:.0f}" for it in tried))
     print(f"edits: {sum(told)} passed, {len(told) - sum(told)} failed")
     sys.exit(0 if all(told) else 1)
 

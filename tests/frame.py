@@ -34,6 +34,11 @@ ASK, ANSWER = b"reg read 8 4", b"0x2\n"
 BUILT_IN = "ram 0x80000000 0x100000\n"
 
 
+# A make below another one names its folder; the tests run as from a shell.
+for it in ("MAKEFLAGS", "MAKELEVEL", "MFLAGS"):
+    os.environ.pop(it, None)
+
+
 def program():
     return os.environ.get("RVIOMMU_PROGRAM") or str(BUILT)
 

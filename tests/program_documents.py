@@ -1,9 +1,9 @@
 """What README, CHANGELOG.md and GATE say, where the program, a command or the repository itself can be asked."""
+import os
 import re
-import shutil
 
 from documents import blocks, names_there, plain, played, section, section_of, spans, table_with
-from frame import EXAMPLES, Case, commands, forms, text_of
+from frame import EXAMPLES, TOP, Case, commands, forms, text_of
 
 # Words that a line may be answered by.
 ANSWERS = {
@@ -41,13 +41,22 @@ def named_answers(head):
 class Readme(Case):
     def test_commands(self):
         """README: its commands after a $ write what is below them, and that on an example its answers"""
-        shutil.copytree(EXAMPLES, self.path("examples"))
+        self.needs("rt")
+        for name in ("Makefile", "crates", "examples", "packaging"):
+            os.symlink(TOP / name, self.path(name))
         shown = [it for it in blocks("README.md") if it.startswith("$ ")]
         self.assertTrue(shown)
         for block in shown:
             self.want_shown(block)
         (command,) = re.findall(r"(?m)^    (rviommu asm .*)$", text_of("README.md"))
         self.assertEqual(self.shell(command), (0, text_of("examples/disk.answers")))
+
+    def test_lengths(self):
+        """README has at most 1,300 words and lines of 120 columns, all documents together at most 28,000 words"""
+        self.assertLessEqual(len(text_of("README.md").split()), 1300)
+        self.assertEqual([it for it in text_of("README.md").splitlines() if len(it) > 120], [])
+        names = ["README.md", "CHANGELOG.md", "man/rviommu.1", *names_there("docs/*.md")]
+        self.assertLessEqual(sum(len(text_of(it).split()) for it in names), 28_000)
 
     def test_targets(self):
         """README and CHANGELOG.md: each target of make that they name is there"""

@@ -1,6 +1,7 @@
 """Lines `include FILE` of the scripts of check, debug and explain."""
 import os
 import re
+import time
 from xml.etree import ElementTree
 
 from frame import Case, run
@@ -117,6 +118,15 @@ class Includes(Case):
         self.put("halves.script", b"include half.script\n" * 3)
         self.faults(b"include halves.script\n", "halves.script:2: half.script: script too long")
         self.faults(b"include \xff\n", "line 1: cannot read ?")
+
+    def test_many_empty(self):
+        """eight files of forty lines that include each other, above an empty one: its fault within seconds"""
+        for number in range(1, 8):
+            self.put(f"{number}.script", f"include {number + 1}.script\n".encode() * 40)
+        self.put("8.script", b"")
+        began = time.monotonic()
+        self.faults(b"include 1.script\n", "7.script:5: 8.script: script too long")
+        self.assertLess(time.monotonic() - began, 20)
 
     def test_unjudged(self):
         """a script of a suite whose file can't be included: what stands before is judged, and the other scripts are"""

@@ -24,7 +24,7 @@ OTHERS = {name for _, uses in listed().values() for name in uses} - set(CRATES)
 # Which section of a document, or all of it, has names of the code.
 NAMING = {
     "README.md": "What is proved", "docs/MAP.md": "How a step flows", "docs/CONTRIBUTING.md": "Recipes",
-    "docs/MODEL.md": None,
+    "docs/MODEL.md": None, "docs/PROMISES.md": "Also proved",
 }
 # These take none themselves. What they make takes memory for lines of `explain` and of `check --settled`, whose allocations tests/shell
 # refuses.
@@ -94,9 +94,12 @@ def beside(text):
 
 
 def promised():
-    """The sections of PROMISES that speak of a crate."""
-    found = sections(text_of("docs/PROMISES.md"))
-    return {head.strip("`"): body for head, body in found if re.fullmatch(r"`\w+`", head)}
+    """The exceptions that PROMISES has of each crate, in a table or below a head of three; none of those that it names before the table."""
+    before, *more = re.split(r"(?m)^### ", section_of("docs/PROMISES.md", "Exceptions"))
+    found = {name: "" for name in spans(before.partition("\n|")[0])}
+    for crate, *cells in rows(before):
+        found[crate.strip("`")] = " ".join(cells)
+    return found | {spans(it)[0]: it for it in more if it.startswith("`")}
 
 
 def public(crate):
@@ -109,9 +112,9 @@ def public(crate):
 
 def glossary():
     """The rows of the tables of GLOSSARY: their crates, none if they name none, and the names of this repository."""
-    own, terms, other = (rows(section_of("docs/GLOSSARY.md", head)) for head in (
-        "One word for one thing", "From the standards' terms to the names", "Other public names"))
-    named = [("", names) for _, _, names in own] + [(crates, names) for _, names, crates, _ in terms] + other
+    own, terms = (rows(section_of("docs/GLOSSARY.md", head)) for head in (
+        "One word for one thing", "From the standards' terms to the names"))
+    named = [("", names) for _, _, names in own] + [(crates, names) for _, names, crates, _ in terms]
     return [(spans(crates), spans(names)) for crates, names in named]
 
 
@@ -181,14 +184,14 @@ class Names(Case):
         self.assertEqual(lacking, [])
 
     def test_sections(self):
-        """PROMISES and MODEL: each crate but those of tests has a section; each library with definitions has one"""
+        """PROMISES: each crate but those of tests has its exceptions; MODEL: each library with definitions has a section"""
         self.assertEqual(set(promised()), set(CRATES) - {"iom_tests", "iom_rows"})
         told = [spans(head)[0] for head, _ in sections(text_of("docs/MODEL.md")) if spans(head)]
         defining = {path.split("/")[1] for path in names_there("crates/*/specs/*.antt")} - {"iom_tests"}
         self.assertEqual(sorted(told), sorted(defining))
 
     def test_promises(self):
-        """PROMISES: what a crate's section names is the crate's, or of one below it; in parentheses stand clauses and
+        """PROMISES: what a crate's exceptions name is the crate's, or of one below it; in parentheses stand clauses and
         functions"""
         for crate, body in promised().items():
             named = {name for name in spans(body) if re.fullmatch(r"[A-Za-z_][\w:-]*", name)}
@@ -211,10 +214,7 @@ class Names(Case):
         self.assertEqual(with_tests, {"iom_tests"})
 
     def test_glossary(self):
-        """GLOSSARY: it has each public name of a library; those that look like names are there"""
-        named = {word for _, names in glossary() for word in re.findall(r"\w+", " ".join(names))}
-        for crate in set(CRATES) - {"iom_c"}:
-            self.want_within(public(crate), named, crate)
+        """GLOSSARY: what looks like a name of the code is there"""
         for crates, names in glossary():
             places = {low for it in crates for low in below(CRATES, it)} or CRATES
             looking = [it for it in names if re.fullmatch(r"\w+(::\w+)*", it) and re.search("[_A-Z]", it)]

@@ -68,13 +68,26 @@ class Slips(Case):
     def test_names(self):
         """check and explain: a reason is by the names that stood before its line"""
         script, unlike = "let a 0x80000000\nload a 8 9 # => 0x0\nlet a\nlet a 1\nload b 8\n", 'ADDR "b" isn\'t a number'
-        taken = "let: no such NAME or NUMBER, or 64 names already"
+        taken = "let: NUMBER is missing"
         self.assertEqual(run(["check"], script.encode())[1].decode().splitlines(), [
             'line 2: load a 8 9 -> bad: "9" is one word too many, wanted 0x0', f"line 3: let a -> bad: {taken}",
             f"line 5: load b 8 -> bad: {unlike}", "0 passed, 3 failed"])
         told = run(["explain"], script.encode())[1].decode().splitlines()
         self.assertEqual(told[1:3] + told[4:5], [
             '2: load a 8 9 -> bad: "9" is one word too many', f"3: let a -> bad: {taken}", f"5: load b 8 -> bad: {unlike}"])
+
+    def test_let_slips(self):
+        """check: why a let gives no name a number"""
+        slips = {
+            "let": "NAME is missing", "let a": "NUMBER is missing", "let a 1 2": "a word stands behind NUMBER",
+            f"let {'a' * 33} 1": "NAME has more than 32 bytes", "let 1a 1": "NAME doesn't begin with a letter or _",
+            "let a-b 1": "NAME has a byte that isn't a letter, a digit or _",
+            "let load 1": "NAME is a word of lines, a key, a register or bytes",
+            "let a b": "NUMBER is neither a number nor a name", "let full 1": "there are 64 names already"}
+        names = [f"let n{i} {i}" for i in range(64)]
+        told = run(["check"], "\n".join([*names, *slips]).encode())[1].decode().splitlines()
+        self.assertEqual(told[:9], [
+            f"line {65 + i}: {line} -> bad: let: {why}" for i, (line, why) in enumerate(slips.items())])
 
     def test_let(self):
         """explain: a name stands for its number on the lines behind its let, also behind one that gives it another number"""

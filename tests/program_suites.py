@@ -1,6 +1,7 @@
-"""Scripts that `check` judges by their names: what is told of each, and of all, as text, TAP and JUnit's XML."""
+"""Scripts that `check` judges by their names: its reports of each, and of all, as text, TAP and JUnit's XML."""
 import os
 import re
+import subprocess
 from xml.etree import ElementTree
 
 from frame import Case, run
@@ -31,9 +32,9 @@ def of_text(out):
 
 
 def of_tap(out):
-    """The points that are ok, and that aren't, and the latter's descriptions; the frame is to be that of TAP 14."""
+    """The points that are ok, and that aren't, and the latter's descriptions; the frame is to be that of TAP 13."""
     head, *lines, plan = out.decode().splitlines()
-    assert head == "TAP version 14", head
+    assert head == "TAP version 13", head
     points = [re.fullmatch(r"(not ok|ok) (\d+) - (.*)", it) for it in lines if re.match("ok|not ok", it)]
     assert [int(it[2]) for it in points] == list(range(1, len(points) + 1))
     assert plan == f"1..{len(points)}", plan
@@ -85,6 +86,17 @@ class Suites(Case):
             self.assertEqual(len(told), len(names))
             # Both at once.
             self.assertEqual(self.suites("--tap", *names), ((status, tap, self.check(*names)[2]), told))
+
+    def test_prove(self):
+        """prove, which knows TAP 13, reads what --tap prints: it counts the points, and fails if one does"""
+        self.needs("prove")
+        whole = [*NAMES, NONE]
+        for names, points, failed in ((["right.script"], 3, 0), (whole, PASSED + FAILED + 1, FAILED + 1)):
+            self.put("points.tap", self.check("--tap", *names)[1])
+            ended = subprocess.run(["prove", "-e", "cat", "points.tap"], cwd=self.folder, capture_output=True, text=True)
+            self.assertEqual((ended.returncode, ended.stderr), (int(failed > 0), ""))
+            self.assertIn(f"Tests={points}, ", ended.stdout)
+            self.assertEqual(re.findall(r"Failed: (\d+)\)", ended.stdout), [str(failed)] if failed else [])
 
     def test_names(self):
         """text: each report has its file and line, each file its counts"""

@@ -4,6 +4,7 @@ from __future__ import annotations
 import ctypes
 import ctypes.util
 import os
+from typing import Any
 
 from ctypes import POINTER, Structure, c_bool, c_char_p, c_size_t, c_uint8, c_uint32, c_uint64, c_void_p
 
@@ -60,20 +61,24 @@ FUNCTIONS = {
     "stale": (HANDLE, c_uint64, c_uint64, c_bool, POINTER(Way)),
     "stale_page": (HANDLE, c_uint64, POINTER(Way)),
     "stale_context": (HANDLE, c_uint64, POINTER(Located)),
-    "why": (HANDLE, c_uint64, POINTER(Why)),
+    "reason": (HANDLE, c_uint64, POINTER(Why)),
     "page_origin": (HANDLE, c_uint64, NUMBER, NUMBER),
     "context_origin": (HANDLE, c_uint64, NUMBER),
     "keep_holdings": (HANDLE, c_bool),
     "settled": (HANDLE, c_uint64, c_uint64, c_bool, POINTER(Unsettled)),
-    "owed": (HANDLE, POINTER(Owed), c_size_t, SIZE),
+    "all_owed": (HANDLE, POINTER(Owed), c_size_t, SIZE),
     "assemble": (c_char_p, c_size_t, BYTES, c_size_t, SIZE, NUMBER),
     "text": (c_uint32, c_char_p, c_size_t, SIZE),
+    "cause_text": (c_uint64, c_char_p, c_size_t, SIZE),
 }
+# Earlier names of the header.
+EARLIER = {"why": "reason", "owed": "all_owed"}
+FUNCTIONS |= {earlier: FUNCTIONS[name] for earlier, name in EARLIER.items()}
 # Those with a form NAME_lent: it takes the words of a lent memory and their count after the handle.
 LENT = ("load", "store", "reg_read", "reg_write", "dma_read", "dma_write", "dma_read_all", "dma_write_all", "translate", "command", "dev_read",
         "dev_write", "dev_step", "way_now", "settled", "owed")
 FUNCTIONS |= {f"{name}_lent": (HANDLE, NUMBER, c_size_t, *FUNCTIONS[name][1:]) for name in LENT}
-NOTHING = ("close", "keep_holdings", "memory_place", "reset")
+NOTHING = ("close", "memory_place", "reset")
 WIDE = ("interrupt", "steps")
 
 
@@ -100,3 +105,19 @@ def loaded() -> ctypes.PyDLL:
 
 
 LIBRARY = loaded()
+
+
+def status_words(status: int) -> str:
+    """The words for a status of the library."""
+    return _text(LIBRARY.rviommu_text, status)
+
+
+def cause_name(cause: int) -> str:
+    """The standard's name of a cause of a denial."""
+    return _text(LIBRARY.rviommu_cause_text, cause)
+
+
+def _text(function: Any, number: int) -> str:
+    words, length = ctypes.create_string_buffer(48), c_size_t()
+    function(number, words, len(words), length)
+    return words.value.decode()

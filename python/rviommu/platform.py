@@ -10,7 +10,7 @@ import threading
 from typing import Any, Callable, Optional, SupportsIndex, TextIO, TypeVar, Union
 
 from . import forms
-from ._library import LENT, LIBRARY, Handle
+from ._library import LENT, LIBRARY, Handle, status_words
 from .errors import AssemblyError, BadAccess, BusError, Denied, ImageError, Misuse, NoDevice, Outside, QueueStopped, Refusal, SaveError
 from .reasons import WayKind
 from .values import Context, Located, Owed, Page, Part, Unsettled, Value, Way, Why
@@ -21,7 +21,7 @@ Entry = TypeVar("Entry", bound=Value)
 
 _VALUE, _DONE, _BYTES, _IDLE, _DENIED, _BUS_ERROR, _BAD_ACCESS, _NO_DEVICE, _MISUSE = range(9)
 _OK, _OUT_OF_MEMORY, _OUTSIDE, _LITTLE_ROOM, _NO_DISK, _OTHER_MEMORY = 0, 7, 10, 11, 12, 15
-_NOT_KEPT, _UNSETTLED = 18, 19
+_NOT_KEPT, _UNSETTLED, _CACHED = 18, 19, 20
 _LIVE, _EMPTY = 0, 1
 _STALE = 3
 _MOST_STEPS = 32
@@ -38,20 +38,21 @@ _FQB, _FQH, _FQT, _CQB, _CQH, _CQT, _CQCSR = 0x28, 0x30, 0x34, 0x18, 0x20, 0x24,
 # Of cqcsr: cqmf, cmd_to and cmd_ill, each of which stops the queue; cqon.
 _CQ_ERRORS, _CQON = 7 << 8, 1 << 16
 
+# Which operands of a step are its device and its address.
+_AT_FIRST, _OF_DEVICE = (None, 0), (0, 1)
+_WHERE: dict[str, tuple[Optional[int], Optional[int]]] = {
+    **dict.fromkeys(("load", "store", "reg_read", "reg_write"), _AT_FIRST),
+    **dict.fromkeys(("dma_read", "dma_write", "dma_read_all", "dma_write_all", "translate", "dev_read", "dev_write"), _OF_DEVICE),
+    "dev_step": (0, None),
+}
 _REFUSALS: dict[int, type[Refusal]] = {_BUS_ERROR: BusError, _BAD_ACCESS: BadAccess, _NO_DEVICE: NoDevice, _MISUSE: Misuse}
-
-
-def _words(status: int) -> str:
-    words, length = ctypes.create_string_buffer(32), ctypes.c_size_t()
-    LIBRARY.rviommu_text(status, words, len(words), length)
-    return words.value.decode()
 
 
 def _started(status: int) -> None:
     if status == _OUT_OF_MEMORY:
         raise MemoryError
     if status != _OK:
-        raise ImageError(_words(status))
+        raise ImageError(status_words(status))
 
 
 def _number(value: SupportsIndex) -> int:
@@ -83,7 +84,7 @@ def assemble(text: Union[str, Bytes]) -> bytes:
         if status == _OUT_OF_MEMORY:
             raise MemoryError
         if status != _LITTLE_ROOM:
-            raise AssemblyError(_words(status), line.value)
+            raise AssemblyError(status_words(status), line.value)
         room = length.value
 
 
@@ -245,7 +246,7 @@ class Platform:
         if status == _OUT_OF_MEMORY:
             raise MemoryError
         if status != _OK:
-            raise SaveError(_words(status))
+            raise SaveError(status_words(status))
         made._stand_over(memory)
         return made
 
@@ -290,10 +291,11 @@ class Platform:
                 raise MemoryError
 
     def keep_holdings(self, keeps: bool = True) -> None:
-        """Keeps from now on what any IOMMU may hold, for `settled` and `owed`; if `keeps` is false, ends that. It doesn't know what is cached
-        already, so call it on a new platform, or right behind `reset`. Each step then takes more time, and memory; if that is refused,
-        `settled` and `owed` raise `MemoryError` until this is called again."""
-        self._call("keep_holdings", keeps)
+        """Keeps from now on what any IOMMU may hold, for `settled` and `owed`; if `keeps` is false, ends that. It can't know what was read
+        before: call it on a new platform, or right after `reset`; raises `ValueError` if something was cached since then. Each step then takes
+        more time, and memory; if that is refused, `settled` and `owed` raise `MemoryError` until `reset`."""
+        if self._call("keep_holdings", bool(keeps)) == _CACHED:
+            raise ValueError("something is cached already: call keep_holdings on a new platform, or right after reset")
 
     def line(self, text: Union[str, Bytes]) -> str:
         """Carries out a line of the script, and returns its answer, which is empty for a blank line."""
@@ -316,10 +318,12 @@ class Platform:
         """Carries out a step, and returns the kind of its answer. A refusal is raised."""
         answer: int = self._call(name, *operands, *([] if number is None else [number]))
         self._tell_interrupt()
-        if answer == _DENIED and number is not None:
-            raise Denied(number.value)
-        if answer in _REFUSALS:
-            raise _REFUSALS[answer](name)
+        if answer == _DENIED or answer in _REFUSALS:
+            device, address = (None if at is None else operands[at] for at in _WHERE.get(name, (None, None)))
+            if answer in _REFUSALS:
+                raise _REFUSALS[answer](name, address, device)
+            if number is not None:
+                raise Denied(number.value, name, address, device)
         return answer
 
     def _value(self, name: str, *operands: SupportsIndex) -> int:
@@ -398,6 +402,7 @@ class Platform:
                     self._step(name, did, iova + at, ctypes.byref(data, at), count, done, number=ctypes.c_uint64())
                 except Refusal as refusal:
                     refusal.done = at + done.value
+                    refusal.address = iova + refusal.done
                     raise
                 at += count
                 if at == length:
@@ -474,7 +479,7 @@ class Platform:
         """The value that `reg_read` would return, without a step."""
         value = ctypes.c_uint64()
         if self._call("reg_look", _number(offset), _number(size), value) != _OK:
-            raise BadAccess("reg_look")
+            raise BadAccess("reg_look", _number(offset))
         return value.value
 
     @property
@@ -516,7 +521,7 @@ class Platform:
         """The bytes of a block device's disk from an offset on, to its end if no length is given."""
         number, at, size = _number(device), _number(offset), ctypes.c_uint64()
         if self._call("disk_size", number, size) == _NO_DISK:
-            raise NoDevice("disk")
+            raise NoDevice("disk", None, number)
         count = max(size.value - at, 0) if length is None else _number(length)
         if at + count > size.value:
             raise Outside(f"{count} bytes at {at} of a disk")
@@ -612,17 +617,17 @@ class Platform:
         why = Why()
         with self._lock:
             place = self._count_reasons(why) - 1 if step is None else _number(step)
-            found = place >= 0 and self._call("why", place, why) == _OK
+            found = place >= 0 and self._call("reason", place, why) == _OK
         return why if found else None
 
     def _count_reasons(self, why: Why) -> int:
         """The number of kept reasons, found by bisection."""
         low, high = 0, 1
-        while self._call("why", high - 1, why) == _OK:
+        while self._call("reason", high - 1, why) == _OK:
             low, high = high, 2 * high
         while low < high:
             middle = (low + high) // 2
-            low, high = (middle + 1, high) if self._call("why", middle, why) == _OK else (low, middle)
+            low, high = (middle + 1, high) if self._call("reason", middle, why) == _OK else (low, middle)
         return low
 
     def page_origin(self, place: SupportsIndex) -> Optional[tuple[int, int]]:

@@ -3,38 +3,78 @@ from __future__ import annotations
 
 from ctypes import Structure, c_bool, c_uint32, c_uint64
 from enum import IntEnum
-from typing import Any, ClassVar
+from typing import Any, Callable, ClassVar, TypeVar, Union
 
 from .reasons import LocatedKind, PartKind, Ruling, WayKind, WhyKind
+
+
+Struct = TypeVar("Struct", bound="Value")
 
 
 def _all(kind: type[Any], names: str) -> list[tuple[str, type[Any]]]:
     return [(name, kind) for name in names.split()]
 
 
-class Value(Structure):
-    """A struct of the C library. Two are equal if their fields are."""
+# The kinds of an access that was let through.
+_LED = (WhyKind.REGISTER, WhyKind.CONTEXT, WhyKind.WALK)
+# Fields that `repr` prints in hex: addresses, addresses divided by 4096, and words of memory.
+_HEX = frozenset("page frame gppn ppn iotval2 place read_at guest word iohgatp ta fsc iova address".split())
 
-    KINDS: ClassVar[dict[str, type[IntEnum]]] = {}
+
+class Value(Structure):
+    """A struct of the C library. Two are equal if their fields are. `repr` prints addresses in hex, and only the fields that the value's kind
+    has; the others are 0."""
+
+    # The fields that only some values have, each with the kinds that have it, or with the field that says whether it is there.
+    ONLY: ClassVar[dict[str, Union[tuple[IntEnum, ...], str]]] = {}
+
+    def _has(self, name: str) -> bool:
+        only = self.ONLY.get(name)
+        if only is None:
+            return True
+        return bool(getattr(self, only)) if isinstance(only, str) else getattr(self, "kind") in only
 
     def _shown(self, name: str) -> str:
         value = getattr(self, name)
-        return self.KINDS[name](value).name if name in self.KINDS else repr(value)
+        if isinstance(value, IntEnum):
+            return value.name
+        return f"{value:#x}" if name in _HEX else repr(value)
+
+    def _names(self) -> list[str]:
+        return [name for name, *_ in self._fields_ if not name.startswith("_")]
 
     def __repr__(self) -> str:
-        fields = ", ".join(f"{name}={self._shown(name)}" for name, *_ in self._fields_ if not name.startswith("_"))
+        fields = ", ".join(f"{name}={self._shown(name)}" for name in self._names() if self._has(name))
         return f"{type(self).__name__}({fields})"
 
     def __eq__(self, other: object) -> bool:
         if type(self) is not type(other):
             return NotImplemented
-        return all(getattr(self, name) == getattr(other, name) for name, *_ in self._fields_ if not name.startswith("_"))
+        return all(getattr(self, name) == getattr(other, name) for name in self._names())
 
     __hash__ = None  # type: ignore[assignment]
 
 
+def _with_kinds(**kinds: type[IntEnum]) -> Callable[[type[Struct]], type[Struct]]:
+    """Reads these fields of a struct as members of these enums."""
+
+    def typed(struct: type[Struct]) -> type[Struct]:
+        for name, kind in kinds.items():
+            field = getattr(struct, name)
+            setattr(struct, name, property(lambda value, field=field, kind=kind: kind(field.__get__(value)), field.__set__))
+        return struct
+
+    return typed
+
+
+def _only(kind: IntEnum, names: str) -> dict[str, tuple[IntEnum, ...]]:
+    return {name: (kind,) for name in names.split()}
+
+
 class Page(Value):
     """An entry of the translation cache, `struct rviommu_page_place`. Pages and frames are addresses divided by 4096."""
+
+    ONLY = {"pscid": "has_pscid", "gscid": "has_gscid"}
 
     page: int
     frame: int
@@ -70,15 +110,17 @@ class Context(Value):
                 ("_reserved", c_uint64 * 2)]
 
 
+@_with_kinds(kind=WayKind)
 class Way(Value):
-    """How a request is translated, `struct rviommu_way`; `kind` is a `WayKind`."""
+    """How a request is translated, `struct rviommu_way`."""
 
-    KINDS = {"kind": WayKind}
+    ONLY = {"context": (WayKind.CONTEXT, WayKind.WALK), **_only(WayKind.WALK, "frame level is_global is_napot"),
+            **_only(WayKind.NOWHERE, "iotval2 cause is_reported")}
 
     context: Context
     frame: int
     iotval2: int
-    kind: int
+    kind: WayKind
     level: int
     cause: int
     is_global: bool
@@ -89,22 +131,29 @@ class Way(Value):
                 *_all(c_bool, "is_global is_reported is_napot"), ("_reserved", c_uint64 * 2)]
 
 
+@_with_kinds(kind=LocatedKind)
 class Located(Value):
-    """What ddtp and the directory say of a device, `struct rviommu_located`; `kind` is a `LocatedKind`."""
+    """What ddtp and the directory say of a device, `struct rviommu_located`."""
 
-    KINDS = {"kind": LocatedKind}
+    ONLY = {**_only(LocatedKind.CONTEXT, "context"), **_only(LocatedKind.NO_CONTEXT, "cause")}
 
     context: Context
-    kind: int
+    kind: LocatedKind
     cause: int
 
     _fields_ = [("context", Context), *_all(c_uint32, "kind cause"), ("_reserved", c_uint64 * 2)]
 
 
+@_with_kinds(kind=PartKind, ruling=Ruling)
 class Part(Value):
-    """A part of a walk, `struct rviommu_walk_part`; `kind` is a `PartKind`, `ruling` a `Ruling`."""
+    """A part of a walk, `struct rviommu_walk_part`."""
 
-    KINDS = {"kind": PartKind, "ruling": Ruling}
+    ONLY = {
+        "place": (PartKind.ENTRY, PartKind.CONTEXT, PartKind.FIRST, PartKind.SECOND), "read_at": "has_read_at", "word": "has_word",
+        **_only(PartKind.SECOND, "guest"), **_only(PartKind.CONTEXT, "iohgatp ta fsc"), **_only(PartKind.DDTP, "mode"),
+        **_only(PartKind.END, "way"),
+        **{name: (PartKind.FIRST, PartKind.SECOND) for name in ("level", "ruling", "has_read_at", "is_napot")},
+    }
 
     place: int
     read_at: int
@@ -113,10 +162,10 @@ class Part(Value):
     iohgatp: int
     ta: int
     fsc: int
-    kind: int
+    kind: PartKind
     mode: int
     level: int
-    ruling: int
+    ruling: Ruling
     has_word: bool
     has_read_at: bool
     is_napot: bool
@@ -129,6 +178,8 @@ class Part(Value):
 class Unsettled(Value):
     """Where a request may be led that isn't settled, `struct rviommu_unsettled`: `elsewhere`, by entries that an IOMMU may hold, and `tables`. If
     a single entry leads it there, `has_number` is true, and `number` that of the last step that could read it; else `number` is 0."""
+
+    ONLY = {"number": "has_number"}
 
     elsewhere: Way
     tables: Way
@@ -151,11 +202,14 @@ class Owed(Value):
     _fields_ = [("unsettled", Unsettled), *_all(c_uint64, "iova number"), ("did", c_uint32), ("is_write", c_bool), ("_reserved", c_uint64 * 3)]
 
 
+@_with_kinds(kind=WhyKind)
 class Why(Value):
-    """Why a step had its answer, `struct rviommu_why`; `kind` is a `WhyKind`. `address` is the physical address that its access was led
-    to, or 0."""
+    """Why a step had its answer, `struct rviommu_why`. `address` is the physical address that its access was led to, or 0."""
 
-    KINDS = {"kind": WhyKind}
+    ONLY = {
+        "way": "is_stale", "context": (WhyKind.CONTEXT, WhyKind.WALK), **_only(WhyKind.WALK, "walk current"),
+        **{name: (WhyKind.DENIED, *_LED) for name in ("iova", "did", "is_write", "is_stale")}, "address": _LED,
+    }
 
     way: Way
     number: int
@@ -164,7 +218,7 @@ class Why(Value):
     walk: int
     current: int
     did: int
-    kind: int
+    kind: WhyKind
     is_write: bool
     is_stale: bool
     address: int

@@ -1,6 +1,7 @@
 """Tests of the module. Expected values are the standards', or the answers of the script's own lines."""
 import copy
 import ctypes
+import enum
 import mmap
 import os
 import pickle
@@ -277,7 +278,11 @@ class Lent(unittest.TestCase):
                 own_steps.append((answer(step), platform.steps, platform.why(), platform.pages(), platform.contexts(), platform.way_now(did, iova)))
             self.assertEqual(*own_steps[-2:], name)
         self.assertTrue(own.memory(RAM, SIZE) == self.memory)
-        self.assertEqual({kind for kind, *_ in own_steps if isinstance(kind, str)}, {"Denied(13)", "Denied(15)", "Denied(258)", "Misuse('dma_read')", "Misuse('dma_write')", "Misuse('store')"})
+        refused = {re.sub(r" at 0x[0-9a-f]+", "", kind) for kind, *_ in own_steps if isinstance(kind, str)}
+        misuse = "no step has this size, alignment, device id, length or value"
+        self.assertLessEqual({"Denied(dma_read of device 5: denied 13, read page fault)", "Denied(dma_write of device 5: denied 15, write page fault)",
+                              "Denied(translate of device 6: denied 258, DDT entry not valid)", f"Misuse(dma_read of device 5: {misuse})",
+                              f"Misuse(store: {misuse})"}, refused)
 
     def test_others_write(self):
         platform = self.platform
@@ -514,12 +519,19 @@ class Values(unittest.TestCase):
     def test_shown(self):
         platform = mapped(pscid=9)
         platform.dma_read(DID, IOVA, 1)
-        self.assertEqual(repr(platform.pages()[0]), f"Page(page={IOVA >> 12}, frame={DATA >> 12}, did=5, pscid=9, gscid=0, level=0, "
+        self.assertEqual(repr(platform.pages()[0]), f"Page(page={IOVA >> 12:#x}, frame={DATA >> 12:#x}, did=5, pscid=9, level=0, "
                          "has_pscid=True, has_gscid=False, is_write=False, is_global=False, is_napot=False)")
         self.assertIn("pscid=9", repr(platform.contexts()[0]))
-        self.assertIn("kind=WALK", repr(platform.why()))
-        self.assertTrue(repr(platform.walk(DID, IOVA)[2]).startswith("Part(place="))
-        self.assertIn("kind=FIRST, mode=0, level=2, ruling=POINTER", repr(platform.walk(DID, IOVA)[2]))
+        self.assertIn(f"iova={IOVA:#x}, ", repr(platform.why()))
+        self.assertIn("kind=WALK, is_write=False, is_stale=False, address=0x80010000)", repr(platform.why()))
+        self.assertEqual(repr(platform.why(0)), "Why(number=1, kind=NO_ACCESS)")
+        ddtp, _, entry, *_ = platform.walk(DID, IOVA)
+        self.assertEqual(repr(ddtp), "Part(word=0x80001, kind=DDTP, mode=2, has_word=True)")
+        self.assertEqual(repr(entry), f"Part(place={entry.place:#x}, read_at={entry.place:#x}, word=0x20000c01, kind=FIRST, level=2, ruling=POINTER, "
+                         "has_word=True, has_read_at=True, is_napot=False)")
+        self.assertEqual(repr(platform.way_now(6, IOVA)[0]), "Way(iotval2=0x0, kind=NOWHERE, cause=258, is_reported=True)")
+        for value in (entry.kind, entry.ruling, ddtp.kind, platform.way_now(6, IOVA)[0].kind, platform.why().kind):
+            self.assertIsInstance(value, enum.IntEnum)
         self.assertEqual(repr(platform), "<Platform of 0x100000 bytes of memory at 0x80000000>")
         platform.close()
         self.assertEqual(repr(platform), "<Platform, closed>")
@@ -542,9 +554,27 @@ class Values(unittest.TestCase):
             again = pickle.loads(pickle.dumps(error))
             self.assertEqual((type(again), str(again), vars(again)), (type(error), str(error), vars(error)))
             self.assertTrue(str(error))
-        self.assertEqual(str(Denied(13)), "denied 13")
+        self.assertEqual((str(Denied(13)), Denied(13).args), ("denied 13, read page fault", (13,)))
         self.assertEqual(str(BusError("load")), "load: a byte is outside memory")
         self.assertEqual(str(AssemblyError("bad line", 2)), "line 2: bad line")
+
+    def test_errors_say_where(self):
+        platform = mapped()
+        wanted = (
+            (lambda: platform.dma_read(6, IOVA, 1), "dma_read of device 6 at 0x40201000: denied 258, DDT entry not valid"),
+            (lambda: platform.translate(DID, 0x40209000, True), "translate of device 5 at 0x40209000: denied 15, write page fault"),
+            (lambda: platform.dma_read_all(DID, IOVA + 0xFF0, 0x1000), "dma_read_all of device 5 at 0x40202000: denied 13, read page fault"),
+            (lambda: platform.load(RAM + 1, 2), "load at 0x80000001: no step has this size, alignment, device id, length or value"),
+            (lambda: platform.load(0), "load at 0x0: a byte is outside memory"),
+            (lambda: platform.reg_read(1, 4), "reg_read at 0x1: not an access that the registers take"),
+            (lambda: platform.dev_read(3, 4), "dev_read of device 3 at 0x4: no such block device"),
+            (lambda: platform.dev_step(3), "dev_step of device 3: no such block device"),
+        )
+        for step, text in wanted:
+            with self.assertRaises(rviommu.Refusal) as raised:
+                step()
+            self.assertEqual((str(raised.exception), repr(raised.exception)), (text, f"{type(raised.exception).__name__}({text})"))
+        self.assertEqual((raised.exception.step, raised.exception.address, raised.exception.device), ("dev_step", None, 3))
 
     def test_annotations(self):
         self.assertTrue(os.path.exists(os.path.join(os.path.dirname(rviommu.__file__), "py.typed")))
@@ -678,6 +708,12 @@ class Settled(unittest.TestCase):
         platform.keep_holdings(False)
         self.assertRaises(ValueError, platform.owed)
         self.assertRaises(ValueError, platform.settled, 1 << 24, IOVA)
+        platform.dma_read(DID, IOVA, 1)
+        self.assertRaisesRegex(ValueError, "cached", platform.keep_holdings)
+        self.assertRaises(ValueError, platform.owed)
+        platform.reset()
+        platform.keep_holdings()
+        self.assertEqual(platform.owed(), [])
 
     def test_lent(self):
         memory = bytearray(SIZE)
@@ -884,7 +920,8 @@ class Starts(unittest.TestCase):
     def test_refused_saves(self):
         saved = Platform().save()
         for bytes_, why in ((b"", "not a saved platform"), (saved[:-8], "not a saved platform"), (saved + bytes(8), "not a saved platform"),
-                            (saved[:8] + b"\2" + saved[9:], "other version")):
+                            (saved[:8] + b"\1" + saved[9:], "other version"),
+                            (saved[:-1] + b"\xff", "not a saved platform"), (saved[:28] + b"\1" + saved[29:], "not a saved platform")):
             with self.assertRaisesRegex(SaveError, why) as raised:
                 Platform.restore(bytes_)
             self.assertEqual(str(pickle.loads(pickle.dumps(raised.exception))), why)

@@ -266,8 +266,8 @@ static void test_why(rviommu_t *platform) {
     uint64_t cause, context = 77, walk = 77;
     uint8_t byte = 0;
     memset(&why, 0, sizeof why);
-    want("why of no step", rviommu_why(platform, 0, &why), RVIOMMU_NOT_THERE);
-    want("nor one far off", rviommu_why(platform, UINT64_MAX, &why), RVIOMMU_NOT_THERE);
+    want("why of no step", rviommu_reason(platform, 0, &why), RVIOMMU_NOT_THERE);
+    want("nor one far off", rviommu_reason(platform, UINT64_MAX, &why), RVIOMMU_NOT_THERE);
     map(platform);
     want("a page of no place", rviommu_page_origin(platform, 0, &context, &walk), RVIOMMU_NOT_THERE);
     want("a context of no place", rviommu_context_origin(platform, UINT64_MAX, &context), RVIOMMU_NOT_THERE);
@@ -277,10 +277,10 @@ static void test_why(rviommu_t *platform) {
     want("another leaf", rviommu_store(platform, 0x80004008, 8, 0x200080d7), RVIOMMU_DONE);
     want("a stale write", rviommu_dma_write(platform, 5, 0x40201abc, &byte, 1, &cause), RVIOMMU_DONE);
     want("no context", rviommu_dma_read(platform, 6, 0x40201abc, &byte, 1, &cause), RVIOMMU_DENIED);
-    want("why of ddtp's write", rviommu_why(platform, 5, &why), RVIOMMU_OK);
+    want("why of ddtp's write", rviommu_reason(platform, 5, &why), RVIOMMU_OK);
     want("its number", why.number, 6);
     want("its kind", why.kind, RVIOMMU_WHY_NO_ACCESS);
-    want("why of the first write", rviommu_why(platform, 7, &why), RVIOMMU_OK);
+    want("why of the first write", rviommu_reason(platform, 7, &why), RVIOMMU_OK);
     want("its number", why.number, 8);
     want("its kind", why.kind, RVIOMMU_WHY_WALK);
     want("its context, by the read", why.context, 7);
@@ -290,14 +290,14 @@ static void test_why(rviommu_t *platform) {
     want("its IOVA", why.iova, 0x40201abc);
     want("that it wrote", why.is_write, true);
     want("that it wasn't stale", why.is_stale, false);
-    want("why of the stale write", rviommu_why(platform, 9, &why), RVIOMMU_OK);
+    want("why of the stale write", rviommu_reason(platform, 9, &why), RVIOMMU_OK);
     want("its walk", why.walk, 8);
     want("that it was stale", why.is_stale, true);
     want("the way by the tables", why.way.kind, RVIOMMU_BY_WALK);
     want("its frame", why.way.frame, 0x80020);
-    want("why of the denial", rviommu_why(platform, 10, &why), RVIOMMU_OK);
+    want("why of the denial", rviommu_reason(platform, 10, &why), RVIOMMU_OK);
     want("its kind", why.kind, RVIOMMU_WHY_DENIED);
-    want("the last step", rviommu_why(platform, 11, &why), RVIOMMU_NOT_THERE);
+    want("the last step", rviommu_reason(platform, 11, &why), RVIOMMU_NOT_THERE);
     want("the page of the write", rviommu_page_origin(platform, 1, &context, &walk), RVIOMMU_OK);
     want("its context and its walk", 100 * context + walk, 708);
     want("the context", rviommu_context_origin(platform, 0, &context), RVIOMMU_OK);
@@ -314,16 +314,16 @@ static void test_copied_account(rviommu_t *platform) {
     uint8_t byte;
     memset(&why, 0, sizeof why);
     want("copied", rviommu_copy(platform, &copy), RVIOMMU_OK);
-    want("no step of the copy", rviommu_why(&copy, 0, &why), RVIOMMU_NOT_THERE);
+    want("no step of the copy", rviommu_reason(&copy, 0, &why), RVIOMMU_NOT_THERE);
     want("nor in its trace", rviommu_line(&copy, "trace 0", 7, answer, sizeof answer, &length), RVIOMMU_OK);
     want_text("which has none", answer, "none");
     want("a step of the copy", rviommu_dma_read(&copy, 5, 0x40201abc, &byte, 1, &cause), RVIOMMU_BYTES);
-    want("why of it", rviommu_why(&copy, 0, &why), RVIOMMU_OK);
+    want("why of it", rviommu_reason(&copy, 0, &why), RVIOMMU_OK);
     want("its number", why.number, 12);
     want("its walk, before the copy", why.walk, 7);
     want("the same step in the trace", rviommu_line(&copy, "trace 0", 7, answer, sizeof answer, &length), RVIOMMU_OK);
     want_text("its line", answer, "dma read 0x5 0x40201abc 0x1 -> 00");
-    want("none of the other", rviommu_why(platform, 11, &why), RVIOMMU_NOT_THERE);
+    want("none of the other", rviommu_reason(platform, 11, &why), RVIOMMU_NOT_THERE);
     want("the page of the read", rviommu_page_origin(&copy, 0, &context, &walk), RVIOMMU_OK);
     want("its context and its walk", 100 * context + walk, 707);
     rviommu_close(&copy);
@@ -339,15 +339,15 @@ static void test_kept_reasons(void) {
     want("opened", rviommu_open_built_in(&platform), RVIOMMU_OK);
     map(&platform);
     want("a longer account", rviommu_keep_reasons(&platform, 1000, false), RVIOMMU_OK);
-    want("which has no step yet", rviommu_why(&platform, 0, &why), RVIOMMU_NOT_THERE);
+    want("which has no step yet", rviommu_reason(&platform, 0, &why), RVIOMMU_NOT_THERE);
     for (int i = 0; i < 1200; i++) {
         want("a load", rviommu_load(&platform, RAM, 8, &value), RVIOMMU_VALUE);
     }
-    want("the oldest of 1000", rviommu_why(&platform, 0, &why), RVIOMMU_OK);
+    want("the oldest of 1000", rviommu_reason(&platform, 0, &why), RVIOMMU_OK);
     want("its number", why.number, 207);
-    want("the newest", rviommu_why(&platform, 999, &why), RVIOMMU_OK);
+    want("the newest", rviommu_reason(&platform, 999, &why), RVIOMMU_OK);
     want("its number", why.number, 1206);
-    want("no further one", rviommu_why(&platform, 1000, &why), RVIOMMU_NOT_THERE);
+    want("no further one", rviommu_reason(&platform, 1000, &why), RVIOMMU_NOT_THERE);
     want("accesses alone", rviommu_keep_reasons(&platform, 2, true), RVIOMMU_OK);
     for (int i = 0; i < 3; i++) {
         want("a write", rviommu_dma_write(&platform, 5, 0x40201abc, &byte, 1, &cause), RVIOMMU_DONE);
@@ -355,28 +355,28 @@ static void test_kept_reasons(void) {
         want("a look at ipsr by a step", rviommu_reg_read(&platform, 0x54, 4, &value), RVIOMMU_VALUE);
         want("a store", rviommu_store(&platform, RAM, 8, 5), RVIOMMU_DONE);
     }
-    want("the first of two", rviommu_why(&platform, 0, &why), RVIOMMU_OK);
+    want("the first of two", rviommu_reason(&platform, 0, &why), RVIOMMU_OK);
     want("its number", why.number, 1215);
     want("its kind", why.kind, RVIOMMU_WHY_WALK);
-    want("the second", rviommu_why(&platform, 1, &why), RVIOMMU_OK);
+    want("the second", rviommu_reason(&platform, 1, &why), RVIOMMU_OK);
     want("its number", why.number, 1216);
     want("its kind", why.kind, RVIOMMU_WHY_DENIED);
-    want("no third", rviommu_why(&platform, 2, &why), RVIOMMU_NOT_THERE);
+    want("no third", rviommu_reason(&platform, 2, &why), RVIOMMU_NOT_THERE);
     want("copied", rviommu_copy(&platform, &copy), RVIOMMU_OK);
     for (int i = 0; i < 3; i++) {
         want("a write of the copy", rviommu_dma_write(&copy, 5, 0x40201abc, &byte, 1, &cause), RVIOMMU_DONE);
         want("a store of the copy", rviommu_store(&copy, RAM, 8, 5), RVIOMMU_DONE);
     }
-    want("the second of the copy", rviommu_why(&copy, 1, &why), RVIOMMU_OK);
+    want("the second of the copy", rviommu_reason(&copy, 1, &why), RVIOMMU_OK);
     want("its number", why.number, 1223);
-    want("no third of the copy", rviommu_why(&copy, 2, &why), RVIOMMU_NOT_THERE);
+    want("no third of the copy", rviommu_reason(&copy, 2, &why), RVIOMMU_NOT_THERE);
     want("none at all", rviommu_keep_reasons(&copy, 0, false), RVIOMMU_OK);
     want("a step", rviommu_load(&copy, RAM, 8, &value), RVIOMMU_VALUE);
-    want("which isn't kept", rviommu_why(&copy, 0, &why), RVIOMMU_NOT_THERE);
+    want("which isn't kept", rviommu_reason(&copy, 0, &why), RVIOMMU_NOT_THERE);
     refused = 0;
     want("reasons without memory", rviommu_keep_reasons(&platform, 1000, false), RVIOMMU_OUT_OF_MEMORY);
     refused = -1;
-    want("those of before", rviommu_why(&platform, 1, &why), RVIOMMU_OK);
+    want("those of before", rviommu_reason(&platform, 1, &why), RVIOMMU_OK);
     want("more than there is memory for", rviommu_keep_reasons(&platform, SIZE_MAX, false), RVIOMMU_OUT_OF_MEMORY);
     rviommu_close(&copy);
     rviommu_close(&platform);
@@ -422,7 +422,7 @@ static void test_interrupt(void) {
     want("which is", value, 0x20000402);
     want("eight bytes of fctl", rviommu_reg_look(view, 8, 8, &value), RVIOMMU_OUTSIDE);
     want("which leaves", value, 0x20000402);
-    want("the last step", rviommu_why(view, 3, &why), RVIOMMU_OK);
+    want("the last step", rviommu_reason(view, 3, &why), RVIOMMU_OK);
     want("which was the denial", why.number, 4);
     want("the fault's interrupt is taken", rviommu_reg_write(&platform, 0x54, 4, 2), RVIOMMU_DONE);
     want("none is left", rviommu_interrupt(view), 0);
@@ -448,14 +448,14 @@ static void test_lengths(void) {
         bool is_step = 0 < length && length <= 64;
         want("a write", rviommu_dma_write(&platform, 5, RAM, bytes, length, &cause), is_step ? RVIOMMU_DONE : RVIOMMU_MISUSE);
         steps += is_step;
-        want("its number", rviommu_why(&platform, steps, &why), RVIOMMU_NOT_THERE);
+        want("its number", rviommu_reason(&platform, steps, &why), RVIOMMU_NOT_THERE);
         want("a read", rviommu_dma_read(&platform, 5, RAM + 128, bytes, length, &cause), is_step ? RVIOMMU_BYTES : RVIOMMU_MISUSE);
         steps += is_step;
-        want("its number", rviommu_why(&platform, steps, &why), RVIOMMU_NOT_THERE);
+        want("its number", rviommu_reason(&platform, steps, &why), RVIOMMU_NOT_THERE);
         memset(bytes, 9, sizeof bytes);
     }
     want("the cause that was there", cause, 77);
-    want("the last step", rviommu_why(&platform, steps - 1, &why), RVIOMMU_OK);
+    want("the last step", rviommu_reason(&platform, steps - 1, &why), RVIOMMU_OK);
     want("its number", why.number, 129);
     rviommu_close(&platform);
 }
@@ -488,7 +488,7 @@ static void test_unwanted(void) {
     want("a stale request", rviommu_stale(&platform, 5, RAM, false, NULL), RVIOMMU_CURRENT);
     want("a stale page", rviommu_stale_page(&platform, 0, NULL), RVIOMMU_NO_SUCH);
     want("a stale context", rviommu_stale_context(&platform, 0, NULL), RVIOMMU_NO_SUCH);
-    want("why", rviommu_why(&platform, 0, NULL), RVIOMMU_OK);
+    want("why", rviommu_reason(&platform, 0, NULL), RVIOMMU_OK);
     want("a page's origin", rviommu_page_origin(&platform, 0, NULL, NULL), RVIOMMU_NOT_THERE);
     want("a context's origin", rviommu_context_origin(&platform, 0, NULL), RVIOMMU_NOT_THERE);
     want("an assembly", rviommu_assemble("no", 2, bytes, sizeof bytes, NULL, NULL), RVIOMMU_BAD_LINE);
@@ -578,12 +578,48 @@ static void test_words(void) {
     want_text("what is left", words, "bad capabilities");
 }
 
+static void test_names_of_causes(void) {
+    static const struct {
+        uint64_t cause;
+        const char *name;
+    } names[] = {{5, "read access fault"}, {7, "write access fault"}, {13, "read page fault"}, {15, "write page fault"}, {21, "read guest page fault"},
+                 {23, "write guest page fault"}, {256, "all inbound transactions disallowed"}, {257, "DDT entry load access fault"}, {258, "DDT entry not valid"},
+                 {259, "DDT entry misconfigured"}, {260, "transaction type disallowed"}, {0, "no such cause"}, {UINT64_MAX, "no such cause"}};
+    char words[48];
+    size_t length;
+    for (size_t i = 0; i < sizeof names / sizeof *names; i++) {
+        want("a name", rviommu_cause_text(names[i].cause, words, sizeof words, &length), RVIOMMU_OK);
+        want_text("its words", words, names[i].name);
+        want("their length", length, strlen(words));
+    }
+    want("too little room", rviommu_cause_text(13, words, 47, NULL), RVIOMMU_LITTLE_ROOM);
+    want_text("what is left", words, "no such cause");
+}
+
+/* Names of before that go on working. */
+static void test_earlier_names(void) {
+    rviommu_t platform = {NULL};
+    struct rviommu_why why;
+    size_t found = 7;
+    want("opened", rviommu_open_built_in(&platform), RVIOMMU_OK);
+    want("kept", rviommu_keep_holdings(&platform, true), RVIOMMU_OK);
+    rviommu_command(&platform);
+    want("a reason", rviommu_why(&platform, 0, &why), RVIOMMU_OK);
+    want("its number", why.number, 1);
+    want("no second one", rviommu_why(&platform, 1, NULL), rviommu_reason(&platform, 1, NULL));
+    want("what is owed", rviommu_owed(&platform, NULL, 0, &found), RVIOMMU_OK);
+    want("nothing", found, 0);
+    rviommu_close(&platform);
+}
+
 int main(void) {
     test_assemble();
     test_refused_images();
     test_refused_memory();
     test_refused_lent_memory();
     test_lines();
+    test_names_of_causes();
+    test_earlier_names();
     test_looks();
     test_reasons();
     test_64_kib();

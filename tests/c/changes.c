@@ -1,5 +1,5 @@
 /*
- * What changes a platform and is no step, and translations: a reset, writes of any length into its own memory, and what rviommu_why tells of an
+ * What changes a platform and is no step, and translations: a reset, writes of any length into its own memory, and what rviommu_reason says of an
  * address.
  */
 #include <inttypes.h>
@@ -45,7 +45,7 @@ static void test_translations(void) {
     want("its address", number, 0x80010123);
     want("it fills a page", rviommu_page(&platform, 0, &page), RVIOMMU_LIVE);
     want("for writes", page.is_write, true);
-    want("why", rviommu_why(&platform, 1, &why), RVIOMMU_OK);
+    want("why", rviommu_reason(&platform, 1, &why), RVIOMMU_OK);
     want("its address", why.address, 0x80010123);
     want("its kind", why.kind, RVIOMMU_WHY_WALK);
     want("a frame beyond memory", rviommu_store(&platform, 0x80004008, 8, (uint64_t)0x10000000 << 10 | 0xd7), RVIOMMU_DONE);

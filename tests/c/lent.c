@@ -195,7 +195,7 @@ static void compare(void) {
     uint64_t fqcsr = 0, wanted_fqcsr = 0;
     memset(&why, 0, sizeof why);
     memset(&wanted, 0, sizeof wanted);
-    want("why", rviommu_why(&lent, 31, &why), rviommu_why(&own, 31, &wanted));
+    want("why", rviommu_reason(&lent, 31, &why), rviommu_reason(&own, 31, &wanted));
     want("it", memcmp(&why, &wanted, sizeof why), 0);
     for (uint64_t place = 0; place <= 64; place++) {
         struct rviommu_page_place page, wanted_page;

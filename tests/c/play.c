@@ -190,7 +190,7 @@ static void tell_reason(const struct rviommu_why *why, const uint64_t *lines) {
 static void tell_reasons(rviommu_t *platform, uint64_t line) {
     static uint64_t lines[MOST_LINES], last;
     struct rviommu_why why;
-    for (uint64_t step = 0; step < MOST_STEPS && rviommu_why(platform, step, &why) == RVIOMMU_OK; step++) {
+    for (uint64_t step = 0; step < MOST_STEPS && rviommu_reason(platform, step, &why) == RVIOMMU_OK; step++) {
         if (why.number >= MOST_LINES) {
             fail("too many steps");
         }
@@ -200,7 +200,7 @@ static void tell_reasons(rviommu_t *platform, uint64_t line) {
         }
     }
     for (uint64_t step = 0; step < MOST_STEPS; step++) {
-        if (rviommu_why(platform, step, &why) == RVIOMMU_OK) {
+        if (rviommu_reason(platform, step, &why) == RVIOMMU_OK) {
             tell_reason(&why, lines);
         } else {
             printf("none\n");

@@ -44,9 +44,8 @@ static struct bytes saved_of(const rviommu_t *platform) {
     return saved;
 }
 
-/* 1 MiB of memory and two disks; devices 5 and 7 are led by Sv39 from IOVA 0x40200000 to eight pages of memory. */
-static void open_mapped(rviommu_t *platform) {
-    static const char text[] = "ram 0x80000000 0x100000\ndisk 7 2 aabb\nrodisk 9 1 cc\n";
+/* Two disks; devices 5 and 7 are led by Sv39 from IOVA 0x40200000 to eight pages from 0x80010000 on. The text states the memory. */
+static void open_on(const char *text, rviommu_t *platform) {
     static const uint64_t words[][2] = {{0x800010a0, 1}, {0x800010b8, 0x8000000000080002}, {0x800010e0, 1}, {0x800010f8, 0x8000000000080002},
                                         {0x80002008, 0x20000c01}, {0x80003008, 0x20001001}};
     uint8_t image[256];
@@ -65,6 +64,9 @@ static void open_mapped(rviommu_t *platform) {
     rviommu_reg_write(platform, 0x28, 8, 0x20008405);
     rviommu_reg_write(platform, 0x4c, 4, 3);
 }
+
+/* 1 MiB of memory. */
+static void open_mapped(rviommu_t *platform) { open_on("ram 0x80000000 0x100000\ndisk 7 2 aabb\nrodisk 9 1 cc\n", platform); }
 
 /* A driver of block device 0, which is led as device 7: a queue of four descriptors at IOVA 0x40200000, and a request to read a sector. */
 static void start_disk(rviommu_t *platform) {
@@ -138,8 +140,8 @@ static void want_equal_reasons(const rviommu_t *one, const rviommu_t *other, uin
         struct rviommu_why first, second;
         memset(&first, 0, sizeof first);
         memset(&second, 0, sizeof second);
-        want("a reason", rviommu_why(one, 32 - back, &first), RVIOMMU_OK);
-        want("its own", rviommu_why(other, count - back, &second), RVIOMMU_OK);
+        want("a reason", rviommu_reason(one, 32 - back, &first), RVIOMMU_OK);
+        want("its own", rviommu_reason(other, count - back, &second), RVIOMMU_OK);
         want("its number", second.number, first.number);
         want("its context", second.context, first.context);
         want("its page", second.walk, first.walk);
@@ -176,7 +178,7 @@ static void test_run(int moment) {
     want("restored", rviommu_restore(saved.at, saved.length, &again), RVIOMMU_OK);
     free(saved.at);
     want_equal(&platform, &again);
-    want("no reason yet", rviommu_why(&again, 0, NULL), RVIOMMU_NOT_THERE);
+    want("no reason yet", rviommu_reason(&again, 0, NULL), RVIOMMU_NOT_THERE);
     for (int i = 0; i < 8; i++) {
         step_both(&platform, &again);
         want("the disk", rviommu_dev_step(&again, 0, NULL), rviommu_dev_step(&platform, 0, NULL));
@@ -215,26 +217,67 @@ static void test_refused_bytes(void) {
     saved.at[8]++;
     want("another version", rviommu_restore(saved.at, saved.length, &again), RVIOMMU_OTHER_VERSION);
     saved.at[8]--;
-    for (int i = 0; i < 3000; i++) {
-        size_t place = below(2) ? below(200) : saved.length - 1 - below(4000);
-        uint8_t old = saved.at[place];
-        if (place / 8 == 3) {
-            continue; /* how many reasons are kept: any number is one */
-        }
-        saved.at[place] = (uint8_t)below(256);
-        if (rviommu_restore(saved.at, saved.length, &again) == RVIOMMU_OK) {
-            rviommu_command(&again);
-            rviommu_dma_write(&again, 5, 0x40200000, saved.at, 8, NULL);
-            rviommu_dev_step(&again, 0, NULL);
-            rviommu_close(&again);
-        }
-        saved.at[place] = old;
-    }
     want("as it was", rviommu_restore(saved.at, saved.length, &again), RVIOMMU_OK);
     want_equal(&platform, &again);
     free(saved.at);
     rviommu_close(&platform);
     rviommu_close(&again);
+}
+
+/* Damages bytes: a bit, a byte, a word, or some bytes behind one another, of the first 256 or of all. */
+static void damage(struct bytes saved) {
+    size_t most = below(2) ? 256 : saved.length, place = below(most), count = 1 + below(below(2) ? 8 : 64);
+    switch (below(4)) {
+    case 0:
+        saved.at[place] ^= (uint8_t)(1 << below(8));
+        break;
+    case 1:
+        saved.at[place] = (uint8_t)below(256);
+        break;
+    case 2:
+        memset(saved.at + place / 8 * 8, below(2) ? 0 : 0xff, 8);
+        break;
+    default:
+        for (size_t i = place; i < place + count && i < saved.length; i++) {
+            saved.at[i] = (uint8_t)below(256);
+        }
+    }
+}
+
+/* 5,000 damaged saves, and each bit of the first 16 words: each is refused or open, and takes at most twice the memory that the original takes. */
+static void test_damaged_bytes(void) {
+    rviommu_t platform = {NULL}, again = {NULL};
+    open_on("ram 0x80000000 0x8000\ndisk 7 2 aabb\nrodisk 9 1 cc\n", &platform);
+    rviommu_dev_write(&platform, 0, 0x70, 4, 3);
+    want("its page is cached, but not in memory", rviommu_dma_read(&platform, 5, 0x40200000, NULL, 8, NULL), RVIOMMU_BUS_ERROR);
+    struct bytes saved = saved_of(&platform), damaged = {malloc(saved.length), saved.length};
+    asked = 0;
+    want("restored", rviommu_restore(saved.at, saved.length, &again), RVIOMMU_OK);
+    size_t original = asked;
+    rviommu_close(&again);
+    for (int i = 0; i < 5000 + 8 * 128; i++) {
+        memcpy(damaged.at, saved.at, saved.length);
+        if (i < 5000) {
+            damage(damaged);
+        } else {
+            damaged.at[(i - 5000) / 8] ^= (uint8_t)(1 << i % 8);
+        }
+        asked = 0;
+        uint32_t refusal = rviommu_restore(damaged.at, damaged.length, &again);
+        want("its memory", asked <= 2 * original, true);
+        if (refusal == RVIOMMU_OK) {
+            rviommu_command(&again);
+            rviommu_dma_write(&again, 5, 0x40200000, saved.at, 8, NULL);
+            rviommu_dev_step(&again, 0, NULL);
+            rviommu_close(&again);
+        } else {
+            want("refused", refusal == RVIOMMU_BAD_SAVE || refusal == RVIOMMU_OTHER_VERSION, true);
+            want("its handle", again.own == NULL, true);
+        }
+    }
+    free(saved.at);
+    free(damaged.at);
+    rviommu_close(&platform);
 }
 
 /* Each allocation is refused in turn. */
@@ -296,6 +339,7 @@ int main(void) {
         test_run(moment);
     }
     test_refused_bytes();
+    test_damaged_bytes();
     test_refused_memory();
     test_lent();
     puts(failed ? "failed" : "passed");

@@ -44,7 +44,7 @@ static void map(rviommu_t *platform) {
 static void open_mapped(rviommu_t *platform, bool keeps) {
     want("opened", rviommu_open_built_in(platform), RVIOMMU_OK);
     if (keeps) {
-        rviommu_keep_holdings(platform, true);
+        want("kept", rviommu_keep_holdings(platform, true), RVIOMMU_OK);
     }
     map(platform);
 }
@@ -90,7 +90,7 @@ static void want_unsettled(const struct rviommu_unsettled *unsettled, uint64_t f
 
 static size_t count_owed(const rviommu_t *platform) {
     size_t found = 77;
-    want("owed", rviommu_owed(platform, NULL, 0, &found), RVIOMMU_OK);
+    want("owed", rviommu_all_owed(platform, NULL, 0, &found), RVIOMMU_OK);
     return found;
 }
 
@@ -116,7 +116,7 @@ static void test_unmapped(void) {
     want("its cause", unsettled.tables.cause, 15);
     want("the output isn't wanted", settled(&platform, 0, false, NULL), RVIOMMU_UNSETTLED);
     want_settled("its neighbour", &platform, 1);
-    want("owed", rviommu_owed(&platform, owed, 3, &found), RVIOMMU_OK);
+    want("owed", rviommu_all_owed(&platform, owed, 3, &found), RVIOMMU_OK);
     want("how many", found, 1);
     want_unsettled(&owed[0].unsettled, 0x80010, first);
     want("its page", owed[0].iova, IOVA);
@@ -125,10 +125,10 @@ static void test_unmapped(void) {
     want("it is a read", owed[0].is_write, false);
     want("the next place", ((uint8_t *)owed)[sizeof owed[0]], 0x55);
     rviommu_store(&platform, LEAVES + 8, 8, 0);
-    want("owed", rviommu_owed(&platform, owed, 1, &found), RVIOMMU_OK);
+    want("owed", rviommu_all_owed(&platform, owed, 1, &found), RVIOMMU_OK);
     want("how many", found, 2);
     want("the next place", ((uint8_t *)owed)[sizeof owed[0]], 0x55);
-    want("owed", rviommu_owed(&platform, owed, 2, NULL), RVIOMMU_OK);
+    want("owed", rviommu_all_owed(&platform, owed, 2, NULL), RVIOMMU_OK);
     want("both", owed[0].number + owed[1].number, first + second);
     want("both pages", owed[0].iova + owed[1].iova, IOVA + IOVA + 4096);
     command(&platform, VMA_OF_PAGE, IOVA >> 12);
@@ -182,7 +182,7 @@ static void test_seventy_pages(void) {
     for (uint64_t page = 1; page < 70; page++) {
         rviommu_store(&platform, LEAVES + 8 * page, 8, 0);
     }
-    want("owed", rviommu_owed(&platform, owed, 70, &found), RVIOMMU_OK);
+    want("owed", rviommu_all_owed(&platform, owed, 70, &found), RVIOMMU_OK);
     want("all", found, 70);
     for (uint64_t i = 0; i < 70; i++) {
         want("the frame of its page", owed[i].unsettled.elsewhere.frame - 0x80010, (owed[i].iova - IOVA) / 4096);
@@ -207,7 +207,7 @@ static void test_numbers(void) {
     rviommu_reg_read(&platform, 0, 8, NULL);
     want("a write of it", rviommu_dma_write(&platform, DID, IOVA + 3 * 4096, (const uint8_t *)"a", 1, NULL), RVIOMMU_DONE);
     rviommu_store(&platform, LEAVES + 24, 8, 0);
-    want("owed", rviommu_owed(&platform, owed, 2, &found), RVIOMMU_OK);
+    want("owed", rviommu_all_owed(&platform, owed, 2, &found), RVIOMMU_OK);
     want("a read and a write", found, 2);
     want("one is a write", owed[0].is_write + owed[1].is_write, 1);
     want("the newest read", owed[owed[0].is_write].number, newest);
@@ -225,7 +225,7 @@ static void test_not_kept(void) {
     open_mapped(&platform, false);
     want("not kept", settled(&platform, 0, false, &unsettled), RVIOMMU_NOT_KEPT);
     want("nothing is put", unsettled.number, 77);
-    want("not kept", rviommu_owed(&platform, NULL, 0, &found), RVIOMMU_NOT_KEPT);
+    want("not kept", rviommu_all_owed(&platform, NULL, 0, &found), RVIOMMU_NOT_KEPT);
     want("nothing is put", found, 77);
     long before = allocations;
     for (uint64_t page = 0; page < 70; page++) {
@@ -233,9 +233,16 @@ static void test_not_kept(void) {
         command(&platform, VMA_OF_PAGE, page);
     }
     want("allocations", (uint64_t)(allocations - before), 0);
-    rviommu_keep_holdings(&platform, true);
+    want("something was cached", rviommu_keep_holdings(&platform, true), RVIOMMU_CACHED);
+    want("so nothing is kept", settled(&platform, 0, false, NULL), RVIOMMU_NOT_KEPT);
+    want("as before", rviommu_keep_holdings(&platform, false), RVIOMMU_OK);
+    rviommu_reset(&platform);
+    want("nothing is cached", rviommu_keep_holdings(&platform, true), RVIOMMU_OK);
+    map(&platform);
     read_page(&platform, 0, RVIOMMU_BYTES);
     want_settled("kept", &platform, 0);
+    want("something was cached", rviommu_keep_holdings(&platform, true), RVIOMMU_CACHED);
+    want_settled("still kept", &platform, 0);
     want("copied", rviommu_copy(&platform, &copy), RVIOMMU_OK);
     want("a copy keeps none", settled(&copy, 0, false, NULL), RVIOMMU_NOT_KEPT);
     want("saved", rviommu_save(&platform, bytes, sizeof bytes, &found), RVIOMMU_OK);
@@ -244,12 +251,15 @@ static void test_not_kept(void) {
     want("too wide", rviommu_settled(&platform, 1 << 24, 0, false, NULL), RVIOMMU_NOT_THERE);
     rviommu_keep_holdings(&platform, false);
     want("no more", settled(&platform, 0, false, NULL), RVIOMMU_NOT_KEPT);
+    want("nor again", rviommu_keep_holdings(&platform, true), RVIOMMU_CACHED);
     rviommu_reset(&platform);
     want("nor behind a reset", settled(&platform, 0, false, NULL), RVIOMMU_NOT_KEPT);
     want("words", rviommu_text(RVIOMMU_NOT_KEPT, words, sizeof words, NULL), RVIOMMU_OK);
     want("of that", strcmp(words, "holdings not kept"), 0);
     want("words", rviommu_text(RVIOMMU_UNSETTLED, words, sizeof words, NULL), RVIOMMU_OK);
     want("of that", strcmp(words, "unsettled"), 0);
+    want("words", rviommu_text(RVIOMMU_CACHED, words, sizeof words, NULL), RVIOMMU_OK);
+    want("of that", strcmp(words, "caches not empty"), 0);
     rviommu_close(&platform);
     rviommu_close(&copy);
     rviommu_close(&again);
@@ -264,7 +274,7 @@ static uint32_t read_step(rviommu_t *platform) {
     long left = refused;
     refused = -1;
     uint32_t told = settled(platform, 0, false, NULL);
-    want("owed", rviommu_owed(platform, NULL, 0, NULL), told);
+    want("owed", rviommu_all_owed(platform, NULL, 0, NULL), told);
     read_page(platform, 1, RVIOMMU_BYTES);
     want("still", settled(platform, 0, false, NULL), told);
     rviommu_store(platform, LEAVES, 8, 0);
@@ -276,7 +286,7 @@ static uint32_t ask(rviommu_t *platform) { return settled(platform, 0, false, NU
 
 static uint32_t list(rviommu_t *platform) {
     size_t found = 77;
-    uint32_t told = rviommu_owed(platform, NULL, 0, &found);
+    uint32_t told = rviommu_all_owed(platform, NULL, 0, &found);
     want("how many are owed", found, told == RVIOMMU_OK ? 1 : 77);
     return told;
 }
@@ -312,7 +322,7 @@ static void test_lent(void) {
     struct rviommu_owed owed[2];
     size_t found = 77;
     want("opened", rviommu_open_lent(RAM, SIZE, &lent), RVIOMMU_OK);
-    rviommu_keep_holdings(&lent, true);
+    want("kept", rviommu_keep_holdings(&lent, true), RVIOMMU_OK);
     words[0x10a0 / 8] = 1;
     words[0x10b8 / 8] = 0x8000000000080002;
     words[0x2008 / 8] = 0x20000c01;
@@ -324,7 +334,7 @@ static void test_lent(void) {
     words[0x4000 / 8] = 0;
     want("without words", rviommu_settled(&lent, DID, IOVA, false, &unsettled), RVIOMMU_STATUS_OTHER_MEMORY);
     want("with fewer", rviommu_settled_lent(&lent, words, COUNT - 1, DID, IOVA, false, &unsettled), RVIOMMU_STATUS_OTHER_MEMORY);
-    want("without words", rviommu_owed(&lent, owed, 2, &found), RVIOMMU_STATUS_OTHER_MEMORY);
+    want("without words", rviommu_all_owed(&lent, owed, 2, &found), RVIOMMU_STATUS_OTHER_MEMORY);
     want("nothing is put", unsettled.number + found, 77 + 77);
     want("unsettled", rviommu_settled_lent(&lent, words, COUNT, DID, IOVA, false, &unsettled), RVIOMMU_UNSETTLED);
     want_unsettled(&unsettled, 0x80010, 2);

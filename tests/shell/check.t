@@ -59,6 +59,7 @@ The wanted answer stands without the blanks around it, and whole. The comment be
   line 6: note: the comment isn't a wish, which is # => ANSWER
   line 7: note: the comment isn't a wish, which is # => ANSWER
   line 8: note: the comment isn't a wish, which is # => ANSWER
+  line 9: note: the answer is bus error, and no wish expects it
   2 passed, 3 failed
   [1]
   $ printf 'load 0 8 #  \t=> \t bus error \t\r\n' | rviommu check
@@ -188,3 +189,24 @@ It goes on an image, and has the lines of debug.
   [1]
   $ echo 'dev read 0 0x10 4 # => no device' | rviommu check
   1 passed, 0 failed
+
+A step that was refused, and whose line expects no answer, is noted.
+
+  $ refused='put 0x80000001 cmd iodir
+  > store 0 8 1
+  > reg write 1 4 0
+  > dev read 0 0 4
+  > load 0 8 # => bus error'
+  $ echo "$refused" | rviommu check
+  line 1: note: the answer is misuse, and no wish expects it
+  line 2: note: the answer is bus error, and no wish expects it
+  line 3: note: the answer is bad access, and no wish expects it
+  line 4: note: the answer is no device, and no wish expects it
+  1 passed, 0 failed
+  $ echo "$refused" | rviommu check --strict
+  line 1: the answer is misuse, and no wish expects it
+  line 2: the answer is bus error, and no wish expects it
+  line 3: the answer is bad access, and no wish expects it
+  line 4: the answer is no device, and no wish expects it
+  1 passed, 4 failed
+  [1]

@@ -22,7 +22,7 @@ unmaps a page and forgets the invalidation. It maps the page again before the en
   3 passed, 1 failed
   [1]
   $ echo "$forgotten" | at_fences --stale --tap
-  TAP version 14
+  TAP version 13
   ok 1 - line 4: dma read 5 0x40201abc 4
   ok 2 - line 8: cmd
   not ok 3 - line 8: place page 0

@@ -47,7 +47,7 @@ The program that `make run` builds answers as rviommu without a word does, and t
   >     cmp out wanted; sed 's/^iom_player: /rviommu: /' errors_of_player | cmp - errors; : > out
   >   done
   > done
-  $ shown=$(sed -n 's|^    make run < ||p' "$TOP/README.md")
+  $ shown=examples/stale_translation.script
   $ make -s -C "$TOP" -o "$player" run player="$player" < "$TOP/$shown" | cmp - "$TOP/${shown%.script}.answers"
   $ "$player" run < ask
   iom_player: no word is taken; rviommu takes words

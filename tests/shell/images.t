@@ -355,6 +355,21 @@ A file that can't be read or written is named; one above 2^30 bytes can't be rea
   $ rviommu asm text none/image
   rviommu: cannot write none/image
   [1]
+
+A write that fails leaves the image's old file as it was, with its permissions, and nothing beside it. A link is written through.
+
+  $ mkdir kept; rviommu asm text kept/image; chmod 640 kept/image; cp kept/image before
+  $ (trap '' XFSZ; ulimit -f 0; exec rviommu upgrade image kept/image)
+  rviommu: cannot write kept/image
+  [1]
+  $ cmp before kept/image; ls kept
+  image
+  $ rviommu upgrade image kept/image; stat -c %a kept/image
+  640
+  $ ln -s image kept/link; rviommu asm text kept/link; cmp before kept/image; ls kept
+  image
+  link
+
   $ printf S > large; truncate -s 1073741825 large; rviommu run large
   rviommu: cannot read large
   [1]

@@ -31,7 +31,7 @@ isn't used again is told at the end.
   > store 0x80004008 8 0
   > dma read 5 0x40201abc 4 # => 11223344" | settled
   line 6: dma read 5 0x40201abc 4 -> 11223344, unsettled: read 0x40201abc may still go to addr=0x80010abc, read in line 4, the tables now say denied 13
-  line 6: read 0x40201000 of device 5, as in line 6, may still go to addr=0x80010000, read in line 6, the tables now say denied 13
+  line 6: read 0x40201000 of device 5, as in line 6, may still go to addr=0x80010000, read in line 4, the tables now say denied 13
   1 passed, 2 failed
   [1]
   $ echo "$begin
@@ -39,7 +39,7 @@ isn't used again is told at the end.
   > dma read 5 0x40201abc 4 # => 11223344" | settled --stale
   line 6: dma read 5 0x40201abc 4 -> 11223344, stale: read 0x40201abc served by line 4, the tables now say denied 13, unsettled: read 0x40201abc may still go to addr=0x80010abc, read in line 4, the tables now say denied 13
   line 6: place page 0 is stale: the tables now say denied 13
-  line 6: read 0x40201000 of device 5, as in line 6, may still go to addr=0x80010000, read in line 6, the tables now say denied 13
+  line 6: read 0x40201000 of device 5, as in line 6, may still go to addr=0x80010000, read in line 4, the tables now say denied 13
   1 passed, 3 failed
   [1]
   $ echo "$begin
@@ -49,7 +49,7 @@ isn't used again is told at the end.
   [1]
   $ echo "$begin
   > store 0x80004008 8 0" | settled --tap
-  TAP version 14
+  TAP version 13
   ok 1 - line 4: dma read 5 0x40201abc 4
   not ok 2 - line 5: read 0x40201000 of device 5
     ---
@@ -75,7 +75,7 @@ Seventy other pages push the translation out of the cache of this platform, but 
   2 passed, 0 failed
   $ rviommu check --settled seventy < seventy_pages
   line 76: dma read 5 0x40201abc 4 -> denied 13, unsettled: read 0x40201abc may still go to addr=0x80010abc, read in line 4, the tables now say denied 13
-  line 76: read 0x40201000 of device 5, as in line 76, may still go to addr=0x80010000, read in line 76, the tables now say denied 13
+  line 76: read 0x40201000 of device 5, as in line 76, may still go to addr=0x80010000, read in line 4, the tables now say denied 13
   1 passed, 2 failed
   [1]
 
@@ -94,11 +94,11 @@ A table is freed, and its page used for other things, behind invalidations of th
   3 passed, 0 failed
   $ echo "$freed" | settled
   line 11: dma read 5 0x40201abc 4 -> denied 13, unsettled: read 0x40201abc may still go to addr=0x80014abc, read in line 4, the tables now say denied 13
-  line 11: read 0x40201000 of device 5, as in line 11, may still go to addr=0x80014000, read in line 11, the tables now say denied 13
+  line 11: read 0x40201000 of device 5, as in line 11, may still go to addr=0x80014000, read in line 4, the tables now say denied 13
   2 passed, 2 failed
   [1]
 
-The line owed asks what is owed anywhere: a test says it behind its flush. Where it isn't kept, it is unknown.
+The line owed asks what is owed anywhere: a test says it behind its flush. Where it isn't kept, the answer says what is missing.
 
   $ owing="$begin
   > owed # => none
@@ -123,8 +123,8 @@ The line owed asks what is owed anywhere: a test says it behind its flush. Where
   done
   none
   $ echo "$owing" | rviommu check image
-  line 5: owed -> unknown, wanted none
-  line 11: owed -> unknown, wanted none
+  line 5: owed -> unknown, it needs --settled, wanted none
+  line 11: owed -> unknown, it needs --settled, wanted none
   2 passed, 2 failed
   [1]
   $ echo "owed now" | rviommu debug image
@@ -181,7 +181,7 @@ A wish for a stale access is about --stale alone.
   > dma read 5 0x40201abc 4 # => 11223344 stale" | settled --stale
   line 6: dma read 5 0x40201abc 4 -> 11223344, stale: read 0x40201abc served by line 4, the tables now say denied 13, unsettled: read 0x40201abc may still go to addr=0x80010abc, read in line 4, the tables now say denied 13
   line 6: place page 0 is stale: the tables now say denied 13
-  line 6: read 0x40201000 of device 5, as in line 6, may still go to addr=0x80010000, read in line 6, the tables now say denied 13
+  line 6: read 0x40201000 of device 5, as in line 6, may still go to addr=0x80010000, read in line 4, the tables now say denied 13
   1 passed, 3 failed
   [1]
 

@@ -130,7 +130,7 @@ found_led m request context is =
       | WasFault own fault used staged page e ↦ let other = sym (ap by e) ∙ is in absurd (cc)
     ]
 
--- What an access is told to have read is what it fills.
+-- What an access is reported to have read is what it fills.
 context_read : (context : Context) (fill : Option (ℕ × Context)) → is_read_context (Some (source_of fill, context)) ≡ is_some fill
 context_read context None = refl
 context_read context (Some entry) = refl
@@ -163,7 +163,7 @@ seen_page m request =
       | WasFault own fault used staged page e ↦ subst P (sym e) (sym (ap is_some (page_refused m request own fault page)))
     ]
 
--- the notes of a step, by what it is told to have read
+-- the notes of a step, by what it is reported to have read
 by_fills : (context : Option (ℕ × Context)) (page : Option (Key × Hit)) (after : State) (request : Request) (number : ℕ) (history : HistoryView) →
     walk_noted (is_some page) number
     (beside (same_did request.did) after.machine.contexts (context_noted (is_some context) number history).contexts number)
@@ -194,7 +194,7 @@ noted_is before after (Some asking) seen number history is =
     ∙ ap (at (is_some (led m request).context)) (seen_page m request)
     ∙ by_fills (led m request).context (led m request).page after request number history
 
--- What a step read is the same, whether all that it was told is kept or only that.
+-- The reads of a step can be kept without its other events: each event adds to them what it adds to the whole.
 read_alike : (seen : Lookup) (told : Event) → reads_of (noticed seen told) ≡ read_noticed (reads_of seen) told
 read_alike seen (event.Context source.Found did context) = refl
 read_alike seen (event.Context source.Read did context) = refl

@@ -19,7 +19,7 @@ beside_found {K} {V} test P (Some p ∷ ps) (s ∷ ss) n value h e =
       | false ↦ λ is here. beside_found test P ps ss n value h.1 here
     ] in by_test (test p.0) refl e
 
--- the same notes where the fills are the same, and what they note
+-- equal fills that note equal numbers leave equal notes
 pub noted_at-same : {X : Type 0} → (room : ℕ) (filled other : ℕ → Option X) (note told : ℕ → ℕ) (first : List ℕ) (k : ℕ) →
     ((j : ℕ) → j < k → filled j ≡ other j) → ((j : ℕ) → j < k → note j ≡ told j) →
     noted_at room filled note first k ≡ noted_at room other told first k

@@ -16,7 +16,7 @@ module _ {C K V : Type 0} (same : K → K → Bool) (drops : C → K → V → B
     pub since : Since same drops filled executed k p c
     pub told : s ≡ note c
 
-  -- the same after step k, unless that drops it
+  -- after step k, unless that drops it: the entry stands in its place since a step that noted this
   abbrev Kept : ℕ → K × V → ℕ → Type 0
   Kept k p s = drops_at drops (executed k) p.0 p.1 ≡ false → Noted (suc k) p s
 

@@ -58,7 +58,7 @@ stores_followed history platform start steps numbers addr (byte ∷ bytes) h =
     (subst (λ (l : List ℕ). Follows history (end_of after rest) start ((steps ++ first ∷ []) ++ rest) l) (append_assoc numbers (0 ∷ []) (replicate (length rest) 0))
     (stores_followed history after start (steps ++ first ∷ []) (numbers ++ 0 ∷ []) (addr + 1) bytes one))
 
--- the same in place of what others write
+-- a history goes along with memory that others wrote, as with a store of each of its bytes
 writing_followed : (history : HistoryView) (platform start : State) (steps : List Step) (numbers : List ℕ) (memory : Memory) →
     Follows history platform start steps numbers → IsWritten platform.machine.memory memory →
     Follows history (with_memory platform memory) start (steps ++ stores_of memory.base memory.bytes)

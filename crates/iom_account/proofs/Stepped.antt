@@ -1,4 +1,4 @@
--- What a step of a history that goes along with a platform keeps and tells.
+-- What a step of a history that goes along with a platform keeps and returns.
 use Rattle.std.proofs.Common.{◌≡◌, ◌∙◌, ◌++◌, ℕ, suc, List, [], ◌∷◌, length, Option, Some, None, refl, sym, ap, subst}
 use Rattle.std.specs.Prelude.{◌↔◌, IfSome, slice_get}
 use Rattle.std.specs.Option.{option_and_then, option_map}
@@ -20,7 +20,7 @@ use Rattle.iom_account.proofs.Followed.{bases_kept, contexts_kept, number_last, 
 use Rattle.iom_account.proofs.Runs.{end_more, item_last, length_more, moment_last}
 use Rattle.iom_account.proofs.Told.{by_asked}
 
--- no origin is told where an access is denied, and of no other
+-- exactly the accesses that are denied have no origin
 none_denied : (notes : HistoryView) (after : State) (request : Request) (number : ℕ) (way : Way) →
     (origin_on notes after request number way ≡ None) ↔ IsDenied way
 none_denied notes after request number ByRegister = (λ is. absurd (cc), λ no. absurd no)
@@ -99,7 +99,7 @@ module _ (start : State) (steps : List Step) (numbers : List ℕ) (k : ℕ) (tak
       ∙ ap (λ (s : State). origin_so (notes_at start steps numbers (suc k)) s (request_at start steps k) number seen.way) leaves_moment))
       (by_asked start steps numbers none k number (request_at start steps k) seen.way refl led_so)
 
--- the same of steps with one step more
+-- A history goes along with one step more, and its origin for that step is right.
 module _ (history new : HistoryView) (platform after : State) (taken : Step) (seen : Lookup) (number : ℕ)
     (left : after ≡ (next platform taken).state)
     (so : seen ≡ told_by_step noticed nothing_seen platform.machine (asked platform taken))

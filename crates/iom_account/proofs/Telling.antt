@@ -1,4 +1,4 @@
--- What is told of steps, with one step more.
+-- The reports of steps, with one step more.
 use Rattle.std.proofs.Common.{◌≡◌, ◌∙◌, ◌++◌, ◌+◌, ◌-◌, ◌<◌, ◌≤◌, ℕ, zero, suc, List, [], ◌∷◌, length, take, drop, replicate, Option, Some, None, append_assoc, append-nil, length-drop, drop-drop, refl, sym, ap, subst, arith}
 use Rattle.std.specs.Prelude.{IsSomeAnd, slice_get}
 use Rattle.std.specs.Option.{option_and_then, option_map}
@@ -167,7 +167,7 @@ nothing_told history platform follows = record {
   tells = record { all = []; many = refl; each = λ n reason at. absurd (cc at); kept = refl };
 }
 
--- what the tables said of an access, by the way that it was told to be led
+-- what the tables said of an access, by the way that its witness noticed
 stale_asked : (state : State) (asking : Option Asking) (seen : Lookup) → seen ≡ told_by_step noticed nothing_seen state.machine asking →
     option_and_then (differing seen.way) (option_map (by_tables state.machine) (option_map request_in asking))
     ≡ stale_in state (option_map request_in asking)
@@ -183,7 +183,7 @@ stale_told : (state : State) (step : Step) (seen : Lookup) (tables found : Optio
 stale_told state step seen tables found is tables_are told =
     told ∙ ap (option_and_then (differing seen.way)) tables_are ∙ stale_asked state (asked state step) seen is
 
--- where an access was led, by the way that it was told to be led
+-- where an access was led, by the way that its witness noticed
 address_asked : (state : State) (asking : Option Asking) (seen : Lookup) → seen ≡ told_by_step noticed nothing_seen state.machine asking →
     address_by (option_map request_in asking) seen.way ≡ granted_address state (option_map request_in asking)
 address_asked state None seen is = refl

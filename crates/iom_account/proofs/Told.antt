@@ -1,4 +1,4 @@
--- What a history tells of a step explains it.
+-- What a history returns for a step explains it.
 use Rattle.std.proofs.Common.{◌≡◌, ◌∙◌, ℕ, suc, List, Option, Some, None, refl, sym, ap, subst}
 use Rattle.std.specs.Prelude.{IfSome, slice_get}
 use Rattle.std.specs.Option.{option_and_then}
@@ -99,7 +99,7 @@ module _ (start : State) (steps : List Step) (numbers : List ℕ) (none : IsUnca
       last_noted same_did drops_context (context_filled_at start steps) (executed_at start steps) (number_of numbers) same_did_exact same_did_itself n did context
       (after n).machine.contexts (contexts_at start steps numbers (suc n)) d (contexts_noted (suc n)) is
 
-  -- the same of a page
+  -- what stands beside a page after step n
   abbrev PageLast : (ℕ → ℕ) → ℕ → Key → Hit → ℕ → Type 0
   PageLast note = LastNoted same_key drops_page (page_filled_at start steps) (executed_at start steps) note
 
@@ -153,7 +153,7 @@ module _ (start : State) (steps : List Step) (numbers : List ℕ) (none : IsUnca
       })
 
   module _ (n : ℕ) (request : Request) (d : ℕ) (asked : request_at start steps n ≡ Some request) where
-    -- the origin that is told of a way comes from what explains the step
+    -- the origin that is returned for a way comes from what explains the step
     abbrev Goal : Way → Type 0
     Goal way = ComesFrom start steps numbers n (origin_on (notes_at start steps numbers (suc n)) (after n) request d way)
 

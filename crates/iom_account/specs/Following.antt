@@ -92,7 +92,7 @@ pub record HistoryView : Type 0 where
 abbrev pub history_of : List ℕ → List ℕ → List ℕ → HistoryView
 history_of contexts walks walk_contexts = record { contexts = contexts; walks = walks; walk_contexts = walk_contexts }
 
--- the same before step k of a run
+-- the numbers beside the places of a cache before step k of a run: of the context cache, then of the translation cache
 abbrev pub contexts_at : State → List Step → List ℕ → ℕ → List ℕ
 contexts_at start steps numbers k =
     noted_at context_room (context_filled_at start steps) (number_of numbers) (first_stamps start.machine.contexts) k
@@ -141,7 +141,7 @@ noted before after asked number history =
       walk_contexts = stamped_by page_room (base_by after contexts number asked) (page_filled before asked) history.walk_contexts;
     }
 
--- the same by what an access read: a context, and a page under the context of this number
+-- what an access leaves of a history, by what it read: a context, and a page under the context of this number
 abbrev pub context_noted : Bool → ℕ → HistoryView → HistoryView
 context_noted true number history = record history { contexts = made_room context_room history.contexts ++ number ∷ [] }
 context_noted false number history = history
@@ -159,7 +159,7 @@ noted_reading after (Some request) reads number history =
     let mid = context_noted reads.context number history in
     walk_noted reads.page number (beside (same_did request.did) after.machine.contexts mid.contexts number) mid
 
--- the same by what was seen of it
+-- what an access leaves of a history, by what was seen of it
 abbrev pub noted_so : State → Option Request → Lookup → ℕ → HistoryView → HistoryView
 noted_so after request seen number history = noted_reading after request (reads_of seen) number history
 

@@ -46,7 +46,7 @@ impl LastReasons {
         }
     }
 
-    /// The same reasons, in a ring of their own.
+    /// A copy of these reasons, in a ring of its own.
     pub fn copied(&self) -> LastReasons
         ensures { result ≡ self.now }
     {

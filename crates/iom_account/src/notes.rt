@@ -26,7 +26,7 @@ pub fn zeros<const N: usize>(count: usize) -> ArrayVec<u64, N>
     notes
 }
 
-/// The same items, each at its place.
+/// A copy of these items, in their order.
 pub fn copy_of<T: Copy + Default, const N: usize>(items: &ArrayVec<T, N>) -> ArrayVec<T, N>
     ensures { result.items ≡ items.now.items }
 {

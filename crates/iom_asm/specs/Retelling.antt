@@ -1,4 +1,4 @@
--- What a text says is told again by what it describes, on the machine of its image.
+-- On the machine of a text's image the lines of the items in memory say again what the text states.
 use Rattle.std.specs.Prelude.{ℕ, ◌≡◌, ◌+◌, ◌*◌, ◌++◌, List, [], ◌∷◌, length, map, bytes_eq, Option, Some, None, Ok}
 use Rattle.std.specs.Option.{option_map}
 use Rattle.iom_text.specs.Words.{words_of}

@@ -1,4 +1,4 @@
--- What a device tells of why it broke.
+-- What a device reports of why it broke.
 use Rattle.std.proofs.Common.{◌≡◌, ◌∙◌, ◌++◌, ◌==◌, ℕ, Bool, true, false, List, Option, Some, None, IsSome, Result, Ok, Err, length, refl, sym, arith, nat_le, nat_lt, if◌then◌else◌}
 use Rattle.std.specs.Prelude.{is_some}
 use Rattle.iom_virtq.specs.Adding.{add_result, with_part}

@@ -4,3 +4,4 @@ pub mod Saves
 pub mod Telling
 pub mod Filling
 pub mod Stores
+pub mod Uncached

@@ -1,5 +1,6 @@
 -- What is restored is a copy of what was saved.
 use Rattle.std.proofs.Common.{◌≡◌, ◌*◌, ◌/◌, ◌^◌, ◌<◌, ◌++◌, ◌∙◌, ℕ, zero, suc, Bool, true, false, List, [], ◌∷◌, length, get_or, drop, append-nil, refl, sym, subst, ap, ap₂, arith}
+use Rattle.std.specs.Prelude.{fold}
 use Rattle.iom_bits.specs.Bits.{flag}
 use Rattle.iom_mem.proofs.WordBytes.{words_hold}
 use Rattle.iom_mem.specs.Memory.{Memory}
@@ -8,11 +9,12 @@ use Rattle.iom_core.specs.State.{Board, state_on}
 use Rattle.iom_account.specs.Following.{HistoryView}
 use Rattle.iom_saved.specs.Boards.{board_words}
 use Rattle.iom_saved.specs.Bytes.{words_in}
+use Rattle.iom_saved.specs.Check.{mixed}
 use Rattle.iom_saved.proofs.Bytes.{words_back}
 use Rattle.iom_saved.proofs.Codes.{one_board, one_history, one_memory}
 use Rattle.iom_c.specs.Handles.{board_of, copied}
 use Rattle.iom_c.specs.Keeping.{copied as told_copied, none_kept}
-use Rattle.iom_c.specs.Saves.{HasWholeParts, held_words, IsFresh, IsSavedAs, owned_words, save_magic, save_version, told_words}
+use Rattle.iom_c.specs.Saves.{HasWholeParts, held_words, IsFresh, IsSavedAs, owned_words, save_magic, save_version, saved_words, told_words}
 use Rattle.iom_c.specs.declared.held.Held.{Held}
 use Rattle.iom_c.specs.declared.held.Held.TheVariants as held
 use Rattle.iom_c.specs.declared.owned.Owned.{Owned}
@@ -59,15 +61,20 @@ owned_same a b first second same =
     let held : a.held ≡ b.held = held_same a.held b.held first second told.1 in
     ap₂ (λ (h : Held) (r : Told × ℕ). record { held = h; trace = []; told = r.0; count = r.1 }) held (ap₂ (λ x y. (x, y)) told.0 count)
 
-small : (own : Owned) (bytes : List ℕ) → IsSavedAs own bytes → (i : ℕ) → get_or (save_magic ∷ save_version ∷ owned_words own) i 0 < 2 ^ 64
+check_below : (sum : ℕ) (words : List ℕ) → sum < 2 ^ 64 → fold mixed sum words < 2 ^ 64
+check_below sum [] below = below
+check_below sum (word ∷ words) below = check_below (mixed sum word) words (omega arith)
+
+small : (own : Owned) (bytes : List ℕ) → IsSavedAs own bytes → (i : ℕ) → get_or (saved_words own) i 0 < 2 ^ 64
 small own bytes is zero = omega arith
 small own bytes is (suc zero) = omega arith
-small own bytes is (suc (suc i)) = is.fit i
+small own bytes is (suc (suc zero)) = check_below 0 (owned_words own) (omega arith)
+small own bytes is (suc (suc (suc i))) = is.fit i
 
 -- the words that are saved as these bytes
-words_saved : (own : Owned) (bytes : List ℕ) → IsSavedAs own bytes → words_in (length bytes / 8) bytes ≡ save_magic ∷ save_version ∷ owned_words own
+words_saved : (own : Owned) (bytes : List ℕ) → IsSavedAs own bytes → words_in (length bytes / 8) bytes ≡ saved_words own
 words_saved own bytes is =
-    let words : List ℕ = save_magic ∷ save_version ∷ owned_words own in
+    let words : List ℕ = saved_words own in
     let size : length bytes ≡ 8 * length words = ap length is.are ∙ words_hold words in
     let count : length bytes / 8 ≡ length words = omega (arith, size) in
     ap (λ (n : ℕ). words_in n bytes) count ∙ ap (λ (l : List ℕ). words_in (length words) l) is.are
@@ -75,32 +82,26 @@ words_saved own bytes is =
 
 pub restored_same : (a b : Owned) (bytes : List ℕ) → IsSavedAs a bytes → IsSavedAs b bytes → IsFresh b → b ≡ copied a
 restored_same a b bytes first second fresh =
-    let same : owned_words a ≡ owned_words b = ap (λ (l : List ℕ). drop 2 l) (sym (words_saved a bytes first) ∙ words_saved b bytes second) in
+    let same : owned_words a ≡ owned_words b = ap (λ (l : List ℕ). drop 3 l) (sym (words_saved a bytes first) ∙ words_saved b bytes second) in
     let own : b ≡ copied b = ap₂ (λ t u. record { held = b.held; trace = t; told = u; count = b.count }) fresh.trace fresh.told in
     own ∙ sym (owned_same a b first.whole second.whole same)
 
--- what was put behind the magic word and the version
-pub saved_by : (own : Owned) (start mid words seen bytes : List ℕ) → start ≡ [] → mid ≡ start ++ save_magic ∷ save_version ∷ [] →
-    words ≡ mid ++ owned_words own → seen ≡ words → bytes ≡ bytes_of_words seen → ((i : ℕ) → get_or seen i 0 < 2 ^ 64) →
-    HasWholeParts own.held → IsSavedAs own bytes
-saved_by own start mid words seen bytes empty first second same are fit whole =
-    let whole_words : seen ≡ save_magic ∷ save_version ∷ owned_words own =
-    same ∙ second ∙ ap (λ (l : List ℕ). l ++ owned_words own) first
-    ∙ ap (λ (l : List ℕ). (l ++ save_magic ∷ save_version ∷ []) ++ owned_words own) empty in
-    let all : (i : ℕ) → get_or (save_magic ∷ save_version ∷ owned_words own) i 0 < 2 ^ 64 =
-    λ i. subst (λ (l : List ℕ). get_or l i 0 < 2 ^ 64) whole_words (fit i) in
-    record { are = are ∙ ap bytes_of_words whole_words; whole = whole; fit = λ i. all (suc (suc i)) }
+-- what they are saved as
+pub saved_by : (own : Owned) (words seen bytes : List ℕ) → words ≡ saved_words own → seen ≡ words → bytes ≡ bytes_of_words seen →
+    ((i : ℕ) → get_or seen i 0 < 2 ^ 64) → HasWholeParts own.held → IsSavedAs own bytes
+saved_by own words seen bytes saved same are fit whole =
+    let all : (i : ℕ) → get_or (saved_words own) i 0 < 2 ^ 64 = λ i. subst (λ (l : List ℕ). get_or l i 0 < 2 ^ 64) (same ∙ saved) (fit i) in
+    record { are = are ∙ ap bytes_of_words (same ∙ saved); whole = whole; fit = λ i. all (suc (suc (suc i))) }
 
 -- what was read behind them
 pub restored_by : (own value : Owned) (bytes words seen : List ℕ) → bytes ≡ bytes_of_words words → seen ≡ words →
-    seen ≡ save_magic ∷ save_version ∷ owned_words own → ((i : ℕ) → get_or seen i 0 < 2 ^ 64) → HasWholeParts own.held → value ≡ own →
+    seen ≡ saved_words own → ((i : ℕ) → get_or seen i 0 < 2 ^ 64) → HasWholeParts own.held → value ≡ own →
     IsSavedAs value bytes
 restored_by own value bytes words seen are same whole_words fit whole is =
-    let all : (i : ℕ) → get_or (save_magic ∷ save_version ∷ owned_words own) i 0 < 2 ^ 64 =
-    λ i. subst (λ (l : List ℕ). get_or l i 0 < 2 ^ 64) whole_words (fit i) in
+    let all : (i : ℕ) → get_or (saved_words own) i 0 < 2 ^ 64 = λ i. subst (λ (l : List ℕ). get_or l i 0 < 2 ^ 64) whole_words (fit i) in
     let first : IsSavedAs own bytes = record {
       are = are ∙ ap bytes_of_words (sym same ∙ whole_words);
       whole = whole;
-      fit = λ i. all (suc (suc i));
+      fit = λ i. all (suc (suc (suc i)));
     } in
     subst (λ (o : Owned). IsSavedAs o bytes) (sym is) first

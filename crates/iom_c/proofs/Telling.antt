@@ -15,7 +15,7 @@ by_origin : (Is : ℕ → Type 0) (found : Option ℕ) (answer old new : ℕ) �
 by_origin Is (Some number) answer old new told is = subst Is (sym told.1) is
 by_origin Is None answer old new told is = absurd is
 
--- what is told of a place of the context cache
+-- what is answered of a place of the context cache
 pub context_told : (history : HistoryView) (platform : State) (i answer old new : ℕ) → OriginTold (slice_get history.contexts i) answer old new →
     (start : State) (steps : List Step) (numbers : List ℕ) (did : ℕ) (context : Context) → Follows history platform start steps numbers →
     slice_get platform.machine.contexts i ≡ Some (Some (did, context)) → ContextFrom start steps numbers did context new
@@ -29,7 +29,7 @@ by_page_origin Is (Some filled) answer old new old_walk new_walk told is =
     subst (λ (n : ℕ). Is n new_walk) (sym told.1) (subst (Is filled.context) (sym told.2) is)
 by_page_origin Is None answer old new old_walk new_walk told is = absurd is
 
--- what is told of a place of the translation cache
+-- what is answered of a place of the translation cache
 pub page_told : (history : HistoryView) (platform : State) (i answer old new old_walk new_walk : ℕ) →
     PageOriginTold (numbers_of (slice_get history.walk_contexts i) (slice_get history.walks i)) answer old new old_walk new_walk →
     (start : State) (steps : List Step) (numbers : List ℕ) (key : Key) (hit : Hit) → Follows history platform start steps numbers →

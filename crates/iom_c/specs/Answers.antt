@@ -1,4 +1,4 @@
--- The numbers that C is told of a step's answer.
+-- The numbers of a step's answer in C.
 use Rattle.std.specs.Prelude.{ℕ, ◌≡◌, ◌<◌, ◌≤◌, List, length}
 use Rattle.iom_core.specs.declared.step.Step.{Step}
 use Rattle.iom_core.specs.declared.step.Step.TheVariants as step

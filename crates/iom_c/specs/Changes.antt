@@ -7,7 +7,7 @@ use Rattle.iom_c.specs.Faults.{ok, outside}
 use Rattle.iom_c.specs.declared.held.Held.TheVariants as held
 use Rattle.iom_c.specs.declared.owned.Owned.{Owned}
 
--- the same with other bytes in memory from an address on: no step was counted, and nothing else has changed
+-- a handle with other bytes in memory from an address on: no step was counted, and nothing else has changed
 abbrev pub written : Owned → State → ℕ → List ℕ → Owned
 written own platform addr bytes =
     record own { held = held.Own (with_memory platform (put platform.machine.memory addr bytes)) }

@@ -1,5 +1,5 @@
 -- The numbers of refusals, and their words.
-use Rattle.std.specs.Prelude.{ℕ, ◌≡◌, ◌⊎◌, List, [], ◌∷◌, codes, slice_get, Bool, true, false, Option, Some, None, IsSomeAnd, Result, Ok, Err}
+use Rattle.std.specs.Prelude.{ℕ, ◌≡◌, ◌⊎◌, ◌==◌, if◌then◌else◌, List, [], ◌∷◌, codes, slice_get, Bool, true, false, Option, Some, None, IsSomeAnd, Result, Ok, Err}
 use Rattle.std.specs.Option.{unwrap_or}
 use Rattle.iom_image.specs.Image.{Image}
 use Rattle.iom_image.specs.declared.fault.LoadFault.{LoadFault}
@@ -54,6 +54,10 @@ not_kept = 18
 abbrev pub unsettled : ℕ
 unsettled = 19
 
+-- something is cached
+abbrev pub status_cached : ℕ
+status_cached = 20
+
 -- why an image is refused
 abbrev pub load_number : LoadFault → ℕ
 load_number load.BadMagic = 1
@@ -79,16 +83,36 @@ line_in (asm.Overlap line) old = line
 line_in (asm.Outside line) old = line
 line_in asm.OutOfMemory old = old
 
+-- an answer to a text that names no line
+abbrev pub HasNoLine : ℕ → Type 0
+HasNoLine told = (told ≡ ok) ⊎ ((told ≡ little_room) ⊎ (told ≡ out_of_memory))
+
 -- the words of each number, from 0 on
 abbrev pub all_words : List (List ℕ)
 all_words =
     codes "ok" ∷ codes "bad magic" ∷ codes "truncated" ∷ codes "trailing bytes" ∷ codes "bad memory" ∷ codes "bad chunk"
     ∷ codes "bad device" ∷ codes "out of memory" ∷ codes "bad line" ∷ codes "overlap" ∷ codes "outside memory"
     ∷ codes "too little room" ∷ codes "no such disk" ∷ codes "not there" ∷ codes "bad capabilities" ∷ codes "other memory"
-    ∷ codes "not a saved platform" ∷ codes "other version" ∷ codes "holdings not kept" ∷ codes "unsettled" ∷ []
+    ∷ codes "not a saved platform" ∷ codes "other version" ∷ codes "holdings not kept" ∷ codes "unsettled" ∷ codes "caches not empty" ∷ []
 
 abbrev pub words_for : ℕ → List ℕ
 words_for number = unwrap_or (slice_get all_words number) (codes "no such number")
+
+-- the name of a cause: RISC-V IOMMU Architecture 1.0, "Fault/Event-Queue (FQ)", CAUSE
+abbrev pub cause_words : ℕ → List ℕ
+cause_words cause =
+    if cause == 5 then codes "read access fault"
+    else if cause == 7 then codes "write access fault"
+    else if cause == 13 then codes "read page fault"
+    else if cause == 15 then codes "write page fault"
+    else if cause == 21 then codes "read guest page fault"
+    else if cause == 23 then codes "write guest page fault"
+    else if cause == 256 then codes "all inbound transactions disallowed"
+    else if cause == 257 then codes "DDT entry load access fault"
+    else if cause == 258 then codes "DDT entry not valid"
+    else if cause == 259 then codes "DDT entry misconfigured"
+    else if cause == 260 then codes "transaction type disallowed"
+    else codes "no such cause"
 
 -- a start is made, of what the handle owns then, or there is no memory for it
 abbrev pub Starts : (Owned → Type 0) → ℕ → Option Owned → Type 0
@@ -99,12 +123,12 @@ abbrev pub KeepsReasons : Owned → ℕ → Bool → ℕ → Option Owned → Ty
 KeepsReasons own most accesses_only told held =
     ((told ≡ ok) × (held ≡ Some (record own { told = record own.told { kept = none_kept most accesses_only } }))) ⊎ ((told ≡ out_of_memory) × (held ≡ Some own))
 
--- what the opening of bytes is told, and what the handle owns after it: the bytes are an image that starts this, or are refused
+-- the number that the opening of bytes returns, and what the handle owns after it: the bytes are an image that starts this, or are refused
 abbrev pub Opens : (Image → Owned → Type 0) → Result Image LoadFault → ℕ → Option Owned → Type 0
 Opens IsStart (Ok found) told held = Starts (IsStart found) told held
 Opens IsStart (Err fault) told held = (told ≡ load_number fault) × (held ≡ None)
 
--- the same in front of memory that is lent, if there may be such memory
+-- what opens in front of memory that is lent, if there may be such memory
 abbrev pub OpensIf : Bool → (ℕ → Option Owned → Type 0) → ℕ → Option Owned → Type 0
 OpensIf true Opened told held = Opened told held
 OpensIf false Opened told held = (told ≡ bad_memory) × (held ≡ None)

@@ -87,7 +87,7 @@ abbrev pub BeginsAt : HistoryView → Board → Type 0
 BeginsAt history board = (memory : Memory) → IsUncached (state_on memory board) →
     Follows history (state_on memory board) (state_on memory board) [] []
 
--- the same board, with registers as at reset and nothing cached
+-- a board with registers as at reset and nothing cached
 abbrev pub board_at_reset : Board → Board
 board_at_reset board = record board { iommu = (board_with board.iommu.registers.features board.devices).iommu }
 
@@ -122,7 +122,7 @@ copied own = record {
 }
 
 -- What a step leaves: the platform after it by the step table in front of the words after it, the memory where it was, a trace that keeps
--- it with its answer, and what is told of steps, which went along with it under the next number.
+-- it with its answer, and the account of the steps, which went along with it under the next number.
 pub record Stepped (own : Owned) (words : List ℕ) (step : Step) (left : List ℕ) (after : Owned) : Type 0 where
   pub state : state_in after.held left ≡ (next (state_in own.held words) step).state
   pub loan : loan_of after.held ≡ loan_of own.held

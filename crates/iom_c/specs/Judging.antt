@@ -1,8 +1,8 @@
 -- Whether a request is settled, which means that each IOMMU leads it where the tables do, whatever it keeps and forgets, and what is owed,
--- as C is told: RISC-V IOMMU Architecture 1.0, "Caching in-memory data structures".
-use Rattle.std.specs.Prelude.{ℕ, ◌≡◌, ◌⊎◌, ◌++◌, Bool, List, [], ◌∷◌, drop, length, map, take, Option, Some, None, is_some}
+-- in C: RISC-V IOMMU Architecture 1.0, "Caching in-memory data structures".
+use Rattle.std.specs.Prelude.{ℕ, ◌≡◌, ◌⊎◌, ◌++◌, ◌||◌, Bool, true, false, nat_lt, List, [], ◌∷◌, drop, length, map, take, Option, Some, None, is_some}
 use Rattle.std.specs.Option.{unwrap_or}
-use Rattle.iom_core.specs.State.{State}
+use Rattle.iom_core.specs.State.{Board, State}
 use Rattle.iom_core.specs.declared.access.Request.{Request}
 use Rattle.iom_core.specs.declared.step.Step.{Step}
 use Rattle.iom_owed.specs.Holdings.{HoldingsView, Keeps}
@@ -10,7 +10,7 @@ use Rattle.iom_owed.specs.Newest.{steps_of}
 use Rattle.iom_owed.specs.Settled.{AreOwed, IsJudged}
 use Rattle.iom_owed.specs.declared.settling.Owed.{Owed}
 use Rattle.iom_owed.specs.declared.settling.Unsettled.{Unsettled}
-use Rattle.iom_c.specs.Faults.{not_kept, ok, out_of_memory, unsettled}
+use Rattle.iom_c.specs.Faults.{not_kept, ok, out_of_memory, status_cached, unsettled}
 use Rattle.iom_c.specs.Looks.{is_write}
 use Rattle.iom_c.specs.Reasons.{way_of}
 use Rattle.iom_c.specs.Settling.{BegunIf}
@@ -62,7 +62,7 @@ JudgedTold holdings state request told old new =
     ((told ≡ out_of_memory) × (new ≡ old))
     ⊎ ((found : Option Unsettled) × IsFoundBy holdings state request found × FoundTold request.did found told old new)
 
--- the same where what any IOMMU may hold is kept and known
+-- whether a request is settled, where what any IOMMU may hold is kept and known
 abbrev pub SettledTold : Settling → State → Request → ℕ → UnsettledRequest → UnsettledRequest → Type 0
 SettledTold settling.NotKept state request told old new = (told ≡ not_kept) × (new ≡ old)
 SettledTold (settling.Kept holdings) state request told old new = JudgedTold holdings state request told old new
@@ -78,7 +78,7 @@ ListTold holdings state told old new old_count count =
     ((told ≡ out_of_memory) × (new ≡ old) × (count ≡ old_count))
     ⊎ ((owed : List Owed) × AreOwedBy holdings state owed × (told ≡ ok) × (new ≡ filled (map owed_of owed) old) × (count ≡ length owed))
 
--- the same where what any IOMMU may hold is kept and known
+-- what is owed, where what any IOMMU may hold is kept and known
 abbrev pub OwedTold : Settling → State → ℕ → List OwedRequest → List OwedRequest → ℕ → ℕ → Type 0
 OwedTold settling.NotKept state told old new old_count count = (told ≡ not_kept) × (new ≡ old) × (count ≡ old_count)
 OwedTold (settling.Kept holdings) state told old new old_count count = ListTold holdings state told old new old_count count
@@ -88,3 +88,12 @@ OwedTold settling.Lost state told old new old_count count = (told ≡ out_of_mem
 pub record KeepsHoldings (own : Owned) (keeps : Bool) (after : Owned) : Type 0 where
   pub settling : BegunIf keeps after.told.settling
   pub all : after ≡ record own { told = record own.told { settling = after.told.settling } }
+
+-- a cache has a place, live or empty: something was cached since the caches were last reset
+abbrev pub has_places : Board → Bool
+has_places board = nat_lt 0 (length board.iommu.contexts) || nat_lt 0 (length board.iommu.pages)
+
+-- that is refused, and all stays; or it is done
+abbrev pub KeepsUnless : Bool → Owned → Bool → ℕ → Owned → Type 0
+KeepsUnless true own keeps told after = (told ≡ status_cached) × (after ≡ own)
+KeepsUnless false own keeps told after = (told ≡ ok) × KeepsHoldings own keeps after

@@ -1,4 +1,4 @@
--- What is told of steps: which of them filled the caches, and of which it is kept why they went as they did.
+-- The account of the steps: which of them filled the caches, and of which it is kept why they went as they did.
 use Rattle.std.specs.Prelude.{ℕ, ◌≡◌, ◌++◌, ◌==◌, [], ◌∷◌, Bool, true, false, List, length, Option, Some, None}
 use Rattle.circular_buffer.specs.Buffer.{buffer, keep_last}
 use Rattle.iom_core.specs.State.{State}

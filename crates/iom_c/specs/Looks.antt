@@ -12,7 +12,7 @@ use Rattle.iom_c.specs.Faults.{no_disk, ok, outside}
 use Rattle.iom_c.specs.declared.places.PagePlace.{PagePlace}
 use Rattle.iom_c.specs.declared.places.ContextPlace.{ContextPlace}
 
--- bytes that there are all stand in the buffer, else it is told that one is outside
+-- bytes that there are all stand in the buffer, else the answer is that one is outside
 abbrev pub Copied : Option (List ℕ) → ℕ → List ℕ → List ℕ → Type 0
 Copied (Some found) told old new = (told ≡ ok) × (new ≡ found)
 Copied None told old new = (told ≡ outside) × (new ≡ old)
@@ -26,7 +26,7 @@ ReadTold None told old new = (told ≡ outside) × (new ≡ old)
 abbrev pub part_of : List ℕ → ℕ → ℕ → Option (List ℕ)
 part_of disk offset count = if nat_le (offset + count) (length disk) then Some (take count (drop offset disk)) else None
 
--- the same of a disk, where there is one
+-- bytes of a disk, where there is one
 abbrev pub DiskCopied : Option (List ℕ) → ℕ → ℕ → List ℕ → List ℕ → Type 0
 DiskCopied (Some disk) offset told old new = Copied (part_of disk offset (length old)) told old new
 DiskCopied None offset told old new = (told ≡ no_disk) × (new ≡ old)

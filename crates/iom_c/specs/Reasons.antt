@@ -1,4 +1,4 @@
--- Where a request is led, by which parts of a walk, and whether it is stale, as C is told.
+-- Where a request is led, by which parts of a walk, and whether it is stale, in C.
 use Rattle.std.specs.Prelude.{ℕ, ◌≡◌, ◌⊎◌, ◌+◌, ◌==◌, ◌&&◌, Bool, true, false, List, [], ◌∷◌, get_or, Option, Some, None, is_some, Result, Ok, Err}
 use Rattle.std.specs.Option.{unwrap_or}
 use Rattle.iom_bits.specs.Bits.{has_bit}
@@ -64,7 +64,7 @@ no_context = record {
   reserved = 0 ∷ 0 ∷ [];
 }
 
--- a way of which nothing but its kind is told
+-- a way with nothing but its kind
 abbrev pub plain_way : ℕ → RequestWay
 plain_way kind = record {
   context = no_context;
@@ -141,7 +141,7 @@ word_in got.Guest = None
 abbrev pub is_napot_leaf : PathEntry → Bool
 is_napot_leaf entry = ruling_number entry.ruling == 14 && has_bit (unwrap_or (word_in entry.got) 0) 63
 
--- a part of which nothing but its kind is told
+-- a part with nothing but its kind
 abbrev pub plain_part : ℕ → WalkPart
 plain_part kind = record {
   place = 0;

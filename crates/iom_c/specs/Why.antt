@@ -1,4 +1,4 @@
--- Why a step went as it did, and which step filled a place of a cache, as C is told.
+-- Why a step went as it did, and which step filled a place of a cache, in C.
 use Rattle.std.specs.Prelude.{ℕ, ◌≡◌, true, false, [], ◌∷◌, Option, Some, None}
 use Rattle.std.specs.Option.{unwrap_or}
 use Rattle.iom_core.specs.declared.access.Request.{Request}
@@ -12,7 +12,7 @@ use Rattle.iom_c.specs.Looks.{is_write}
 use Rattle.iom_c.specs.Reasons.{plain_way, way_of}
 use Rattle.iom_c.specs.declared.why.StepReason.{StepReason}
 
--- a reason of which nothing but its step's number and its kind is told
+-- a reason with nothing but its step's number and its kind
 abbrev pub plain_reason : ℕ → ℕ → StepReason
 plain_reason number kind = record {
   way = plain_way 0;
@@ -29,7 +29,7 @@ plain_reason number kind = record {
   reserved = 0 ∷ 0 ∷ 0 ∷ [];
 }
 
--- the same of a step that asked this
+-- a reason of a step that asked this
 abbrev pub asked_by : ℕ → ℕ → Request → StepReason
 asked_by number kind request = record (plain_reason number kind) {
   iova = request.iova;

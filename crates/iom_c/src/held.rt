@@ -125,7 +125,7 @@ impl Held {
         }
     }
 
-    /// Carries out a step in front of these words, of which it is told by its number, and puts its answer.
+    /// Carries out a step in front of these words under its number, and puts its answer.
     pub fn step(
         &mut self,
         told: &mut Told,

@@ -181,7 +181,7 @@ fn copy_part(disk: &[u8], offset: u64, bytes: &mut [u8]) -> u32
     0
 }
 
-// The same of a disk that there may be.
+// Puts bytes of a disk that there may be.
 fn copy_disk(disk: Option<&[u8]>, offset: u64, bytes: &mut [u8]) -> u32
     ensures { DiskCopied (option_map (λ bytes. bytes.now) disk.entry) offset result bytes.old bytes.new }
 {

@@ -125,8 +125,8 @@ pub extern "C" fn rviommu_open_lent(alloc: Global, base: u64, size: u64, handle:
     }
 }
 
-/// The same with the IOMMU and the block devices of the platform that an image starts, whose memory doesn't count. It answers 4 as there,
-/// or else the number of the image's refusal.
+/// Opens a handle in front of lent memory with the IOMMU and the block devices of the platform that an image starts, whose memory
+/// doesn't count. It answers 4 as `rviommu_open_lent` does, or else the number of the image's refusal.
 #[unsafe(no_mangle)]
 pub extern "C" fn rviommu_open_lent_image(
     alloc: Global,

@@ -65,7 +65,7 @@ pub fn copied(alloc: Global, own: &Owned) -> Result<Box<Owned>, AllocError>
     )?)
 }
 
-/// Carries out the next step in front of these words, of which it is told by its number; the trace doesn't keep it yet.
+/// Carries out the next step in front of these words, under its number; the trace doesn't keep it yet.
 pub fn carry_out(own: &mut Owned, words: &mut [u64], step: &Step) -> Answer
     requires { length words.old ≡ count_of own.old.held }
     ensures answer { result ≡ (next (state_in own.old.held words.old) step.now).answer }

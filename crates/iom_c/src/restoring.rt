@@ -1,10 +1,10 @@
 //! A handle from bytes that were saved.
 
-ghost use Rattle.std.specs.Prelude.{ℕ, ◌≡◌, ◌≢◌, ◌<◌, ◌⊎◌, ◌^◌, ◌++◌, ◌∷◌, get_or, IfOk, IsSomeAnd, None, OnOk, Some};
+ghost use Rattle.std.specs.Prelude.{ℕ, ◌≡◌, ◌≢◌, ◌<◌, ◌⊎◌, ◌^◌, ◌++◌, ◌∷◌, get_or, IfErr, IfOk, IfSome, IsSomeAnd, MatchResult, None, OnOk, Some};
 ghost use Rattle.iom_c.specs.Faults.{bad_save, ok, other_version, out_of_memory};
 ghost use Rattle.iom_c.specs.Handles.{copied};
 ghost use Rattle.iom_c.specs.Keeping.{copied as told_copied};
-ghost use Rattle.iom_c.specs.Saves.{HasWholeParts, held_words, IsFresh, IsSavedAs, owned_words, save_magic, save_version, told_words};
+ghost use Rattle.iom_c.specs.Saves.{HasWholeParts, head_refusal, held_words, IsFresh, IsSavedAs, owned_words, RefusedBy, restore_number, saved_words, told_words};
 ghost use Rattle.iom_c.specs.declared.owned.Owned.{Owned};
 
 use crate::handle::Handle;
@@ -16,34 +16,21 @@ use crate::settling::Settling;
 use crate::told::Told;
 use iom_core::Platform;
 use iom_mem::is_lendable;
-use iom_saved::{SavedFault, SavedWords, take_board, take_history, take_memory, words_of};
+use iom_saved::{
+    SavedFault, SavedWords, check_of, take_board, take_history, take_memory, word_at, words_of,
+};
 use iom_tool::Trace;
 use std::alloc::{AllocError, Global};
 
-// Why bytes aren't restored.
+/// Why bytes aren't restored.
 #[derive(Clone, Copy)]
-enum RestoreFault {
-    // They are no saved platform.
+pub enum RestoreFault {
+    /// They are no saved platform.
     Bad,
-    // They were saved in another form.
+    /// They were saved in another form.
     OtherVersion,
-    // An allocation was refused.
+    /// An allocation was refused.
     OutOfMemory,
-}
-
-impl From<SavedFault> for RestoreFault {
-    fn from(fault: SavedFault) -> RestoreFault {
-        match fault {
-            SavedFault::Bad => RestoreFault::Bad,
-            SavedFault::OutOfMemory => RestoreFault::OutOfMemory,
-        }
-    }
-}
-
-impl From<AllocError> for RestoreFault {
-    fn from(_error: AllocError) -> RestoreFault {
-        RestoreFault::OutOfMemory
-    }
 }
 
 // The platform with memory of its own that the next words are.
@@ -128,22 +115,35 @@ fn take_owned(alloc: Global, words: &mut SavedWords<'_>) -> Result<Owned, SavedF
     })
 }
 
-// What words are behind the magic one and the version.
-fn owned_of(alloc: Global, words: &[u64]) -> Result<Owned, RestoreFault>
-    ensures words { IfOk result (λ own. words.now ≡ save_magic ∷ save_version ∷ owned_words own) }
+// Judges what bytes begin with. It takes no memory.
+fn judge(bytes: &[u8]) -> Result<(), RestoreFault>
+    ensures { MatchResult result (λ _. head_refusal bytes.now ≡ None) (λ fault. head_refusal bytes.now ≡ Some (restore_number fault)) }
+{
+    if bytes.len() % 8 != 0 || bytes.len() < 16 || word_at(bytes, 0) != SAVE_MAGIC {
+        return Err(RestoreFault::Bad);
+    }
+    if word_at(bytes, 8) != SAVE_VERSION {
+        return Err(RestoreFault::OtherVersion);
+    }
+    Ok(())
+}
+
+// What words are behind the magic one, the version and the check word, which is that of the others.
+fn owned_of(alloc: Global, words: &[u64]) -> Result<Owned, SavedFault>
+    ensures words { IfOk result (λ own. words.now ≡ saved_words own) }
     ensures whole { IfOk result (λ own. HasWholeParts own.held) }
     ensures fresh { IfOk result IsFresh }
     ensures fit { OnOk result ((i : ℕ) → get_or words.now i 0 < 2 ^ 64) }
 {
     let mut left = SavedWords::of(words);
     let Some((magic, version)) = left.two() else {
-        return Err(RestoreFault::Bad);
+        return Err(SavedFault::Bad);
     };
-    if magic != SAVE_MAGIC {
-        return Err(RestoreFault::Bad);
-    }
-    if version != SAVE_VERSION {
-        return Err(RestoreFault::OtherVersion);
+    let Some(check) = left.next() else {
+        return Err(SavedFault::Bad);
+    };
+    if magic != SAVE_MAGIC || version != SAVE_VERSION || check != check_of(left.as_slice()) {
+        return Err(SavedFault::Bad);
     }
     let own = take_owned(alloc, &mut left)?;
     Ok(own)
@@ -156,8 +156,8 @@ fn boxed(alloc: Global, own: Owned) -> Result<Box<Owned>, AllocError>
     Ok(Box::new(alloc, own)?)
 }
 
-// What bytes are, on the heap.
-fn restored(alloc: Global, bytes: &[u8]) -> Result<Box<Owned>, RestoreFault>
+// What the words in bytes are, on the heap.
+fn judged(alloc: Global, bytes: &[u8]) -> Result<Box<Owned>, SavedFault>
     ensures saved { IfOk result (λ own. IsSavedAs own.value bytes.now) }
     ensures fresh { IfOk result (λ own. IsFresh own.value) }
 {
@@ -167,9 +167,26 @@ fn restored(alloc: Global, bytes: &[u8]) -> Result<Box<Owned>, RestoreFault>
     Ok(owned)
 }
 
+// What bytes are, on the heap.
+fn restored(alloc: Global, bytes: &[u8]) -> Result<Box<Owned>, RestoreFault>
+    ensures saved { IfOk result (λ own. IsSavedAs own.value bytes.now) }
+    ensures fresh { IfOk result (λ own. IsFresh own.value) }
+    ensures head { OnOk result (head_refusal bytes.now ≡ None) }
+    ensures refused { IfErr result (λ fault. RefusedBy (head_refusal bytes.now) (restore_number fault)) }
+    ensures first { IfErr result (λ fault. IfSome (head_refusal bytes.now) (λ refusal. restore_number fault ≡ refusal)) }
+{
+    judge(bytes)?;
+    match judged(alloc, bytes) {
+        Ok(own) => Ok(own),
+        Err(SavedFault::Bad) => Err(RestoreFault::Bad),
+        Err(SavedFault::OutOfMemory) => Err(RestoreFault::OutOfMemory),
+    }
+}
+
 // The number of a refusal.
 fn restore_number(fault: RestoreFault) -> u32
-    ensures { (result ≡ bad_save) ⊎ ((result ≡ other_version) ⊎ (result ≡ out_of_memory)) }
+    ensures number { result ≡ restore_number fault }
+    ensures told { (result ≡ bad_save) ⊎ ((result ≡ other_version) ⊎ (result ≡ out_of_memory)) }
 {
     match fault {
         RestoreFault::Bad => 16,
@@ -179,17 +196,19 @@ fn restore_number(fault: RestoreFault) -> u32
 }
 
 /// Opens a handle on what was saved: it owns the same but for the trace, which has no step, the reasons, of which none is kept yet, and
-/// what any IOMMU may hold, which isn't kept. It answers 0; 16 if the bytes are no saved platform; 17 if they were saved in another form; or 7 if there is no memory for it. The handle
-/// is closed then.
+/// what any IOMMU may hold, which isn't kept. It answers 0; 16 if the bytes are no saved platform; 17 if they were saved in another form;
+/// or 7 if there is no memory for it. Of the length, the magic word and the version the first that is wrong decides, and no memory is
+/// taken for that; the check word is judged before the words behind it. The handle is closed if it answers another number than 0.
 #[unsafe(no_mangle)]
 pub extern "C" fn rviommu_restore(alloc: Global, bytes: &[u8], handle: &mut Handle) -> u32
     requires closed { handle.old.held ≡ None }
     ensures told { (result ≡ ok) ⊎ ((result ≡ bad_save) ⊎ ((result ≡ other_version) ⊎ (result ≡ out_of_memory))) }
+    ensures head { IfSome (head_refusal bytes.now) (λ refusal. result ≡ refusal) }
     ensures restored { result ≡ ok → IsSomeAnd handle.new.held (λ own. IsSavedAs own bytes.now × IsFresh own) }
 
     // What was saved as these bytes is restored.
     ensures same { (own : Owned) → IsSavedAs own bytes.now → result ≡ ok → handle.new.held ≡ Some (copied own) }
-    ensures refused { result ≢ ok → handle.new.held ≡ None }
+    ensures refused { result ≢ ok → RefusedBy (head_refusal bytes.now) result × (handle.new.held ≡ None) }
 {
     match restored(alloc, bytes) {
         Ok(own) => {

@@ -4,7 +4,7 @@ ghost use Rattle.std.specs.Prelude.{ℕ, ◌≡◌, ◌≢◌, ◌<◌, ◌⊎�
 ghost use Rattle.iom_mem.specs.Words.{bytes_of_words};
 ghost use Rattle.iom_c.specs.Buffers.{begun_by};
 ghost use Rattle.iom_c.specs.Faults.{little_room, ok, out_of_memory};
-ghost use Rattle.iom_c.specs.Saves.{HasWholeMemory, HasWholeParts, held_words, IsSavedAs, NeedsRoom, owned_words, place_words, Saves, told_words};
+ghost use Rattle.iom_c.specs.Saves.{HasWholeMemory, HasWholeParts, held_words, IsSavedAs, NeedsRoom, owned_words, place_words, saved_words, Saves, told_words};
 ghost use Rattle.iom_c.specs.declared.owned.Owned.{Owned};
 
 use crate::handle::Handle;
@@ -12,14 +12,14 @@ use crate::held::Held;
 use crate::owned::Owned;
 use crate::told::Told;
 use iom_bits::flag;
-use iom_saved::{bytes_of, put_board, put_history, put_memory};
+use iom_saved::{bytes_of, check_of, put_board, put_history, put_memory};
 use std::alloc::{AllocError, Global};
 
 /// The first word of what is saved: its bytes, the lowest first, are "RVIOMMUS".
 pub const SAVE_MAGIC: u64 = 0x5355_4d4d_4f49_5652;
 
 /// The second word: the form of the others.
-pub const SAVE_VERSION: u64 = 1;
+pub const SAVE_VERSION: u64 = 2;
 
 // Appends the words of a platform's own memory, or of the place of that which is lent.
 fn put_place(out: &mut Vec<u64>, held: &Held) -> Result<(), AllocError>
@@ -46,7 +46,7 @@ fn put_held(out: &mut Vec<u64>, held: &Held) -> Result<(), AllocError>
     Ok(())
 }
 
-// Appends the words of what is told of the steps.
+// Appends the words of the account of the steps.
 fn put_told(out: &mut Vec<u64>, told: &Told) -> Result<(), AllocError>
     ensures { OnOk result (out.new.items ≡ out.old.items ++ told_words told.now) }
 {
@@ -77,13 +77,23 @@ fn bytes_of_words(alloc: Global, words: &[u64]) -> Result<Vec<u8>, AllocError>
     Ok(bytes)
 }
 
+// The words that are saved of a handle: the third is the check word of those behind it.
+fn saved_words(alloc: Global, own: &Owned) -> Result<Vec<u64>, AllocError>
+    ensures words { IfOk result (λ words. words.items ≡ saved_words own.now) }
+    ensures whole { OnOk result (HasWholeParts own.now.held) }
+{
+    let mut words = Vec::new(alloc);
+    words.extend_from_slice(&[SAVE_MAGIC, SAVE_VERSION, 0])?;
+    put_owned(&mut words, own)?;
+    words[2] = check_of(&words[3..]);
+    Ok(words)
+}
+
 // The bytes of what a handle owns.
 fn saved(alloc: Global, own: &Owned) -> Result<Vec<u8>, AllocError>
     ensures { IfOk result (λ bytes. IsSavedAs own.now bytes.items) }
 {
-    let mut words = Vec::new(alloc);
-    words.extend_from_slice(&[SAVE_MAGIC, SAVE_VERSION])?;
-    put_owned(&mut words, own)?;
+    let words = saved_words(alloc, own)?;
     let bytes = bytes_of_words(alloc, &words)?;
     Ok(bytes)
 }

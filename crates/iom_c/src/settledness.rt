@@ -1,9 +1,10 @@
 //! Whether requests are settled, and what is owed. None of these is a step, and none changes the platform.
 
-ghost use Rattle.std.specs.Prelude.{◌≡◌, ◌≤◌, ◌<◌, ◌^◌, length, map, MatchResult, Some, IsSomeAnd};
+ghost use Rattle.std.specs.Prelude.{◌≡◌, ◌≤◌, ◌<◌, ◌^◌, ◌&&◌, ℕ, false, length, List, map, MatchResult, Some, IsSomeAnd};
+ghost use Rattle.iom_core.specs.Warrants.{IsUncached};
 ghost use Rattle.iom_c.specs.Faults.{not_there, out_of_memory, status_other_memory};
-ghost use Rattle.iom_c.specs.Handles.{count_of, IsItsMemory, state_in};
-ghost use Rattle.iom_c.specs.Judging.{filled, FoundTold, JudgedTold, KeepsHoldings, ListTold, owed_of, OwedTold, SettledTold};
+ghost use Rattle.iom_c.specs.Handles.{board_of, count_of, IsItsMemory, state_in};
+ghost use Rattle.iom_c.specs.Judging.{filled, FoundTold, has_places, JudgedTold, KeepsUnless, ListTold, owed_of, OwedTold, SettledTold};
 ghost use Rattle.iom_c.specs.Reasons.{asking};
 ghost use Rattle.iom_c.specs.declared.owned.Owned.{Owned};
 
@@ -17,17 +18,34 @@ use iom_core::Request;
 use iom_owed::{Holdings, Owed, Unsettled};
 use std::alloc::{AllocError, Global};
 
+// Keeps from now on what any IOMMU may hold, or not; 20 if something is cached that would count as held.
+fn keep_holdings(alloc: Global, own: &mut Owned, keeps: bool) -> u32
+    ensures { KeepsUnless (keeps && has_places (board_of own.old.held)) own.old keeps result own.new }
+{
+    let board = own.held.board();
+    if keeps && (board.contexts().len() > 0 || board.trans().len() > 0) {
+        return 20;
+    }
+    own.told.settling = Settling::begun_if(alloc, keeps);
+    0
+}
+
 /// Keeps from now on what any IOMMU may hold, whatever it keeps and forgets, and which requests the steps make, if `keeps` is true; nothing
-/// is held yet, and no request was made. Else what was kept is given back. It takes no memory.
+/// is held yet, and no request was made. Else what was kept is given back. It takes no memory. It answers 0; or 20 if `keeps` is true and
+/// a cache has a place, live or empty: something was cached since the caches were last reset. Then nothing changes.
 #[unsafe(no_mangle)]
-pub extern "C" fn rviommu_keep_holdings(alloc: Global, handle: &mut Handle, keeps: bool)
+pub extern "C" fn rviommu_keep_holdings(alloc: Global, handle: &mut Handle, keeps: bool) -> u32
     ghost own: { Owned }
     requires open { handle.old.held ≡ Some own }
-    ensures { IsSomeAnd handle.new.held (KeepsHoldings own keeps) }
+    ensures kept { IsSomeAnd handle.new.held (KeepsUnless (keeps && has_places (board_of own.held)) own keeps result) }
+
+    // So the laws of `iom_owed` hold, which begin where nothing is cached.
+    ensures uncached { (words : List ℕ) → has_places (board_of own.held) ≡ false → IsUncached (state_in own.held words) }
 {
     let mut owned = handle.take(alloc);
-    owned.told.settling = Settling::begun_if(alloc, keeps);
+    let told = keep_holdings(alloc, &mut owned, keeps);
     *handle = Handle::of(owned);
+    told
 }
 
 // Puts what is found of a request of device `did`.
@@ -64,7 +82,7 @@ fn put_judged(
     put_found(found, request.did, out)
 }
 
-// The same where what any IOMMU may hold is kept and known, if these words are the platform's memory.
+// Puts where a request may be led, where what any IOMMU may hold is kept and known, if these words are the platform's memory.
 fn put_settled(own: &Owned, words: &[u64], request: &Request, out: &mut UnsettledRequest) -> u32
     ensures told { IsItsMemory own.now words.now →
         SettledTold own.now.told.settling (state_in own.now.held words.now) request.now result out.old out.new }
@@ -141,7 +159,7 @@ fn put_list(
     0
 }
 
-// The same where what any IOMMU may hold is kept and known, if these words are the platform's memory.
+// Puts what is owed, where what any IOMMU may hold is kept and known, if these words are the platform's memory.
 fn put_owed(own: &Owned, words: &[u64], out: &mut [OwedRequest], count: &mut usize) -> u32
     ensures told { IsItsMemory own.now words.now →
         OwedTold own.now.told.settling (state_in own.now.held words.now) result out.old out.new count.old count.new }

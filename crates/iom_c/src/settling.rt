@@ -47,7 +47,7 @@ impl Settling {
         Settling::Kept(Holdings::new(alloc))
     }
 
-    /// The same where it is asked for, else nothing is kept.
+    /// Nothing held and no request made yet if it is asked for, else nothing is kept.
     pub fn begun_if(alloc: Global, keeps: bool) -> Settling
         ensures { BegunIf keeps result }
     {

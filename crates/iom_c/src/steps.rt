@@ -33,7 +33,7 @@ fn take_on(own: &mut Owned, words: &mut [u64], step: Step, number: &mut u64) -> 
     code
 }
 
-// The same of a device's read; puts the bytes too.
+// Carries out a device's read; puts the bytes too.
 #[inline(always)]
 fn read_on(own: &mut Owned, words: &mut [u64], step: Step, bytes: &mut [u8], cause: &mut u64) -> u32
     requires memory { IsItsMemory own.old words.old }
@@ -79,7 +79,7 @@ fn take_step(
     code
 }
 
-// The same of a step that is answered no number.
+// Carries out a step that is answered no number.
 #[inline(always)]
 fn give_step(handle: &mut Handle, alloc: Global, words: &mut [u64], step: Step) -> u32
     requires open { IsSome handle.old.held }

@@ -6,7 +6,7 @@ ghost use Rattle.iom_asm.specs.Assembly.{assembled, Makes};
 ghost use Rattle.iom_c.specs.Buffers.{begun_by, reply_to, told_in};
 ghost use Rattle.iom_tool.specs.Script.{line_of, step_in};
 ghost use Rattle.iom_tool.specs.Texts.{text_of};
-ghost use Rattle.iom_c.specs.Faults.{asm_number, line_in, little_room, ok, out_of_memory, status_other_memory, words_for};
+ghost use Rattle.iom_c.specs.Faults.{asm_number, cause_words, HasNoLine, line_in, little_room, ok, out_of_memory, status_other_memory, words_for};
 ghost use Rattle.iom_c.specs.Handles.{After, answer_in, IsItsMemory, OfOwn, Stepped};
 ghost use Rattle.iom_c.specs.declared.owned.Owned.{Owned};
 
@@ -140,6 +140,7 @@ fn words_for(number: u32) -> &'static [u8]
         17 => b"other version",
         18 => b"holdings not kept",
         19 => b"unsettled",
+        20 => b"caches not empty",
         _ => b"no such number",
     }
 }
@@ -160,10 +161,48 @@ pub extern "C" fn rviommu_text(number: u32, text: &mut [u8], count: &mut usize) 
     0
 }
 
+// The name of a cause.
+fn cause_words(cause: u64) -> &'static [u8]
+    ensures words { result.now ≡ cause_words cause }
+    ensures short { length result.now < 48 }
+{
+    match cause {
+        5 => b"read access fault",
+        7 => b"write access fault",
+        13 => b"read page fault",
+        15 => b"write page fault",
+        21 => b"read guest page fault",
+        23 => b"write guest page fault",
+        256 => b"all inbound transactions disallowed",
+        257 => b"DDT entry load access fault",
+        258 => b"DDT entry not valid",
+        259 => b"DDT entry misconfigured",
+        260 => b"transaction type disallowed",
+        _ => b"no such cause",
+    }
+}
+
+/// Writes the name of a cause of a denial, CAUSE of a fault record, and a 0 after it, and to `count` its length. Answers 0; or 11 if there
+/// is room for less than 48 bytes, and then nothing is changed.
+#[unsafe(no_mangle)]
+pub extern "C" fn rviommu_cause_text(cause: u64, text: &mut [u8], count: &mut usize) -> u32
+    ensures told { 47 < length text.old → result ≡ ok }
+    ensures text { 47 < length text.old → text.new ≡ told_in (cause_words cause) text.old }
+    ensures count { 47 < length text.old → count.new ≡ length (cause_words cause) }
+    ensures little { length text.old ≤ 47 → (result ≡ little_room) × (text.new ≡ text.old) × (count.new ≡ count.old) }
+{
+    if text.len() <= 47 {
+        return 11;
+    }
+    put_text(cause_words(cause), text, count);
+    0
+}
+
 // The number of an assembler's refusal; puts the line with the fault.
 fn asm_number(fault: AsmFault, line: &mut u64) -> u32
     ensures told { result ≡ asm_number fault }
     ensures line { line.new ≡ line_in fault line.old }
+    ensures left { HasNoLine result → line.new ≡ line.old }
 {
     let (number, at) = match fault {
         AsmFault::BadLine(at) => (8, at),
@@ -177,7 +216,7 @@ fn asm_number(fault: AsmFault, line: &mut u64) -> u32
 
 /// Assembles a text into the bytes of an image, and puts in `count` how many they are. It answers 0; 11 if there is too little room for
 /// them; 7 if there is no memory; or 8 for a bad line, 9 for an overlap and 10 for bytes outside memory, and puts in `line` which line it
-/// is, from 1 on. If it answers another number, `image` is unchanged.
+/// is, from 1 on. `image` is unchanged unless it answers 0, `count` unless it answers 0 or 11, and `line` unless it answers 8, 9 or 10.
 #[unsafe(no_mangle)]
 pub extern "C" fn rviommu_assemble(
     alloc: Global,
@@ -193,6 +232,8 @@ pub extern "C" fn rviommu_assemble(
     ensures refused { result ≢ ok → result ≢ little_room → result ≢ out_of_memory → IsErrAnd (assembled text.now)
         (λ fault. (result ≡ asm_number fault) × (line.new ≡ line_in fault line.old)) }
     ensures unchanged { result ≢ ok → image.new ≡ image.old }
+    ensures count { result ≢ ok → result ≢ little_room → count.new ≡ count.old }
+    ensures line { HasNoLine result → line.new ≡ line.old }
 {
     let bytes = match assemble(alloc, text) {
         Ok(bytes) => bytes,

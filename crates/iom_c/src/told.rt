@@ -11,7 +11,7 @@ use iom_core::{Answer, Board, Step};
 use iom_mem::WritableRegion;
 use std::alloc::{AllocError, Global};
 
-/// What is told of the steps of a platform, each by its number.
+/// The account of the steps of a platform, each by its number.
 #[derive(Drop)]
 pub struct Told {
     /// The steps that filled the entries in the caches.

@@ -99,7 +99,7 @@ fn is_napot(entry: &PathEntry) -> bool
     ruling_number(entry.ruling) == 14 && has_bit(word_in(entry.got).unwrap_or(0), 63)
 }
 
-// A part of which nothing but its kind is told.
+// A part with nothing but its kind.
 fn plain_part(kind: u32) -> WalkPart
     ensures { result ≡ plain_part kind }
 {

@@ -37,7 +37,7 @@ pub struct StepReason {
     pub reserved: [u64; 3],
 }
 
-// A reason of which nothing but its step's number and its kind is told.
+// A reason with nothing but its step's number and its kind.
 fn plain_reason(number: u64, kind: u32) -> StepReason
     ensures { result ≡ plain_reason number kind }
 {
@@ -57,7 +57,7 @@ fn plain_reason(number: u64, kind: u32) -> StepReason
     }
 }
 
-// The same of a step that asked this.
+// A reason of a step that asked this.
 fn asked_by(number: u64, kind: u32, request: Request) -> StepReason
     ensures { result ≡ asked_by number kind request }
 {

@@ -12,3 +12,5 @@ pub mod Apart
 pub mod Counted
 pub mod Tallied
 pub mod Meeting
+mod Named
+mod Spared

@@ -1,4 +1,4 @@
--- Since which step each live place holds its entry, from step to step. The steps are told by what each fills and carries out.
+-- Since which step each live place holds its entry, from step to step. The steps are given by what each fills and carries out.
 use Rattle.std.proofs.Common.{◌≡◌, zero, suc, add-one, ◌+◌, ◌<◌, ◌≤◌, ℕ, List, Bool, false, Option, Some, None, refl, sym, subst, inl, inr, arith}
 use Rattle.std.specs.Prelude.{IfSome}
 use Rattle.std.proofs.lemmas.Bool.{cases_lt}
@@ -20,7 +20,7 @@ module _ {C K V : Type 0} (same : K → K → Bool) (drops : C → K → V → B
     pub latest : (j : ℕ) → c < j → j < k → fills same p.0 (filled j) ≡ false
     pub kept : (j : ℕ) → c ≤ j → j < k → drops_at drops (executed j) p.0 p.1 ≡ false
 
-  -- the same after what step k fills, before it carries out its command
+  -- within step k, after its fill and before its command: the entry stands in its place since step c
   pub record Midway (k : ℕ) (p : K × V) (c : ℕ) : Type 0 where
     pub before : c ≤ k
     pub source : filled c ≡ Some p

@@ -31,7 +31,7 @@ Stamped-weaker P Q f (p ∷ ps) [] h = absurd h
 Stamped-weaker P Q f (None ∷ ps) (s ∷ ss) h = Stamped-weaker P Q f ps ss h
 Stamped-weaker P Q f (Some p ∷ ps) (s ∷ ss) h = (f p s h.0, Stamped-weaker P Q f ps ss h.1)
 
--- the same where no live place has the key
+-- if no live place has the key, it is enough that P gives Q for other keys
 pub Stamped-absent : {K V : Type 0} → (test : K → Bool) (P Q : K × V → ℕ → Type 0) → ((p : K × V) (s : ℕ) → test p.0 ≡ false → P p s → Q p s) →
     (ps : List (Option (K × V))) (ss : List ℕ) → find test ps ≡ None → Stamped P ps ss → Stamped Q ps ss
 Stamped-absent test P Q f [] [] e h = tt

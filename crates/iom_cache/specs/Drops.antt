@@ -71,6 +71,6 @@ drops_device (Gvma av page pscid gv gscid nl s) own = false
 drops_device (Fence av wsi pr pw value addr) own = false
 drops_device (Iodir dv did) own = iodir_device dv did own
 
--- the same of an entry, whatever its context says
+-- does the command drop this entry of the context cache; the context itself doesn't matter
 abbrev pub drops_context : Command → ℕ → Context → Bool
 drops_context command own context = drops_device command own

@@ -18,7 +18,7 @@ unfoldable pub key_of : Context → ℕ → ℕ → Kind → Key
 key_of context did iova kind =
     record { did = did; pscid = pscid_of context; gscid = gscid_of context; page = iova / 4096; kind = kind }
 
--- the same id, or none twice
+-- equal ids, or none twice
 abbrev pub same_id : Option ℕ → Option ℕ → Bool
 same_id None None = true
 same_id None (Some own) = false

@@ -5,3 +5,4 @@ pub mod Origins
 pub mod Buckets
 pub mod Index
 pub mod Ranges
+pub mod Spared

@@ -16,7 +16,7 @@ place_of is_key [] = 0
 place_of is_key (None ∷ places) = suc (place_of is_key places)
 place_of is_key (Some entry ∷ places) = if is_key entry.0 then 0 else suc (place_of is_key places)
 
--- the same as `find`, by what the list has: the key and the value found stand in a live place; nothing found, and no live place has the key
+-- what `find` returns, by the places: the value found stands with the key in a live place; if nothing is found, no live place has the key
 abbrev pub IsHeld : {K V : Type 0} → K → Option V → List (Option (K × V)) → Type 0
 IsHeld {K} {V} key None places = (value : V) → ¬ Contains places (Some (key, value))
 IsHeld key (Some value) places = Contains places (Some (key, value))
@@ -45,12 +45,12 @@ abbrev pub emptied_by : {C K V : Type 0} → (C → K → V → Bool) → Option
 emptied_by drops None places = places
 emptied_by drops (Some command) places = map (dropped_by (drops command)) places
 
--- A look-up through a cache of what its source tells: what is used, and what is filled.
+-- A look-up through a cache of what its source says: what is used, and what is filled.
 pub record Look (K V E : Type 0) : Type 0 where
   pub used : Result V E
   pub filled : Option (K × V)
 
--- what a live place holds is used, and nothing is filled; else what the source tells is used, and filled unless it is a refusal
+-- what a live place holds is used, and nothing is filled; else what the source says is used, and filled unless it is a refusal
 abbrev pub look : {K V E : Type 0} → K → Option V → Result V E → Look K V E
 look key (Some held) told = record { used = Ok held; filled = None }
 look key None (Ok value) = record { used = Ok value; filled = Some (key, value) }

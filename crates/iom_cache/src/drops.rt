@@ -1,4 +1,5 @@
 ghost use Rattle.std.specs.Prelude.{◌≡◌, ◌+◌, ◌/◌, ◌^◌, ◌*◌, ◌≤◌};
+ghost use Rattle.iom_cache.specs.Spared.{DropsItsOwn};
 ghost use Rattle.iom_cache.specs.Drops.{vma_guest, vma_process, vma_page, leaf_width, meets, range_width, gvma_guest, drops_page, drops_device};
 
 use crate::Key;
@@ -30,6 +31,12 @@ pub fn drops_page(command: &Command, key: &Key, hit: &Hit) -> bool
         Command::Fence { .. } | Command::Iodir { .. } => false,
     }
 }
+
+/// A law of `drops_page`, which cites the same definition: IOTINVAL.VMA with GV 0 drops no translation that has a second stage, and any other
+/// command none that has no second stage ("IOTINVAL").
+pub fn guests_and_host_are_apart()
+    ensures { DropsItsOwn }
+{}
 
 /// Whether a command drops the context of a device id, 24 bits: IODIR.INVAL_DDT that of each device, or with DV that of its own,
 /// and no other ("IODIR").
@@ -92,7 +99,8 @@ fn meets(page: u64, width: u32, own: u64, own_width: u32) -> bool
     above(own, wider) == above(page, wider)
 }
 
-/// The same if the second range is given by its part: the number of each of its pages, divided by 2^`own_width`.
+/// Whether two aligned ranges have a page in common, if the second is given by its part: the number of each of its pages, divided by
+/// 2^`own_width`.
 #[tactic(auto, using(crate::proofs::Raised::raised_part))]
 pub fn meets_part(page: u64, width: u32, part: u64, own_width: u32) -> bool
     ensures { result ≡ meets page width (part * 2 ^ own_width) own_width }

@@ -3,10 +3,13 @@
 #![tactic(auto)]
 
 pub use contexts::ContextCache;
-pub use drops::{above, drops_device, drops_page, meets_part, range_width, vma_guest, vma_process};
+pub use drops::{
+    above, drops_device, drops_page, guests_and_host_are_apart, meets_part, range_width, vma_guest,
+    vma_process,
+};
 pub use key::{Key, gscid_of, key_of};
 pub use place::Place;
-pub use ranges::ranges_meet_in_a_page;
+pub use ranges::{ranges_are_as_named, ranges_meet_in_a_page};
 pub use translations::TransCache;
 
 mod contexts;

@@ -103,7 +103,7 @@ impl TransCache {
         self.look(key)
     }
 
-    // The same by the key's tag and hint, or else by the buckets.
+    // What the live place with this key says, by the hint of its tag or else by its bucket; None if there is none.
     #[inline(always)]
     fn look(&self, key: &Key) -> Option<Hit>
         ensures { result ≡ find (same_key key.now) self.now }
@@ -138,7 +138,7 @@ impl TransCache {
         self.search(key).0
     }
 
-    /// The same as `find`, and how many keys of its bucket were compared for it.
+    /// What the live place with this key says, None if there is none; and how many keys of its bucket were compared.
     pub fn find_counted(&self, key: &Key) -> (Option<Hit>, u32)
         ensures found { result.0 ≡ find (same_key key.now) self.now }
         ensures count { result.1 ≡ compared key.now self.now }

@@ -60,10 +60,20 @@ message is_judged line answer slip tables elsewhere =
     title line ++ codes " -> " ++ escaped answer ++ slip_text slip ++ wish_text is_judged (wanted line) answer tables
     ++ tables_text tables ++ elsewhere_text elsewhere
 
--- what would go unnoticed: a wish on a line that has no answer, and a comment that looks like a wish and is none
+-- a step was refused: an access has a size, an alignment or a value that doesn't fit, or is outside memory or the registers, or of no device
+abbrev pub refusal : List ℕ → List ℕ
+refusal answer =
+    if bytes_eq answer (codes "misuse") then codes "the answer is misuse, and no wish expects it"
+    else if bytes_eq answer (codes "bad access") then codes "the answer is bad access, and no wish expects it"
+    else if bytes_eq answer (codes "bus error") then codes "the answer is bus error, and no wish expects it"
+    else if bytes_eq answer (codes "no device") then codes "the answer is no device, and no wish expects it"
+    else []
+
+-- what would go unnoticed: a wish on a line that has no answer; a comment that looks like a wish and is none; and without a wish a step that was
+-- refused
 abbrev pub remark_by : Option (List ℕ) → List ℕ → List ℕ → List ℕ
 remark_by (Some wish) line answer = if nat_lt 0 (length answer) then [] else codes "the wish is on a line without an answer"
-remark_by None line answer = if has_arrow line then codes "the comment isn't a wish, which is # => ANSWER" else []
+remark_by None line answer = if has_arrow line then codes "the comment isn't a wish, which is # => ANSWER" else refusal answer
 
 unfoldable pub remark : List ℕ → List ℕ → List ℕ
 remark line answer = remark_by (wanted line) line answer

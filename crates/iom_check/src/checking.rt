@@ -44,7 +44,7 @@ impl<'a, P: Places> Checking<'a, P> {
     ghost use Rattle.iom_check.specs.Places.{own};
     ghost use Rattle.iom_check.specs.Scores.{begun, score_of};
 
-    /// A check of what this debugger drives, by these rules, of no line yet. `places` tells where its lines stand, `name` is the script's file,
+    /// A check of what this debugger drives, by these rules, of no line yet. `places` says where its lines stand, `name` is the script's file,
     /// if it has one, and `points` the number of test points before it.
     pub fn new(
         debugger: Debugger<'a>,
@@ -85,14 +85,14 @@ impl<'a, P: Places> Checking<'a, P> {
         self.scoring.tally
     }
 
-    /// Whether memory was refused for what is told of settledness: then it isn't known whether later accesses are settled.
+    /// Whether memory was refused for following what an IOMMU may hold: then it isn't known whether later accesses are settled.
     pub fn is_lost(&self) -> bool
         ensures { result ≡ is_lost_in self.now.debugger.reasons.now.settling }
     {
         self.debugger.is_lost()
     }
 
-    // Where the last line's last access that wasn't settled may be led, where that is told.
+    // Where the last line's last access that wasn't settled may be led, if settledness is judged.
     fn elsewhere(&self) -> Reply
         ensures { result.items ≡ elsewhere_told self.now.scoring.rules.fails_if_unsettled (unsettled_in self.now.debugger.reasons.now.settling) }
     {
@@ -103,7 +103,7 @@ impl<'a, P: Places> Checking<'a, P> {
         }
     }
 
-    // What the tables said of the last line's last access that was stale, where that is told.
+    // What the tables said of the last line's last access that was stale, if stale accesses are judged.
     fn tables(&self) -> Reply
         ensures { result.items ≡ tables_told self.now.scoring.rules.fails_if_stale self.now.debugger.reasons.now.stale }
     {
@@ -127,7 +127,7 @@ impl<P: Places> Checking<'_, P> {
     ghost use Rattle.iom_check.specs.Placed.{placed};
     ghost use Rattle.iom_check.specs.Scores.{score_of};
 
-    // Carries out a line, and puts what is told of it on the page. Answers whether the caches are looked at behind it.
+    // Carries out a line, and puts its report on the page. Answers whether the caches are looked at behind it.
     fn judge_line(&mut self, line: &[u8]) -> bool
         requires { length line.now ≤ 513 }
         ensures said { LineSays (checked_by P.known self.old) line.now self.new.scoring.page.items (checked_by P.known self.new) }
@@ -158,7 +158,7 @@ impl<P: Places> Checking<'_, P> {
         looks
     }
 
-    // Tells of place `i` of a cache if it is stale.
+    // Reports place `i` of a cache if it is stale.
     fn look_at<W: Write>(
         &mut self,
         cache: Cache,
@@ -186,7 +186,7 @@ impl<P: Places> Checking<'_, P> {
         write_told(writer, self.scoring.page.as_slice())
     }
 
-    // Tells of the first places of a cache, as many as `count`, those that are stale.
+    // Reports those of the first `count` places of a cache that are stale.
     fn look_at_places<W: Write>(
         &mut self,
         cache: Cache,
@@ -214,7 +214,7 @@ impl<P: Places> Checking<'_, P> {
         Ok(())
     }
 
-    // Tells of all places of both caches those that are stale, where stale accesses are judged.
+    // Reports each stale place of both caches, if stale accesses are judged.
     fn look_at_caches<W: Write>(
         &mut self,
         writer: &mut WatchedWriter<'_, W>,
@@ -241,7 +241,7 @@ impl<P: Places> Checking<'_, P> {
         Ok(())
     }
 
-    // The same, if they are looked at.
+    // Looks at the places of both caches, if `looks`.
     fn look_if<W: Write>(
         &mut self,
         looks: bool,
@@ -281,7 +281,7 @@ impl<P: Places> Checking<'_, P> {
     ghost use Rattle.iom_check.specs.Placed.{placed};
     ghost use Rattle.iom_check.specs.Scores.{score_of};
 
-    // Tells of a request that is owed.
+    // Reports a request that is owed.
     fn tell_one<W: Write>(
         &mut self,
         owed: &Owed,
@@ -304,7 +304,7 @@ impl<P: Places> Checking<'_, P> {
         write_told(writer, self.scoring.page.as_slice())
     }
 
-    // Tells of requests that are owed.
+    // Reports requests that are owed.
     fn tell_all<W: Write>(
         &mut self,
         owed: &[Owed],
@@ -328,7 +328,7 @@ impl<P: Places> Checking<'_, P> {
         Ok(())
     }
 
-    // The same, where the rules say so.
+    // Reports each owed request, if the rules ask for it.
     fn tell_if<W: Write>(
         &mut self,
         owed: &[Owed],
@@ -352,7 +352,7 @@ impl<P: Places> Checking<'_, P> {
         Ok(())
     }
 
-    // Tells of what is owed, where that is told.
+    // Reports what is owed, if it is judged.
     fn tell_owed<W: Write>(&mut self, writer: &mut WatchedWriter<'_, W>) -> Result<(), RunFault>
         requires { write_failed writer.old ≡ false }
         ensures told { OnOk result (TellsOwed (checked_by P.known self.old) (is_lost_in self.new.debugger.reasons.now.settling)
@@ -394,7 +394,7 @@ impl<P: Places> Answerer for Checking<'_, P> {
     }
 }
 
-/// Checks the script that `reader` gives, and tells each line that fails, in the style of its rules, and at the end how many passed and how
+/// Checks the script that `reader` gives, and reports each line that fails, in the style of its rules, and at the end how many passed and how
 /// many failed, which it answers. The faults are those of `run`, each only if it happened.
 #[tactic(auto, using(crate::proofs::Telling::lawful, crate::proofs::Telling::checked))]
 pub fn check<P: Places, R: Read, W: Write>(

@@ -3,7 +3,7 @@
 ghost use Rattle.std.specs.Prelude.{◌≡◌, ◌+◌, ◌++◌, ◌≤◌, length, codes, IfSome};
 ghost use Rattle.std.specs.Option.{option_map};
 ghost use Rattle.iom_debug.specs.Telling.{escaped};
-ghost use Rattle.iom_check.specs.Judging.{allows_stale, elsewhere_text, fails, meets, message, passes, remark_by, tables_text, title, wish_text};
+ghost use Rattle.iom_check.specs.Judging.{allows_stale, elsewhere_text, fails, meets, message, passes, refusal, remark_by, tables_text, title, wish_text};
 
 use crate::wanting::{answer_of, has_arrow, wants_stale, wish_of};
 use iom_debug::{OutputPage, before_comment, put, put_escaped, put_slip};
@@ -30,7 +30,7 @@ fn allows_stale(wish: Option<&[u8]>) -> bool
     }
 }
 
-/// Whether a line with this wish fails. `tables` is empty where no stale access is to be told, and `elsewhere` where none that isn't settled.
+/// Whether a line with this wish fails. `tables` is empty if no stale access is reported, and `elsewhere` if no unsettled one is.
 pub fn fails(
     is_judged: bool,
     wish: Option<&[u8]>,
@@ -137,7 +137,7 @@ fn put_unsettled(out: &mut OutputPage, elsewhere: &[u8])
     put_escaped(out, elsewhere);
 }
 
-/// A line as it is told: without its comment, escaped.
+/// A line as a report shows it: without its comment, escaped.
 pub fn title(line: &[u8]) -> OutputPage
     requires { length line.now ≤ 513 }
     ensures text { result.items ≡ title line.now }
@@ -176,8 +176,26 @@ pub fn message(
     out
 }
 
-/// What a line with this wish has that would go unnoticed: a wish, but no answer; or a comment that looks like a wish and is none. Empty:
-/// neither.
+// What is noted of the answer of a step that was refused; empty: of any other.
+fn refusal(answer: &[u8]) -> &'static [u8]
+    ensures text { result.now ≡ refusal answer.now }
+    ensures short { length result.now ≤ 64 }
+{
+    if answer == b"misuse".as_slice() {
+        b"the answer is misuse, and no wish expects it"
+    } else if answer == b"bad access".as_slice() {
+        b"the answer is bad access, and no wish expects it"
+    } else if answer == b"bus error".as_slice() {
+        b"the answer is bus error, and no wish expects it"
+    } else if answer == b"no device".as_slice() {
+        b"the answer is no device, and no wish expects it"
+    } else {
+        b""
+    }
+}
+
+/// What a line with this wish has that would go unnoticed: a wish, but no answer; a comment that looks like a wish and is none; or no wish, and
+/// a step that was refused. Empty: none of these.
 pub fn remark(wish: Option<&[u8]>, line: &[u8], answer: &[u8]) -> &'static [u8]
     ensures text { result.now ≡ remark_by (option_map (λ wish. wish.now) wish.entry) line.now answer.now }
     ensures short { length result.now ≤ 64 }
@@ -185,6 +203,7 @@ pub fn remark(wish: Option<&[u8]>, line: &[u8], answer: &[u8]) -> &'static [u8]
     match wish {
         Some(_) if answer.is_empty() => b"the wish is on a line without an answer",
         None if has_arrow(line) => b"the comment isn't a wish, which is # => ANSWER",
+        None => refusal(answer),
         _ => b"",
     }
 }

@@ -19,7 +19,7 @@ use iom_owed::settled_steps_are_answered_alike;
 /// was settled just before it. So every IOMMU that the standard allows and that reads nothing ahead gives the answers of this run, and leaves
 /// its memory, registers, devices and disks (RISC-V IOMMU Architecture 1.0, "Caching in-memory data structures"). A whole script in whose
 /// count nothing failed is such a script, and nothing is owed at its end. At the start nothing is cached and no step was taken; memory
-/// wasn't refused for what is told of settledness. Steps are listed newest first, each with the choice of the IOMMU in it.
+/// wasn't refused for following what an IOMMU may hold. Steps are listed newest first, each with the choice of the IOMMU in it.
 pub fn scripts_without_failures_are_settled()
     ensures settled { (start end : Checked) (lines : List (List ℕ)) (text : List ℕ) → PassesSettled start lines text end →
         IsEachSettled start.desk.state (newest_first start lines) }

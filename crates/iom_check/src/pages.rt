@@ -1,4 +1,4 @@
-//! What is told of a line, put together before it is written at once.
+//! The report of a line, put together before it is written at once.
 
 ghost use Rattle.std.specs.Prelude.{◌≡◌, ◌+◌, ◌*◌, ◌++◌, ◌≤◌, length};
 ghost use Rattle.iom_check.specs.Reporting.{in_xml, quoted, quoted_byte};

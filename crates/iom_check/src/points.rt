@@ -1,4 +1,4 @@
-//! Test points and notes, as each style tells them.
+//! Test points and notes, as each style writes them.
 
 ghost use Rattle.std.specs.Prelude.{◌≡◌, ◌+◌, ◌*◌, ◌++◌, ◌≤◌, codes, length};
 ghost use Rattle.std.specs.Option.{option_map};

@@ -1,4 +1,4 @@
-/// How `check` tells what it finds.
+/// How `check` reports what it finds.
 #[derive(Clone, Copy)]
 pub enum Style {
     /// Each line that fails, and how many passed and how many failed.
@@ -9,7 +9,7 @@ pub enum Style {
     Junit,
 }
 
-/// What fails, and how it is told.
+/// What fails, and how it is reported.
 #[derive(Clone, Copy)]
 pub struct Rules {
     /// Whether a line fails also where an access of it is stale and its wish doesn't end with `stale`, or it ends so and none is.
@@ -18,12 +18,12 @@ pub struct Rules {
     /// at the script's end.
     pub looks_at_fences: bool,
     /// Whether a line fails also where an access of it isn't settled, and at the script's end each request that is owed: that was made, and isn't
-    /// settled then. It is told only where the debugger's account follows what an IOMMU may hold.
+    /// settled then. It is reported only if the debugger's account follows what an IOMMU may hold.
     pub fails_if_unsettled: bool,
-    /// Whether what is noted fails: a comment that looks like a wish and is none, a wish on a line without an answer, a script without a
-    /// wish.
+    /// Whether what is noted fails: a comment that looks like a wish and is none, a wish on a line without an answer, a step that was refused
+    /// on a line without a wish, a script without a wish.
     pub is_strict: bool,
-    /// How it is told.
+    /// How it is reported.
     pub style: Style,
 }
 

@@ -10,7 +10,7 @@ use crate::rules::{Rules, Style, Tally};
 use iom_debug::{elsewhere_line, request_line};
 use iom_owed::Owed;
 
-/// What was found in a script up to a line, and what is told of that line.
+/// What was found in a script up to a line, and the report of that line.
 #[derive(Drop)]
 pub struct Scoring<'a> {
     /// What it is judged by.
@@ -23,7 +23,7 @@ pub struct Scoring<'a> {
     pub tally: Tally,
     /// Whether a line had a wish.
     pub has_wish: bool,
-    /// What is told.
+    /// The report.
     pub page: ReportPage,
 }
 
@@ -66,7 +66,7 @@ impl<'a> Scoring<'a> {
         self.tally.passed = self.tally.passed.saturating_add(1);
     }
 
-    // A test point passes, at a line, whose title is told.
+    // A test point passes, at a line; its title is reported.
     #[inline(never)]
     fn pass_titled(&mut self, place: &Place, line: &[u8])
         requires line { length line.now ≤ 513 }
@@ -78,7 +78,7 @@ impl<'a> Scoring<'a> {
         self.pass(place, title(line).as_slice());
     }
 
-    // A test point passes, at a line. As text nothing is told of it.
+    // A test point passes, at a line. As text nothing is reported of it.
     #[inline(never)]
     fn pass_line(&mut self, place: &Place, line: &[u8])
         requires line { length line.now ≤ 513 }
@@ -156,8 +156,8 @@ impl<'a> Scoring<'a> {
         }
     }
 
-    /// Judges a line, which stands at `place` and has this wish, by its answer. `slip` is why it is bad, and empty if it isn't; `tables` is empty where no stale access is
-    /// to be told, and `elsewhere` where none that isn't settled.
+    /// Judges a line, which stands at `place` and has this wish, by its answer. `slip` is why it is bad, and empty if it isn't; `tables` is
+    /// empty if no stale access is reported, and `elsewhere` if no unsettled one is.
     pub fn judge(
         &mut self,
         place: &Place,
@@ -219,7 +219,7 @@ impl<'a> Scoring<'a> {
         }
     }
 
-    /// Tells of a request that is owed, behind the line at `place`.
+    /// Reports a request that is owed, behind the line at `place`.
     pub fn owe(&mut self, place: &Place, owed: &Owed)
         requires { length self.old.page.items ≡ 0 }
         ensures text { self.new.page.items ≡ self.old.page.items ++ (owed_at (score_of self.old) (placed place.now) owed.now).said }
@@ -246,7 +246,7 @@ impl<'a> Scoring<'a> {
         }
     }
 
-    /// Notes at a script's end that no line had a wish, and tells its sum. `place` is that of the last line.
+    /// Notes at a script's end that no line had a wish, and reports its sum. `place` is that of the last line.
     pub fn end(&mut self, place: &Place)
         requires { length self.old.page.items ≡ 0 }
         ensures text { self.new.page.items ≡ self.old.page.items ++ closing (ended (score_of self.old) (placed place.now)) }

@@ -1,4 +1,4 @@
--- What `check` writes of scripts as wholes: the sum over them, and the frames of TAP 14 and of JUnit's XML.
+-- The text that `check` writes about whole scripts: the sum over them, and the frames of TAP 13 and of JUnit's XML.
 use Rattle.std.specs.Prelude.{ℕ, ◌+◌, ◌^◌, ◌-◌, ◌==◌, ◌++◌, ◌∷◌, ◌&&◌, ◌||◌, [], Bool, nat_lt, nat_le, min, List, codes, take, bytes_eq, if◌then◌else◌}
 use Rattle.std.specs.List.{flat_map}
 use Rattle.hex.specs.Hex.{encode_lower}
@@ -16,7 +16,7 @@ check_status sum = if nat_lt 0 sum.unread then 3 else if nat_lt 0 sum.failed the
 abbrev pub files_text : ℕ → List ℕ
 files_text count = numeral 10 count ++ (if count == 1 then codes " file: " else codes " files: ")
 
--- told only where there are some
+-- empty if there are none
 abbrev pub unread_text : ℕ → List ℕ
 unread_text count = if count == 0 then [] else codes ", " ++ numeral 10 count ++ codes " not read"
 
@@ -41,7 +41,7 @@ fault_point number text = codes "not ok " ++ numeral 10 number ++ codes " - " ++
 abbrev pub xml_hex : ℕ → List ℕ
 xml_hex c = codes "\\x" ++ encode_lower (c ∷ [])
 
--- XML: a byte of an attribute; one that isn't printable is told in hex
+-- XML: a byte of an attribute; one that isn't printable is written in hex
 unfoldable pub xml_shown : ℕ → List ℕ
 xml_shown c =
     if c == 38 then codes "&amp;"

@@ -1,4 +1,4 @@
-//! What `check` writes of scripts as wholes: the sum over them, and the frames of TAP 14 and of JUnit's XML.
+//! The text that `check` writes about whole scripts: the sum over them, and the frames of TAP 13 and of JUnit's XML.
 
 ghost use Rattle.std.specs.Prelude.{◌≡◌, ◌++◌, ◌∷◌, [], codes, OnOk};
 ghost use Rattle.std.specs.List.{flat_map};
@@ -10,12 +10,12 @@ use iom_text::decimal;
 use std::alloc::AllocError;
 
 /// The first line of TAP.
-pub const TAP_HEAD: &[u8] = b"TAP version 14\n";
+pub const TAP_HEAD: &[u8] = b"TAP version 13\n";
 
-/// What stands before the first suite of JUnit's XML.
+/// The text before the first suite of JUnit's XML.
 pub const SUITES_HEAD: &[u8] = b"<?xml version=\"1.0\" encoding=\"UTF-8\"?>\n<testsuites>\n";
 
-/// What stands behind the last one.
+/// The text after the last suite of JUnit's XML.
 pub const SUITES_END: &[u8] = b"</testsuites>\n";
 
 /// What scripts came to.
@@ -95,7 +95,7 @@ pub fn put_sum(out: &mut Vec<u8>, sum: &Sum) -> Result<(), AllocError>
     out.extend_from_slice(b"\n")
 }
 
-/// Appends the plan of TAP for so many test points.
+/// Appends the plan of TAP for this number of test points.
 pub fn put_plan(out: &mut Vec<u8>, points: u64) -> Result<(), AllocError>
     ensures { OnOk result (out.new.items ≡ out.old.items ++ plan_text points) }
 {

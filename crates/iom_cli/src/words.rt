@@ -11,13 +11,13 @@ const KIND: &str = "KIND";
 /// The option of `check` by which stale accesses fail.
 const STALE: &str = "stale";
 
-/// The option of `check` by which the caches are looked at behind each fence too.
+/// The option of `check` by which the caches are looked at after each fence too.
 const AT_FENCES: &str = "at-fences";
 
-/// The option of `check` by which accesses fail that aren't settled, and of `explain` by which they are told.
+/// The option of `check` by which accesses that aren't settled fail, and of `explain` by which it reports them.
 const SETTLED: &str = "settled";
 
-/// The option of `check` by which what is noted fails.
+/// The option of `check` by which notes fail.
 const STRICT: &str = "strict";
 
 /// The option of `check` by which it writes TAP.
@@ -29,7 +29,7 @@ const JUNIT: &str = "junit";
 /// The option of `check` for the file of the image.
 const IMAGE: &str = "image";
 
-/// The option of `explain` that names the accesses to tell.
+/// The option of `explain` that names the accesses to print.
 const ONLY: &str = "only";
 
 /// The operand of `check` for its scripts.
@@ -41,13 +41,13 @@ const INPUT: &str = "-";
 /// The names of the items that can be listed.
 const KINDS: [&str; 6] = ["cmd", "fault", "context", "dir", "pte", "u64"];
 
-/// The accesses that `explain` can tell alone.
+/// The kinds of accesses that `explain` can print without the others.
 const ONLY_THESE: [&str; 3] = ["denied", "stale", UNSETTLED];
 
 /// The name of accesses that aren't settled, among those.
 const UNSETTLED: &str = "unsettled";
 
-/// The accesses that `explain` tells, where it doesn't tell all.
+/// The accesses that `explain` prints, if it doesn't print all.
 #[derive(Clone, Copy)]
 pub struct Only {
     /// Those that are denied.
@@ -65,8 +65,8 @@ pub enum How {
     Run,
     /// Each line is answered, and may be one of `debug`.
     Debug,
-    /// Each line is printed with its answer and the reasons of its accesses, or these accesses alone. If `tells_settled`, it is also told which
-    /// accesses aren't settled.
+    /// Each line is printed with its answer and the reasons of its accesses, or only the accesses of `only`. If `tells_settled`, each access
+    /// that isn't settled is reported.
     Explain {
         only: Option<Only>,
         tells_settled: bool,
@@ -87,13 +87,13 @@ impl How {
 /// Which scripts `check` judges, and how.
 #[derive(Drop)]
 pub struct Checks<'a> {
-    /// Whether a line fails also where an access of it is stale.
+    /// Whether a line fails also if an access of it is stale.
     pub fails_if_stale: bool,
-    /// Whether each stale place of the caches fails behind each fence too, and not only at the end of a script.
+    /// Whether each stale place of the caches fails after each fence too, and not only at the end of a script.
     pub looks_at_fences: bool,
-    /// Whether a line fails also where an access of it isn't settled, and at the end of a script each request that is owed.
+    /// Whether a line fails also if an access of it isn't settled, and at the end of a script each request that is owed.
     pub fails_if_unsettled: bool,
-    /// Whether what is only noted fails.
+    /// Whether notes fail.
     pub is_strict: bool,
     /// Whether standard output is TAP, and not text.
     pub is_tap: bool,
@@ -218,7 +218,7 @@ const VERBS: [Verb; 7] = [
             },
             Operand {
                 name: TAP,
-                help: "Print TAP 14 in place of text",
+                help: "Print TAP 13 in place of text",
                 need: Need::Flag,
             },
             Operand {
@@ -393,7 +393,7 @@ fn script<'a>(how: How, found: &ArgMatches<'a>) -> Task<'a> {
     }
 }
 
-// The accesses that `explain` is to tell, where its option names some.
+// The accesses that `explain` is to print, if its option names some.
 fn told_alone<'a>(found: &ArgMatches<'a>) -> Option<Only> {
     let named = found.get_strs(ONLY)?;
     Some(Only {
@@ -403,7 +403,7 @@ fn told_alone<'a>(found: &ArgMatches<'a>) -> Option<Only> {
     })
 }
 
-// How `explain` plays a script. To tell accesses alone that aren't settled is to tell which those are.
+// How `explain` plays a script. `--only unsettled` implies `--settled`.
 fn explaining<'a>(found: &ArgMatches<'a>) -> How {
     let only = told_alone(found);
     let names_unsettled = match only {

@@ -1,4 +1,4 @@
--- What is looked up where nothing is cached: what its source tells.
+-- A look-up with nothing cached finds what its source says.
 use Rattle.std.proofs.Common.{◌≡◌, ℕ, true, false, None, Result, Ok, Err, if◌then◌else◌, refl}
 use Rattle.iom_regs.specs.Views.{mode_of}
 use Rattle.iom_ddt.specs.Directory.{is_too_wide, levels_of, located}

@@ -156,7 +156,7 @@ led_page-unused m request =
       | WasFault context fault used bare page is ↦ subst P (sym is) (page_look-unused m request context)
     ]
 
--- What a look-up fills: its key, with what the source told.
+-- What a look-up fills: its key, with what the source says.
 look_filled : {K V E : Type 0} → (key : K) (held : Option V) (told : Result V E) (own : K) (value : V) →
     (look key held told).filled ≡ Some (own, value) → (own ≡ key) × (told ≡ Ok value)
 look_filled key (Some v) told own value e = absurd (cc)

@@ -119,8 +119,8 @@ abbrev pub source_of : {X : Type 0} → Option X → Source
 source_of None = source.Found
 source_of (Some fill) = source.Read
 
--- What a witness is told of an access that is led so, one after the other: the context that leads it, the page that it hits, each
--- with where it comes from, and last the way.
+-- The events of an access that is led so, in the order in which its witness notices them: the context that leads it, the page that
+-- it hits, each with where it comes from, and last the way.
 abbrev pub context_told : {S : Type 0} → (S → Event → S) → S → ℕ → Option Context → Option (ℕ × Context) → S
 context_told next s did None fill = s
 context_told next s did (Some context) fill = next s (event.Context (source_of fill) did context)
@@ -136,7 +136,7 @@ abbrev pub witness_after : {S : Type 0} → (S → Event → S) → S → Reques
 witness_after next s request led =
     next (page_told next (context_told next s request.did led.by led.context) request led.way led.page) (event.Way led.way)
 
--- what it is told of the access that a request is
+-- a witness after the access that a request is
 abbrev pub told_of : {S : Type 0} → (S → Event → S) → S → Machine → Request → S
 told_of next s m request = witness_after next s request (led m request)
 

@@ -13,7 +13,7 @@ use Rattle.iom_core.specs.declared.witness.Event.TheVariants as event
 use Rattle.iom_core.specs.declared.witness.Source.{Source}
 use Rattle.iom_core.specs.declared.witness.Source.TheVariants as source
 
--- the same machine with both caches empty
+-- a machine with both its caches emptied
 abbrev pub uncached : Machine → Machine
 uncached m = record m { contexts = []; pages = [] }
 
@@ -21,7 +21,7 @@ uncached m = record m { contexts = []; pages = [] }
 abbrev pub by_tables : Machine → Request → Way
 by_tables m request = (led (uncached m) request).way
 
--- what is kept of what an access is told
+-- what is kept of the events of an access
 abbrev pub nothing_seen : Lookup
 nothing_seen = record { context = None; page = None; way = ByRegister }
 

@@ -113,6 +113,6 @@ opening_with features memory devices = record {
   devices = devices;
 }
 
--- the same with none of them
+-- a platform that nothing has happened to yet, whose IOMMU has none of the features
 abbrev pub opening : Memory → List (ℕ × Device) → State
 opening memory devices = opening_with no_features memory devices

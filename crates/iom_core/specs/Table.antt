@@ -93,7 +93,7 @@ request_in asking = request_of asking.did asking.ask
 abbrev pub request_of_step : State → Step → Option Request
 request_of_step state taken = option_map request_in (asked state taken)
 
--- what a witness is told of a step: of the access that it makes, if it makes one
+-- a witness after a step: after the access that the step makes, if it makes one
 abbrev pub told_by_step : {S : Type 0} → (S → Event → S) → S → Machine → Option Asking → S
 told_by_step next s m None = s
 told_by_step next s m (Some asking) = told_of next s m (request_in asking)
@@ -219,7 +219,7 @@ dev_written state dev (Some own) off size value = record {
   state = with_device state dev own.0 (dev_write own.1 off size value).device;
 }
 
--- how a step of a device is told, and the machine and the device after it: it makes the access that it asks for, or is idle
+-- what a step of a device returns, and the machine and the device after it: it makes the access that it asks for, or is idle
 pub record Moving : Type 0 where
   pub told : Moved
   pub machine : Machine

@@ -89,8 +89,8 @@ pub record IsByContext (start : State) (steps : List Step) (n : ℕ) (request : 
   pub bare : is_bare context ≡ true
   pub fresh : IsFreshContext start steps request.did n c context
 
--- Step n was led by a context of moment c' to a hit, which the page tables of moment w gave under a context of moment c with
--- the same key.
+-- Step n was led by a context of moment c' to a hit. The page tables of moment w gave it under a context of moment c, with an
+-- equal key.
 pub record IsWalked (start : State) (steps : List Step) (n : ℕ) (request : Request) (c w c' : ℕ) : Type 0 where
   pub old : Context
   pub now : Context

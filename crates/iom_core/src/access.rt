@@ -230,7 +230,7 @@ pub(crate) fn lead<M: Region, C: Caches, W: Witness>(
     }
 }
 
-// The same by the context of the device's id, from its live place or else from the directory.
+// Leads a request in a mode with a directory: by the context of its device, from the live place or else from the directory.
 #[inline(always)]
 #[tactic(auto, unfolding(crate::specs::Access::context_look), using(crate::proofs::Wide::too_wide_located))]
 fn by_directory<M: Region, C: Caches, W: Witness>(
@@ -272,7 +272,7 @@ fn by_directory<M: Region, C: Caches, W: Witness>(
     }
 }
 
-// The same by a context that the directory has. It is filled also where the walk fails.
+// Leads a request whose device has no live context, by the one in the directory. That is filled also if the walk fails.
 #[inline(never)]
 fn by_new_context<M: Region, C: Caches, W: Witness>(
     ram: &M,
@@ -316,7 +316,7 @@ fn by_new_context<M: Region, C: Caches, W: Witness>(
     }
 }
 
-// The same below a context, from the page's live place or else by the stages.
+// Leads a request under a context: by the page's live place, or else by the stages.
 #[inline(always)]
 #[tactic(auto, unfolding(crate::specs::Access::page_look))]
 pub(crate) fn by_context<M: Region, C: Caches, W: Witness>(
@@ -348,7 +348,7 @@ pub(crate) fn by_context<M: Region, C: Caches, W: Witness>(
     }
 }
 
-// The same by the stages of a context, where no live place has the page.
+// Leads a request under a context by its stages, if no live place has the page.
 #[inline(never)]
 #[tactic(auto, unfolding(crate::specs::Access::page_look))]
 fn by_walk<M: Region, C: Caches, W: Witness>(

@@ -54,11 +54,11 @@ pub struct Lines {
     pub pages: TransCache,
 }
 
-/// The same, looked at only.
+/// Both caches, to be looked at only.
 #[derive(Drop)]
 pub struct Looking<'a>(pub &'a Lines);
 
-/// None.
+/// No caches: each look-up finds nothing, and fills are lost.
 #[derive(Drop)]
 pub struct Nothing;
 

@@ -123,7 +123,7 @@ fn move_once<M: WritableRegion, W: Witness>(
     }
 }
 
-/// The same devices once more, each with a disk of its own. The fault is a refused allocation, and then these stand unchanged.
+/// Copies of these devices, each with a disk of its own. The fault is a refused allocation; these devices stay as they are.
 pub(crate) fn copy_devices(
     alloc: Global,
     devices: &[(u32, Blk)],

@@ -34,7 +34,7 @@ pub trait Witness {
     /// The witness after an event.
     ghost next: { Self → Event → Self };
 
-    /// Tells it an event.
+    /// Reports an event to it.
     fn notice(&mut self, event: Event)
         ensures { self.new ≡ next self.old event };
 }

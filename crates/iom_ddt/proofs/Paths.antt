@@ -59,7 +59,7 @@ pub located_by_path : (memory : Memory) (registers : Registers) (did levels : �
 unfolding located
 located_by_path memory registers did levels same narrow = rw (narrow, same) refl
 
--- the same of the relation: behind a pointer the path goes on
+-- `IsEnd` past a pointer: the end of the path from the next table on is the end of the whole path
 pub goes_on : (features : Features) (memory : Memory) (did table level part next : ℕ) (got : Result ℕ Cause) (found : Result Context Cause) →
     1 ≤ level → part ≡ ddi did level → got ≡ pointed_by (word memory (table * 4096 + part * 8)) → got ≡ Ok next →
     IsEnd features (path_from memory did (level - 1) next) found → IsEnd features (path_from memory did level table) found

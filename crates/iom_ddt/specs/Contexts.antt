@@ -27,6 +27,6 @@ pub record IsWellFormed (c : ContextFields) : Type 0 where
   pub first_mode : IsTrue (is_mode c.mode)
   pub first_root : c.ppn < 2 ^ 44
 
--- the same as a test of a context whose fields fit
+-- a test for `IsWellFormed`, of a context whose fields fit
 abbrev pub is_well_formed : ContextFields → Bool
 is_well_formed c = is_mode c.mode && is_mode c.gmode && (c.gmode == 0 || c.gppn % 4 == 0)

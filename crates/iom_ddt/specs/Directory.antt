@@ -97,8 +97,8 @@ located memory registers did =
     if is_too_wide (levels_of (mode_of registers)) did then Err TooWide
     else verdict_on registers.features (path_from memory did (levels_of (mode_of registers) - 1) (root_of registers))
 
--- The same without a decoder. What is found where a context stands: the one that its words encode, if the IOMMU has its modes; or
--- the fault, where there is no such context, or a byte of them is outside memory.
+-- What is found at the words of a context, without a decoder: the context that they encode, if the IOMMU has its modes; or the fault,
+-- if there is no such context, or a byte of them is outside memory.
 abbrev pub IsOf : Features → Context → List ℕ → Type 0
 IsOf features context words = IsEncoding context words × IsTrue (has_modes features context)
 
@@ -109,7 +109,7 @@ IsContextOf features (Some words) (Err cause) =
     ((context : Context) → ¬ IsOf features context words)
     × (cause ≡ (if has_bit (get_or words 0 0) 0 then DirBad else DirInvalid))
 
--- The last of a path tells what is found: the words of the context, or an entry that is a fault. Those before it point on.
+-- The last of a path says what is found: the words of the context, or an entry that is a fault. Those before it point on.
 abbrev pub IsEnd : Features → List Met → Result Context Cause → Type 0
 IsEnd features [] found = ⊥
 IsEnd features (Leaf place words ∷ more) found = IsContextOf features words found

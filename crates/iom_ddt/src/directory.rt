@@ -75,7 +75,7 @@ pub(crate) fn pointed_by<M: Region>(ram: &M, place: u64) -> Result<u64, Cause>
     table_of(ram.word(place).ok_or(Cause::DirAccess)?)
 }
 
-/// The same of an entry with this word.
+/// The PPN, 44 bits, of the table that an entry with this word points to; `DirInvalid` if V = 0, `DirBad` if a reserved bit is set.
 pub(crate) fn table_of(entry: u64) -> Result<u64, Cause>
     ensures entry { result ≡ pointed_by (Some entry) }
     ensures fits { IfOk result (λ table. table < 2 ^ 44) }

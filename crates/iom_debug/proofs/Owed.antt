@@ -1,16 +1,16 @@
 -- What the line `owed` is answered.
-use Rattle.std.proofs.Common.{◌≡◌, ◌≢◌, ℕ, false, List, codes, Option, Some, None, inl, inr, refl}
+use Rattle.std.proofs.Common.{◌≡◌, ◌≢◌, ℕ, false, List, Option, Some, None, inl, inr, refl}
 use Rattle.std.specs.Option.{option_map}
 use Rattle.iom_core.specs.State.{State}
 use Rattle.iom_owed.specs.declared.settling.Owed.{Owed}
 use Rattle.iom_tool.specs.declared.language.Inquiry.{Inquiry}
 use Rattle.iom_tool.specs.declared.language.Inquiry.TheVariants as inquiry
 use Rattle.iom_debug.specs.Answers.{IsInquired}
-use Rattle.iom_debug.specs.Owing.{IsOwedAnswer, owed_text}
+use Rattle.iom_debug.specs.Owing.{IsOwedAnswer, owed_text, unknown_text}
 use Rattle.iom_debug.specs.Reasons.{LineAccountView, begun}
 use Rattle.iom_debug.specs.Settling.{AreOwedBy, SettlingView, is_lost_in, line_begun}
 
-pub unknown_told : (settling : Option SettlingView) (state : State) (answer : List ℕ) → answer ≡ codes "unknown" → IsOwedAnswer settling state answer
+pub unknown_told : (settling : Option SettlingView) (state : State) (answer : List ℕ) → answer ≡ unknown_text settling → IsOwedAnswer settling state answer
 unknown_told None state answer is = is
 unknown_told (Some settling) state answer is = inl is
 

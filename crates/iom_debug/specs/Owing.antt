@@ -19,10 +19,15 @@ owed_text (first ∷ more) =
     take 320 ((numeral 10 (length (first ∷ more)) ++ codes ", the first " ++ made_text first.made)
     ++ elsewhere_text first.unsettled first.made.request.iova)
 
--- The answer is `unknown` where what any IOMMU may hold isn't kept. Where it is kept, what is owed is told, or the answer is `unknown`, since
--- memory was refused.
+-- why it isn't known: what any IOMMU may hold isn't kept, or memory was refused for it
+abbrev pub unknown_text : Option SettlingView → List ℕ
+unknown_text None = codes "unknown, it needs --settled"
+unknown_text (Some settling) = codes "unknown, memory was refused"
+
+-- Where what any IOMMU may hold isn't kept, the answer is that it isn't known. Where it is kept, the answer is what is owed, or that memory was
+-- refused.
 abbrev pub IsOwedAnswer : Option SettlingView → State → List ℕ → Type 0
-IsOwedAnswer None state answer = answer ≡ codes "unknown"
+IsOwedAnswer None state answer = answer ≡ unknown_text None
 IsOwedAnswer (Some settling) state answer =
-    (answer ≡ codes "unknown")
+    (answer ≡ unknown_text (Some settling))
     ⊎ ((settling.is_lost ≡ false) × (owed : List Owed) × (answer ≡ owed_text owed) × AreOwedBy (Some settling) state owed)

@@ -1,5 +1,5 @@
 -- What the word `debug` writes for the lines of a script, and how texts are told.
-use Rattle.std.specs.Prelude.{ℕ, ◌≡◌, ◌+◌, ◌==◌, ◌++◌, ◌&&◌, ◌||◌, Bool, nat_lt, nat_le, List, [], ◌∷◌, length, take, codes, Option, Some, None, if◌then◌else◌}
+use Rattle.std.specs.Prelude.{ℕ, ◌≡◌, ◌+◌, ◌==◌, ◌++◌, ◌&&◌, ◌||◌, Bool, nat_lt, nat_le, List, [], ◌∷◌, length, drop, take, codes, Option, Some, None, if◌then◌else◌}
 use Rattle.std.specs.List.{flat_map}
 use Rattle.hex.specs.Hex.{encode_lower}
 use Rattle.iom_core.specs.Run.{end_of}
@@ -12,6 +12,7 @@ use Rattle.iom_debug.specs.Reasons.{GoesAlong, KeepsLastStale, begun}
 use Rattle.iom_text.specs.Words.{words_of}
 use Rattle.iom_names.specs.Names.{with_numbers}
 use Rattle.iom_names.specs.Reading.{is_bad, is_let, is_line, line_with, names_after}
+use Rattle.iom_names.specs.Slips.{let_slip}
 use Rattle.iom_names.specs.declared.names.Binding.{Binding}
 use Rattle.iom_slips.specs.Slips.{slip_of}
 use Rattle.iom_debug.specs.Summary.{up_to_64_bits}
@@ -35,16 +36,15 @@ pub record Debugged : Type 0 where
   pub number : ℕ
   pub tells_slips : Bool
 
--- why a line is bad where there are these names: that of `let`, or of the line with the numbers in place of the names
-abbrev pub let_slip : List ℕ
-let_slip = codes "let: no such NAME or NUMBER, or 64 names already"
-
 abbrev pub numbered : List Binding → List ℕ → List ℕ
 numbered names line = if is_line line then with_numbers names (words_of line) else line
 
+-- why a line is bad where there are these names: as a `let`, or as the line with the numbers in place of the names
 unfoldable pub slip_with : List Binding → List ℕ → List ℕ
 slip_with names line =
-    if is_bad (line_with names line) then (if is_let (words_of line) then let_slip else slip_of (numbered names line)) else []
+    if is_bad (line_with names line)
+    then (if is_line line && is_let (words_of line) then let_slip names (drop 1 (words_of line)) else slip_of (numbered names line))
+    else []
 
 -- the same, where that is told; of any other line nothing
 abbrev pub slip_told : Bool → List Binding → List ℕ → List ℕ

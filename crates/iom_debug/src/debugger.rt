@@ -85,8 +85,8 @@ impl<'a> Debugger<'a> {
             IsAsRun (console self.old.platform.now self.old.trace.now) text.now
             result.items (console self.new.platform.now self.new.trace.now) }
 
-        // What is told goes along with the steps, and of this line its last access that was stale is kept, and whether it carried out a fence;
-        // where settledness is told, its last access that wasn't settled, by what any IOMMU may hold.
+        // The account goes along with the steps, and of this line its last access that was stale is kept, and whether it carried out a fence;
+        // if settledness is followed, its last access that wasn't settled, by what any IOMMU may hold.
         ensures along { GoesAlong self.old.reasons.now self.old.platform.now (debug_steps_of self.old.names self.old.platform.now text.now) number
             self.new.reasons.now self.new.platform.now }
         ensures stale { KeepsLastStale (begun self.old.reasons.now) self.old.platform.now
@@ -135,7 +135,7 @@ impl<'a> Debugger<'a> {
         self.slip_of(&self.names.said(text), text)
     }
 
-    /// The same of a line that was read by these names, or by those before it, which a line that is `bad` leaves as they are.
+    /// As for a line that was read by these names, or by those before it, which a line that is `bad` leaves as they are.
     #[tactic(auto, unfolding(crate::specs::Telling::slip_with), using(crate::proofs::Slips::too_long))]
     pub fn slip_of(&self, line: &Line, text: &[u8]) -> Reply
         ensures { (names : List Binding) → line_as line.now ≡ line_with names text.now → (is_bad (line_as line.now) ≡ true → self.now.names ≡ names) →
@@ -144,11 +144,11 @@ impl<'a> Debugger<'a> {
         if !is_bad(line) {
             return Reply::new();
         }
-        if is_let(text) {
-            return reply_of(b"let: no such NAME or NUMBER, or 64 names already");
-        }
         if !is_line(text) {
             return slip(text);
+        }
+        if is_let(text) {
+            return reply_of(self.names.let_slip(text));
         }
         match self.names.with_numbers(text) {
             Some(line) => slip(line.as_slice()),
@@ -164,7 +164,7 @@ impl<'a> Debugger<'a> {
     }
 
     /// The last access of the last line that wasn't settled, as `read 0x40202abc may still go to addr=0x80011abc, read in line 12, the tables now
-    /// say denied 13`. Empty if each was, or settledness isn't told.
+    /// say denied 13`. Empty if each was, or settledness isn't followed.
     pub fn unsettled_told(&self) -> Reply
         ensures { result.items ≡ unsettled_told (unsettled_in self.now.reasons.now.settling) }
     {
@@ -174,22 +174,22 @@ impl<'a> Debugger<'a> {
         }
     }
 
-    /// Whether settledness is told: what any IOMMU may hold is kept.
+    /// Whether settledness is followed: what any IOMMU may hold is kept.
     pub fn tells_settled(&self) -> bool
         ensures { result ≡ is_some self.now.reasons.now.settling }
     {
         self.reasons.tells_settled()
     }
 
-    /// Whether settledness is told, and memory was refused for that. Then nothing is known of later accesses.
+    /// Whether settledness is followed, and memory was refused for that. Then nothing is known of later accesses.
     pub fn is_lost(&self) -> bool
         ensures { result ≡ is_lost_in self.now.reasons.now.settling }
     {
         self.reasons.is_lost()
     }
 
-    /// What is owed now: the requests that the steps made and that aren't settled, where settledness is told; each with the number of the newest
-    /// line that made it. None where it isn't told, and where memory is refused, which `is_lost` tells then.
+    /// What is owed now: the requests that the steps made and that aren't settled, if settledness is followed; each with the number of the newest
+    /// line that made it. None if it isn't followed, and if memory is refused, which `is_lost` then says.
     pub fn owed(&mut self) -> Option<Vec<Owed>>
         ensures owed { IfSome result (λ owed. AreOwedBy self.old.reasons.now.settling self.old.platform.now owed.items) }
         ensures none { IfNone result (is_lost_in self.new.reasons.now.settling ≡ false → self.old.reasons.now.settling ≡ None) }

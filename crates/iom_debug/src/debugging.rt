@@ -20,7 +20,7 @@ pub struct Debugging<'a> {
     pub debugger: Debugger<'a>,
     // how many lines were read
     number: u64,
-    // whether it is told why a line is bad
+    // whether it says why a line is bad
     tells_slips: bool,
     page: OutputPage,
 }
@@ -28,7 +28,7 @@ pub struct Debugging<'a> {
 impl<'a> Debugging<'a> {
     ghost use Rattle.std.specs.Prelude.{◌≡◌};
 
-    /// A script of `debug` for what this debugger drives, of no line yet. Behind `bad` it tells why, as `bad: VALUE is missing`, if
+    /// A script of `debug` for what this debugger drives, of no line yet. Behind `bad` it says why, as `bad: VALUE is missing`, if
     /// `tells_slips`.
     pub fn new(debugger: Debugger<'a>, tells_slips: bool) -> Debugging<'a>
         ensures debugger { result.debugger ≡ debugger.entry }
@@ -73,7 +73,7 @@ impl Answerer for Debugging<'_> {
     }
 }
 
-// Why a line is bad, where that is told.
+// Why a line is bad, if that is said.
 fn slip_told(tells_slips: bool, debugger: &Debugger<'_>, line: &[u8]) -> Reply
     ensures { result.items ≡ slip_told tells_slips debugger.now.names line.now }
 {

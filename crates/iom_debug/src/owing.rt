@@ -2,7 +2,7 @@
 
 ghost use Rattle.std.specs.Prelude.{◌≡◌, ◌++◌, ◌≤◌, codes, length, take};
 ghost use Rattle.iom_text.specs.Texts.{numeral};
-ghost use Rattle.iom_debug.specs.Owing.{IsOwedAnswer, made_text, owed_text};
+ghost use Rattle.iom_debug.specs.Owing.{IsOwedAnswer, made_text, owed_text, unknown_text};
 
 use crate::reasons::LineAccount;
 use crate::settling::{elsewhere_line, request_line};
@@ -60,15 +60,26 @@ fn owed_text(owed: &[Owed]) -> Reply
     out
 }
 
+// Why it isn't known what is owed.
+fn unknown_text(reasons: &LineAccount) -> Reply
+    ensures { result.items ≡ unknown_text reasons.now.settling }
+{
+    if reasons.tells_settled() {
+        reply_of(b"unknown, memory was refused")
+    } else {
+        reply_of(b"unknown, it needs --settled")
+    }
+}
+
 /// What is owed now, at most 320 bytes: `none`, or how many requests and the first, as `2, the first read 0x40202000 of device 5, as in line 12,
-/// may still go to addr=0x80011000, read in line 3, the tables now say denied 13`; `unknown` where what any IOMMU may hold isn't kept, or memory
-/// was refused.
+/// may still go to addr=0x80011000, read in line 3, the tables now say denied 13`. Where what any IOMMU may hold isn't kept, it is
+/// `unknown, it needs --settled`; where memory was refused, `unknown, memory was refused`.
 #[tactic(auto, using(crate::proofs::Owed::owed_told, crate::proofs::Owed::unknown_told))]
 pub fn owed_line(platform: &Platform, reasons: &LineAccount) -> Reply
     ensures { IsOwedAnswer reasons.now.settling platform.now result.items }
 {
     match reasons.owed_now(platform) {
         Some(owed) => owed_text(owed.as_slice()),
-        None => reply_of(b"unknown"),
+        None => unknown_text(reasons),
     }
 }

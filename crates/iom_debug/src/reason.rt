@@ -17,7 +17,7 @@ pub fn stale_of(reason: &Reason) -> Option<Result<u64, Denial>>
     Some(address_of(&way, request.iova))
 }
 
-// The text of what is told of a step, at most 128 bytes: `walked context=12 walk=14 current=15`, `context 12`, `register`, `denied` or
+// The text of a step's reason, at most 128 bytes: `walked context=12 walk=14 current=15`, `context 12`, `register`, `denied` or
 // `no access`, and behind that ` stale addr=0x80020abc` or ` stale denied 13` where it was stale.
 #[tactic(auto, unfolding(crate::specs::Reasons::reason_text))]
 fn reason_line(reason: &Reason) -> Reply

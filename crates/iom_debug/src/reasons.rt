@@ -19,7 +19,7 @@ pub struct LineAccount {
     account: Account,
     stale: Option<StaleAccess>,
     has_fence: bool,
-    // where settledness is told
+    // if settledness is followed
     settling: Option<Settling>,
 }
 
@@ -57,8 +57,8 @@ impl LineAccount {
         }
     }
 
-    /// As `new`, of a platform that has taken no step yet, and it tells of each access whether it was settled. For that each step may take
-    /// memory; where that is refused, no more is known of accesses, which `is_lost` tells.
+    /// As `new`, of a platform that has taken no step yet, and it says of each access whether it was settled. For that each step may take
+    /// memory; where that is refused, no more is known of accesses, which `is_lost` says.
     pub fn with_holdings(platform: &Platform, alloc: Global) -> LineAccount
         ensures begins { Accounts result.account platform.now platform.now [] [] }
         ensures empty { result.account.reasons ≡ [] }
@@ -127,28 +127,28 @@ impl LineAccount {
         self.has_fence
     }
 
-    /// The access of the last step, if that wasn't settled just before it; None if it was, the step made none, or settledness isn't told.
+    /// The access of the last step, if that wasn't settled just before it; None if it was, the step made none, or settledness isn't followed.
     pub fn last_unsettled(&self) -> Option<UnsettledAccess>
         ensures { result ≡ last_unsettled_in self.now.settling }
     {
         self.settling.as_ref()?.last()
     }
 
-    /// The last access of the last line that wasn't settled; None if each was, or settledness isn't told.
+    /// The last access of the last line that wasn't settled; None if each was, or settledness isn't followed.
     pub fn unsettled(&self) -> Option<UnsettledAccess>
         ensures { result ≡ unsettled_in self.now.settling }
     {
         self.settling.as_ref()?.unsettled()
     }
 
-    /// Whether settledness is told: what any IOMMU may hold is kept.
+    /// Whether settledness is followed: what any IOMMU may hold is kept.
     pub fn tells_settled(&self) -> bool
         ensures { result ≡ is_some self.now.settling }
     {
         self.settling.is_some()
     }
 
-    /// Whether settledness is told, and memory was refused for that. Then nothing is known of later accesses.
+    /// Whether settledness is followed, and memory was refused for that. Then nothing is known of later accesses.
     pub fn is_lost(&self) -> bool
         ensures { result ≡ is_lost_in self.now.settling }
     {
@@ -158,8 +158,8 @@ impl LineAccount {
         }
     }
 
-    /// What is owed now: the requests that the steps made and that aren't settled on this platform, where settledness is told; each with the
-    /// number of the newest step that made it. None where it isn't told, and where memory is refused, which `is_lost` tells then.
+    /// What is owed now: the requests that the steps made and that aren't settled on this platform, if settledness is followed; each with the
+    /// number of the newest step that made it. None if it isn't followed, and if memory is refused, which `is_lost` then says.
     pub fn owed(&mut self, platform: &Platform) -> Option<Vec<Owed>>
         ensures owed { IfSome result (λ owed. AreOwedBy self.old.settling platform.now owed.items) }
         ensures known { IfSome result (λ owed. is_lost_in self.old.settling ≡ false) }
@@ -170,7 +170,7 @@ impl LineAccount {
         self.settling.as_mut()?.owed(platform)
     }
 
-    /// The same, and where memory is refused nothing changes.
+    /// As `owed`, but if memory is refused nothing changes.
     pub fn owed_now(&self, platform: &Platform) -> Option<Vec<Owed>>
         ensures owed { IfSome result (λ owed. AreOwedBy self.now.settling platform.now owed.items) }
         ensures known { IfSome result (λ owed. is_lost_in self.now.settling ≡ false) }
@@ -191,7 +191,7 @@ impl LineAccount {
     }
 
     /// Carries out the next step on the platform, a step of the line of this number, writes its answer to `answer`, and keeps its reason.
-    /// If there are 32 the oldest leaves. Answers the step's access if that was stale. Where settledness is told, it is judged just before.
+    /// If there are 32 the oldest leaves. Answers the step's access if that was stale. If settledness is followed, it is judged just before.
     #[tactic(auto, using(crate::proofs::Newest::tables_newest))]
     pub fn step(
         &mut self,

@@ -136,7 +136,7 @@ impl Settling {
         }
     }
 
-    // The same where memory was not refused before: notes what is found, or that memory is refused.
+    // Follows a step, if memory was not refused before: notes what is found of its access, or that memory is refused.
     fn take_known(&mut self, platform: &Platform, step: &Step, number: u64)
         requires known { self.old.is_lost ≡ false }
         requires none { self.old.last ≡ None }
@@ -160,7 +160,7 @@ impl Settling {
         self.holdings.owed(&platform.board, &platform.ram).ok()
     }
 
-    /// The same, where `is_lost` tells from then on that memory was refused.
+    /// As `owed_now`, but if memory is refused, `is_lost` says so from then on.
     pub fn owed(&mut self, platform: &Platform) -> Option<Vec<Owed>>
         ensures owed { (start : State) (taken : List (Step × ℕ)) → Keeps self.old.holdings platform.now start taken →
             IfSome result (λ owed. AreOwed self.old.holdings start (steps_of taken) owed.items) }
@@ -174,7 +174,7 @@ impl Settling {
     }
 
     /// Follows a step that the platform takes next, a step of the line of this number, and judges its access. Where memory is refused, no
-    /// more is known of this step and of later ones, which `is_lost` tells.
+    /// more is known of this step and of later ones, which `is_lost` says.
     pub fn take(&mut self, platform: &Platform, step: &Step, number: u64)
         ensures { Settles self.old platform.now step.now number self.new }
     {
@@ -185,7 +185,7 @@ impl Settling {
     }
 }
 
-/// Follows a step where settledness is told.
+/// Follows a step if settledness is followed.
 pub fn settle(settling: &mut Option<Settling>, platform: &Platform, step: &Step, number: u64)
     ensures { SettlesIf settling.old platform.now step.now number settling.new }
 {

@@ -224,7 +224,7 @@ fn push_line(lines: &mut Vec<u64>, number: u64) -> Result<(), AllocError>
     Ok(())
 }
 
-// The same, where it counts.
+// Appends the number of a line, if it counts and isn't the last one.
 fn push_line_if(lines: &mut Vec<u64>, is: bool, number: u64) -> Result<(), AllocError>
     ensures ok { OnOk result (lines.new.items ≡ line_if is lines.old.items number) }
     ensures err { OnErr result (lines.new.items ≡ lines.old.items) }

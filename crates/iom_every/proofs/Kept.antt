@@ -60,7 +60,7 @@ page_drops (Gvma av page pscid gv gscid nl s) key hit = refl
 page_drops (Fence av wsi pr pw value addr) key hit = refl
 page_drops (Iodir dv own) key hit = refl
 
--- what is filled wasn't found, and was told
+-- what is filled wasn't found, and its source said it
 pub record WasTold {K V E : Type 0} (key : K) (live : Option V) (told : Result V E) (filled : K × V) : Type 0 where
   pub none : live ≡ None
   pub value : V

@@ -12,3 +12,4 @@ pub mod Midway
 pub mod Below
 pub mod Trees
 pub mod OneMemory
+pub mod Sixteen

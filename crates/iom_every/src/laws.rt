@@ -18,6 +18,7 @@ ghost use Rattle.iom_every.specs.Rows.{bare};
 ghost use Rattle.iom_every.specs.Trees.{tree_of};
 ghost use Rattle.iom_every.specs.Uses.{Look};
 ghost use Rattle.iom_every.specs.Ways.{way_of};
+ghost use Rattle.iom_every.specs.Widths.{WidthsAgree};
 
 /// For every list of steps from an uncached start: if each access of a device in it is settled, every IOMMU that the standard allows gives
 /// the answers of this model's run, and leaves its memory, registers, devices and disks. Steps are listed newest first, each with the
@@ -72,4 +73,10 @@ pub fn held_entries_are_listed()
 pub fn walks_are_trees()
     ensures way { (state : State) (source : List (Look × Entry)) (request : Request) → way_over source (tree_of state request) ≡ way_of state source request }
     ensures apart { (state : State) (request : Request) → IsApart [] (tree_of state request) }
+{}
+
+/// A leaf in which no reserved bit is set maps as many pages for a walk as an invalidation by address drops of it, and as an entry stands
+/// for that may be kept: sixteen if N is set ("Svnapot"), else 2^(9 * level).
+pub fn leaves_have_one_width()
+    ensures { WidthsAgree }
 {}

@@ -8,8 +8,8 @@ pub use entering::fresh_entries_lead_alike;
 pub use entry::{Entry, Held, is_same};
 pub use keeping::{DirectoryEntries, HeldPath, directory_in, held_in};
 pub use laws::{
-    answers_are_settled, held_entries_are_listed, model_is_one, runs_are_this_models,
-    sources_are_used, tables_lead, walks_are_trees,
+    answers_are_settled, held_entries_are_listed, leaves_have_one_width, model_is_one,
+    runs_are_this_models, sources_are_used, tables_lead, walks_are_trees,
 };
 pub use located::{depth_of, directory_reads, located_by};
 pub use reads::{met_entries_are_read, requests_read, valid_entries_alone};

@@ -57,7 +57,7 @@ impl<'a> Explaining<'a> {
     }
 }
 
-// Writes what is told, unless memory was refused.
+// Writes the page, unless memory was refused.
 fn write<W: Write>(
     page: &OutputPage,
     is_short: bool,
@@ -76,7 +76,7 @@ fn write<W: Write>(
     write_told(writer, page.as_slice())
 }
 
-// Puts a line that is no step by itself, its answer, and why it is bad, if it has an answer and lines are told.
+// Puts a line that is no step by itself, its answer, and why it is bad, if it has an answer and lines are printed.
 fn put_line(
     out: &mut OutputPage,
     only: Option<Only>,
@@ -143,7 +143,7 @@ impl Explaining<'_> {
     ghost use Rattle.iom_explain.specs.Drives.{told};
     ghost use Rattle.iom_explain.specs.Explaining.{LineTold, OtherTold, RunTold, StepTold, StepsTold};
 
-    // Takes a step of the line that was read last, and tells it.
+    // Takes a step of the line that was read last, and prints it.
     fn tell_step<W: Write>(
         &mut self,
         step: Step,
@@ -182,7 +182,7 @@ impl Explaining<'_> {
         Ok(answered)
     }
 
-    // Takes the step that a line is, and tells it.
+    // Takes the step that a line is, and prints it.
     fn tell_one<W: Write>(
         &mut self,
         step: Step,
@@ -201,7 +201,7 @@ impl Explaining<'_> {
         Ok(())
     }
 
-    // Takes the step of one that goes on by itself again and again while it is done, at most this number of times, and tells each. The
+    // Takes the step of one that goes on by itself again and again while it is done, at most this number of times, and prints each. The
     // answer to the line comes back.
     fn tell_again<W: Write>(
         &mut self,
@@ -234,7 +234,7 @@ impl Explaining<'_> {
         Ok(reply_with_count(most, b"done"))
     }
 
-    // Takes the stores of words of 8 bytes from a physical address on while each is done, and tells each. The answer to the line comes
+    // Takes the stores of words of 8 bytes from a physical address on while each is done, and prints each. The answer to the line comes
     // back.
     fn tell_stores<W: Write>(
         &mut self,
@@ -273,7 +273,7 @@ impl Explaining<'_> {
         Ok(answer_text(&Answer::Done))
     }
 
-    // Tells a line that takes the step of one that goes on by itself again and again: each step, and after them the line.
+    // Prints a line that takes the step of one that goes on by itself again and again: each step, and after them the line.
     #[inline(never)]
     fn tell_run<W: Write>(
         &mut self,
@@ -306,7 +306,7 @@ impl Explaining<'_> {
         )
     }
 
-    // Tells a line that stores words: each store, and after them the line. One that stores none is any other line: `let`.
+    // Prints a line that stores words: each store, and after them the line. One that stores none is any other line: `let`.
     #[inline(never)]
     fn tell_put<W: Write>(
         &mut self,
@@ -342,7 +342,7 @@ impl Explaining<'_> {
         )
     }
 
-    // Carries out any other line, of this text, and tells it.
+    // Carries out any other line, of this text, and prints it.
     #[inline(never)]
     fn tell_other<W: Write>(
         &mut self,

@@ -1,11 +1,11 @@
-//! Which accesses are told.
+//! Which accesses are printed.
 
 ghost use Rattle.std.specs.Prelude.{◌≡◌, false, is_some};
 ghost use Rattle.iom_explain.specs.Explaining.{if_told, is_told};
 
 use iom_debug::{OutputPage, StaleAccess, UnsettledAccess};
 
-/// The accesses that are told, where not all are.
+/// The accesses that are printed, if not all are.
 #[derive(Clone, Copy)]
 pub struct Only {
     /// Those that are denied.
@@ -16,7 +16,7 @@ pub struct Only {
     pub unsettled: bool,
 }
 
-// Whether a step is told whose access is denied, stale or unsettled, or not; of a step without an access none.
+// Whether a step is printed whose access is denied, stale or unsettled, or not; of a step without an access none.
 fn is_told(only: Option<Only>, denied: bool, stale: bool, unsettled: bool) -> bool
     ensures { result ≡ is_told only denied stale unsettled }
 {
@@ -28,7 +28,7 @@ fn is_told(only: Option<Only>, denied: bool, stale: bool, unsettled: bool) -> bo
     }
 }
 
-// Empties a page that isn't told.
+// Empties a page that isn't printed.
 fn keep_if(out: &mut OutputPage, told: bool)
     ensures { out.new.items ≡ if_told told out.old.items }
 {
@@ -37,14 +37,14 @@ fn keep_if(out: &mut OutputPage, told: bool)
     }
 }
 
-/// Empties a page that has a step without an access, if accesses alone are told.
+/// Empties a page that has a step without an access, if only accesses are printed.
 pub fn keep_line(out: &mut OutputPage, only: Option<Only>)
     ensures { out.new.items ≡ if_told (is_told only false false false) out.old.items }
 {
     keep_if(out, is_told(only, false, false, false));
 }
 
-/// Empties a page that has a step with its access, if accesses alone are told and this isn't one of them.
+/// Empties a page that has a step with its access, if only accesses are printed and this isn't one of them.
 pub fn keep_access(
     out: &mut OutputPage,
     only: Option<Only>,

@@ -31,7 +31,7 @@ use std::alloc::{AllocError, Global};
 pub struct Teller {
     /// The output for a step or a line.
     pub page: OutputPage,
-    // what a block device asks, and the walk, told before the step
+    // what a block device asks, and the walk, printed before the step
     asks: OutputPage,
     walk: OutputPage,
     last_walk: Walk,
@@ -41,7 +41,7 @@ pub struct Teller {
     pub summary: Summary,
     /// Whether memory was refused: then nothing more is written.
     pub is_short: bool,
-    /// The accesses that are told; None if all that is said is told.
+    /// The accesses that are printed; None if everything is.
     pub only: Option<Only>,
 }
 
@@ -62,7 +62,7 @@ fn is_refused(is_short: bool, is_lost: bool) -> bool
     is_short || is_lost
 }
 
-// What leads the access that a step is about to make, and puts what is told of that before it is made.
+// What leads the access that a step is about to make, and puts what is printed of it before it is made.
 fn look(
     asks: &mut OutputPage,
     walk: &mut OutputPage,
@@ -99,7 +99,7 @@ fn put_step(out: &mut OutputPage, number: u64, entry: &[u8])
     put(out, b"\n");
 }
 
-// Appends what is told below a step's line of the access that it made.
+// Appends what is printed below a step's line of the access that it made.
 fn put_access(
     out: &mut OutputPage,
     asks: &[u8],
@@ -146,7 +146,7 @@ impl Teller {
     }
 }
 
-// Puts and counts what is told of the access that a step made, which is led so, and empties the page if it isn't told. The fault is want of
+// Puts and counts what is printed of the access that a step made, which is led so, and empties the page if it isn't printed. The fault is want of
 // memory.
 fn tell_access(
     teller: &mut Teller,
@@ -194,8 +194,8 @@ fn tell_access(
     })
 }
 
-/// Carries out a step of the line of this number, writes its answer to its entry, and puts the output, if it is told: the step, and the
-/// reasons of its access if it makes one. The trace doesn't have it yet. Nothing more is told where memory is refused, also for what any IOMMU
+/// Carries out a step of the line of this number, writes its answer to its entry, and puts the output, if it is printed: the step, and the
+/// reasons of its access if it makes one. The trace doesn't have it yet. Nothing more is printed if memory is refused, also for what any IOMMU
 /// may hold.
 pub fn take(debugger: &mut Debugger<'_>, teller: &mut Teller, number: u64, entry: &mut TracedStep)
     ensures step { entry.new.step ≡ entry.old.step }

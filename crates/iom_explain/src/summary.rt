@@ -187,7 +187,7 @@ fn write_unsettled<W: Write>(
     write_lines(summary.unsettled_lines(), page, writer)
 }
 
-/// Writes how the accesses went, and if `tells_settled` which weren't settled. The fault is `Write`.
+/// Writes how the accesses went, and, if settledness is followed, which weren't settled. The fault is `Write`.
 pub fn write_summary<W: Write>(
     summary: &Summary,
     tells_settled: bool,

@@ -50,7 +50,7 @@ impl Model for PartLine {
 
     ghost view = { λ line. line.text.items };
 
-    // It is the part's line in any walk that has the part, but of the end, which is told by its request too.
+    // It is the part's line in any walk that has the part, but of the end, whose line has its request too.
     ghost invariant = { λ line. IsBeforeEnd line.part → (m : Machine) (request : Request) → m.registers.features ≡ line.features
         → IsRead m.memory line.part → line.text.items ≡ walk_line (part_text m request line.part) };
 }
@@ -313,7 +313,7 @@ fn is_same(context: &Context, other: &Context) -> bool
     is_equal(context, other)
 }
 
-// The same.
+// Whether two contexts are equal.
 fn is_equal(context: &Context, other: &Context) -> bool
     ensures { IsTrue result ↔ (context.now ≡ other.now) }
 {

@@ -175,7 +175,7 @@ renews_anew of news before after again p q = record {
   once = λ once. q.once tt;
 }
 
--- the same things, in another order or more than once
+-- the things that are put in may as well be listed in another order, or more than once
 pub renews_same : {N X : Type 0} (of : N → X) (news others before after : List N) → ((n : N) → IsAmong news n ↔ IsAmong others n) → Renews of news before after → Renews of others before after
 renews_same of news others before after same p = record {
   all = λ x h. elim (p.all x h) [

@@ -67,7 +67,7 @@ module _ (shelves : List Shelf) (i : ℕ) (before after : Shelf) (new : Kept) (r
         ]
       ]
 
--- the same shelves, with more room
+-- shelves that have grown hold the entries that they held
 pub grown_same : (before after : List Shelf) → HaveGrown before after → entries_on after ≡ entries_on before
 grown_same [] [] h = refl
 grown_same [] (new ∷ after) h = absurd h

@@ -48,7 +48,7 @@ module _ {N X : Type 0} (of : N → X) where
   joined_once : (xs ys : List N) → HasNoneTwice (map of xs ++ map of ys) → HasNoneTwice (map of (xs ++ ys))
   joined_once xs ys once = subst HasNoneTwice (sym (map-append of xs ys)) once
 
-  -- the same thing isn't among others
+  -- a thing among others isn't of the same as the new one, if none of them is
   not_same : (new n : N) (others : List N) → (IsAmong (map of others) (of new) → ⊥) → IsAmong others n → IsAmong (map of (new ∷ [])) (of n) → ⊥
   not_same new n others other h (inl same) = other (subst (IsAmong (map of others)) (sym same) (among_of of others n h))
   not_same new n others other h (inr none) = none

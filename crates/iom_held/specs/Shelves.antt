@@ -31,7 +31,7 @@ HasRoom shelves entry more = (shelf : Shelf) → slice_get shelves (slot_of (len
 abbrev pub HaveRoom : List Shelf → List Entry → ℕ → Type 0
 HaveRoom shelves entries count = (j : ℕ) (entry : Entry) (more : ℕ) → j + more ≡ count → 0 < more → slice_get entries j ≡ Some entry → HasRoom shelves entry more
 
--- the same entries on shelves that have at least as much room
+-- each shelf has the entries that it had, and at least as much room
 abbrev pub HaveGrown : List Shelf → List Shelf → Type 0
 HaveGrown [] [] = Unit {0}
 HaveGrown [] (new ∷ after) = ⊥

@@ -89,7 +89,7 @@ pub(crate) fn reserve(
     reserve_on(&mut shelves[i], entry, more)
 }
 
-// The same on that shelf.
+// Makes room for so many more on this shelf, if the entry isn't on it.
 fn reserve_on(shelf: &mut Vec<Kept>, entry: &Entry, more: usize) -> Result<(), AllocError>
     ensures items { shelf.new.items ≡ shelf.old.items }
     ensures len { vec_len shelf.new ≡ vec_len shelf.old }
@@ -133,7 +133,7 @@ pub(crate) fn renew(shelves: &mut [Vec<Kept>], entry: &Entry, number: u64)
     renew_on(&mut shelves[i], entry, number);
 }
 
-// The same on its shelf.
+// Puts an entry on its shelf under this number; if it is there, it only gets the number.
 fn renew_on(kept: &mut Vec<Kept>, entry: &Entry, number: u64)
     requires room { IsAmong (entries_in kept.old.items) entry.now ⊎ (vec_len kept.old + 1 ≤ vec_capacity kept.old) }
     ensures renewed { Renews entry_of (kept_of number entry.now ∷ []) kept.old.items kept.new.items }
@@ -189,7 +189,7 @@ fn may_drop(command: &Command) -> bool
     }
 }
 
-// The same, each shelf looked at.
+// Takes the entries that this command drops out of every shelf.
 fn forget_each(shelves: &mut [Vec<Kept>], command: &Command)
     requires in_place { StandInPlace shelves.old }
     ensures in_place { StandInPlace shelves.new }
@@ -202,7 +202,7 @@ fn forget_each(shelves: &mut [Vec<Kept>], command: &Command)
     }
 }
 
-// The same of a shelf.
+// Takes the entries that this command drops out of a shelf.
 fn forget(kept: &mut Vec<Kept>, command: &Command)
     ensures { kept.new.items ≡ left_by (Some command.now) kept.old.items }
 {

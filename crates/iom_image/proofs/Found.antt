@@ -226,7 +226,7 @@ disks_take has_flags ids (suc count) bytes x are is =
     subst (λ (x : List Disk × List ℕ). Takes bytes (disks_bytes has_flags x.0) x.1 × (length x.0 ≡ suc count) × AreDisks has_flags ids x.0) {x = made} (ok_is made x b.2)
     (both, ap suc others.1, (first.1, others.2))
 
--- what is told by the head
+-- what the head says
 record HeadTakes (bytes : List ℕ) (x : Head × List ℕ) : Type 0 where
   takes : Takes bytes (head_bytes x.0.version x.0.base x.0.size x.0.chunks x.0.disks) x.1
   base : is_paged x.0.base ≡ true

@@ -1,16 +1,12 @@
 -- A word states the features that it is the word of.
 use Rattle.std.proofs.Common.{◌≡◌, ◌+◌, ◌*◌, ◌/◌, ◌%◌, ◌^◌, ◌≤◌, ◌<◌, ◌==◌, ℕ, Bool, true, false, not, refl, ap, ◌∙◌, arith}
 use Rattle.std.specs.Prelude.{if◌then◌else◌}
-use Rattle.std.specs.Int.{bit_at}
 use Rattle.iom_bits.specs.Bits.{has_bit, flag}
 use Rattle.iom_bits.specs.declared.features.Features.{Features}
 use Rattle.iom_bits.specs.declared.features.Vectors.{Vectors}
 use Rattle.iom_bits.specs.declared.features.Vectors.TheVariants.{One, Two, Four}
-use Rattle.iom_image.specs.Versions.{vectors_power, vectors_in, features_word, features_in}
-
-flag_small : (set : Bool) → flag set ≤ 1
-flag_small true = omega arith
-flag_small false = omega arith
+use Rattle.iom_image.specs.Versions.{vectors_power, features_word, features_in}
+use Rattle.iom_image.proofs.SameBits.{flag_small}
 
 power_small : (vectors : Vectors) → vectors_power vectors ≤ 2
 power_small One = omega arith

@@ -87,7 +87,7 @@ disks_done before has_flags ids count i bytes total le so_far =
     let one : disks_behind before (disks_at has_flags ids (count - i) bytes) ≡ Ok before = rw k (ap good (append-nil before)) in
     sym so_far ∙ one
 
--- as many are read as the head tells
+-- as many are read as the head says
 chunks_counted : (base size end count : ℕ) (bytes : List ℕ) (x : List Chunk × List ℕ) → chunks_at base size end count bytes ≡ Ok x → length x.0 ≡ count
 unfolding chunks_at
 chunks_counted base size end zero bytes x is = ap (λ (x : List Chunk × List ℕ). length x.0) (sym (ok_is ([], bytes) x is))

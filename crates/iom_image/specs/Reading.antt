@@ -144,12 +144,12 @@ abbrev pub Reads : {X Y : Type 0} → (X → Y) → Result X LoadFault → Resul
 Reads view (Ok x) read = read ≡ Ok (view x)
 Reads view (Err fault) read = (read ≡ Err fault) × (fault ≢ OutOfMemory)
 
--- the same of a function that reads the front: what `left` reads behind it is the value
+-- a function read the front, and what `left` reads from there on is what reading gives; it takes no memory
 abbrev pub Begins : {X Y : Type 0} → (X → Result Y LoadFault) → Result X LoadFault → Result Y LoadFault → Type 0
 Begins left (Ok x) read = read ≡ left x
 Begins left (Err fault) read = (read ≡ Err fault) × (fault ≢ OutOfMemory)
 
--- the same of a function that takes memory
+-- what a function returned, as `view` sees it, is what reading gives, unless it was refused memory
 abbrev pub Gives : {X Y : Type 0} → (X → Y) → Result X LoadFault → Result Y LoadFault → Type 0
 Gives view (Ok x) read = read ≡ Ok (view x)
 Gives view (Err fault) read = fault ≢ OutOfMemory → read ≡ Err fault

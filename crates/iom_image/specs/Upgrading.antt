@@ -7,7 +7,7 @@ use Rattle.iom_image.specs.Versions.{features_of}
 use Rattle.iom_image.specs.Image.{Chunk, Disk, Image, chunks_bytes, disks_bytes, image_bytes}
 use Rattle.iom_image.specs.Reading.{◌>>=◌, Read, image_of}
 
--- The same memory, chunks, disks and features in version 3. One of version 3 is its own.
+-- an image in version 3, with its memory, chunks, disks and features; one of version 3 stays as it is
 abbrev pub upgraded : Image → Image
 upgraded image = record image { version = Third (features_of image.version) }
 

@@ -1,12 +1,13 @@
 -- Versions of an image, and the word in which one of version 3 states what its machine offers (RISC-V IOMMU Architecture 1.0,
 -- "IOMMU capabilities").
-use Rattle.std.specs.Prelude.{ℕ, ◌+◌, ◌*◌, ◌^◌, ◌++◌, Bool, true, false, not, List, codes, if◌then◌else◌}
+use Rattle.std.specs.Prelude.{ℕ, ◌≡◌, ◌+◌, ◌*◌, ◌%◌, ◌^◌, ◌++◌, Bool, true, false, not, List, codes, if◌then◌else◌}
 use Rattle.iom_bits.specs.Bits.{has_bit, flag}
 use Rattle.iom_bits.specs.Bytes.{bytes_of_number}
 use Rattle.iom_bits.specs.Features.{no_features}
 use Rattle.iom_bits.specs.declared.features.Features.{Features}
 use Rattle.iom_bits.specs.declared.features.Vectors.{Vectors}
 use Rattle.iom_bits.specs.declared.features.Vectors.TheVariants.{One, Two, Four}
+use Rattle.iom_regs.specs.Offers.{capabilities_of}
 use Rattle.iom_image.specs.declared.version.Version.{Version}
 use Rattle.iom_image.specs.declared.version.Version.TheVariants.{First, Second, Third}
 
@@ -46,6 +47,10 @@ abbrev pub features_word : Features → ℕ
 features_word features =
     flag features.sv57 * 2 ^ 11 + flag features.svpbmt * 2 ^ 15 + flag features.sv57x4 * 2 ^ 19 + flag features.nl * 2 ^ 42
     + flag features.s * 2 ^ 43 + flag (not features.svnapot) * 2 ^ 56 + vectors_power features.vectors * 2 ^ 57
+
+-- The bits of a word below Svnapot's are those that the capabilities have in the register, beside what each IOMMU has there.
+abbrev pub StatesCapabilities : Type 0
+StatesCapabilities = (features : Features) → capabilities_of features ≡ capabilities_of no_features + features_word features % 2 ^ 56
 
 -- what the bits of a word state
 abbrev pub vectors_in : ℕ → Vectors

@@ -2,7 +2,7 @@
 
 ghost use Rattle.std.specs.Prelude.{◌≡◌};
 ghost use Rattle.iom_image.specs.Reading.{Reads, third_at, version_of, version_at};
-ghost use Rattle.iom_image.specs.Versions.{is_flagged, is_third, flagged, features_of, vectors_power, vectors_in, features_word, features_in};
+ghost use Rattle.iom_image.specs.Versions.{is_flagged, is_third, flagged, features_of, vectors_power, vectors_in, features_word, features_in, StatesCapabilities};
 
 use crate::fault::LoadFault;
 use crate::fields::{front, u64_of};
@@ -140,3 +140,9 @@ pub fn version_of(bytes: &[u8]) -> Result<(Version, &[u8]), LoadFault>
     let (magic, rest) = front(8, bytes)?;
     version_named(magic, rest)
 }
+
+/// A law of the words that `load` reads and `image_bytes` writes, and of register capabilities ("IOMMU capabilities"), which cite these
+/// definitions: a capability has the same bit in the word of an image of version 3 as in the register.
+pub fn words_state_capabilities()
+    ensures { StatesCapabilities }
+{}

@@ -1,6 +1,7 @@
 //! Images: which bytes are one, and the platform that it starts.
 #![tactic(auto)]
 
+pub use capabilities::words_state_capabilities;
 pub use fault::LoadFault;
 pub use image::built_in;
 pub use judging::{images_are_what_is_read, judge};

@@ -79,9 +79,9 @@ fn rewrite(alloc: Global, bytes: &[u8]) -> Result<Vec<u8>, LoadFault>
     Ok(out)
 }
 
-/// The image in version 3: the same memory, chunks, disks and features, and the same platform that it starts. Of version 1 and 2
-/// its word says that Svnapot is left out. One of version 3 comes back as it is. The whole image is judged first, with the refusals of `load`, so `OutOfMemory` is answered only for an image that
-/// would be accepted.
+/// The image in version 3, with its memory, chunks, disks and features, which starts the same platform. Of version 1 and 2 its word says
+/// that Svnapot is left out. One of version 3 comes back as it is. The whole image is judged first, with the refusals of `load`, so
+/// `OutOfMemory` is returned only for an image that would be accepted.
 pub fn upgrade(alloc: Global, bytes: &[u8]) -> Result<Vec<u8>, LoadFault>
     ensures exact { Gives (λ new. new.items) result (mapped upgraded_bytes (image_of bytes.now)) }
     ensures memory { IfErr result (λ e. e ≡ fault.OutOfMemory → IsOk (image_of bytes.now)) }

@@ -31,7 +31,7 @@ ended_line line rest none = ap ended_in (split_line line rest none) ∙ ended_mo
 open_after : (line rest : List ℕ) → list_any (λ c. c == 10) line ≡ false → open_line (line ++ 10 ∷ rest) ≡ open_line rest
 open_after line rest none = ap open_in (split_line line rest none) ∙ open_more line (slice_split (λ c. c == 10) rest) (parts_some rest)
 
-lines_line : (line rest : List ℕ) → list_any (λ c. c == 10) line ≡ false → lines_of (line ++ 10 ∷ rest) ≡ line ∷ lines_of rest
+pub lines_line : (line rest : List ℕ) → list_any (λ c. c == 10) line ≡ false → lines_of (line ++ 10 ∷ rest) ≡ line ∷ lines_of rest
 lines_line line rest none = rw (ended_line line rest none, open_after line rest none) refl
 
 -- a text up to and behind its first line end

@@ -1,11 +1,11 @@
 -- What is left to read.
-use Rattle.std.proofs.Common.{◌≡◌, ◌==◌, ◌+◌, ◌<◌, ◌++◌, ℕ, List, [], ◌∷◌, false, Some, None, Option, Ok, Err, length, take, drop, refl, sym, ap, subst, ◌∙◌, arith, append_assoc, append-nil, take_at, drop-drop}
-use Rattle.std.specs.Prelude.{IfSome, OnOk, Result}
+use Rattle.std.proofs.Common.{◌≡◌, ◌==◌, ◌+◌, ◌<◌, ◌++◌, ℕ, List, [], ◌∷◌, Bool, true, false, ◌||◌, Some, None, Option, Ok, Err, length, take, drop, refl, sym, ap, subst, ◌∙◌, arith, append_assoc, append-nil, take_at, drop-drop}
+use Rattle.std.specs.Prelude.{IfSome, OnOk, Result, is_some, if◌then◌else◌}
 use Rattle.std.specs.List.{flat_map, list_any}
 use Rattle.std.specs.Io.KnownBytes.{Consumes, IsAtEnd, Keeps}
 use Rattle.std.proofs.lemmas.List.{take-append-drop}
 use Rattle.iom_reader.specs.Lines.{ended_lines, lines_of}
-use Rattle.iom_include.specs.Including.{expanded, file_of, left_by, said}
+use Rattle.iom_include.specs.Including.{file_of, includes, left_by, lines_left, said}
 use Rattle.iom_include.proofs.Cuts.{closed, none_ended}
 use Rattle.iom_include.proofs.Depths.{plain_said}
 
@@ -22,16 +22,6 @@ pub known_more : (known : Option (List ℕ → List ℕ)) (depth : ℕ) (name st
 known_more None depth name start out more first all lines rest is cut so_far = tt
 known_more (Some texts) depth name start out more first all lines rest is cut so_far =
     one_more (said texts depth name) _ out more first lines rest is cut so_far
-
--- the same of a script of which more is to come
-pub script_more : (known : Option (List ℕ → List ℕ)) (name start script out new first left right : List ℕ) →
-    IfSome known (λ texts. new ≡ out ++ said texts 8 name first) →
-    ((more : List ℕ) → lines_of (left ++ more) ≡ first ∷ lines_of (right ++ more)) →
-    IfSome known (λ texts. (more : List ℕ) → out ++ expanded texts name (left ++ more) ≡ start ++ expanded texts name (script ++ more)) →
-    IfSome known (λ texts. (more : List ℕ) → new ++ expanded texts name (right ++ more) ≡ start ++ expanded texts name (script ++ more))
-script_more None name start script out new first left right is cut so_far = tt
-script_more (Some texts) name start script out new first left right is cut so_far =
-    λ more. one_more (said texts 8 name) _ out new first (lines_of (left ++ more)) (lines_of (right ++ more)) is (cut more) (so_far more)
 
 -- no line has its end
 pub all_said : (known : Option (List ℕ → List ℕ)) (depth : ℕ) (name start out rest : List ℕ) (all : List (List ℕ)) →
@@ -54,64 +44,109 @@ kept_on (Some xs) None third one two = absurd one
 kept_on (Some xs) (Some ys) None one two = absurd two
 kept_on (Some xs) (Some ys) (Some zs) one two = two ∙ one
 
-pub lines_ready : (known : Option (List ℕ → List ℕ)) (unread : Option (List ℕ)) (old new name rest left : List ℕ) →
-    IfSome known (λ texts. (more : List ℕ) → new ++ expanded texts name (left ++ more) ≡ old ++ expanded texts name (rest ++ more)) →
-    Keeps (left_by known unread old name rest) (left_by known unread new name left)
-lines_ready None unread old new name rest left said = tt
-lines_ready (Some texts) None old new name rest left said = tt
-lines_ready (Some texts) (Some unread) old new name rest left said = said unread
+kept_refl : (old : Option (List ℕ)) → Keeps old old
+kept_refl None = tt
+kept_refl (Some xs) = refl
 
--- the same, as the struct has it
+pub kept_same : (old new : Option (List ℕ)) → new ≡ old → Keeps old new
+kept_same old new same = subst (Keeps old) (sym same) (kept_refl old)
+
+pub no_file : {A : Type 0} (file : Option A) → is_some file ≡ false → None ≡ file
+no_file None none = refl
+no_file (Some name) none = absurd (cc none)
+
+-- the first of the lines that are left stands now
+plain_first : (is : Bool) (out new first : List ℕ) (rest : List (List ℕ)) → is ≡ includes first → (is ≡ false → new ≡ out ++ (first ++ 10 ∷ [])) →
+    Keeps (if is || list_any includes rest then None else Some (out ++ ((first ++ 10 ∷ []) ++ flat_map (λ line. line ++ 10 ∷ []) rest)))
+    (lines_left None new [] rest)
+plain_first true out new first rest e said = tt
+plain_first false out new first rest e said =
+    elim (list_any includes rest) as (λ b.
+    Keeps (if b then None else Some (out ++ ((first ++ 10 ∷ []) ++ flat_map (λ line. line ++ 10 ∷ []) rest)))
+    (if b then None else Some (new ++ flat_map (λ line. line ++ 10 ∷ []) rest))) [
+      | true ↦ tt
+      | false ↦ one_more (λ line. line ++ 10 ∷ []) _ out new first (first ∷ rest) rest (said refl) refl refl
+    ]
+
+pub first_stands : (known : Option (List ℕ → List ℕ)) (name out new first : List ℕ) (lines rest : List (List ℕ)) →
+    IfSome known (λ texts. new ≡ out ++ said texts 8 name first) → (None ≡ file_of first → new ≡ out ++ (first ++ 10 ∷ [])) →
+    lines ≡ first ∷ rest → Keeps (lines_left known out name lines) (lines_left known new name rest)
+first_stands None name out new first lines rest is plain cut =
+    rw cut (plain_first (includes first) out new first rest refl (λ none. plain (no_file (file_of first) none)))
+first_stands (Some texts) name out new first lines rest is plain cut =
+    one_more (said texts 8 name) _ out new first lines rest is cut refl
+
+pub line_stands : (known : Option (List ℕ → List ℕ)) (name old out new first script left right : List ℕ) →
+    IfSome known (λ texts. new ≡ out ++ said texts 8 name first) → (None ≡ file_of first → new ≡ out ++ (first ++ 10 ∷ [])) →
+    ((more : List ℕ) → lines_of (left ++ more) ≡ first ∷ lines_of (right ++ more)) →
+    ((more : List ℕ) → Keeps (left_by known (Some more) old name script) (left_by known (Some more) out name left)) →
+    (more : List ℕ) → Keeps (left_by known (Some more) old name script) (left_by known (Some more) new name right)
+line_stands known name old out new first script left right is plain cut so_far more =
+    kept_on _ _ _ (so_far more) (first_stands known name out new first _ _ is plain (cut more))
+
+-- as the struct has it
 pub turned : (known : Option (List ℕ → List ℕ)) (unread : Option (List ℕ)) (before after : ℕ) (old new name rest left : List ℕ) →
     before ≡ 0 → after ≡ 0 →
-    IfSome known (λ texts. (more : List ℕ) → new ++ expanded texts name (left ++ more) ≡ old ++ expanded texts name (rest ++ more)) →
+    ((more : List ℕ) → Keeps (left_by known (Some more) old name rest) (left_by known (Some more) new name left)) →
     Keeps (left_by known unread (drop before old) name rest) (left_by known unread (drop after new) name left)
-turned known unread before after old new name rest left zero none said =
-    rw (zero, none) (lines_ready known unread old new name rest left said)
+turned known None before after old new name rest left zero none kept = tt
+turned known (Some unread) before after old new name rest left zero none kept = rw (zero, none) (kept unread)
 
 pub piece_read : (known : Option (List ℕ → List ℕ)) (old new : Option (List ℕ)) (ready name rest piece : List ℕ) →
     Consumes old new piece → Keeps (left_by known old ready name rest) (left_by known new ready name (rest ++ piece))
-piece_read None old new ready name rest piece took = tt
-piece_read (Some texts) None new ready name rest piece took = tt
-piece_read (Some texts) (Some unread) None ready name rest piece took = absurd took
-piece_read (Some texts) (Some unread) (Some left) ready name rest piece took =
-    ap (λ l. ready ++ expanded texts name l) (append_assoc rest piece left ∙ ap (λ l. rest ++ l) (sym took))
+piece_read known None new ready name rest piece took = tt
+piece_read known (Some unread) None ready name rest piece took = absurd took
+piece_read known (Some unread) (Some left) ready name rest piece took =
+    kept_same _ _ (ap (λ l. lines_left known ready name (lines_of l)) (append_assoc rest piece left ∙ ap (λ l. rest ++ l) (sym took)))
 
 pub kept_back : (known : Option (List ℕ → List ℕ)) (old new : Option (List ℕ)) (ready name rest : List ℕ) →
     Keeps old new → Keeps (left_by known old ready name rest) (left_by known new ready name rest)
-kept_back None old new ready name rest kept = tt
-kept_back (Some texts) None new ready name rest kept = tt
-kept_back (Some texts) (Some unread) None ready name rest kept = absurd kept
-kept_back (Some texts) (Some unread) (Some left) ready name rest kept = ap (λ l. ready ++ expanded texts name (rest ++ l)) kept
+kept_back known None new ready name rest kept = tt
+kept_back known (Some unread) None ready name rest kept = absurd kept
+kept_back known (Some unread) (Some left) ready name rest kept =
+    kept_same _ _ (ap (λ l. lines_left known ready name (lines_of (rest ++ l))) kept)
 
 pub last_closed : (known : Option (List ℕ → List ℕ)) (old new : Option (List ℕ)) (ready name rest : List ℕ) →
     Consumes old new [] → IsAtEnd new → list_any (λ c. c == 10) rest ≡ false → 0 < length rest →
     Keeps (left_by known old ready name rest) (left_by known new ready name (rest ++ 10 ∷ []))
-last_closed None old new ready name rest took end none some = tt
-last_closed (Some texts) None new ready name rest took end none some = tt
-last_closed (Some texts) (Some unread) None ready name rest took end none some = absurd took
-last_closed (Some texts) (Some unread) (Some left) ready name rest took end none some =
-    ap (λ l. ready ++ flat_map (said texts 8 name) l)
+last_closed known None new ready name rest took end none some = tt
+last_closed known (Some unread) None ready name rest took end none some = absurd took
+last_closed known (Some unread) (Some left) ready name rest took end none some =
+    kept_same _ _ (ap (lines_left known ready name)
     (ap (λ l. lines_of ((rest ++ 10 ∷ []) ++ l)) end ∙ ap lines_of (append-nil (rest ++ 10 ∷ [])) ∙ closed rest none some
-    ∙ ap lines_of (sym (append-nil rest)) ∙ ap (λ l. lines_of (rest ++ l)) (sym (took ∙ end)))
+    ∙ ap lines_of (sym (append-nil rest)) ∙ ap (λ l. lines_of (rest ++ l)) (sym (took ∙ end))))
+
+nothing_left : (known : Option (List ℕ → List ℕ)) (name : List ℕ) → IsAtEnd (lines_left known [] name [])
+nothing_left None name = refl
+nothing_left (Some texts) name = refl
 
 pub none_left : (known : Option (List ℕ → List ℕ)) (unread : Option (List ℕ)) (ready name rest : List ℕ) → ready ≡ [] → rest ≡ [] →
     IsAtEnd unread → IsAtEnd (left_by known unread ready name rest)
-none_left None unread ready name rest none over end = tt
-none_left (Some texts) None ready name rest none over end = tt
-none_left (Some texts) (Some unread) ready name rest none over end = rw (none, over, end) refl
+none_left known None ready name rest none over end = tt
+none_left known (Some unread) ready name rest none over end = rw (none, over, end) (nothing_left known name)
+
+front_given : (n : ℕ) (ready rest : List ℕ) → ready ++ rest ≡ take n ready ++ (drop n ready ++ rest)
+front_given n ready rest = ap (λ l. l ++ rest) (sym (take-append-drop n ready)) ∙ append_assoc (take n ready) (drop n ready) rest
+
+lines_given : (known : Option (List ℕ → List ℕ)) (ready name : List ℕ) (lines : List (List ℕ)) (n : ℕ) →
+    Consumes (lines_left known ready name lines) (lines_left known (drop n ready) name lines) (take n ready)
+lines_given None ready name lines n =
+    elim (list_any includes lines) as (λ b.
+    Consumes (if b then None else Some (ready ++ flat_map (λ line. line ++ 10 ∷ []) lines))
+    (if b then None else Some (drop n ready ++ flat_map (λ line. line ++ 10 ∷ []) lines)) (take n ready)) [
+      | true ↦ tt
+      | false ↦ front_given n ready (flat_map (λ line. line ++ 10 ∷ []) lines)
+    ]
+lines_given (Some texts) ready name lines n = front_given n ready (flat_map (said texts 8 name) lines)
 
 pub some_given : (known : Option (List ℕ → List ℕ)) (unread : Option (List ℕ)) (ready name rest : List ℕ) (n : ℕ) →
     Consumes (left_by known unread ready name rest) (left_by known unread (drop n ready) name rest) (take n ready)
-some_given None unread ready name rest n = tt
-some_given (Some texts) None ready name rest n = tt
-some_given (Some texts) (Some unread) ready name rest n =
-    ap (λ l. l ++ expanded texts name (rest ++ unread)) (sym (take-append-drop n ready))
-    ∙ append_assoc (take n ready) (drop n ready) (expanded texts name (rest ++ unread))
+some_given known None ready name rest n = tt
+some_given known (Some unread) ready name rest n = lines_given known ready name (lines_of (rest ++ unread)) n
 
 pub if_done : {E P Q : Type 0} (result : Result (Unit {0}) E) → OnOk result P → (P → Q) → OnOk result Q
-if_done (Ok done) so then = then so
-if_done (Err fault) so then = tt
+if_done (Ok done) so next = next so
+if_done (Err fault) so next = tt
 
 kept_taken : (first second third : Option (List ℕ)) (bytes : List ℕ) → Keeps first second → Consumes second third bytes → Consumes first third bytes
 kept_taken None second third bytes kept took = tt

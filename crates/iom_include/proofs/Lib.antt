@@ -2,3 +2,5 @@ pub mod Depths
 pub mod Cuts
 pub mod Lefts
 pub mod Naming
+pub mod Plain
+pub mod Refusals

@@ -1,6 +1,6 @@
 -- Lines `include FILE`: the text of a file stands in place of such a line's text.
-use Rattle.std.specs.Prelude.{ℕ, zero, suc, ◌++◌, List, [], ◌∷◌, codes, bytes_eq, length, nat_le, unwrap_or, Option, Some, None, if◌then◌else◌}
-use Rattle.std.specs.List.{flat_map}
+use Rattle.std.specs.Prelude.{ℕ, ◌≡◌, zero, suc, ◌++◌, List, [], ◌∷◌, Bool, codes, bytes_eq, length, nat_le, is_some, unwrap_or, Option, Some, None, if◌then◌else◌}
+use Rattle.std.specs.List.{flat_map, list_any}
 use Rattle.std.specs.Path.{path_join, path_parent}
 use Rattle.iom_text.specs.Words.{words_of}
 use Rattle.iom_reader.specs.Lines.{ended_lines, lines_of}
@@ -34,9 +34,22 @@ said texts (suc depth) from line = in_place texts (said texts depth) from line (
 abbrev pub expanded : (List ℕ → List ℕ) → List ℕ → List ℕ → List ℕ
 expanded texts name script = flat_map (said texts 8 name) (lines_of script)
 
--- what is left to read: some bytes that are ready, and what stands for the rest of the script. It is known where the texts are, and the
--- script
+-- what stands for lines, behind some bytes that are ready, where the texts are known. Where they aren't it is known of lines none of which
+-- includes a text: each stands for itself, with a line end
+abbrev pub includes : List ℕ → Bool
+includes line = is_some (file_of line)
+
+abbrev pub lines_left : Option (List ℕ → List ℕ) → List ℕ → List ℕ → List (List ℕ) → Option (List ℕ)
+lines_left None ready name lines = if list_any includes lines then None else Some (ready ++ flat_map (λ line. line ++ 10 ∷ []) lines)
+lines_left (Some texts) ready name lines = Some (ready ++ flat_map (said texts 8 name) lines)
+
+-- what is left to read: some bytes that are ready, and what stands for the rest of the script, where that is known
 abbrev pub left_by : Option (List ℕ → List ℕ) → Option (List ℕ) → List ℕ → List ℕ → List ℕ → Option (List ℕ)
-left_by None unread ready name rest = None
-left_by (Some texts) None ready name rest = None
-left_by (Some texts) (Some unread) ready name rest = Some (ready ++ expanded texts name (rest ++ unread))
+left_by known None ready name rest = None
+left_by known (Some unread) ready name rest = lines_left known ready name (lines_of (rest ++ unread))
+
+-- what is left to read of a script of this name, of which no byte was read, is known, and has the lines of the script
+pub record StandsForItself (known : Option (List ℕ → List ℕ)) (name script : List ℕ) : Type 0 where
+  pub left : List ℕ
+  pub known_left : left_by known (Some script) [] name [] ≡ Some left
+  pub lines : lines_of left ≡ lines_of script

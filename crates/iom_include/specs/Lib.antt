@@ -1,2 +1,3 @@
 pub mod Including
 pub mod Reading
+pub mod Faults

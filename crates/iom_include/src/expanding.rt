@@ -1,9 +1,10 @@
 //! What stands for lines.
 
-ghost use Rattle.std.specs.Prelude.{◌≡◌, ◌<◌, ◌-◌, ◌++◌, ◌∷◌, [], IfOk, IfSome, OnOk};
+ghost use Rattle.std.specs.Prelude.{◌≡◌, ◌<◌, ◌≤◌, ◌^◌, ◌+◌, ◌-◌, ◌++◌, ◌∷◌, ℕ, List, Some, [], length, true, false, IfErr, IfOk, IfSome, OnOk};
 ghost use Rattle.std.specs.List.{flat_map};
 ghost use Rattle.std.specs.Path.{path_buf_bytes};
-ghost use Rattle.iom_include.specs.Including.{in_place, name_at, said};
+ghost use Rattle.iom_include.specs.Faults.{AppendsFront, IfRefused, IsFaultOf, IsLineOf, IsOver, Lacking, Names, line_ends};
+ghost use Rattle.iom_include.specs.Including.{file_of, in_place, name_at, said};
 ghost use Rattle.iom_reader.specs.Lines.{ended_lines};
 
 use crate::fault::{IncludeFault, Reason, TextFault};
@@ -16,13 +17,25 @@ use std::str;
 /// The most bytes that stand for a line.
 const MOST_BYTES: usize = 1 << 26;
 
+/// The most lines that stand for a line.
+const MOST_LINES: u64 = 1 << 20;
+
 /// What stands for lines, each with its line end.
 #[derive(Drop)]
 pub struct Expansion {
     /// Its bytes.
     pub text: Vec<u8>,
-    /// How many lines stood before them or are of them.
+    /// How many lines stand before them.
+    pub before: u64,
+    /// How many lines they are.
     pub lines: u64,
+}
+
+impl Expansion {
+    // The next line, counted from 1 with those before.
+    fn next_line(&self) -> u64 {
+        self.before.saturating_add(self.lines).saturating_add(1)
+    }
 }
 
 /// Where texts come from.
@@ -55,7 +68,9 @@ fn name_at(alloc: Global, from: &str, file: &str) -> Result<PathBuf, AllocError>
 }
 
 // The fault of a line.
-fn refused(alloc: Global, at: Place<'_>, name: &str, reason: Reason) -> IncludeFault {
+fn refused(alloc: Global, at: Place<'_>, name: &str, reason: Reason) -> IncludeFault
+    ensures { Names reason name.now at.entry.name.now result }
+{
     match (
         String::from_str(alloc, name),
         String::from_str(alloc, at.name),
@@ -76,7 +91,9 @@ fn text_of<T: Texts>(
     at: Place<'_>,
     name: &str,
 ) -> Result<Vec<u8>, IncludeFault>
-    ensures { IfSome (T.known source.now.texts.now) (λ texts. IfOk result (λ text. text.items ≡ texts name.now ++ 10 ∷ [])) }
+    ensures known { IfSome (T.known source.now.texts.now) (λ texts. IfOk result (λ text. text.items ≡ texts name.now ++ 10 ∷ [])) }
+    ensures given { IfOk result (λ text. (given : List ℕ) × T.gives source.now.texts.now name.now given × (text.items ≡ given ++ 10 ∷ [])) }
+    ensures lacking { IfErr result (λ fault. Lacking (T.lacks source.now.texts.now) name.now at.entry.name.now fault) }
 {
     let reason = match source.texts.text(source.alloc, name) {
         Ok(mut text) => {
@@ -92,12 +109,22 @@ fn text_of<T: Texts>(
 
 // Appends a line as it stands.
 fn push_plain(line: &[u8], out: &mut Expansion) -> Result<(), IncludeFault>
-    ensures { OnOk result (out.new.text.items ≡ out.old.text.items ++ (line.now ++ 10 ∷ [])) }
+    ensures said { OnOk result (out.new.text.items ≡ out.old.text.items ++ (line.now ++ 10 ∷ [])) }
+    ensures counted { out.new.lines + line_ends out.old.text.items ≤ out.old.lines + line_ends out.new.text.items }
+    ensures fault { IfErr result (λ fault. fault ≡ IncludeFault.OutOfMemory) }
 {
     out.text.extend_from_slice(line)?;
     out.text.push(b'\n').map_err(AllocError::from)?;
     out.lines = out.lines.saturating_add(1);
     Ok(())
+}
+
+// Whether more stands for lines than a script may have.
+fn is_too_long(out: &Expansion) -> bool
+    ensures yes { result ≡ true → IsOver (length out.now.text.items) out.now.lines }
+    ensures no { result ≡ false → (length out.now.text.items ≤ 2 ^ 26) × (out.now.lines ≤ 2 ^ 20) }
+{
+    out.text.len() > MOST_BYTES || out.lines > MOST_LINES
 }
 
 // Appends what stands for a line that includes a file.
@@ -112,6 +139,12 @@ fn push_text<T: Texts>(
     ensures deep { OnOk result (0 < depth) }
     ensures said { OnOk result (IfSome (T.known source.now.texts.now) (λ texts. out.new.text.items ≡ out.old.text.items
         ++ flat_map (said texts (depth - 1) (name_at at.entry.name.now file.now)) (ended_lines (texts (name_at at.entry.name.now file.now) ++ 10 ∷ [])))) }
+    ensures counted { out.new.lines + line_ends out.old.text.items ≤ out.old.lines + line_ends out.new.text.items }
+    ensures front { (line : List ℕ) → Some file.now ≡ file_of line → IfErr result (λ fault. IfRefused fault
+        (IfSome (T.known source.now.texts.now) (λ texts. AppendsFront out.old.text.items out.new.text.items (said texts depth at.entry.name.now line)))) }
+    ensures within { OnOk result ((length out.new.text.items ≤ 2 ^ 26) × (out.new.lines ≤ 2 ^ 20)) }
+    ensures fault { (line : List ℕ) → Some file.now ≡ file_of line → IfErr result (λ fault. IsFaultOf (T.gives source.now.texts.now) (T.lacks source.now.texts.now)
+        depth at.entry.name.now line (IsOver (length out.new.text.items) out.new.lines) fault) }
 {
     let Ok(file) = str::from_utf8(file) else {
         return Err(refused(source.alloc, at, "?", Reason::Unreadable));
@@ -121,18 +154,14 @@ fn push_text<T: Texts>(
         return Err(refused(source.alloc, at, name.as_str(), Reason::TooDeep));
     }
     let text = text_of(source, at, name.as_str())?;
-    source
-        .texts
-        .stands(out.lines.saturating_add(1), name.as_str(), 1)?;
+    source.texts.stands(out.next_line(), name.as_str(), 1)?;
     push_lines(source, depth - 1, name.as_str(), text.as_slice(), out)?;
-    if out.text.len() > MOST_BYTES {
+    if is_too_long(out) {
         return Err(refused(source.alloc, at, name.as_str(), Reason::TooLong));
     }
-    source.texts.stands(
-        out.lines.saturating_add(1),
-        at.name,
-        at.line.saturating_add(1),
-    )?;
+    source
+        .texts
+        .stands(out.next_line(), at.name, at.line.saturating_add(1))?;
     Ok(())
 }
 
@@ -146,8 +175,13 @@ pub fn push_line<T: Texts>(
     line: &[u8],
     out: &mut Expansion,
 ) -> Result<(), IncludeFault>
-    ensures { OnOk result (IfSome (T.known source.now.texts.now) (λ texts. out.new.text.items ≡ out.old.text.items
+    ensures said { OnOk result (IfSome (T.known source.now.texts.now) (λ texts. out.new.text.items ≡ out.old.text.items
         ++ said texts depth at.entry.name.now line.now)) }
+    ensures counted { out.new.lines + line_ends out.old.text.items ≤ out.old.lines + line_ends out.new.text.items }
+    ensures front { IfErr result (λ fault. IfRefused fault (IfSome (T.known source.now.texts.now) (λ texts.
+        AppendsFront out.old.text.items out.new.text.items (said texts depth at.entry.name.now line.now)))) }
+    ensures fault { IfErr result (λ fault. IsFaultOf (T.gives source.now.texts.now) (T.lacks source.now.texts.now) depth at.entry.name.now line.now
+        (IsOver (length out.new.text.items) out.new.lines) fault) }
 {
     match file_of(line) {
         Some(file) => push_text(source, depth, at, file, out),
@@ -164,8 +198,13 @@ fn push_lines<T: Texts>(
     text: &[u8],
     out: &mut Expansion,
 ) -> Result<(), IncludeFault>
-    ensures { OnOk result (IfSome (T.known source.now.texts.now) (λ texts. out.new.text.items ≡ out.old.text.items
+    ensures said { OnOk result (IfSome (T.known source.now.texts.now) (λ texts. out.new.text.items ≡ out.old.text.items
         ++ flat_map (said texts depth name.now) (ended_lines text.now))) }
+    ensures counted { out.new.lines + line_ends out.old.text.items ≤ out.old.lines + line_ends out.new.text.items }
+    ensures front { IfErr result (λ fault. IfRefused fault (IfSome (T.known source.now.texts.now) (λ texts.
+        AppendsFront out.old.text.items out.new.text.items (flat_map (said texts depth name.now) (ended_lines text.now))))) }
+    ensures fault { IfErr result (λ fault. (line : List ℕ) × IsLineOf line text.now × IsFaultOf (T.gives source.now.texts.now)
+        (T.lacks source.now.texts.now) depth name.now line (IsOver (length out.new.text.items) out.new.lines) fault) }
 {
     let mut rest = text;
     let mut line = 0u64;

@@ -1,3 +1,6 @@
+ghost use Rattle.std.specs.Prelude.{◌≡◌};
+ghost use Rattle.iom_include.specs.declared.fault.IncludeFault.TheVariants as include;
+
 use std::alloc::AllocError;
 
 /// Why there is no text of a name.
@@ -16,7 +19,8 @@ pub enum TextFault {
 pub enum Reason {
     /// The text can't be read.
     Unreadable,
-    /// The text, or what stands for its lines, is longer than a script may be.
+    /// The text is longer than a script may be; or what stands for a line of the script, up to this text's end, has more than 2^26 bytes or
+    /// more than 2^20 lines.
     TooLong,
     /// Eight texts include each other so, and this is a further one; as where a text includes itself.
     TooDeep,
@@ -39,6 +43,8 @@ pub enum IncludeFault {
 }
 
 impl From<AllocError> for IncludeFault {
+    ghost from_gives = { λ _ e. e ≡ include.OutOfMemory };
+
     fn from(_error: AllocError) -> Self {
         IncludeFault::OutOfMemory
     }

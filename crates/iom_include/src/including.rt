@@ -1,9 +1,11 @@
 //! A script whose lines may include texts, as a reader.
 
-ghost use Rattle.std.specs.Prelude.{◌≡◌, ◌==◌, ◌≤◌, ◌++◌, ◌∷◌, ℕ, List, Option, [], drop, length, false, true, IfNone, IfOk, IfSome, OnOk, OnErr};
+ghost use Rattle.std.specs.Prelude.{◌≡◌, ◌==◌, ◌≤◌, ◌++◌, ◌∷◌, ℕ, List, Option, Some, None, [], drop, length, false, true, IfErr, IfNone, IfOk, IfSome, OnOk, OnErr};
 ghost use Rattle.std.specs.List.{list_any};
 ghost use Rattle.std.specs.Io.KnownBytes.{Consumes, IsAtEnd, Keeps};
-ghost use Rattle.iom_include.specs.Including.{expanded, left_by, said};
+ghost use Rattle.iom_include.specs.Faults.{IsFault};
+ghost use Rattle.iom_include.specs.Including.{file_of, left_by, said};
+ghost use Rattle.iom_reader.specs.Lines.{ended_lines};
 
 use crate::expanding::{Expansion, Place, Source, push_line};
 use crate::fault::IncludeFault;
@@ -28,11 +30,14 @@ fn text_for<T: Texts>(
     line: &[u8],
     before: u64,
 ) -> Result<Expansion, IncludeFault>
-    ensures { IfOk result (λ out. IfSome (T.known source.now.texts.now) (λ texts. out.text.items ≡ said texts 8 at.entry.name.now line.now)) }
+    ensures said { IfOk result (λ out. IfSome (T.known source.now.texts.now) (λ texts. out.text.items ≡ said texts 8 at.entry.name.now line.now)) }
+    ensures fault { IfErr result (IsFault (T.known source.now.texts.now) (T.gives source.now.texts.now) (T.lacks source.now.texts.now)
+        at.entry.name.now line.now) }
 {
     let mut out = Expansion {
         text: Vec::new(source.alloc),
-        lines: before,
+        before,
+        lines: 0,
     };
     push_line(source, MOST_DEPTH, at, line, &mut out)?;
     Ok(out)
@@ -48,10 +53,12 @@ fn push_included<T: Texts>(
     ensures ok { OnOk result (IfSome (T.known source.now.texts.now) (λ texts. out.new.text.items ≡ out.old.text.items
         ++ said texts 8 at.entry.name.now line.now)) }
     ensures err { OnErr result (out.new.text.items ≡ out.old.text.items) }
+    ensures fault { IfErr result (IsFault (T.known source.now.texts.now) (T.gives source.now.texts.now) (T.lacks source.now.texts.now)
+        at.entry.name.now line.now) }
 {
     let more = text_for(source, at, line, out.lines)?;
     out.text.extend_from_slice(more.text.as_slice())?;
-    out.lines = more.lines;
+    out.lines = out.lines.saturating_add(more.lines);
     Ok(())
 }
 
@@ -59,6 +66,7 @@ fn push_included<T: Texts>(
 fn push_whole(whole: &[u8], out: &mut Expansion) -> Result<(), IncludeFault>
     ensures ok { OnOk result (out.new.text.items ≡ out.old.text.items ++ whole.now) }
     ensures err { OnErr result (out.new.text.items ≡ out.old.text.items) }
+    ensures fault { IfErr result (λ fault. fault ≡ IncludeFault.OutOfMemory) }
 {
     out.text.extend_from_slice(whole)?;
     out.lines = out.lines.saturating_add(1);
@@ -77,7 +85,10 @@ fn push_ready<T: Texts>(
     requires { whole.now ≡ line.now ++ 10 ∷ [] }
     ensures ok { OnOk result (IfSome (T.known source.now.texts.now) (λ texts. out.new.text.items ≡ out.old.text.items
         ++ said texts 8 at.entry.name.now line.now)) }
+    ensures plain { OnOk result (None ≡ file_of line.now → out.new.text.items ≡ out.old.text.items ++ (line.now ++ 10 ∷ [])) }
     ensures err { OnErr result (out.new.text.items ≡ out.old.text.items) }
+    ensures fault { IfErr result (IsFault (T.known source.now.texts.now) (T.gives source.now.texts.now) (T.lacks source.now.texts.now)
+        at.entry.name.now line.now) }
 {
     match file_of(line) {
         Some(_) => push_included(source, at, line, out),
@@ -85,8 +96,8 @@ fn push_ready<T: Texts>(
     }
 }
 
-// Appends what stands for the lines of a script that have their end. Tells how many bytes of the script these take, and the fault of the next
-// line.
+// Appends what stands for the lines of a script that have their end. The result is how many bytes of the script these take, and the fault of
+// the next line.
 fn push_all<T: Texts>(
     source: &Source<'_, T>,
     name: &str,
@@ -95,9 +106,10 @@ fn push_all<T: Texts>(
     out: &mut Expansion,
 ) -> (usize, Option<IncludeFault>)
     ensures within { result.0 ≤ length script.now }
-    ensures said { IfSome (T.known source.now.texts.now) (λ texts. (more : List ℕ) →
-        out.new.text.items ++ expanded texts name.now (drop result.0 script.now ++ more)
-        ≡ out.old.text.items ++ expanded texts name.now (script.now ++ more)) }
+    ensures kept { (more : List ℕ) → Keeps (left_by (T.known source.now.texts.now) (Some more) out.old.text.items name.now script.now)
+        (left_by (T.known source.now.texts.now) (Some more) out.new.text.items name.now (drop result.0 script.now)) }
+    ensures fault { IfSome result.1 (λ fault. (line : List ℕ) × (lines : List (List ℕ)) × (ended_lines (drop result.0 script.now) ≡ line ∷ lines)
+        × IsFault (T.known source.now.texts.now) (T.gives source.now.texts.now) (T.lacks source.now.texts.now) name.now line fault) }
     ensures all { IfNone result.1 (list_any (λ c. c == 10) (drop result.0 script.now) ≡ false) }
 {
     let mut done = 0;
@@ -126,7 +138,8 @@ fn forget(script: &mut Vec<u8>, done: usize)
     script.truncate(left);
 }
 
-// Reads a piece of a script on, behind its open line; where there is none the open line gets its end. Tells whether nothing is left.
+// Reads a piece of a script on, behind its open line; where there is none the open line gets its end. The result is whether nothing is
+// left.
 fn read_on<R: Read>(reader: &mut R, script: &mut Vec<u8>) -> io::Result<bool>
     requires { list_any (λ c. c == 10) script.old.items ≡ false }
     ensures kept { (known : Option (List ℕ → List ℕ)) (ready name : List ℕ)
@@ -165,14 +178,15 @@ pub struct Including<'t, 'n, T, R> {
 }
 
 impl<'t, 'n, T: Texts, R: Read> Including<'t, 'n, T, R> {
-    ghost use Rattle.std.specs.Prelude.{◌≡◌, ◌≤◌, [], drop, length, false, true, IfOk, OnOk};
+    ghost use Rattle.std.specs.Prelude.{◌≡◌, ◌≤◌, None, [], drop, length, false, true, IfOk, OnOk};
     ghost use Rattle.std.specs.Io.KnownBytes.{IsAtEnd, Keeps};
     ghost use Rattle.iom_include.specs.Including.{left_by};
-    ghost use Rattle.iom_include.specs.Reading.{remaining_of};
+    ghost use Rattle.iom_include.specs.Reading.{HasFault, fault_of, remaining_of};
 
     /// The script that `reader` gives, with these texts. Its lines name them from the folder of `name`; without a name it is empty.
     pub fn new(alloc: Global, texts: &'t T, name: &'n str, reader: R) -> Including<'t, 'n, T, R>
-        ensures { remaining_of T.known R.remaining result ≡ left_by (T.known texts.now) (R.remaining reader) [] name.now [] }
+        ensures remaining { remaining_of T.known R.remaining result ≡ left_by (T.known texts.now) (R.remaining reader) [] name.now [] }
+        ensures faultless { fault_of result ≡ None }
     {
         Including {
             source: Source { alloc, texts },
@@ -182,6 +196,7 @@ impl<'t, 'n, T: Texts, R: Read> Including<'t, 'n, T, R> {
             line: 0,
             expansion: Expansion {
                 text: Vec::new(alloc),
+                before: 0,
                 lines: 0,
             },
             given: 0,
@@ -190,17 +205,22 @@ impl<'t, 'n, T: Texts, R: Read> Including<'t, 'n, T, R> {
     }
 
     /// Why it reads no further, where that isn't a fault of its reader.
-    pub fn take_fault(&mut self) -> Option<IncludeFault> {
+    pub fn take_fault(&mut self) -> Option<IncludeFault>
+        ensures { result ≡ fault_of self.old }
+    {
         self.fault.take()
     }
 
-    // Makes the lines ready that have their end, or reads a piece on where there are none. Tells whether bytes are ready or nothing is left.
+    // Makes the lines ready that have their end, or reads a piece on where there are none. The result is whether bytes are ready or nothing is
+    // left.
     fn turn(&mut self) -> io::Result<bool>
         requires none { self.old.expansion.text.items ≡ [] }
         requires given { self.old.given ≡ 0 }
         ensures kept { Keeps (remaining_of T.known R.remaining self.old) (remaining_of T.known R.remaining self.new) }
         ensures end { IfOk result (λ done. done ≡ true → self.new.expansion.text.items ≡ [] → IsAtEnd (remaining_of T.known R.remaining self.new)) }
         ensures more { IfOk result (λ done. done ≡ false → self.new.expansion.text.items ≡ []) }
+        ensures fault { fault_of self.old ≡ None → HasFault T.known T.gives T.lacks self.new }
+        ensures faultless { OnOk result (fault_of self.new ≡ fault_of self.old) }
         ensures given { self.new.given ≡ 0 }
     {
         let (done, fault) = push_all(
@@ -238,6 +258,8 @@ impl<'t, 'n, T: Texts, R: Read> Including<'t, 'n, T, R> {
         requires none { drop self.old.given self.old.expansion.text.items ≡ [] }
         ensures kept { Keeps (remaining_of T.known R.remaining self.old) (remaining_of T.known R.remaining self.new) }
         ensures end { OnOk result (self.new.expansion.text.items ≡ [] → IsAtEnd (remaining_of T.known R.remaining self.new)) }
+        ensures fault { fault_of self.old ≡ None → HasFault T.known T.gives T.lacks self.new }
+        ensures faultless { OnOk result (fault_of self.new ≡ fault_of self.old) }
         ensures given { self.new.given ≡ 0 }
     {
         self.expansion.text.clear();
@@ -255,6 +277,8 @@ impl<'t, 'n, T: Texts, R: Read> Including<'t, 'n, T, R> {
         ensures kept { Keeps (remaining_of T.known R.remaining self.old) (remaining_of T.known R.remaining self.new) }
         ensures end { OnOk result (drop self.new.given self.new.expansion.text.items ≡ [] → IsAtEnd (remaining_of T.known R.remaining self.new)) }
         ensures within { OnOk result (self.new.given ≤ length self.new.expansion.text.items) }
+        ensures fault { fault_of self.old ≡ None → HasFault T.known T.gives T.lacks self.new }
+        ensures faultless { OnOk result (fault_of self.new ≡ fault_of self.old) }
     {
         if self.given < self.expansion.text.len() {
             return Ok(());
@@ -264,11 +288,20 @@ impl<'t, 'n, T: Texts, R: Read> Including<'t, 'n, T, R> {
 }
 
 impl<T: Texts, R: Read> Read for Including<'_, '_, T, R> {
-    ghost use Rattle.iom_include.specs.Reading.{remaining_of};
+    ghost use Rattle.std.specs.Prelude.{◌≡◌, None, OnOk};
+    ghost use Rattle.std.specs.Io.{ReadsAtMost};
+    ghost use Rattle.std.specs.Io.KnownBytes.{ReadConsumes};
+    ghost use Rattle.iom_include.specs.Reading.{HasFault, fault_of, remaining_of};
 
     ghost remaining = { remaining_of T.known R.remaining };
 
-    fn read(&mut self, buf: &mut [u8]) -> io::Result<usize> {
+    /// Reads a front of what is left, as any reader. If it has a fault after that, it is of the next line of the script, or want of memory.
+    fn read(&mut self, buf: &mut [u8]) -> io::Result<usize>
+        ensures bound { ReadsAtMost result buf.new }
+        ensures bytes { ReadConsumes (remaining_of T.known R.remaining self.old) (remaining_of T.known R.remaining self.new) result buf.new }
+        ensures fault { fault_of self.old ≡ None → HasFault T.known T.gives T.lacks self.new }
+        ensures faultless { OnOk result (fault_of self.new ≡ fault_of self.old) }
+    {
         self.fill()?;
         let ready = &self.expansion.text.as_slice()[self.given..];
         let count = ready.len().min(buf.len());

@@ -1,6 +1,7 @@
 //! Where the texts come from.
 
-ghost use Rattle.std.specs.Prelude.{◌≡◌, ℕ, List, Option, None, IfOk, IfSome};
+ghost use Rattle.std.specs.Prelude.{◌≡◌, ℕ, List, Option, None, IfOk, IfErr, IfSome, ⊤};
+ghost use Rattle.iom_include.specs.declared.fault.TextFault.{TextFault};
 
 use crate::fault::TextFault;
 use std::alloc::{AllocError, Global};
@@ -10,11 +11,19 @@ pub trait Texts {
     /// The text of each name, where that is known.
     ghost known: { Self → Option (List ℕ → List ℕ) } = { λ _. None };
 
+    /// Whether this text of a name may be given.
+    ghost gives: { Self → List ℕ → List ℕ → Type 0 } = { λ _ _ _. ⊤ };
+
+    /// Whether it may be answered so that there is no text of a name.
+    ghost lacks: { Self → List ℕ → TextFault → Type 0 } = { λ _ _ _. ⊤ };
+
     /// The text of this name.
     fn text(&self, alloc: Global, name: &str) -> Result<Vec<u8>, TextFault>
-        ensures { IfSome (known self.now) (λ texts. IfOk result (λ text. text.items ≡ texts name.now)) };
+        ensures given { IfOk result (λ text. gives self.now name.now text.items) }
+        ensures lacking { IfErr result (λ fault. lacks self.now name.now fault) }
+        ensures known { IfSome (known self.now) (λ texts. IfOk result (λ text. text.items ≡ texts name.now)) };
 
-    /// Is told, in their order, where lines stand: from line `first` of what is read on, counted from 1, they are those of this text from
+    /// Takes down, in their order, where lines stand: from line `first` of what is read on, counted from 1, they are those of this text from
     /// its line `line` on.
     fn stands(&self, first: u64, name: &str, line: u64) -> Result<(), AllocError>;
 }

@@ -58,7 +58,7 @@ pub value_limited : (key : List ℕ) (limit : ℕ) (words : List (List ℕ)) (n 
 unfolding limited
 value_limited key limit words n is less = rw (is, lt-ltb n limit less) refl
 
--- the same as relations to the words
+-- `limited` and `flag_for` read exactly the value that the words have for the key
 pub reads_limits : (keys : List (List ℕ)) (key : List ℕ) (limit : ℕ) (words : List (List ℕ)) (n : ℕ) → AreOperands keys words →
     (limited key limit words ≡ Some n → IsValue key words n × (n < limit)) × (IsValue key words n → n < limit → limited key limit words ≡ Some n)
 reads_limits keys key limit words n are =

@@ -85,7 +85,7 @@ context_fits words =
     record { custom = b; second_mode = modes.1; second_root = d; second_root_aligned = aligned gmode gppn parts.1; guest = e; process = g; first_mode = modes.0; first_root = i })
     (λ _. tt)))))))))))
 
--- a flag is 0 or 1, and a field of one bit tells it
+-- a flag is 0 or 1, and a field of one bit holds it
 pub small : (set : Bool) → flag set ≤ 1
 small true = omega arith
 small false = omega arith

@@ -1,5 +1,5 @@
 -- The canonical line of an item: its statement with all operands in order, but for the NL and S of an IOTINVAL that are 0, numbers
--- as `0x` and plain lower-case hex; words that are no such item are told as words.
+-- as `0x` and plain lower-case hex; words that are no such item are printed as words.
 use Rattle.std.specs.Prelude.{ℕ, ◌++◌, ◌==◌, Bool, true, List, [], ◌∷◌, get_or, codes, Option, Some, None, if◌then◌else◌}
 use Rattle.std.specs.Option.{option_map}
 use Rattle.std.specs.Result.{result_ok}
@@ -128,7 +128,7 @@ is_taken features item.Cmd words = all_of (is_offered features) (command_of word
 is_taken features item.Context words = all_of (has_modes features) (result_ok (context_in words))
 is_taken features _ words = true
 
--- the line there: words that aren't taken so are told as words
+-- the line there: words that aren't taken so are printed as words
 abbrev pub line_on : Features → Item → List ℕ → List ℕ
 line_on features item words = if is_taken features item words then line_of item words else words_text words
 

@@ -48,7 +48,7 @@ value_of key [] = Some 0
 value_of key (word ∷ words) =
     if has_key key (operand_of word) then number_for (operand_of word) else value_of key words
 
--- the same, below a limit
+-- a number, if it is below a limit
 abbrev pub below : ℕ → ℕ → Option ℕ
 below limit n = if nat_lt n limit then Some n else None
 

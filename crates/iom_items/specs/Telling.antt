@@ -1,4 +1,4 @@
--- What a statement says is told again by its words, on an IOMMU with any features.
+-- The line of the words of a statement says again what the statement says, on an IOMMU with any features.
 use Rattle.std.specs.Prelude.{ℕ, ◌≡◌, ◌^◌, ◌<◌, ◌⊎◌, List, ◌∷◌, length, codes, All, Option, Some}
 use Rattle.std.specs.Option.{option_map}
 use Rattle.iom_text.specs.Words.{words_of}

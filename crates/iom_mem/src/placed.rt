@@ -59,7 +59,7 @@ pub fn word(base: u64, words: &[u64], addr: u64) -> Option<u64>
     ensures { result ≡ word (memory_of base words.now) addr }
 {
     let at = place(base, words, addr, 8)?;
-    // The base is a multiple of 8, so the address tells how far into a word this is.
+    // The base is a multiple of 8, so the address modulo 8 is how far into a word this is.
     Some(word_from(words, at / 8, addr as usize % 8))
 }
 

@@ -162,7 +162,7 @@ fn put_words(out: &mut [u8], to: usize, words: &[u64])
     }
 }
 
-// The same for any number of words from two on.
+// Replaces the bytes of `out` from `to` on by those of two or more words.
 fn put_row(out: &mut [u8], to: usize, words: &[u64])
     requires room { to + 8 * length words.now ≤ length out.old }
     requires some { 2 ≤ length words.now }
@@ -381,7 +381,7 @@ fn write_whole(words: &mut [u64], first: usize, bytes: &[u8])
     }
 }
 
-// The same for any number of words from two on.
+// Replaces two or more whole words by the bytes, eight for each; bytes that are left over are not written.
 fn write_row(words: &mut [u64], first: usize, bytes: &[u8])
     requires room { 8 * first + length bytes.now ≤ 8 * length words.old }
     requires some { 16 ≤ length bytes.now }

@@ -6,4 +6,5 @@ pub use replacing::LineText;
 
 mod names;
 mod replacing;
+mod slips;
 mod spelling;

@@ -131,8 +131,8 @@ impl Names {
         }
     }
 
-    // The number of a name, or else the number that a word writes.
-    fn number_said(&self, word: &[u8]) -> Option<u64>
+    /// The number of a name, or else the number that a word writes.
+    pub(crate) fn number_said(&self, word: &[u8]) -> Option<u64>
         ensures { result ≡ number_said self.now word.now }
     {
         match number_of(self.bindings.as_slice(), word) {

@@ -91,7 +91,7 @@ fn put_replaced(out: &mut LineText, names: &[Binding], word: &[u8]) -> bool
     }
 }
 
-// The same, after a blank.
+// Appends a blank, and the word or the number in place of the name; and answers whether there was room.
 fn put_word(out: &mut LineText, names: &[Binding], word: &[u8]) -> bool
     ensures some { result ≡ true → out.new.items ≡ out.old.items ++ (codes " " ++ replaced names.now word.now) }
     ensures none { result ≡ false → 512 < length out.old.items + length (codes " " ++ replaced names.now word.now) }

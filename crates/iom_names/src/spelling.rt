@@ -50,8 +50,8 @@ fn is_name_byte(c: u8) -> bool
     is_letter(c) || c.is_ascii_digit()
 }
 
-// Whether a word begins with a letter or `_`.
-fn begins_so(word: &[u8]) -> bool
+/// Whether a word begins with a letter or `_`.
+pub(crate) fn begins_so(word: &[u8]) -> bool
     ensures { result ≡ begins_so word.now }
 {
     match word {
@@ -60,8 +60,8 @@ fn begins_so(word: &[u8]) -> bool
     }
 }
 
-// Whether a name may have all bytes of a word.
-fn has_name_bytes(word: &[u8]) -> bool
+/// Whether a name may have all bytes of a word.
+pub(crate) fn has_name_bytes(word: &[u8]) -> bool
     ensures { result ≡ list_all is_name_byte word.now }
 {
     word.iter().all(|c| is_name_byte(*c))

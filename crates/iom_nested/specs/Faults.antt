@@ -19,7 +19,7 @@ pub data Failure : Type 0 where
 abbrev pub without_low_bits : ℕ → ℕ
 without_low_bits addr = addr - addr % 4
 
--- the cause, of reads or of writes, and iotval2: for a guest page fault the guest-physical address, whose bit 0 tells an
+-- the cause, of reads or of writes, and iotval2: for a guest page fault the guest-physical address, whose bit 0 marks an
 -- implicit access, that to an entry
 abbrev pub fault_of : Kind → Failure → Fault
 fault_of kind EntryOutside = record { cause = Access kind; iotval2 = 0 }

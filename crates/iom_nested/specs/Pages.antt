@@ -1,5 +1,5 @@
 -- A hit is one of a page: RISC-V IOMMU Architecture 1.0, "Caching in-memory data structures", where translations are cached by
--- page. A fault may tell the address itself.
+-- page. A fault may report the address itself.
 use Rattle.std.specs.Prelude.{ℕ, ◌≡◌, ◌/◌, Ok}
 use Rattle.iom_bits.specs.declared.causes.Kind.{Kind}
 use Rattle.iom_bits.specs.declared.features.Features.{Features}

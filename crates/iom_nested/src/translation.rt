@@ -198,8 +198,8 @@ pub fn reached_by(outcome: Outcome, iova: u64, kind: Kind) -> Result<Reached, Fa
     }
 }
 
-/// Where the second stage of a context leads what its first one reached, as `translate` does it, with the same faults; a Bare one leads to
-/// the same address, which is below 2^56 then.
+/// Where the second stage of a context leads the address that its first one reached, with the faults of `translate`. A Bare stage leads to
+/// that address itself, which is below 2^56 then.
 pub fn second_stage<M: Region>(
     ram: &M,
     features: Features,

@@ -1,6 +1,6 @@
 -- Entries that are used alone.
-use Rattle.std.proofs.Common.{◌≡◌, ◌≢◌, ◌∙◌, ◌++◌, ℕ, false, List, [], ◌∷◌, Option, Some, None, refl, sym, ap, subst, inl, inr}
-use Rattle.std.specs.Prelude.{◌↔◌, map, unwrap_or}
+use Rattle.std.proofs.Common.{◌≡◌, ◌≢◌, ◌∙◌, ◌++◌, ◌+◌, ◌<◌, ◌≤◌, ◌⊎◌, arith, ℕ, Bool, true, false, drop, length, List, [], ◌∷◌, Option, Some, None, refl, sym, ap, subst, inl, inr}
+use Rattle.std.specs.Prelude.{◌↔◌, IfSome, get_or, map, unwrap_or}
 use Rattle.iom_choices.specs.Models.{end_of}
 use Rattle.iom_choices.specs.Settled.{EachUse, IsSettled}
 use Rattle.iom_choices.specs.Systems.{ModelWalk, IsAmong}
@@ -21,8 +21,11 @@ use Rattle.iom_every.specs.declared.entry.Entry.{Entry}
 use Rattle.iom_every.proofs.Caching.{by_tables_is}
 use Rattle.iom_every.proofs.Trees.{tree_apart}
 use Rattle.iom_ways.specs.Ways.{AreAdded, BeginsWith, leads}
+use Rattle.iom_ways.specs.Asked.{Collects, is_asked}
+use Rattle.iom_ways.proofs.Usable.{among_rest, none_left, read_among, unasked}
+use Rattle.iom_owed.proofs.Results.{if_some}
 use Rattle.iom_ways.proofs.Firsts.{memory_first}
-use Rattle.iom_owed.specs.Alone.{IsSoughtAlone, IsTold, ServesAlone, leads_over}
+use Rattle.iom_owed.specs.Alone.{IsOlder, IsSoughtAlone, IsTold, IsUpTo, LeadsAlike, Serves, ServesAlone, Tries, leads_over}
 use Rattle.iom_held.specs.Kept.{Renews, entries_in, entry_of, kept_of}
 use Rattle.iom_owed.specs.Holdings.{HoldingsView, Keeps}
 use Rattle.iom_owed.specs.Newest.{steps_of}
@@ -73,7 +76,7 @@ served_at : (held : HoldingsView) (state start : State) (taken : List (Step × �
     LeadsElsewhere held start (steps_of taken) request found
 served_at held state start taken request tables found is k told serves =
     let at : State = end_of platform start (steps_of taken) in
-    let h : HasAlone (bare at) request serves.kept.entry found.elsewhere = has_alone (bare at) request serves.kept.entry found.elsewhere serves.led in
+    let h : HasAlone (bare at) request serves.kept.entry found.elsewhere = has_alone (bare at) request serves.kept.entry found.elsewhere serves.serves.led in
     let by : IsServedBy held at request found.elsewhere serves.kept.number = record {
       kept = serves.kept;
       among = serves.among;
@@ -81,15 +84,19 @@ served_at held state start taken request tables found is k told serves =
       source = h.source;
       alone = h.alone;
       led = h.is;
+      oldest = λ other among. elim (serves.oldest other among) [
+        | inl alike ↦ inl (alone_settled at request other.entry tables told alike)
+        | inr older ↦ inr older
+      ];
     } in
     let may : May false start (steps_of taken) serves.kept.entry = (k.entries serves.kept.entry).0 (among_of entry_of held.entries serves.kept serves.among) in record {
       source = h.source;
       may = each_weaker (λ (used : Look × Entry). used.1 ≡ serves.kept.entry) (λ (used : Look × Entry). May false start (steps_of taken) used.1) h.source
           (λ used same. subst (May false start (steps_of taken)) (sym same) may) h.alone;
       led = h.is;
-      tables = sym (serves.told ∙ told);
-      differs = λ same. serves.differs (same ∙ serves.told);
-      served = subst (IsServed held at request found.elsewhere) (sym serves.numbered) by;
+      tables = sym (serves.serves.told ∙ told);
+      differs = λ same. serves.serves.differs (same ∙ serves.serves.told);
+      served = subst (IsServed held at request found.elsewhere) (sym serves.serves.numbered) by;
     }
 
 -- one of them does
@@ -100,73 +107,90 @@ one_served held state start taken request tables found k told serves =
     ServesAlone (bare state) request tables held.entries found → LeadsElsewhere held start (steps_of taken) request found in
     subst P (sym k.reached) (served_at held (end_of platform start (steps_of taken)) start taken request tables found refl) k told serves
 
--- some of the entries allow some of the ways
-pub leads_some : (state : State) (request : Request) (some held : List Entry) → ((entry : Entry) → IsAmong some entry → IsAmong held entry) →
-    (way : Led) → IsAmong (leads_over state request some) way → IsAmong (leads_over state request held) way
-leads_some state request some held more led among =
-    let tree : Walk = tree_of state request in
-    let f : IsFrom (λ (way : ModelWalk Entry Led). way.led) (ways_over some tree) led = from_among (λ (way : ModelWalk Entry Led). way.led) (ways_over some tree) led among in
-    let a : IsAllowed some [] tree f.thing = allowed some [] tree (tree_apart state request) f.thing f.among in
-    let each : EachUse (IsAmong held) a.source =
-    each_weaker (λ (used : Look × Entry). IsAmong some used.1) (λ (used : Look × Entry). IsAmong held used.1) a.source (λ used is. more used.1 is) a.each in
-    let there : IsAmong (leads_over state request held) (way_over a.source tree).led =
-    among_of (λ (way : ModelWalk Entry Led). way.led) (ways_over held tree) (way_over a.source tree) (way_among held [] tree (tree_apart state request) a.source each) in
-    subst (IsAmong (leads_over state request held)) (ap (λ (way : ModelWalk Entry Led). way.led) (a.leads [] tt) ∙ f.is) there
+-- what is known of the entries that were tried; these are left
+pub record AreTried (state : State) (request : Request) (tables : Led) (all left : List Kept) (found : Option Unsettled) : Type 0 where
+  pub tried : (kept : Kept) → IsAmong all kept → IsAmong left kept ⊎ (LeadsAlike state request tables kept ⊎ IsOlder found kept.number)
+  pub serves : IfSome found (λ one. (kept : Kept) × (IsAmong all kept × Serves state request tables kept one))
 
--- where all of the entries lead the request nowhere else, none does alone
-pub none_alone : (state : State) (request : Request) (tables : Led) (held : List Kept) →
-    ((way : Led) → IsAmong (leads_over state request (entries_in held)) way → way ≡ tables) → IsSoughtAlone state request tables held None
-none_alone state request tables held alike kept among way led =
-    alike way (leads_some state request (kept.entry ∷ []) (entries_in held)
-    (λ entry h. subst (IsAmong (entries_in held)) (sym (only kept.entry entry h)) (among_of entry_of held kept among)) way led)
+pub none_tried : (state : State) (request : Request) (tables : Led) (all : List Kept) → AreTried state request tables all all None
+none_tried state request tables all = record { tried = λ kept among. inl among; serves = tt }
 
--- one entry that leads it elsewhere does so alone
-pub one_alone_serves : (state : State) (request : Request) (tables elsewhere : Led) (held : List Kept) (kept : Kept) → held ≡ kept ∷ [] →
-    IsAmong (leads_over state request (entries_in held)) elsewhere → elsewhere ≢ tables →
-    ServesAlone state request tables held (record { elsewhere = elsewhere; tables = tables; number = Some kept.number })
-one_alone_serves state request tables elsewhere held kept is led differs = record {
-  kept = kept;
-  among = subst (λ (held : List Kept). IsAmong held kept) (sym is) (inl refl);
-  numbered = refl;
-  led = subst (λ (held : List Kept). IsAmong (leads_over state request (entries_in held)) elsewhere) is led;
-  told = refl;
-  differs = differs;
+-- one more
+pub tried_more : (state : State) (request : Request) (tables : Led) (all : List Kept) (n : ℕ) (kept : Kept) (before after : Option Unsettled) → n < length all → kept ≡ get_or all n kept →
+    AreTried state request tables all (drop n all) before → Tries state request tables kept before after → AreTried state request tables all (drop (n + 1) all) after
+tried_more state request tables all n kept before after within is so_far one = record {
+  tried = λ other among.
+      elim (so_far.tried other among) [
+        | inl left ↦ elim (among_rest all n kept other within is left) [
+          | inl later ↦ inl later
+          | inr same ↦ inr (subst (λ (k : Kept). LeadsAlike state request tables k ⊎ IsOlder after k.number) same one.tried)
+        ]
+        | inr done ↦ elim done [
+          | inl alike ↦ inr (inl alike)
+          | inr older ↦ inr (inr (one.still other.number older))
+        ]
+      ];
+  serves = elim one.found [
+    | inl same ↦ subst (λ (found : Option Unsettled). IfSome found (λ one. (kept : Kept) × (IsAmong all kept × Serves state request tables kept one))) (sym same) so_far.serves
+    | inr new ↦ if_some after (λ found. Serves state request tables kept found) (λ one. (kept : Kept) × (IsAmong all kept × Serves state request tables kept one))
+        (λ found serves. (kept, (read_among all n kept within is, serves))) new
+  ];
 }
 
--- one of some of the entries is one of all
-pub served_more : (state : State) (request : Request) (tables : Led) (some held : List Kept) (found : Unsettled) → ((kept : Kept) → IsAmong some kept → IsAmong held kept) →
-    ServesAlone state request tables some found → ServesAlone state request tables held found
-served_more state request tables some held found more serves = record {
-  kept = serves.kept;
-  among = more serves.kept serves.among;
-  numbered = serves.numbered;
-  led = serves.led;
-  told = serves.told;
-  differs = serves.differs;
-}
+module _ (state : State) (request : Request) (tables : Led) (kept : Kept) (found : Option Unsettled) where
+  pub tried_older : IsOlder found kept.number → Tries state request tables kept found found
+  tried_older older = record { tried = inr older; still = λ number h. h; found = inl refl }
 
--- both halves are sought
-pub sought_halves : (state : State) (request : Request) (tables : Led) (held first later : List Kept) (found : Option Unsettled) → first ++ later ≡ held →
-    IsSoughtAlone state request tables first None → IsSoughtAlone state request tables later found → IsSoughtAlone state request tables held found
-sought_halves state request tables held first later None all before then = λ kept among.
-    elim (among_either first later kept (subst (λ (held : List Kept). IsAmong held kept) (sym all) among)) [
-      | inl h ↦ before kept h
-      | inr h ↦ then kept h
-    ]
-sought_halves state request tables held first later (Some found) all before then =
-    served_more state request tables later held found (λ kept h. subst (λ (held : List Kept). IsAmong held kept) all (among-right first later kept h)) then
+  pub tried_alike : LeadsAlike state request tables kept → Tries state request tables kept found found
+  tried_alike alike = record { tried = inl alike; still = λ number h. h; found = inl refl }
 
--- entries that are put in where there were none
-pub these_alone : (number : ℕ) (entries : List Entry) (kept held : List Kept) → entries ≡ entries_in kept → Renews entry_of (map (kept_of number) entries) [] held →
-    (entry : Entry) → IsAmong (entries_in held) entry ↔ IsAmong (entries_in kept) entry
-these_alone number entries kept held same renewed entry =
-    let are : entries_in (map (kept_of number) entries) ≡ entries_in kept = news_are number entries ∙ same in (
-      λ h. elim (renewed.all entry h) [
-        | inl none ↦ absurd none
-        | inr new ↦ subst (λ (xs : List Entry). IsAmong xs entry) are new
-      ],
-      λ h. renewed.kept entry (inr (subst (λ (xs : List Entry). IsAmong xs entry) (sym are) h)),
-    )
+  pub tried_new : (elsewhere : Led) → ((number : ℕ) → IsOlder found number → kept.number ≤ number) → IsAmong (leads_over state request (kept.entry ∷ [])) elsewhere → elsewhere ≢ tables →
+      Tries state request tables kept found (Some (record { elsewhere = elsewhere; tables = tables; number = Some kept.number }))
+  tried_new elsewhere newer led differs = record {
+    tried = inr (omega arith);
+    still = newer;
+    found = inr (record { numbered = refl; led = led; told = refl; differs = differs });
+  }
+
+-- an entry that the walk in memory doesn't ask for leads nowhere else
+module _ (state : State) (request : Request) (tables : Led) (held before asked : List Kept) (n : ℕ) (told : tables ≡ by_tables state.machine request) (put : Collects held (is_asked (tree_of (bare state) request)) before asked) where
+  each_tried : (found : Option Unsettled) → AreTried (bare state) request tables asked (drop n asked) found → length asked ≤ n →
+      (kept : Kept) → IsAmong held kept → LeadsAlike (bare state) request tables kept ⊎ IsOlder found kept.number
+  each_tried found so_far end kept among =
+      let Goal : Bool → Type 0 = λ b. is_asked (tree_of (bare state) request) kept.entry ≡ b → LeadsAlike (bare state) request tables kept ⊎ IsOlder found kept.number in
+      let by_asked : (b : Bool) → Goal b = λ b. elim b as Goal [
+        | true ↦ λ is. elim (so_far.tried kept (put.all kept among is)) [
+          | inl left ↦ absurd (none_left asked n kept end left)
+          | inr done ↦ done
+        ]
+        | false ↦ λ is. inl (λ way led.
+            let only_memory : IsAmong (leads (way_of (bare state) [] request ∷ [])) way =
+            subst (λ (ways : List (ModelWalk Entry Led)). IsAmong (leads ways) way) (unasked (bare state) request kept.entry is) led in
+            elim only_memory [
+              | inl same ↦ sym same ∙ by_tables_is state request ∙ sym told
+              | inr none ↦ absurd none
+            ])
+      ] in by_asked (is_asked (tree_of (bare state) request) kept.entry) refl
+
+  pub all_tried : (found : Option Unsettled) → before ≡ [] → AreTried (bare state) request tables asked (drop n asked) found → length asked ≤ n →
+      IsSoughtAlone (bare state) request tables held found
+  all_tried None empty so_far end = λ kept among. elim (each_tried None so_far end kept among) [
+    | inl alike ↦ alike
+    | inr none ↦ absurd none
+  ]
+  all_tried (Some found) empty so_far end =
+      let one = so_far.serves in record {
+        kept = one.0;
+        among = elim (put.among one.0 one.1.0) [
+          | inl old ↦ absurd (subst (λ (all : List Kept). IsAmong all one.0) empty old)
+          | inr new ↦ new
+        ];
+        serves = one.1.1;
+        oldest = λ other among. elim (each_tried (Some found) so_far end other among) [
+          | inl alike ↦ inl alike
+          | inr older ↦ inr (subst (λ (number : Option ℕ). IsUpTo number other.number) one.1.1.numbered older)
+        ];
+      }
 
 -- memory's way is among the ways
 pub memory_among : (state : State) (request : Request) (held : List Entry) → IsAmong (leads_over state request held) (way_of state [] request).led

@@ -1,5 +1,5 @@
 -- Where held entries lead a request, together and each alone. The tables lead it to `tables`.
-use Rattle.std.specs.Prelude.{◌≡◌, ◌≢◌, ◌⊎◌, List, [], ◌∷◌, Option, Some, None}
+use Rattle.std.specs.Prelude.{ℕ, ◌≡◌, ◌≢◌, ◌≤◌, ◌⊎◌, List, [], ◌∷◌, Option, Some, None, IfSome}
 use Rattle.iom_choices.specs.Systems.{IsAmong}
 use Rattle.iom_choices.specs.Trees.{ways_over}
 use Rattle.iom_core.specs.Looking.{by_tables}
@@ -17,20 +17,43 @@ use Rattle.iom_owed.specs.declared.settling.Unsettled.{Unsettled}
 abbrev pub leads_over : State → Request → List Entry → List Led
 leads_over state request held = leads (ways_over held (tree_of state request))
 
--- one of these entries alone leads the request elsewhere
-pub record ServesAlone (state : State) (request : Request) (tables : Led) (held : List Kept) (found : Unsettled) : Type 0 where
-  pub kept : Kept
-  pub among : IsAmong held kept
+-- an entry alone leads the request nowhere else
+abbrev pub LeadsAlike : State → Request → Led → Kept → Type 0
+LeadsAlike state request tables kept = (way : Led) → IsAmong (leads_over state request (kept.entry ∷ [])) way → way ≡ tables
+
+-- this entry alone leads it elsewhere
+pub record Serves (state : State) (request : Request) (tables : Led) (kept : Kept) (found : Unsettled) : Type 0 where
   pub numbered : found.number ≡ Some kept.number
   pub led : IsAmong (leads_over state request (kept.entry ∷ [])) found.elsewhere
   pub told : found.tables ≡ tables
   pub differs : found.elsewhere ≢ tables
 
+-- one of these entries alone leads it elsewhere, and none with a smaller number does
+pub record ServesAlone (state : State) (request : Request) (tables : Led) (held : List Kept) (found : Unsettled) : Type 0 where
+  pub kept : Kept
+  pub among : IsAmong held kept
+  pub serves : Serves state request tables kept found
+  pub oldest : (other : Kept) → IsAmong held other → LeadsAlike state request tables other ⊎ (kept.number ≤ other.number)
+
 -- None: none of them does
 abbrev pub IsSoughtAlone : State → Request → Led → List Kept → Option Unsettled → Type 0
-IsSoughtAlone state request tables held None =
-    (kept : Kept) → IsAmong held kept → (way : Led) → IsAmong (leads_over state request (kept.entry ∷ [])) way → way ≡ tables
+IsSoughtAlone state request tables held None = (kept : Kept) → IsAmong held kept → LeadsAlike state request tables kept
 IsSoughtAlone state request tables held (Some found) = ServesAlone state request tables held found
+
+-- what was found has at most this number
+abbrev pub IsUpTo : Option ℕ → ℕ → Type 0
+IsUpTo None number = ⊥
+IsUpTo (Some own) number = own ≤ number
+
+abbrev pub IsOlder : Option Unsettled → ℕ → Type 0
+IsOlder None number = ⊥
+IsOlder (Some found) number = IsUpTo found.number number
+
+-- an entry is tried after what was found: the one with the smaller number is found
+pub record Tries (state : State) (request : Request) (tables : Led) (kept : Kept) (before after : Option Unsettled) : Type 0 where
+  pub tried : LeadsAlike state request tables kept ⊎ IsOlder after kept.number
+  pub still : (number : ℕ) → IsOlder before number → IsOlder after number
+  pub found : (after ≡ before) ⊎ IfSome after (λ found. Serves state request tables kept found)
 
 -- together they lead it elsewhere, and none does alone
 pub record ServeTogether (state : State) (request : Request) (tables : Led) (held : List Kept) (found : Unsettled) : Type 0 where

@@ -1,5 +1,5 @@
 -- Whether it makes a difference to a request what an IOMMU holds: RISC-V IOMMU Architecture 1.0, "Caching in-memory data structures".
-use Rattle.std.specs.Prelude.{ℕ, ◌≡◌, ◌≢◌, ◌⊎◌, false, List, ◌∷◌, [], map, Option, Some, None}
+use Rattle.std.specs.Prelude.{ℕ, ◌≡◌, ◌≢◌, ◌≤◌, ◌⊎◌, false, List, ◌∷◌, [], map, Option, Some, None}
 use Rattle.iom_choices.specs.Models.{end_of}
 use Rattle.iom_choices.specs.Settled.{EachUse, IsSettled}
 use Rattle.iom_choices.specs.Systems.{IsAmong}
@@ -24,7 +24,12 @@ use Rattle.iom_owed.specs.declared.settling.Unsettled.{Unsettled}
 abbrev pub IsSettledNow : State → List Step → Request → Type 0
 IsSettledNow start steps request = IsSettled (iommu false) (May false start steps) (bare (end_of platform start steps)) (Some request)
 
--- An entry with this number alone leads the request there: each look-up uses it, or reads memory.
+-- the entry alone leads the request where memory leads it
+abbrev pub IsSettledBy : State → Request → Entry → Type 0
+IsSettledBy state request entry = IsSettled (iommu false) (λ other. other ≡ entry) (bare state) (Some request)
+
+-- An entry with this number alone leads the request there: each look-up uses it, or reads memory. No entry with a smaller number alone leads it
+-- elsewhere.
 pub record IsServedBy (held : HoldingsView) (state : State) (request : Request) (way : Led) (number : ℕ) : Type 0 where
   pub kept : Kept
   pub among : IsAmong held.entries kept
@@ -32,13 +37,13 @@ pub record IsServedBy (held : HoldingsView) (state : State) (request : Request) 
   pub source : List (Look × Entry)
   pub alone : EachUse (λ entry. entry ≡ kept.entry) source
   pub led : (way_of (bare state) source request).led ≡ way
+  pub oldest : (other : Kept) → IsAmong held.entries other → IsSettledBy state request other.entry ⊎ (number ≤ other.number)
 
 -- each entry alone leads the request where memory leads it
 abbrev pub NoneServes : HoldingsView → State → Request → Type 0
-NoneServes held state request =
-    (kept : Kept) → IsAmong held.entries kept → IsSettled (iommu false) (λ entry. entry ≡ kept.entry) (bare state) (Some request)
+NoneServes held state request = (kept : Kept) → IsAmong held.entries kept → IsSettledBy state request kept.entry
 
--- the number of an entry that alone leads the request there; None: no entry alone leads it elsewhere than memory
+-- the number of the oldest entry that alone leads the request elsewhere than memory, and there; None: no entry does
 abbrev pub IsServed : HoldingsView → State → Request → Led → Option ℕ → Type 0
 IsServed held state request way None = NoneServes held state request
 IsServed held state request way (Some number) = IsServedBy held state request way number

@@ -141,7 +141,7 @@ impl Holdings {
         )
     }
 
-    // The same, and what is said of the request by the same ways.
+    // Adds what a request may read, if there is one; and answers where it may be led elsewhere, by the ways that were gathered for it.
     fn judge_and_add<M: Region>(
         &mut self,
         board: &Board,

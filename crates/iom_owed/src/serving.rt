@@ -1,25 +1,23 @@
 //! Entries that alone lead a request elsewhere than the tables do.
 
-ghost use Rattle.std.specs.Prelude.{◌≡◌, ◌≢◌, ◌↔◌, IfNone, IfOk, IfSome};
+ghost use Rattle.std.specs.Prelude.{◌≡◌, ◌≢◌, ◌≤◌, ◌∷◌, [], ℕ, false, true, IfNone, IfOk, IfSome, OnOk};
 ghost use Rattle.iom_choices.specs.Systems.{IsAmong};
-ghost use Rattle.iom_core.specs.State.{state_on};
+ghost use Rattle.iom_core.specs.Looking.{by_tables};
+ghost use Rattle.iom_core.specs.State.{in_front_of, state_on};
 ghost use Rattle.iom_core.specs.declared.way.Way.{Way as Led};
 ghost use Rattle.iom_every.specs.Rows.{bare};
-ghost use Rattle.iom_every.specs.declared.entry.Entry.{Entry};
-ghost use Rattle.iom_held.specs.Kept.{entries_in};
-ghost use Rattle.iom_owed.specs.Alone.{IsSoughtAlone, leads_over};
+ghost use Rattle.iom_owed.specs.Alone.{IsOlder, IsSoughtAlone, Tries, leads_over};
 
 use crate::gathering::{gather, no_ways};
 use crate::settling::{Unsettled, first_other};
-use iom_bits::Cause;
 use iom_core::{Board, Request, Way};
-use iom_ddt::Context;
-use iom_every::Entry;
 use iom_held::{HeldEntries, Kept};
 use iom_mem::Region;
+use iom_ways::{Ways, put_asked};
 use std::alloc::{AllocError, Global};
 
-/// The way by an entry that alone leads a request elsewhere than the tables do, which lead it there; None if none does.
+/// The way by the oldest entry that alone leads a request elsewhere than the tables do, which lead it there; None if none does. Only the entries
+/// are tried that a look-up of the walk in memory may use.
 pub fn served_alone<M: Region>(
     alloc: Global,
     board: &Board,
@@ -28,88 +26,87 @@ pub fn served_alone<M: Region>(
     request: &Request,
     tables: &Way,
 ) -> Result<Option<Unsettled>, AllocError>
+    requires tables { tables.now ≡ by_tables (in_front_of (M.memory ram.now) board.now.iommu) request.now }
     ensures { IfOk result (IsSoughtAlone (bare (state_on (M.memory ram.now) board.now)) request.now tables.now held.now) }
 {
-    let all = all_of(alloc, held)?;
-    served_among(alloc, board, ram, &all, request, tables)
-}
-
-// All held entries, as a list.
-fn all_of(alloc: Global, held: &HeldEntries) -> Result<Vec<Kept>, AllocError>
-    ensures { IfOk result (λ all. all.items ≡ held.now) }
-{
-    let mut all = Vec::new(alloc);
-    let shelves = held.shelves();
-    for shelf in shelves {
-        all.extend_from_slice(shelf)?;
+    let mut asked = Vec::new(alloc);
+    put_asked(&mut asked, ram, board.registers(), held, request)?;
+    let mut ways = no_ways(alloc);
+    let mut oldest = None;
+    for kept in asked.iter() {
+        try_entry(
+            &mut oldest,
+            &mut ways,
+            alloc,
+            board,
+            ram,
+            kept,
+            request,
+            tables,
+        )?;
     }
-    Ok(all)
+    Ok(oldest)
 }
 
-// The same as `served_alone` of these entries, by halves: where all of them lead it nowhere else, none does alone.
-fn served_among<M: Region>(
+// Puts the way by this entry in place of what was found, if it alone leads the request elsewhere and is older. The ways have this room.
+fn try_entry<M: Region>(
+    oldest: &mut Option<Unsettled>,
+    ways: &mut Ways,
     alloc: Global,
     board: &Board,
     ram: &M,
-    held: &[Kept],
+    kept: &Kept,
     request: &Request,
     tables: &Way,
-) -> Result<Option<Unsettled>, AllocError>
-    ensures { IfOk result (IsSoughtAlone (bare (state_on (M.memory ram.now) board.now)) request.now tables.now held.now) }
+) -> Result<(), AllocError>
+    ensures { OnOk result (Tries (bare (state_on (M.memory ram.now) board.now)) request.now tables.now kept.now oldest.old oldest.new) }
 {
-    if held.is_empty() {
-        return Ok(None);
+    if !is_older(kept.number, oldest) {
+        return Ok(());
     }
-    let Some(elsewhere) = led_by(alloc, board, ram, held, request, tables)? else {
-        return Ok(None);
+    let Some(elsewhere) = led_by(ways, alloc, board, ram, kept, request, tables)? else {
+        return Ok(());
     };
-    if held.len() == 1 {
-        return Ok(Some(Unsettled {
-            elsewhere,
-            tables: *tables,
-            number: Some(held[0].number),
-        }));
-    }
-    let half = held.len() / 2;
-    if let Some(found) = served_among(alloc, board, ram, &held[..half], request, tables)? {
-        return Ok(Some(found));
-    }
-    served_among(alloc, board, ram, &held[half..], request, tables)
+    *oldest = Some(Unsettled {
+        elsewhere,
+        tables: *tables,
+        number: Some(kept.number),
+    });
+    Ok(())
 }
 
-// Where these entries together may lead a request, if not where the tables do.
+// Whether an entry of this number is older than what was found.
+fn is_older(number: u64, found: &Option<Unsettled>) -> bool
+    ensures not { result ≡ false → IsOlder found.now number }
+    ensures older { result ≡ true → (other : ℕ) → IsOlder found.now other → number ≤ other }
+{
+    match found {
+        Some(
+            Unsettled {
+                number: Some(own),
+                ..
+            },
+        ) => number < *own,
+        _ => true,
+    }
+}
+
+// Where this entry alone may lead a request, if not where the tables do, in this room for its ways.
 fn led_by<M: Region>(
+    ways: &mut Ways,
     alloc: Global,
     board: &Board,
     ram: &M,
-    held: &[Kept],
+    kept: &Kept,
     request: &Request,
     tables: &Way,
 ) -> Result<Option<Way>, AllocError>
-    ensures found { IfOk result (λ led. IfSome led (IsAmong (leads_over (bare (state_on (M.memory ram.now) board.now)) request.now (entries_in held.now)))) }
+    ensures found { IfOk result (λ led. IfSome led (IsAmong (leads_over (bare (state_on (M.memory ram.now) board.now)) request.now (kept.now.entry ∷ [])))) }
     ensures differs { IfOk result (λ led. IfSome led (λ way. way ≢ tables.now)) }
     ensures none { IfOk result (λ led. IfNone led ((way : Led) →
-        IsAmong (leads_over (bare (state_on (M.memory ram.now) board.now)) request.now (entries_in held.now)) way → way ≡ tables.now)) }
+        IsAmong (leads_over (bare (state_on (M.memory ram.now) board.now)) request.now (kept.now.entry ∷ [])) way → way ≡ tables.now)) }
 {
-    let some = only_these(alloc, held)?;
-    let mut ways = no_ways(alloc);
-    gather(&mut ways, board, ram, &some, request)?;
+    let one = HeldEntries::one(alloc, *kept)?;
+    gather(ways, board, ram, &one, request)?;
     Ok(first_other(&ways.led, tables))
-}
-
-// These entries alone, under any number.
-fn only_these(alloc: Global, kept: &[Kept]) -> Result<HeldEntries, AllocError>
-    ensures { IfOk result (λ held. (entry : Entry) → IsAmong (entries_in held) entry ↔ IsAmong (entries_in kept.now) entry) }
-{
-    let entries = entries_of(alloc, kept)?;
-    let mut held = HeldEntries::new(alloc);
-    held.renew_all(&entries, 0)?;
-    Ok(held)
-}
-
-fn entries_of(alloc: Global, kept: &[Kept]) -> Result<Vec<Entry>, AllocError>
-    ensures { IfOk result (λ entries. entries.items ≡ entries_in kept.now) }
-{
-    let _: Option<Result<Context, Cause>> = None;
-    kept.iter().map(|each| each.entry).collect(alloc)
 }

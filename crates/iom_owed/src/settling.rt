@@ -31,7 +31,8 @@ pub struct Unsettled {
     /// The way by the tables, which differs.
     pub tables: Way,
     /// The number of an entry that alone leads it to `elsewhere`, wherever a look-up uses it and all else is read from memory: that of the
-    /// newest step that could read it. None if no single entry leads it elsewhere than the tables do.
+    /// newest step that could read it. If several entries lead it elsewhere on their own, it is the smallest number. None if no single entry
+    /// leads it elsewhere than the tables do.
     pub number: Option<u64>,
 }
 
@@ -77,7 +78,7 @@ impl Holdings {
         self.unsettled_by(board, ram, request, &mut ways)
     }
 
-    // The same, in this room for its ways.
+    // As `unsettled`, in this room for its ways.
     fn unsettled_by<M: Region>(
         &self,
         board: &Board,

@@ -47,7 +47,7 @@ fn tell(rt: &impl Eprint, fault: impl Display + Drop) {
     let _ = rt.eprintln(format_args!("iom_player: {fault}"));
 }
 
-// Plays what stands on standard input, or tells why it does not.
+// Plays the script on standard input, or prints why it doesn't.
 fn main(rt: HostRuntime) -> ExitCode {
     if !is_without_words(&rt) {
         tell(&rt, "no word is taken; rviommu takes words");

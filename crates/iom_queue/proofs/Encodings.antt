@@ -11,7 +11,7 @@ small : (set : Bool) → flag set ≤ 1
 small true = omega arith
 small false = omega arith
 
--- a field of one bit tells the flag that was put there
+-- a field of one bit holds the flag that was put there
 told : (word low : ℕ) (set : Bool) → field_of word low 1 ≡ flag set → has_bit word low ≡ set
 unfolding has_bit
 told word low true e = grind (arith, e)

@@ -41,7 +41,7 @@ abbrev pub IsIllegal : Features → Option (List ℕ) → Type 0
 IsIllegal features words =
     (command : Command) → CommandFits command → is_offered features command ≡ true → words ≢ Some (command_words command)
 
--- the same without a decoder: which words stand at the head, and which command they are those of
+-- what the command unit finds, without a decoder: by the words at the head, and the command that has these words
 abbrev pub IsFetch : Registers → Memory → Fetch → Type 0
 IsFetch registers memory Idle = is_idle registers ≡ true
 IsFetch registers memory Fault =

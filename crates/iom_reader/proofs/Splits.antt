@@ -148,7 +148,7 @@ pub open_line-line : (part text : List ℕ) → open_line (text ++ (part ++ 10 �
 open_line-line part text = ap open_line (sym (append_assoc text part (10 ∷ []))) ∙ open_line-ended 10 (text ++ part) refl
 
 -- no part of a text has a line end, so the open line has none
-abbrev HaveNoEnd : List (List ℕ) → Type 0
+abbrev pub HaveNoEnd : List (List ℕ) → Type 0
 HaveNoEnd [] = Unit {0}
 HaveNoEnd (part ∷ parts) = (list_any (λ c. c == 10) part ≡ false) × HaveNoEnd parts
 
@@ -156,7 +156,7 @@ onto_first-none : (c : ℕ) (parts : List (List ℕ)) → (c == 10) ≡ false �
 onto_first-none c [] other none = (rw other refl, tt)
 onto_first-none c (part ∷ parts) other none = (rw (other, none.0) refl, none.1)
 
-parts_none : (text : List ℕ) → HaveNoEnd (slice_split (λ c. c == 10) text)
+pub parts_none : (text : List ℕ) → HaveNoEnd (slice_split (λ c. c == 10) text)
 parts_none [] = (refl, tt)
 parts_none (c ∷ text) =
     let is : (b : Bool) → (c == 10) ≡ b → HaveNoEnd (slice_split (λ c. c == 10) (c ∷ text)) =
@@ -171,7 +171,7 @@ last_none : (first : List ℕ) (rest : List (List ℕ)) → list_any (λ c. c ==
 last_none first [] none all = none
 last_none first (second ∷ rest) none all = last_none second rest all.0 all.1
 
-open_none : (parts : List (List ℕ)) → HaveNoEnd parts → list_any (λ c. c == 10) (open_in parts) ≡ false
+pub open_none : (parts : List (List ℕ)) → HaveNoEnd parts → list_any (λ c. c == 10) (open_in parts) ≡ false
 open_none [] none = refl
 open_none (first ∷ rest) none = last_none first rest none.0 none.1
 

@@ -1,4 +1,5 @@
 pub mod Lines
+pub mod Calls
 pub mod Watching
 pub mod Answering
 pub mod Speaking

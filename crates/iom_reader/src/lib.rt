@@ -2,6 +2,7 @@
 #![tactic(auto)]
 
 pub use answerer::Answerer;
+pub use calls::{ReadCalls, WriteCalls};
 pub use fault::RunFault;
 pub use reading::answer_all;
 pub use rest::Rest;
@@ -9,6 +10,7 @@ pub use watched::{WatchedReader, WatchedWriter};
 pub use writing::write_out;
 
 mod answerer;
+mod calls;
 mod fault;
 mod reading;
 mod rest;

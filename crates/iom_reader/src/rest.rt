@@ -112,7 +112,7 @@ impl Rest {
         Ok(())
     }
 
-    // Answers the lines that end in this part of a script, and tells how many bytes they take.
+    // Answers the lines that end in this part of a script. The result is how many bytes they take.
     fn lines_done<A: Answerer, W: Write>(
         &mut self,
         answerer: &mut A,

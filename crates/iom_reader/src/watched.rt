@@ -1,9 +1,10 @@
-ghost use Rattle.std.specs.Prelude.{◌≡◌, ◌<◌, ◌≤◌, take, length, is_none, not, true, false, IfSome, MatchOption};
+ghost use Rattle.std.specs.Prelude.{◌≡◌, ◌<◌, ◌≤◌, ℕ, Option, take, length, is_none, not, true, false, IfSome, MatchOption};
 ghost use Rattle.std.specs.Option.{unwrap_or};
 ghost use Rattle.std.specs.Io.KnownBytes.{Appends, Consumes, Keeps, IsAtEnd};
+ghost use Rattle.iom_reader.specs.Calls.{some_bytes};
 ghost use Rattle.iom_reader.specs.Watching.{read_failed, write_failed, is_flushed};
 
-use std::io::{Read, Write};
+use crate::calls::{ReadCalls, WriteCalls};
 
 /// A reader that notes whether a read of it failed. After that it isn't called again.
 #[derive(Drop)]
@@ -14,7 +15,7 @@ pub struct WatchedReader<'a, R> {
     failed: bool,
 }
 
-impl<'a, R: Read> WatchedReader<'a, R> {
+impl<'a, R: ReadCalls> WatchedReader<'a, R> {
     /// A reader of which no read failed yet.
     pub fn new(inner: &'a mut R) -> WatchedReader<'a, R>
         ensures same_reader { result.inner.ghost_name ≡ inner.entry.ghost_name }
@@ -36,6 +37,7 @@ impl<'a, R: Read> WatchedReader<'a, R> {
     ) -> Option<usize>
         requires can { read_failed self.old ≡ false }
         requires flushed { is_flushed _answers.now ≡ true }
+        ensures called { R.reads self.old.inner.now self.new.inner.now piece.new result }
         ensures bytes { MatchOption result
             (Keeps (R.remaining self.old.inner.now) (R.remaining self.new.inner.now))
             (λ count. Consumes (R.remaining self.old.inner.now) (R.remaining self.new.inner.now)
@@ -46,13 +48,9 @@ impl<'a, R: Read> WatchedReader<'a, R> {
         ensures failed { read_failed self.new ≡ is_none result }
         ensures same_reader { self.new.inner.ghost_name ≡ self.old.inner.ghost_name }
     {
-        match self.inner.read(piece) {
-            Ok(count) => Some(count),
-            Err(_) => {
-                self.failed = true;
-                None
-            }
-        }
+        let count = self.inner.read_once(piece);
+        self.failed = count.is_none();
+        count
     }
 }
 
@@ -68,7 +66,7 @@ pub struct WatchedWriter<'a, W> {
     flushed: bool,
 }
 
-impl<'a, W: Write> WatchedWriter<'a, W> {
+impl<'a, W: WriteCalls> WatchedWriter<'a, W> {
     /// A writer of which no call failed yet.
     pub fn new(inner: &'a mut W) -> WatchedWriter<'a, W>
         ensures same_writer { result.inner.ghost_name ≡ inner.entry.ghost_name }
@@ -86,6 +84,7 @@ impl<'a, W: Write> WatchedWriter<'a, W> {
     #[inline(always)]
     pub(crate) fn write(&mut self, text: &[u8]) -> Option<usize>
         requires { write_failed self.old ≡ false }
+        ensures called { (count : Option ℕ) × W.writes self.old.inner.now self.new.inner.now text.now count × (result ≡ some_bytes count) }
         ensures bytes { Appends (W.contents self.old.inner.now) (W.contents self.new.inner.now)
             (take (unwrap_or result 0) text.now) }
         ensures bound { IfSome result (λ count. (0 < count) × (count ≤ length text.now)) }
@@ -94,25 +93,27 @@ impl<'a, W: Write> WatchedWriter<'a, W> {
         ensures same_writer { self.new.inner.ghost_name ≡ self.old.inner.ghost_name }
     {
         self.flushed = false;
-        match self.inner.write(text) {
-            Ok(0) | Err(_) => {
+        match self.inner.write_once(text) {
+            Some(0) | None => {
                 self.failed = true;
                 None
             }
-            Ok(count) => Some(count),
+            Some(count) => Some(count),
         }
     }
 
     /// Flushes what isn't flushed, and answers whether that went well.
     pub(crate) fn flush(&mut self) -> bool
         requires { write_failed self.old ≡ false }
+        ensures called { is_flushed self.old ≡ false → W.flushes self.old.inner.now self.new.inner.now result }
+        ensures done_before { is_flushed self.old ≡ true → (self.new.inner.now ≡ self.old.inner.now) × (result ≡ true) }
         ensures bytes { Keeps (W.contents self.old.inner.now) (W.contents self.new.inner.now) }
         ensures failed { write_failed self.new ≡ not result }
         ensures flushed { result ≡ true → is_flushed self.new ≡ true }
         ensures same_writer { self.new.inner.ghost_name ≡ self.old.inner.ghost_name }
     {
         if !self.flushed {
-            self.flushed = self.inner.flush().is_ok();
+            self.flushed = self.inner.flush_once();
             self.failed = !self.flushed;
         }
         self.flushed

@@ -27,7 +27,7 @@ pub fn write_out<W: Write>(writer: &mut WatchedWriter<'_, W>, text: &[u8]) -> Re
     }
 }
 
-// The same of what a writer left.
+// Writes the rest of a text, with as many calls as the writer needs. The fault is `Write`.
 #[inline(never)]
 fn write_rest<W: Write>(writer: &mut WatchedWriter<'_, W>, text: &[u8]) -> Result<(), RunFault>
     requires { write_failed writer.old ≡ false }

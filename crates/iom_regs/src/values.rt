@@ -57,7 +57,7 @@ impl Regs {
         }
     }
 
-    /// What it holds.
+    /// The values that it holds.
     pub fn values(&self) -> RegValues
         ensures { registers_of result ≡ self.now }
     {
@@ -66,7 +66,7 @@ impl Regs {
 }
 
 impl MappedRegisters {
-    // The same of a file without the rule of pending interrupts.
+    // The register file that holds these values, without the rule of pending interrupts; None if they aren't `IsSound`.
     fn of(values: &RegValues) -> Option<MappedRegisters>
         ensures sound { IsSome result ↔ IsSound (registers_of values.now) }
         ensures registers { IfSome result (λ registers. registers ≡ registers_of values.now) }

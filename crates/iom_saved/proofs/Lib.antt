@@ -1,4 +1,5 @@
 pub mod Bytes
+pub mod Checks
 pub mod Codes
 pub mod Lists
 pub mod Pieces

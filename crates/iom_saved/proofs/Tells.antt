@@ -1,4 +1,4 @@
--- What words tell: those of one thing aren't those of another, whatever follows them.
+-- Words and what they stand for: those of one thing aren't those of another, whatever follows them.
 use Rattle.std.proofs.Common.{◌≡◌, ◌/◌, ◌++◌, ◌∙◌, ℕ, zero, suc, List, [], ◌∷◌, length, get_or, drop, append_assoc, refl, sym, ap, ap₂, arith}
 use Rattle.std.specs.List.{flat_map}
 use Rattle.iom_saved.specs.Bytes.{words_in, words_of_bytes}

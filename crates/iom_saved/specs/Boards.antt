@@ -11,7 +11,7 @@ use Rattle.iom_saved.specs.Registers.{register_words}
 abbrev pub own_words : ℕ × Device → List ℕ
 own_words own = own.0 ∷ device_words own.1
 
--- the same of one that there may be
+-- a device that there may be, behind its id
 abbrev pub numbered_words : Option (ℕ × Device) → List ℕ
 numbered_words None = []
 numbered_words (Some own) = own_words own

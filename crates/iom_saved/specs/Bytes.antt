@@ -12,6 +12,6 @@ words_in (suc count) bytes = number_of_bytes (take 8 bytes) ∷ words_in count (
 abbrev pub words_of_bytes : List ℕ → List ℕ
 words_of_bytes bytes = length bytes / 8 ∷ words_in (length bytes / 8) bytes
 
--- the same of a memory, behind its base
+-- those of a memory, behind its base
 abbrev pub memory_words : Memory → List ℕ
 memory_words memory = memory.base ∷ words_of_bytes memory.bytes

@@ -1,4 +1,5 @@
 pub mod Bytes
+pub mod Check
 pub mod Histories
 pub mod Registers
 pub mod Caches

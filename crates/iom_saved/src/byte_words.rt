@@ -1,16 +1,17 @@
 //! Bytes as words of eight.
 
-ghost use Rattle.std.specs.Prelude.{ℕ, ◌≡◌, ◌+◌, ◌/◌, ◌<◌, ◌≤◌, ◌++◌, get_or, length, take, drop, IfOk, OnOk};
+ghost use Rattle.std.specs.Prelude.{ℕ, ◌≡◌, ◌≢◌, ◌+◌, ◌/◌, ◌%◌, ◌<◌, ◌≤◌, ◌++◌, Err, get_or, length, take, drop, IfErr, IfOk, OnOk};
 ghost use Rattle.iom_bits.specs.Bytes.{bytes_of_number, number_of_bytes};
 ghost use Rattle.iom_mem.specs.Words.{bytes_of_words};
 ghost use Rattle.iom_saved.specs.Bytes.{words_in, words_of_bytes};
+ghost use Rattle.iom_saved.specs.declared.words.SavedFault.TheVariants as fault;
 
 use crate::words::SavedFault;
 use iom_bits::le_u64;
 use std::alloc::{AllocError, Global};
 
-// The number of the eight bytes from a place on.
-fn word_at(bytes: &[u8], at: usize) -> u64
+/// The word that the eight bytes from a place on are, the lowest byte first.
+pub fn word_at(bytes: &[u8], at: usize) -> u64
     requires { at + 8 ≤ length bytes.now }
     ensures { result ≡ number_of_bytes (take 8 (drop at bytes.now)) }
 {
@@ -57,9 +58,11 @@ pub fn bytes_of(alloc: Global, words: &[u64]) -> Result<Vec<u8>, AllocError>
     Ok(bytes)
 }
 
-/// The words that bytes are, the lowest byte of each first. They are none if their number isn't a multiple of 8.
+/// The words that bytes are, the lowest byte of each first. It answers `Bad` exactly if the number of bytes isn't a multiple of 8.
 pub fn words_of(alloc: Global, bytes: &[u8]) -> Result<Vec<u64>, SavedFault>
-    ensures { IfOk result (λ words. bytes.now ≡ bytes_of_words words.items) }
+    ensures words { IfOk result (λ words. bytes.now ≡ bytes_of_words words.items) }
+    ensures bad { length bytes.now % 8 ≢ 0 → result ≡ Err fault.Bad }
+    ensures memory { length bytes.now % 8 ≡ 0 → IfErr result (λ why. why ≡ fault.OutOfMemory) }
 {
     if bytes.len() % 8 != 0 {
         return Err(SavedFault::Bad);

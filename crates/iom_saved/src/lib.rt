@@ -2,7 +2,8 @@
 #![tactic(auto)]
 
 pub use boards::{put_board, take_board};
-pub use byte_words::{bytes_of, words_of};
+pub use byte_words::{bytes_of, word_at, words_of};
+pub use check::check_of;
 pub use histories::{put_history, take_history};
 pub use laws::words_tell_apart;
 pub use memory::{put_memory, take_memory};
@@ -10,6 +11,7 @@ pub use words::{SavedFault, SavedWords};
 
 mod boards;
 mod byte_words;
+mod check;
 mod contexts;
 mod devices;
 mod histories;

@@ -2,6 +2,7 @@
 
 ghost use Rattle.std.specs.Prelude.{◌≡◌, ◌++◌, ◌∷◌, length, IfSome};
 ghost use Rattle.iom_bits.specs.Bits.{flag};
+ghost use Rattle.iom_saved.specs.declared.words.SavedFault.TheVariants as fault;
 
 use std::alloc::{AllocError, AllocFailed};
 use std::marker::Model;
@@ -19,6 +20,8 @@ pub enum SavedFault {
 }
 
 impl From<AllocError> for SavedFault {
+    ghost from_gives = { λ _ e. e ≡ fault.OutOfMemory };
+
     /// `OutOfMemory`.
     fn from(_error: AllocError) -> SavedFault {
         SavedFault::OutOfMemory
@@ -26,6 +29,8 @@ impl From<AllocError> for SavedFault {
 }
 
 impl<T: Drop> From<AllocFailed<T>> for SavedFault {
+    ghost from_gives = { λ _ e. e ≡ fault.OutOfMemory };
+
     /// `OutOfMemory`.
     fn from(_error: AllocFailed<T>) -> SavedFault {
         SavedFault::OutOfMemory
@@ -59,6 +64,13 @@ impl<'a> SavedWords<'a> {
         ensures { result ≡ length self.now }
     {
         self.left.len()
+    }
+
+    /// The words that are left.
+    pub fn as_slice(&self) -> &'a [u64]
+        ensures { result.now ≡ self.now }
+    {
+        self.left
     }
 
     /// The next word; None if there is none.

@@ -145,7 +145,7 @@ fn numbers_slip(words: &[&[u8]]) -> Reply
     }
 }
 
-/// What is said where the operands alone don't tell what is wrong.
+/// What is said where the operands alone don't show what is wrong.
 const UNFIT: &[u8] = b"the operands don't fit";
 
 // What is wrong with the operands of IOTINVAL.VMA.
@@ -266,7 +266,7 @@ fn statement_slip(name: &[u8], operands: &[&[u8]]) -> Reply
     }
 }
 
-/// What is wrong with an item's words, of which eleven tell that there are too many; `last`, of at most 64 bytes, where the item itself
+/// What is wrong with an item's words, of which eleven show that there are too many; `last`, of at most 64 bytes, where the item itself
 /// is sound.
 #[tactic(auto, unfolding(crate::specs::Items::item_slip))]
 pub fn item_slip(words: &[&[u8]], last: &[u8]) -> Reply

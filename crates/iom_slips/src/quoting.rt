@@ -1,4 +1,4 @@
-//! How a word is told.
+//! How a word is quoted.
 
 ghost use Rattle.std.specs.Prelude.{◌≡◌, ◌+◌, ◌*◌, ◌++◌, ◌∷◌, [], ◌≤◌, length, take, codes};
 ghost use Rattle.hex.specs.Hex.{encode_lower};
@@ -7,7 +7,7 @@ ghost use Rattle.iom_slips.specs.Quoting.{ending, escaped, quoted, shown};
 use hex::encode_to_slice;
 use iom_tool::Reply;
 
-/// How many bytes of a word are told.
+/// How many bytes of a word are quoted.
 const MOST_TOLD: usize = 32;
 
 /// Appends bytes, for which there is room.
@@ -69,7 +69,7 @@ fn push_escaped(out: &mut Reply, text: &[u8])
     }
 }
 
-// The first bytes of a word, which are told.
+// The first bytes of a word, which are quoted.
 fn first_bytes(word: &[u8]) -> &[u8]
     ensures bytes { result.now ≡ take 32 word.now }
     ensures short { length result.now ≤ 32 }
@@ -78,7 +78,7 @@ fn first_bytes(word: &[u8]) -> &[u8]
     &word[..count]
 }
 
-// What is told behind them.
+// What is said behind them.
 fn ending(word: &[u8]) -> &'static [u8]
     ensures text { result.now ≡ ending word.now }
     ensures short { length result.now ≤ 3 }

@@ -196,7 +196,7 @@ fn is_bad(line: &Line) -> bool
 }
 
 /// Why `debug`, `check` and `explain` answer `bad` to a line, given without its line end: of the rows of their table the first whose longest
-/// front the words of the line fit, and the first word at which the line leaves it, as `VALUE is missing`; printable, at most 200 bytes.
+/// front the words of the line fit, and the first word at which the line leaves it, as `VALUE is missing`.
 /// Empty for any other line.
 #[tactic(auto, unfolding(crate::specs::Slips::slip_of))]
 pub fn slip(line: &[u8]) -> Reply

@@ -129,7 +129,7 @@ fn later_slip(name: &[u8], text: &[u8], line: &[u8]) -> Reply
 }
 
 /// What is wrong with a line of an image's text that the assembler calls bad, by its own words, as `"vnaa" isn't vma, gvma, fence or iodir`:
-/// with the first statement of the text, or with a later one. Printable, at most 200 bytes; empty for a line without words. Of a line that can
+/// with the first statement of the text, or with a later one. Empty for a line without words. Of a line that can
 /// stand it says nothing of use.
 #[tactic(auto, unfolding(crate::specs::Statements::statement_slip_of))]
 pub fn statement_slip(is_first: bool, line: &[u8]) -> Reply

@@ -1,10 +1,11 @@
 //! A law of reasons.
 
-ghost use Rattle.iom_slips.specs.Telling.{AreRows, AreTold};
+ghost use Rattle.iom_slips.specs.Telling.{AreRows, AreTaken, AreTold};
 
 /// A law of `slip`, which cites the same definitions. The lines among which it looks are the rows of the table of forms, part by part. It has
-/// a reason for a line exactly where the line is bad.
+/// a reason for a line exactly where the line is bad. A line whose words are all pieces of a row, each number in its range, isn't bad.
 pub fn slips_are_told()
     ensures rows { AreRows }
     ensures told { AreTold }
+    ensures taken { AreTaken }
 {}

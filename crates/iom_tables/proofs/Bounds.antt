@@ -1,4 +1,4 @@
--- What the parts of a walk tell is within its bounds.
+-- The numbers in the parts of a walk are within their bounds.
 use Rattle.std.proofs.Common.{◌≡◌, ◌≢◌, ◌+◌, ◌-◌, ◌*◌, ◌/◌, ◌%◌, ◌^◌, ◌==◌, ◌&&◌, ◌<◌, ◌≤◌, ◌++◌, ◌∙◌, ℕ, zero, suc, Bool, true, false, not, List, [], ◌∷◌, map, Option, Some, None, Result, Ok, Err, if◌then◌else◌, refl, sym, ap, subst, arith, mod-eq_of_lt}
 use Rattle.std.specs.Prelude.{All, IfOk, IfSome, find, flat_map}
 use Rattle.std.proofs.lemmas.Bool.{eqb-true, false_from_ne_true}
@@ -177,7 +177,7 @@ root_within at format address root (suc count) some place =
 walk_within : (at : ℕ → Got) (format : Format) (root address : ℕ) → RootFits format.shape root → All Within (walk_path_of at format root address)
 walk_within at format root address rooted = root_within at format address root (levels format.shape) (omega arith) (rooted address)
 
--- the entries that are told, of an address that keeps the width rule
+-- the entries that are listed, of an address that keeps the width rule
 abbrev IsTold : Shape → ℕ → PathEntry → Type 0
 IsTold shape address entry = (is_in_width shape address ≡ true) × EntryFits entry
 

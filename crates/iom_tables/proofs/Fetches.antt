@@ -1,4 +1,4 @@
--- What is told of memory is what memory has.
+-- What the parts say of memory is what memory has.
 use Rattle.std.proofs.Common.{◌≡◌, ◌%◌, ◌-◌, ◌++◌, ℕ, zero, suc, Bool, true, false, not, List, [], ◌∷◌, map, Option, Some, None, Result, Ok, Err, if◌then◌else◌, refl, sym, subst}
 use Rattle.std.specs.Prelude.{All, flat_map}
 use Rattle.std.proofs.lemmas.List.Elements.{All-nil, All-cons, All-head, All-tail, All-append, All-map}

@@ -1,4 +1,4 @@
--- The tests for equality tell it.
+-- The tests for equality decide it.
 use Rattle.std.proofs.Common.{◌≡◌, ◌==◌, ◌&&◌, ℕ, Bool, true, false, ◌∙◌, if◌then◌else◌, refl, sym, ap, subst, arith}
 use Rattle.std.specs.Prelude.{IsTrue, IfSome, Option, None, Some, is_some, ◌↔◌, ◌≢◌}
 use Rattle.std.proofs.lemmas.Bool.{eqb-true, false_from_ne_true}
@@ -165,14 +165,14 @@ same_way (way.Denied x) (way.Context d) is = absurd (cc is)
 same_way (way.Denied x) (way.Walked d k) is = absurd (cc is)
 same_way (way.Denied x) (way.Denied y) is = ap way.Denied (same_denial x y is)
 
--- what tells two ways apart is the test
+-- what decides whether two ways are equal is the test
 pub way_test : (b : Bool) (v w : Way) → (IsTrue b ↔ (v ≡ w)) → b ≡ is_same_way v w
 way_test true v w decides =
     let same : v ≡ w = decides.0 refl in sym (ap (is_same_way v) (sym same) ∙ way_itself v)
 way_test false v w decides =
     sym (false_from_ne_true _ (λ is. cc (decides.1 (same_way v w is))))
 
--- a place's answer by the tests, where these tell what the tables say
+-- a place's answer by the tests, if these decide what the tables say
 pub standing_told : {K V T : Type 0} (IsSaid : K → V → Type 0) (is_said : K → V → Bool) (say : K → T) →
     ((key : K) (value : V) → IsTrue (is_said key value) ↔ IsSaid key value) → (at : Place K V) (answer : Standing T) →
     IsStanding IsSaid say at answer → answer ≡ standing_of is_said say at
@@ -217,7 +217,7 @@ hit_test (way.Denied denial) request key hit = (λ is. absurd (cc is), λ is. ab
 pub page_test : (m : Machine) (key : Key) (hit : Hit) → IsTrue (is_hit_now m key hit) ↔ IsHitNow m key hit
 page_test m key hit = hit_test (by_tables m (request_of key)) (request_of key) key hit
 
--- something is told where two ways differ
+-- something is returned exactly if two ways differ
 differs : (now tables : Way) → IsTrue (is_some (differing now tables)) ↔ (now ≢ tables)
 differs now tables = (
   λ is same.
@@ -237,7 +237,7 @@ stale_told m request found is =
     let at = differs (led m request).way (led (uncached m) request).way in
     (λ so. at.0 (ap is_some (sym is) ∙ so), λ other. ap is_some is ∙ at.1 other)
 
--- and what is told then are the tables
+-- and then it is the way by the tables
 told_tables : (now tables : Way) → IfSome (differing now tables) (λ way. way ≡ tables)
 told_tables now tables = elim (is_same_way now tables) as (λ same. IfSome (if same then None else Some tables) (λ way. way ≡ tables)) [
   | true ↦ tt

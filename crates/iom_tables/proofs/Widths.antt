@@ -38,7 +38,7 @@ pub not_false : (b : Bool) → not b ≡ false → b ≡ true
 not_false true is = refl
 not_false false is = absurd (cc)
 
--- what is told as too wide is too wide
+-- what is reported as too wide is too wide
 abbrev pub IsWide : Machine → Request → Part → Type 0
 IsWide m request (part.Ddtp own root) = Unit {0}
 IsWide m request (part.Directory met) = Unit {0}

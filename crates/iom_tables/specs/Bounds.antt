@@ -1,4 +1,4 @@
--- The bounds of what a part tells. A PPN has 44 bits, so a frame's address and that of an entry in its page have 56: RISC-V IOMMU
+-- The bounds of the numbers in a part. A PPN has 44 bits, so a frame's address and that of an entry in its page have 56: RISC-V IOMMU
 -- Architecture 1.0, "Device-directory-table"; RISC-V Privileged Architecture 1.12, "Sv39: Page-Based 39-bit Virtual-Memory System".
 -- A guest-physical address that the second stage translates has at most 59: the same, "Guest Physical Address Translation".
 use Rattle.std.specs.Prelude.{ℕ, ◌<◌, ◌≤◌, ◌^◌, IfSome}

@@ -1,4 +1,4 @@
--- What a part tells of memory is what memory has: the words at the physical address of an item of the directory, of an entry of the
+-- What a part says of memory is what memory has: the words at the physical address of an item of the directory, of an entry of the
 -- second stage, and the one that an entry of the first stage was read at.
 use Rattle.std.specs.Prelude.{ℕ, ◌≡◌, ◌≢◌, Option, Some, None}
 use Rattle.iom_mem.specs.Memory.{Memory, word, words_at}

@@ -61,7 +61,7 @@ Breaks m request (wide.First iova) =
 Breaks m request (wide.Second guest) =
     (context : Context) × ((located m.memory m.registers request.did ≡ Ok context) × IsBeyond (second_shape_of context) guest)
 
--- the same refuses it; the end only tells that something did
+-- a part refuses the request; the end never does, it only shows that a part did
 abbrev pub Refuses : Machine → Request → Part → Type 0
 Refuses m request (part.Ddtp own root) = own ≡ mode.Off
 Refuses m request (part.Directory met) = ¬ IsNoFault (decided_by m.registers.features met)

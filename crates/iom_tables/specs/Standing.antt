@@ -59,7 +59,7 @@ IsHitNow m key hit =
     × (by_tables m (request_of key) ≡ way.Walked context hit)
     × (request_key (request_of key) context ≡ key)
 
--- the same by tests
+-- tests for `IsContextNow` and `IsHitNow`
 abbrev pub is_found : Located → Context → Bool
 is_found found.NoDirectory context = false
 is_found (found.Context now) context = is_same_context now context

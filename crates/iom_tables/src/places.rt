@@ -37,7 +37,7 @@ fn context_at(platform: &Platform, i: u64) -> Standing<Located>
     }
 }
 
-// The same of the context that a live place holds for a device id.
+// Whether the directory now gives a device id this context; if not, what it gives instead.
 fn context_standing(platform: &Platform, did: u32, context: &Context) -> Standing<Located>
     ensures { IsStanding (IsContextNow platform.now.machine) (found_now platform.now.machine) (Live did context.now) result }
 {
@@ -73,7 +73,7 @@ pub fn stale_page(platform: &Platform, i: u64) -> Standing<Way>
     page_at(platform, i)
 }
 
-// The same.
+// Whether the tables say now what place `i` of the translation cache holds; if not, the way that they say.
 fn page_at(platform: &Platform, i: u64) -> Standing<Way>
     ensures { IsStanding (IsHitNow platform.now.machine) (λ key. by_tables platform.now.machine (request_of key))
         (place_in (slice_get platform.now.machine.pages i)) result }
@@ -85,7 +85,7 @@ fn page_at(platform: &Platform, i: u64) -> Standing<Way>
     }
 }
 
-// The same of the hit that a live place holds for a key.
+// Whether the tables lead the request of a key to this hit now; if not, the way that they lead it.
 fn page_standing(platform: &Platform, key: &Key, hit: &Hit) -> Standing<Way>
     ensures { IsStanding (IsHitNow platform.now.machine) (λ key. by_tables platform.now.machine (request_of key))
         (Live key.now hit.now) result }

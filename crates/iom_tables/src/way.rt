@@ -13,7 +13,7 @@ pub fn is_same(way: &Way, other: &Way) -> bool
     is_equal(way, other)
 }
 
-// The same by the parts.
+// Whether two ways are one, by their parts.
 fn is_equal(way: &Way, other: &Way) -> bool
     ensures { IsTrue result ↔ (way.now ≡ other.now) }
 {

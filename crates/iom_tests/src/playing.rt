@@ -1,6 +1,6 @@
 //! Scripts that are played from an image.
 
-use iom_asm::{Item, LoadFault, assemble, built_in};
+use iom_asm::{LoadFault, assemble};
 use iom_core::Platform;
 use iom_play::{Played, WRITE_BLOCK, play};
 use iom_tool::{RunFault, WatchedReader, WatchedWriter};
@@ -49,17 +49,9 @@ pub fn played<R: Read, W: Write>(
     play(alloc, image, &mut reader, &mut writer)
 }
 
-// Whether the script has these answers on this image, and its context is cached at the end.
+// Whether the script has these answers on this image, through the buffer of the programs, which holds none at the end, and its context
+// is cached then.
 fn is_played(alloc: Global, image: &[u8]) -> Result<bool, Fail> {
-    let mut script = SCRIPT;
-    let mut answers = Vec::new(alloc);
-    let played = played(alloc, image, &mut script, &mut answers)?;
-    played.ended?;
-    Ok(answers.as_slice() == ANSWERS && is_cached(&played.platform))
-}
-
-// As `is_played`, through the buffer of the programs, which holds no answer at the end.
-fn is_played_by_blocks(alloc: Global, image: &[u8]) -> Result<bool, Fail> {
     let mut script = SCRIPT;
     let mut answers = BufWriter::with_capacity(alloc, WRITE_BLOCK, Vec::new(alloc))?;
     let played = played(alloc, image, &mut script, &mut answers)?;
@@ -72,7 +64,6 @@ fn is_played_by_blocks(alloc: Global, image: &[u8]) -> Result<bool, Fail> {
 fn script_is_played_from_an_image(rt: HostRuntime) -> Result<(), Fail> {
     let image = assemble(rt.alloc(), MAPPED)?;
     assert!(rt; is_played(rt.alloc(), &image)?);
-    assert!(rt; is_played_by_blocks(rt.alloc(), &image)?);
     Ok(())
 }
 
@@ -151,52 +142,4 @@ fn each_answer_is_seen_before_more_is_read(rt: HostRuntime) -> Result<(), Fail> 
     let image = assemble(rt.alloc(), MAPPED)?;
     assert!(rt; asked(rt.alloc(), &image)? == Err(RunFault::Read));
     Ok(())
-}
-
-fn is_refused(alloc: Global, bytes: &[u8], want: LoadFault) -> bool {
-    let mut script = SCRIPT;
-    let mut answers = Vec::new(alloc);
-    matches!(played(alloc, bytes, &mut script, &mut answers), Err(fault) if fault == want)
-}
-
-#[test]
-fn what_is_no_image_is_refused(rt: HostRuntime) {
-    let alloc = rt.alloc();
-    assert!(rt; is_refused(alloc, b"", LoadFault::Truncated));
-    assert!(rt; is_refused(alloc, b"RVIOMMU0", LoadFault::BadMagic));
-    assert!(rt; is_refused(alloc, b"RVIOMMU1\x00\x00\x00\x80", LoadFault::Truncated));
-}
-
-#[test]
-fn built_in_image_is_that_of_its_text(rt: HostRuntime) -> Result<(), Fail> {
-    let image = assemble(rt.alloc(), b"ram 0x80000000 0x100000")?;
-    assert!(rt; image.as_slice() == built_in().as_slice());
-    Ok(())
-}
-
-const NAMES: &[(&[u8], Option<Item>)] = &[
-    (b"cmd", Some(Item::Cmd)),
-    (b"fault", Some(Item::Fault)),
-    (b"context", Some(Item::Context)),
-    (b"dir", Some(Item::Dir)),
-    (b"pte", Some(Item::Pte)),
-    (b"u64", Some(Item::Word)),
-    (b"word", None),
-    (b"Cmd", None),
-    (b"", None),
-];
-
-// The index of the first name that names another item.
-fn named_otherwise(names: &[(&[u8], Option<Item>)]) -> Option<usize> {
-    for (i, (name, item)) in names.iter().enumerate() {
-        if Item::named(name) != *item {
-            return Some(i);
-        }
-    }
-    None
-}
-
-#[test]
-fn items_have_their_names(rt: HostRuntime) {
-    assert_eq!(rt; named_otherwise(NAMES), None);
 }

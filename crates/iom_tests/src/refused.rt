@@ -4,14 +4,14 @@
 
 use crate::blk_requests::with_disk;
 use crate::devices::devices;
-use crate::warrants::{MAPPED, otherwise, read, started, stored, take, walked, written};
-use crate::{first_wrong, playing};
-use iom_account::History;
+use crate::platforms::{MAPPED, memory, read, started, stored, take, written};
+use crate::playing;
+use iom_account::{History, explain};
 use iom_asm::{Item, assemble, list, load, upgrade};
 use iom_bits::{Features, Kind};
 use iom_blk::Blk;
 use iom_cache::{ContextCache, Place, TransCache};
-use iom_core::{Answer, Platform, Request, Step};
+use iom_core::{Answer, Platform, Request, Step, Warrant};
 use iom_every::Entry;
 use iom_held::{HeldEntries, Kept};
 use iom_mem::Ram;
@@ -22,6 +22,16 @@ use iom_saved::{
 use iom_tool::Trace;
 use std::alloc::{AllocError, Global};
 use std::test::Fail;
+
+// The index of the first fact that doesn't hold.
+fn first_wrong(facts: &[bool]) -> Option<usize> {
+    for (i, fact) in facts.iter().enumerate() {
+        if !*fact {
+            return Some(i);
+        }
+    }
+    None
+}
 
 // Makes `count` allocations.
 fn spend(alloc: Global, count: usize) -> Result<(), AllocError> {
@@ -92,13 +102,22 @@ fn caches_and_a_trace_are_made(rt: HostRuntime) -> Result<(), Fail> {
     Ok(())
 }
 
+fn explained(alloc: Global) -> Result<Option<Warrant>, Fail> {
+    spend(alloc, 9)?;
+    let start = Platform::new(alloc, memory(alloc, &MAPPED)?, Vec::new(alloc))?;
+    let steps = [written(16, 8, 0x2000_0402), read(0x4020_1abc)];
+    Ok(explain(alloc, &start, &steps, 1)?)
+}
+
 // `explain` of a step takes one copy of the platform, of three allocations.
 #[test]
 fn copy_for_the_steps(rt: HostRuntime) -> Result<(), Fail> {
-    spend(rt.alloc(), 9)?;
-    let steps = [written(16, 8, 0x2000_0402), read(0x4020_1abc)];
-    let cases = [(1, walked(1, 1, 1))];
-    assert!(rt; otherwise(rt.alloc(), &MAPPED, &steps, &cases)?.is_none());
+    let want = Warrant::Walked {
+        context: 1,
+        walk: 1,
+        current: 1,
+    };
+    assert!(rt; explained(rt.alloc())? == Some(want));
     Ok(())
 }
 
@@ -180,17 +199,13 @@ fn with_device(alloc: Global) -> Result<Platform, Fail> {
     Ok(Platform::new(alloc, ram, devices)?)
 }
 
-fn has_equal_disk(one: &Platform, other: &Platform) -> bool {
-    one.disk(0) == other.disk(0) && one.disk(0).is_some()
-}
-
 // The copy of a platform with a block device takes two more, of the disk and of the list; here these come after its translations'.
 #[test]
 fn platform_with_a_device_is_copied(rt: HostRuntime) -> Result<(), Fail> {
     spend(rt.alloc(), 5)?;
     let platform = with_device(rt.alloc())?;
     let copy = platform.try_clone(rt.alloc())?;
-    assert!(rt; has_equal_disk(&copy, &platform));
+    assert!(rt; copy.disk(0) == platform.disk(0) && copy.disk(0).is_some());
     Ok(())
 }
 
@@ -198,7 +213,7 @@ fn platform_with_a_device_is_copied(rt: HostRuntime) -> Result<(), Fail> {
 const IMAGE: &[u8] =
     b"RVIOMMU1\x00\x00\x00\x80\x00\x00\x00\x00\x00\x00\x10\x00\x00\x00\x00\x00\x00\x00\x00\x00\x01\x00\x00\x00\x05\x00\x00\x00\x02\x00\x00\x00\x03\x00\x00\x00\xc0\xff\xee";
 
-// The same image in version 3.
+// That image in version 3.
 const UPGRADED: &[u8] =
     b"RVIOMMU3\x00\x00\x00\x00\x00\x00\x00\x01\x00\x00\x00\x80\x00\x00\x00\x00\x00\x00\x10\x00\x00\x00\x00\x00\x00\x00\x00\x00\x01\x00\x00\x00\x05\x00\x00\x00\x02\x00\x00\x00\x00\x00\x00\x00\x03\x00\x00\x00\xc0\xff\xee";
 
@@ -281,47 +296,27 @@ fn items_are_listed(rt: HostRuntime) -> Result<(), Fail> {
     Ok(())
 }
 
-// Whether a copy of the memory is equal to it.
-fn is_memory_copied(alloc: Global, platform: &Platform) -> Result<bool, AllocError> {
-    let copy = platform.ram().try_clone(alloc)?;
-    Ok(
-        copy.base() == BASE
-            && copy.size() == 0x10_0000
-            && copy.word(0x8001_0ab8) == Some(0x11_0000_0000),
-    )
-}
-
-fn same_translations(one: &TransCache, other: &TransCache) -> bool {
-    one.place(0) == other.place(0) && one.place(1) == other.place(1)
-}
-
-fn are_translations_copied(alloc: Global, platform: &Platform) -> Result<bool, AllocError> {
-    let copy = platform.trans().try_clone(alloc)?;
-    Ok(same_translations(&copy, platform.trans()))
-}
-
-fn same_contexts(one: &ContextCache, other: &ContextCache) -> bool {
-    one.place(0) == other.place(0) && one.place(1) == other.place(1)
-}
-
-fn are_contexts_copied(alloc: Global, platform: &Platform) -> Result<bool, AllocError> {
-    let copy = platform.contexts().try_clone(alloc)?;
-    Ok(same_contexts(&copy, platform.contexts()))
-}
-
-// Whether copies of memory and caches are equal to them.
-fn are_parts_copied(alloc: Global) -> Result<bool, Fail> {
+// The first part of a platform, of memory and both caches, whose copy differs.
+fn otherwise_copied(alloc: Global) -> Result<Option<usize>, Fail> {
     let platform = read_once(alloc)?;
-    Ok(
-        is_memory_copied(alloc, &platform)?
-            && are_translations_copied(alloc, &platform)?
-            && are_contexts_copied(alloc, &platform)?,
-    )
+    let ram = platform.ram().try_clone(alloc)?;
+    let trans = platform.trans().try_clone(alloc)?;
+    let contexts = platform.contexts().try_clone(alloc)?;
+    let facts = [
+        ram.base() == BASE,
+        ram.size() == 0x10_0000,
+        ram.word(0x8001_0ab8) == Some(0x11_0000_0000),
+        trans.place(0) == platform.trans().place(0),
+        trans.place(1) == platform.trans().place(1),
+        contexts.place(0) == platform.contexts().place(0),
+        contexts.place(1) == platform.contexts().place(1),
+    ];
+    Ok(first_wrong(&facts))
 }
 
 #[test]
 fn parts_are_copied(rt: HostRuntime) -> Result<(), Fail> {
-    assert!(rt; are_parts_copied(rt.alloc())?);
+    assert_eq!(rt; otherwise_copied(rt.alloc())?, None);
     Ok(())
 }
 

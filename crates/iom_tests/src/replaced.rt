@@ -1,12 +1,98 @@
-//! Images with one byte replaced by 0xff: each one that is accepted is loaded, and its device is driven to the end of its request.
+//! Images with one byte replaced by 0xff: why it is refused; each that is accepted is loaded, and its device is driven to the end of its request.
 
-use crate::asm::{REQUEST, with_byte};
-use crate::devices::moved;
-use crate::versions::notified_on;
-use iom_asm::{assemble, judge};
+use crate::devices::{moved, notified};
+use crate::platforms::{take, written};
+use crate::versions::{CHUNK, CUT, DEVICE, MAGIC, RAM, not_cut, with_byte};
+use iom_asm::{LoadFault, assemble, judge, load};
 use iom_core::{Answer, Platform, Step};
-use std::alloc::Global;
+use std::alloc::{AllocError, Global};
 use std::test::Fail;
+
+// A disk, the descriptors of a request that reads its first sector, and two single bytes.
+const REQUEST: &[u8] = b"ram 0x80000000 0x100000
+disk 5 2 c0ffee
+at 0x80040000
+u64 0x80050000 0x0001000100000008 0x80050008 0x0002000100000008 0x80051000 0x0003000300000200 0x80050010 0x0000000200000001
+at 0x80041000
+u64 0x10000
+at 0x80050010
+bytes ff
+";
+
+// A run of places at which 0xff gives the same verdict: their number, and that verdict.
+type Places = (usize, Option<LoadFault>);
+
+// The verdict at place `at`.
+fn verdict_at(places: &[Places], at: usize) -> Option<LoadFault> {
+    let mut left = at;
+    for (count, verdict) in places {
+        if left < *count {
+            return *verdict;
+        }
+        left -= *count;
+    }
+    Some(LoadFault::OutOfMemory)
+}
+
+// The first place at which 0xff gives another verdict than expected.
+fn first_other_verdict(
+    alloc: Global,
+    image: &[u8],
+    places: &[Places],
+) -> Result<Option<usize>, AllocError> {
+    for at in 0..image.len() {
+        if judge(&with_byte(alloc, image, at, 0xff)?).err() != verdict_at(places, at) {
+            return Ok(Some(at));
+        }
+    }
+    Ok(None)
+}
+
+// The runs of places in the image of the request: its head, its chunks and its disk.
+const PLACES: &[Places] = &[
+    (8, MAGIC),
+    (2, RAM),
+    (5, CHUNK),
+    (1, RAM),
+    (2, RAM),
+    (1, None),
+    (5, RAM),
+    (4, CHUNK),
+    (4, DEVICE),
+    // The chunks.
+    (1, None),
+    (7, CHUNK),
+    (2, CUT),
+    (2, CHUNK),
+    (64, None),
+    (2, None),
+    (6, CHUNK),
+    (2, CUT),
+    (2, CHUNK),
+    (8, None),
+    (2, None),
+    (6, CHUNK),
+    (2, CUT),
+    (2, CHUNK),
+    (1, None),
+    // The disk.
+    (3, None),
+    (1, DEVICE),
+    (2, None),
+    (2, DEVICE),
+    (1, CUT),
+    (3, DEVICE),
+    (3, None),
+];
+
+#[test]
+fn image_with_a_byte_replaced(rt: HostRuntime) -> Result<(), Fail> {
+    let image = assemble(rt.alloc(), REQUEST)?;
+    assert_eq!(rt; image.len(), 156);
+    assert_eq!(rt; not_cut(&image), None);
+    assert_eq!(rt; first_other_verdict(rt.alloc(), &image, PLACES)?, None);
+    Ok(())
+}
 
 // More steps than any of the requests needs.
 const MANY: usize = 100;
@@ -72,7 +158,9 @@ fn value(platform: &mut Platform, step: Step) -> Option<u64> {
 
 // Drives the device of an image to the end of its request.
 fn ending(alloc: Global, image: &[u8]) -> Result<Ending, Fail> {
-    let mut platform = notified_on(alloc, image)?;
+    let mut platform = load(alloc, image)?;
+    take(&mut platform, &[written(16, 8, 1)]);
+    notified(&mut platform, 0x8004_0000, 0x8004_1000, 0x8004_2000);
     let steps = moved(&mut platform, MANY);
     let shown = Step::DevRead {
         dev: 0,

@@ -427,23 +427,17 @@ fn long_lines(rt: HostRuntime) -> Result<(), Fail> {
     Ok(())
 }
 
-fn is_replied(console: &mut Console, line: &[u8], want: &[u8]) -> bool {
-    console.line(line).as_slice() == want
-}
-
 // The index of the first line to which a console gives another answer.
-fn otherwise(
-    platform: &mut Platform,
-    trace: &mut Trace,
-    cases: &[(&[u8], &[u8])],
-) -> Option<usize> {
-    let mut console = Console::new(platform, trace);
+fn otherwise(alloc: Global, cases: &[(&[u8], &[u8])]) -> Result<Option<usize>, Fail> {
+    let mut platform = small(alloc)?;
+    let mut trace = Trace::new(alloc)?;
+    let mut console = Console::new(&mut platform, &mut trace);
     for (i, (line, want)) in cases.iter().enumerate() {
-        if !is_replied(&mut console, line, want) {
-            return Some(i);
+        if console.line(line).as_slice() != *want {
+            return Ok(Some(i));
         }
     }
-    None
+    Ok(None)
 }
 
 const LINES: &[(&[u8], &[u8])] = &[
@@ -455,14 +449,8 @@ const LINES: &[(&[u8], &[u8])] = &[
     (b"place page 0", b"none"),
 ];
 
-fn otherwise_answered(alloc: Global) -> Result<Option<usize>, Fail> {
-    let mut platform = small(alloc)?;
-    let mut trace = Trace::new(alloc)?;
-    Ok(otherwise(&mut platform, &mut trace, LINES))
-}
-
 #[test]
 fn answers_single_lines(rt: HostRuntime) -> Result<(), Fail> {
-    assert_eq!(rt; otherwise_answered(rt.alloc())?, None);
+    assert_eq!(rt; otherwise(rt.alloc(), LINES)?, None);
     Ok(())
 }

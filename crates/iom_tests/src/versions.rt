@@ -1,19 +1,22 @@
-//! Images of version 2, read-only disks, and upgrades of images of versions 1 and 2 to version 3.
+//! Images of each version, byte by byte: which are refused, and what an upgrade makes of the others.
 
-use crate::asm::{
-    Changed, Judged, REQUEST, is_assembled, not_cut, otherwise_changed, otherwise_judged, with_byte,
-};
-use crate::devices::{moved, notified};
-use iom_asm::{LoadFault, assemble, built_in, load, upgrade};
-use iom_core::{Answer, Platform, Step};
+use iom_asm::{LoadFault, assemble, built_in, judge, upgrade};
 use std::alloc::{AllocError, Global};
 use std::test::Fail;
+
+// A memory of a mebibyte and nothing else, with a byte more, and with a chunk of no bytes.
+const ALONE: &[u8] = b"RVIOMMU1\0\0\0\x80\0\0\0\0\0\0\x10\0\0\0\0\0\0\0\0\0\0\0\0\0";
+
+const LONGER: &[u8] = b"RVIOMMU1\0\0\0\x80\0\0\0\0\0\0\x10\0\0\0\0\0\0\0\0\0\0\0\0\0\0";
+
+const EMPTY_CHUNK: &[u8] =
+    b"RVIOMMU1\0\0\0\x80\0\0\0\0\0\0\x10\0\0\0\0\0\x01\0\0\0\0\0\0\0\0\0\0\x80\0\0\0\0\0\0\0\0";
 
 // A page of memory, and a read-only disk of a sector that begins with 0xaa.
 const READ_ONLY: &[u8] =
     b"RVIOMMU2\0\0\0\x80\0\0\0\0\0\x10\0\0\0\0\0\0\0\0\0\0\x01\0\0\0\x05\0\0\0\x01\0\0\0\x01\0\0\0\x01\0\0\0\xaa";
 
-// The same image with a writable disk, in version 1 and in version 2.
+// The page with a writable disk, in version 1 and in version 2.
 const WRITABLE: &[u8] =
     b"RVIOMMU1\0\0\0\x80\0\0\0\0\0\x10\0\0\0\0\0\0\0\0\0\0\x01\0\0\0\x05\0\0\0\x01\0\0\0\x01\0\0\0\xaa";
 
@@ -27,46 +30,139 @@ const READ_ONLY_UPGRADED: &[u8] =
 const UPGRADED: &[u8] =
     b"RVIOMMU3\0\0\0\0\0\0\0\x01\0\0\0\x80\0\0\0\0\0\x10\0\0\0\0\0\0\0\0\0\0\x01\0\0\0\x05\0\0\0\x01\0\0\0\0\0\0\0\x01\0\0\0\xaa";
 
-const JUDGED: &[Judged<'static>] = &[
+// A page of memory: with only Svnapot, with each capability, and, with a read-only disk, with NL.
+const SVNAPOT: &[u8] =
+    b"RVIOMMU3\0\0\0\0\0\0\0\0\0\0\0\x80\0\0\0\0\0\x10\0\0\0\0\0\0\0\0\0\0\0\0\0\0";
+
+const ALL: &[u8] =
+    b"RVIOMMU3\0\x88\x08\0\0\x0c\0\x04\0\0\0\x80\0\0\0\0\0\x10\0\0\0\0\0\0\0\0\0\0\0\0\0\0";
+
+const WITH_DISK: &[u8] =
+    b"RVIOMMU3\0\0\0\0\0\x04\0\0\0\0\0\x80\0\0\0\0\0\x10\0\0\0\0\0\0\0\0\0\0\x01\0\0\0\x05\0\0\0\x01\0\0\0\x01\0\0\0\x01\0\0\0\xaa";
+
+/// Why bytes are no image: the magic, their end, the memory, a chunk or a device.
+pub const MAGIC: Option<LoadFault> = Some(LoadFault::BadMagic);
+
+/// They end too soon.
+pub const CUT: Option<LoadFault> = Some(LoadFault::Truncated);
+
+/// The memory.
+pub const RAM: Option<LoadFault> = Some(LoadFault::BadRam);
+
+/// A chunk.
+pub const CHUNK: Option<LoadFault> = Some(LoadFault::BadChunk);
+
+/// A device.
+pub const DEVICE: Option<LoadFault> = Some(LoadFault::BadDevice);
+
+const BAD: Option<LoadFault> = Some(LoadFault::BadCapabilities);
+
+// Images, and why they are refused; None if they aren't.
+const JUDGED: &[(&[u8], Option<LoadFault>)] = &[
+    (ALONE, None),
+    (LONGER, Some(LoadFault::Trailing)),
+    (EMPTY_CHUNK, CHUNK),
     (READ_ONLY, None),
     (FLAGGED, None),
     (READ_ONLY_UPGRADED, None),
     (UPGRADED, None),
+    (SVNAPOT, None),
+    (ALL, None),
+    (WITH_DISK, None),
     // The flags 3 are judged once they are complete, before the length.
     (
         b"RVIOMMU2\0\0\0\x80\0\0\0\0\0\x10\0\0\0\0\0\0\0\0\0\0\x01\0\0\0\x05\0\0\0\x01\0\0\0\x03\0\0",
-        Some(LoadFault::Truncated),
+        CUT,
     ),
     (
         b"RVIOMMU2\0\0\0\x80\0\0\0\0\0\x10\0\0\0\0\0\0\0\0\0\0\x01\0\0\0\x05\0\0\0\x01\0\0\0\x03\0\0\0",
-        Some(LoadFault::BadDevice),
+        DEVICE,
     ),
+    // The word of capabilities is judged once it is complete, before the memory.
+    (b"RVIOMMU3\0\0\0\0\0\0\xff", CUT),
+    (b"RVIOMMU3\0\0\0\0\0\0\0\xff", BAD),
+    (b"", CUT),
+    (b"RVIOMMU0", MAGIC),
 ];
 
-const CHANGED: &[Changed<'static>] = &[
-    (READ_ONLY, 40, 2, Some(LoadFault::BadDevice)),
-    (READ_ONLY, 40, 3, Some(LoadFault::BadDevice)),
+// Images, an index, another byte for it, and why the result is refused.
+const CHANGED: &[(&[u8], usize, u8, Option<LoadFault>)] = &[
+    (ALONE, 0, 0x53, MAGIC),
+    (ALONE, 16, 1, RAM),
+    (ALONE, 28, 9, DEVICE),
+    (READ_ONLY, 40, 2, DEVICE),
+    (READ_ONLY, 40, 3, DEVICE),
     (READ_ONLY, 40, 0, None),
-    (READ_ONLY, 43, 0x80, Some(LoadFault::BadDevice)),
+    (READ_ONLY, 43, 0x80, DEVICE),
     (READ_ONLY, 7, b'1', Some(LoadFault::Trailing)),
-    (READ_ONLY, 7, b'3', Some(LoadFault::BadCapabilities)),
-    (READ_ONLY, 7, b'4', Some(LoadFault::BadMagic)),
-    (WRITABLE, 7, b'2', Some(LoadFault::Truncated)),
+    (READ_ONLY, 7, b'3', BAD),
+    (READ_ONLY, 7, b'4', MAGIC),
+    (WRITABLE, 7, b'2', CUT),
+    // Each byte of the word with its highest bit that states nothing, and 3 as the exponent of the vectors.
+    (SVNAPOT, 8, 0x80, BAD),
+    (SVNAPOT, 9, 0x40, BAD),
+    (SVNAPOT, 10, 0x80, BAD),
+    (SVNAPOT, 11, 0x80, BAD),
+    (SVNAPOT, 12, 0x80, BAD),
+    (SVNAPOT, 13, 0x80, BAD),
+    (SVNAPOT, 14, 0x80, BAD),
+    (SVNAPOT, 15, 0x80, BAD),
+    (SVNAPOT, 15, 0x08, BAD),
+    (SVNAPOT, 15, 0x06, BAD),
+    (SVNAPOT, 15, 0x02, None),
+    (SVNAPOT, 15, 0x01, None),
+    (SVNAPOT, 7, b'2', RAM),
 ];
 
-#[test]
-fn read_only_disk_is_stated(rt: HostRuntime) {
-    let read_only = b"ram 0x80000000 0x1000\nrodisk 5 1 aa\n";
-    let writable = b"ram 0x80000000 0x1000\ndisk 5 1 aa\n";
-    assert!(rt; is_assembled(rt.alloc(), read_only, READ_ONLY));
-    assert!(rt; is_assembled(rt.alloc(), writable, WRITABLE));
+/// An image with another byte at an index.
+pub fn with_byte(alloc: Global, image: &[u8], at: usize, byte: u8) -> Result<Vec<u8>, AllocError> {
+    let mut other = Vec::from_slice(alloc, image)?;
+    if let Some(place) = other.get_mut(at) {
+        *place = byte;
+    }
+    Ok(other)
+}
+
+// The index of the first image with another verdict.
+fn otherwise_judged(images: &[(&[u8], Option<LoadFault>)]) -> Option<usize> {
+    for (i, (image, want)) in images.iter().enumerate() {
+        if judge(image).err() != *want {
+            return Some(i);
+        }
+    }
+    None
+}
+
+// The index of the first change with another verdict.
+fn otherwise_changed(
+    alloc: Global,
+    changes: &[(&[u8], usize, u8, Option<LoadFault>)],
+) -> Result<Option<usize>, AllocError> {
+    for (i, (image, at, byte, want)) in changes.iter().enumerate() {
+        if judge(&with_byte(alloc, image, *at, *byte)?).err() != *want {
+            return Ok(Some(i));
+        }
+    }
+    Ok(None)
+}
+
+/// The length of the first proper prefix of an image that isn't refused as cut off.
+pub fn not_cut(image: &[u8]) -> Option<usize> {
+    for count in 0..image.len() {
+        if judge(&image[..count]).err() != CUT {
+            return Some(count);
+        }
+    }
+    None
 }
 
 #[test]
-fn flags_are_judged(rt: HostRuntime) -> Result<(), Fail> {
+fn images_are_judged(rt: HostRuntime) -> Result<(), Fail> {
     assert_eq!(rt; otherwise_judged(JUDGED), None);
     assert_eq!(rt; otherwise_changed(rt.alloc(), CHANGED)?, None);
-    assert_eq!(rt; not_cut(READ_ONLY), None);
+    for image in [ALONE, READ_ONLY, WITH_DISK] {
+        assert_eq!(rt; not_cut(image), None);
+    }
     Ok(())
 }
 
@@ -77,11 +173,12 @@ const UPGRADES: &[(&[u8], &[u8])] = &[
     (FLAGGED, UPGRADED),
     (UPGRADED, UPGRADED),
     (READ_ONLY_UPGRADED, READ_ONLY_UPGRADED),
+    // Without a disk only the first bytes differ.
+    (
+        ALONE,
+        b"RVIOMMU3\0\0\0\0\0\0\0\x01\0\0\0\x80\0\0\0\0\0\0\x10\0\0\0\0\0\0\0\0\0\0\0\0\0",
+    ),
 ];
-
-// An upgraded image without a disk differs only in its first bytes.
-const BUILT_IN: &[u8] =
-    b"RVIOMMU3\0\0\0\0\0\0\0\x01\0\0\0\x80\0\0\0\0\0\0\x10\0\0\0\0\0\0\0\0\0\0\0\0\0";
 
 fn is_upgraded(alloc: Global, image: &[u8], want: &[u8]) -> bool {
     match upgrade(alloc, image) {
@@ -91,7 +188,7 @@ fn is_upgraded(alloc: Global, image: &[u8], want: &[u8]) -> bool {
 }
 
 // The index of the first image with another upgrade.
-fn otherwise(alloc: Global, upgrades: &[(&[u8], &[u8])]) -> Option<usize> {
+fn otherwise_upgraded(alloc: Global, upgrades: &[(&[u8], &[u8])]) -> Option<usize> {
     for (i, (image, want)) in upgrades.iter().enumerate() {
         if !is_upgraded(alloc, image, want) {
             return Some(i);
@@ -100,150 +197,18 @@ fn otherwise(alloc: Global, upgrades: &[(&[u8], &[u8])]) -> Option<usize> {
     None
 }
 
-fn is_refused(alloc: Global, image: &[u8], want: LoadFault) -> bool {
-    upgrade(alloc, image).err() == Some(want)
-}
-
+// One of version 3 stays as it is, with chunks, disks of both kinds and capabilities too.
 #[test]
 fn images_are_upgraded(rt: HostRuntime) -> Result<(), Fail> {
-    assert_eq!(rt; otherwise(rt.alloc(), UPGRADES), None);
-    assert!(rt; is_upgraded(rt.alloc(), &built_in(), BUILT_IN));
-    assert!(rt; is_refused(rt.alloc(), b"RVIOMMU4", LoadFault::BadMagic));
-    assert!(rt; is_refused(rt.alloc(), b"RVIOMMU", LoadFault::Truncated));
-    Ok(())
-}
-
-// An image with chunks, with disks of both kinds and with capabilities stays as it is.
-#[test]
-fn image_of_version_3_stays(rt: HostRuntime) -> Result<(), Fail> {
+    let alloc = rt.alloc();
     let image = assemble(
-        rt.alloc(),
+        alloc,
         b"ram 0x80000000 0x1000\nbytes 0102\nat 0x80000ffe\nbytes 03\ndisk 5 1 aa\nrodisk 6 2\ncapabilities nl=1\n",
     )?;
-    assert!(rt; is_upgraded(rt.alloc(), &image, &image));
-    Ok(())
-}
-
-// The parts of a request that writes the first sector of a disk, whose kind is stated before them.
-const WRITE: &[u8] = b"
-at 0x80040000
-u64 0x80050000 0x0001000100000010 0x80051000 0x0002000100000200 0x80050010 0x0000000200000001
-at 0x80041000
-u64 0x10000
-at 0x80050000
-u64 1
-at 0x80051000
-bytes 5a
-";
-
-// The text of that request, with a disk.
-fn text_with(alloc: Global, disk: &[u8]) -> Result<Vec<u8>, AllocError> {
-    let mut text = Vec::from_slice(alloc, b"ram 0x80000000 0x100000\n")?;
-    text.extend_from_slice(disk)?;
-    text.extend_from_slice(WRITE)?;
-    Ok(text)
-}
-
-// Its image, upgraded or not.
-fn image_with(alloc: Global, disk: &[u8], upgraded: bool) -> Result<Vec<u8>, Fail> {
-    let text = text_with(alloc, disk)?;
-    let image = assemble(alloc, &text)?;
-    if upgraded {
-        return Ok(upgrade(alloc, &image)?);
-    }
-    Ok(image)
-}
-
-// Sets the mode Bare, and notifies the device.
-fn notify(platform: &mut Platform) {
-    platform.step(&Step::RegWrite {
-        off: 16,
-        size: 8,
-        value: 1,
-    });
-    notified(platform, 0x8004_0000, 0x8004_1000, 0x8004_2000);
-}
-
-/// The platform of an image, with its request notified.
-pub fn notified_on(alloc: Global, image: &[u8]) -> Result<Platform, Fail> {
-    let mut platform = load(alloc, image)?;
-    notify(&mut platform);
-    Ok(platform)
-}
-
-// How many steps are done, the last of which finds no other request, and then: the offered features, the status byte, and the
-// disk's first byte.
-type Ending = (usize, u64, u64, u8);
-
-// Whether these steps have this end.
-fn ends(platform: &mut Platform, (steps, offered, status, first): Ending) -> bool {
-    let features = Step::DevRead {
-        dev: 0,
-        off: 0x10,
-        size: 4,
-    };
-    let answer = Step::Load {
-        addr: 0x8005_0010,
-        size: 1,
-    };
-    moved(platform, 20) == steps
-        && platform.step(&features) == Answer::Value(offered)
-        && platform.step(&answer) == Answer::Value(status)
-        && matches!(platform.disk(0), Some([byte, ..]) if *byte == first)
-}
-
-// A disk, whether its image is upgraded, whether its platform is copied, and the end of the request.
-type Written<'a> = (&'a [u8], bool, bool, Ending);
-
-// Whether an image has the end of its case.
-fn is_written(alloc: Global, case: &Written<'_>) -> Result<bool, Fail> {
-    let (disk, upgraded, copied, ending) = case;
-    let image = image_with(alloc, disk, *upgraded)?;
-    let mut platform = notified_on(alloc, &image)?;
-    if *copied {
-        platform = platform.try_clone(alloc)?;
-    }
-    Ok(ends(&mut platform, *ending))
-}
-
-// The index of the first case that fails.
-fn otherwise_written(alloc: Global, cases: &[Written<'_>]) -> Result<Option<usize>, Fail> {
-    for (i, case) in cases.iter().enumerate() {
-        if !is_written(alloc, case)? {
-            return Ok(Some(i));
-        }
-    }
-    Ok(None)
-}
-
-// For a read-only disk, eleven steps, without the eight pieces of data.
-const WRITES: &[Written<'static>] = &[
-    (b"rodisk 5 1 aa", false, false, (11, 0x220, 1, 0xaa)),
-    (b"rodisk 5 1 aa", false, true, (11, 0x220, 1, 0xaa)),
-    (b"disk 5 1 aa", false, false, (19, 0x200, 0, 0x5a)),
-    (b"disk 5 1 aa", true, false, (19, 0x200, 0, 0x5a)),
-    (b"rodisk 5 1 aa", true, false, (11, 0x220, 1, 0xaa)),
-];
-
-#[test]
-fn read_only_disk_is_written(rt: HostRuntime) -> Result<(), Fail> {
-    assert_eq!(rt; otherwise_written(rt.alloc(), WRITES)?, None);
-    Ok(())
-}
-
-// The image of a request that reads, with its disk read-only: its flags stand before its length and its three bytes.
-fn read_only_request(alloc: Global) -> Result<Vec<u8>, Fail> {
-    let image = assemble(alloc, REQUEST)?;
-    let new = upgrade(alloc, &image)?;
-    Ok(with_byte(alloc, &new, new.len().saturating_sub(11), 1)?)
-}
-
-// A read-only disk is read like any other.
-#[test]
-fn read_only_disk_is_read(rt: HostRuntime) -> Result<(), Fail> {
-    let image = read_only_request(rt.alloc())?;
-    let mut platform = notified_on(rt.alloc(), &image)?;
-    assert!(rt; moved(&mut platform, 23) == 21);
-    assert!(rt; platform.ram().word(0x8005_1000) == Some(0xee_ffc0));
+    assert_eq!(rt; otherwise_upgraded(alloc, UPGRADES), None);
+    assert!(rt; is_upgraded(alloc, &image, &image));
+    assert!(rt; upgrade(alloc, b"RVIOMMU4").err() == MAGIC);
+    assert!(rt; upgrade(alloc, b"RVIOMMU").err() == CUT);
+    assert!(rt; built_in().as_slice() == ALONE);
     Ok(())
 }

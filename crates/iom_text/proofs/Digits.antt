@@ -118,7 +118,7 @@ put_before radix places at rest glyph number least within count last is =
           ∙ is,
     )
 
--- the same for two hex digits
+-- the hex digits put so far, once two others stand before them
 pub pair_before : (places : List ℕ) (at rest high low number : ℕ) → suc at < length places → length (digits_of 16 rest) ≡ suc (suc at) →
     high ≡ digit_glyph false (rest / 16 % 16) → low ≡ digit_glyph false (rest % 16) →
     digits_in 16 rest ++ drop (suc (suc at)) places ≡ digits_in 16 number →

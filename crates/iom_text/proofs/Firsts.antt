@@ -94,7 +94,7 @@ plain_rest text value is =
           absurd (cc (is, ap (number_in 10) empty, no_number))
     ]
 
--- the same of what a call answers
+-- what a call leaves of a text after its number: the words that follow the number
 pub then_rest : (found : Option (ℕ × Bor (List ℕ))) (number : Option ℕ) (after : List ℕ) (words : List (List ℕ)) →
     option_map (λ cut. cut.0) found ≡ number → IfSome found (λ cut. cut.1.now ≡ after) →
     ((value : ℕ) → Some value ≡ number → words_of after ≡ words) → IfSome found (λ cut. words_of cut.1.now ≡ words)

@@ -14,7 +14,7 @@ use Rattle.iom_tool.specs.Script.{item_words}
 use Rattle.iom_tool.specs.Words.{bytes_of}
 use Rattle.iom_tool.proofs.Pairs.{no_bytes}
 
-no_hex : (c : ℕ) → c < 48 → is_hex_digit c ≡ false
+pub no_hex : (c : ℕ) → c < 48 → is_hex_digit c ≡ false
 no_hex c less =
     let upper : nat_le 65 c ≡ false = grind arith in
     let lower : nat_le 97 c ≡ false = grind arith in

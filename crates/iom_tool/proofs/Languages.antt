@@ -23,7 +23,7 @@ none_first (row ∷ rows) words none = by (may_use Run row.language) refl (λ no
   by true is more = absurd (cc (rw is at none))
   by false is more = rw is (more (rw is at none))
 
-uses_all : (mark : Language) → may_use Debug mark ≡ true
+pub uses_all : (mark : Language) → may_use Debug mark ≡ true
 uses_all Run = refl
 uses_all Debug = refl
 

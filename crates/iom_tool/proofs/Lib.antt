@@ -2,6 +2,7 @@ pub mod Fast
 pub mod Forms
 pub mod Languages
 pub mod Pairs
+pub mod StepTexts
 pub mod Rings
 pub mod Values
 pub mod Outputs

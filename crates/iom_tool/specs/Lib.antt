@@ -11,3 +11,4 @@ pub mod Console
 pub mod Debugger
 pub mod Output
 pub mod Running
+pub mod Rereading

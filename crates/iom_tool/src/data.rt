@@ -5,7 +5,7 @@ ghost use Rattle.iom_tool.specs.Words.{bytes_of};
 
 use arrayvec::ArrayVec;
 
-// The value of a hex digit; 16 of any other byte. It is told without a table, so that those of many digits are told at once.
+// The value of a hex digit; 16 of any other byte. It is computed without a table, so that those of many digits are computed at once.
 #[inline(always)]
 fn value_of(c: u8) -> u8
     ensures digit { result < 16 → hex_digit_value c ≡ Some result }
@@ -22,7 +22,7 @@ fn value_of(c: u8) -> u8
     }
 }
 
-// Puts the bytes that pairs of hex digits write, and answers whether all are digits, which all their values together tell.
+// Puts the bytes that pairs of hex digits write, and answers whether all are digits, which all their values together show.
 #[inline(always)]
 fn decode(word: &[u8], bytes: &mut [u8]) -> bool
     requires { length word.now ≡ 2 * length bytes.old }

@@ -114,7 +114,7 @@ fn push_named(out: &mut ReplyDraft, name: &[u8], number: u64)
     push_hexadecimal(out, number);
 }
 
-// The same for an id; `-` where the entry has none.
+// Appends a blank, a name, `=` and an id in hex, or `-` if the entry has none.
 fn push_id(out: &mut ReplyDraft, name: &[u8], id: Option<u32>)
     requires { length out.old + length name.now + 20 < 320 }
     ensures text { out.new ≡ out.old ++ named name.now (id_text id) }

@@ -117,7 +117,7 @@ impl ReplyDraft {
     }
 }
 
-// The hex digit of a number below 16, told without a branch.
+// The hex digit of a number below 16, found without a branch.
 #[inline(always)]
 fn glyph(digit: u8) -> u8
     requires { digit < 16 }

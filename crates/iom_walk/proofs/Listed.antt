@@ -1,4 +1,4 @@
--- A path that is told while some levels are still to come.
+-- A path that is listed while some levels are still to come.
 use Rattle.std.proofs.Common.{◌≡◌, ◌≢◌, ◌+◌, ◌-◌, ◌*◌, ◌<◌, ◌≤◌, ◌++◌, ℕ, zero, suc, List, [], ◌∷◌, true, false, refl, sym, ◌∙◌, ap, arith}
 use Rattle.std.specs.Prelude.{map}
 use Rattle.std.proofs.lemmas.List.{append-nil, append_assoc}
@@ -17,7 +17,7 @@ use Rattle.iom_walk.specs.Told.{path_entry}
 use Rattle.iom_walk.specs.Verdict.{consequence, is_pointer, ppn, ruling_of, verdict_of, word_of}
 use Rattle.iom_walk.proofs.Entries.{pointer_for_each, pointer_word}
 
--- what is told of what is left
+-- the listing of the rest of a path
 abbrev pub rest : (ℕ → Got) → Format → ℕ → Kind → ℕ → ℕ → List PathEntry
 rest at format address kind table level = map (path_entry format.features kind) (path_from at format address table level)
 

@@ -57,7 +57,7 @@ unfoldable pub outcome_of : (ℕ → Got) → Format → ℕ → ℕ → Kind �
 outcome_of at format root address kind =
     if is_in_width format.shape address then verdict_on_path format.features kind address (path_of at format root address) else outcome.Fault
 
--- the same in the words of paths: there is a longest one, and every longest one gives this end; or the address breaks the
+-- how a walk ends, in the words of paths: there is a longest one, and every longest one gives this end; or the address breaks the
 -- width rule
 pub record IsOutcome (at : ℕ → Got) (format : Format) (root address : ℕ) (kind : Kind) (end : Outcome) : Type 0 where
   pub some_path : is_in_width format.shape address ≡ true → (path : List MetEntry) × IsLongestPath at format root address path

@@ -1,4 +1,4 @@
--- The path of a walk, told entry by entry: each with its address, its level, what was read there, and the row of the table of
+-- The path of a walk, entry by entry: each with its address, its level, what was read there, and the row of the table of
 -- entries that decides of it.
 use Rattle.std.specs.Prelude.{ℕ, List, [], map, if◌then◌else◌}
 use Rattle.iom_bits.specs.declared.causes.Kind.{Kind}

@@ -139,7 +139,7 @@ fn has_reserved(features: Features, word: u64, level: u8) -> bool
     field(word, 54, 10) != 0 && is_reserved(features, word, level)
 }
 
-// The same bit by bit.
+// Whether one of bits 63:54 is set that is reserved, each field on its own.
 #[inline(never)]
 #[tactic(auto, unfolding(crate::specs::Verdict::is_reserved))]
 fn is_reserved(features: Features, word: u64, level: u8) -> bool
@@ -206,7 +206,7 @@ pub fn judge(features: Features, got: Got, level: u8, kind: Kind) -> Verdict
     verdict_by(judged_by(features, got, level, kind), got)
 }
 
-/// The same by the row that decides.
+/// The verdict on an entry that this row decides, if `got` was read at its address ("Virtual Address Translation Process").
 pub fn verdict_by(ruling: Ruling, got: Got) -> Verdict
     ensures { result ≡ consequence ruling (word_of got) }
 {

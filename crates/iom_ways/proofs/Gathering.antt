@@ -160,7 +160,7 @@ pub ended : {E X : Type 0} (fits : E → Option X) (own : X → WayList) (entrie
 ended {E} fits own entries all n before at left end = left at
     (subst (λ (rest : List E). Gathers (each_use fits own rest) at at) (sym (drop_all n entries end)) (none_gathered at))
 
--- the same, over an equal tree
+-- ways gathered over a tree are gathered over an equal one
 pub same_tree : {T E : Type 0} (result : Result T E) (held : List Entry) (tree other : Walk) (before after : Ways) → tree ≡ other →
     OnOk result (Gathers (ways_over held tree) before after) → OnOk result (Gathers (ways_over held other) before after)
 same_tree result held tree other before after same done = subst (λ (tree : Walk). OnOk result (Gathers (ways_over held tree) before after)) same done

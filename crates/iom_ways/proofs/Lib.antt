@@ -8,3 +8,4 @@ pub mod Firsts
 pub mod Beside
 pub mod Alike
 pub mod Fresh
+pub mod Usable

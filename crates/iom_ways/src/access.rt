@@ -52,7 +52,7 @@ pub(crate) fn put_access<M: Region>(
     }
 }
 
-// The same of a first stage that leads to this address.
+// Puts in the ways by a first stage that reads these entries and leads to this address.
 fn put_reached<M: Region>(
     out: &mut Ways,
     under: &Under<'_, M>,
@@ -102,7 +102,8 @@ fn put_second<M: Region>(
     Ok(())
 }
 
-// The same from each of these entries, besides that from its root, which ends so and whose path has these entries.
+// Puts in the way by a second stage that is entered at each of these entries that fits. The way from its root, which ends as `plain` and whose path
+// has the entries `fresh`, is there already.
 fn put_shelf<M: Region>(
     out: &mut Ways,
     under: &Under<'_, M>,

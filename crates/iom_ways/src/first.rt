@@ -72,7 +72,8 @@ fn put_first<M: Region>(
     Ok(())
 }
 
-// The same from each of these entries, besides those from its root, whose path has these entries in memory.
+// Puts in the ways by a first stage that is entered at each of these entries that fits. The ways from its root, whose path in memory has the entries
+// `fresh`, are there already.
 fn put_shelf<M: Region>(
     out: &mut Ways,
     under: &Under<'_, M>,
@@ -97,7 +98,7 @@ fn put_shelf<M: Region>(
     Ok(())
 }
 
-// The same from this entry. If memory's own path has it, all its ways are there.
+// Puts in the ways by a first stage that is entered at this entry. If memory's own path has the entry, they are all there already.
 fn put_other<M: Region>(
     out: &mut Ways,
     under: &Under<'_, M>,
@@ -128,8 +129,8 @@ fn fresh_entries<M: Region>(under: &Under<'_, M>, shape: Shape) -> HeldPath
     held_in(features, false, iova, &path)
 }
 
-// The path of an IOVA in memory.
-fn own_path<M: Region>(under: &Under<'_, M>, format: Format, iova: u64) -> MetPath
+/// The path of an IOVA in memory.
+pub(crate) fn own_path<M: Region>(under: &Under<'_, M>, format: Format, iova: u64) -> MetPath
     ensures path { result.items ≡ met (λ (level : ℕ). got_by (M.memory under.now.ram.now) under.now.features under.now.context
         (second_shape_of under.now.context) None) format under.now.context.ppn iova None }
     ensures fits { All (λ entry. entry.level < 5) result.items }
@@ -141,7 +142,7 @@ fn own_path<M: Region>(under: &Under<'_, M>, format: Format, iova: u64) -> MetPa
     met(&Physical { ram }, format, context.fields.ppn, iova, None)
 }
 
-// The same through the second stage.
+// The path of an IOVA in memory, where each entry is read through the second stage.
 fn guest_path<M: Region>(
     ram: &M,
     features: Features,
@@ -179,7 +180,7 @@ fn put_used<M: Region>(
     }
 }
 
-// The same of an IOVA that doesn't break the width rule.
+// Puts in the ways by a first stage that is entered at this entry, or at its root, for an IOVA that doesn't break the width rule.
 fn put_entered<M: Region>(
     out: &mut Ways,
     under: &Under<'_, M>,

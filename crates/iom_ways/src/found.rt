@@ -71,8 +71,8 @@ fn entries_of(path: &[MetBy]) -> MetPath
     entries
 }
 
-// Where the first stage leads the IOVA behind these entries, and the one that it was entered at.
-fn first_found(
+/// Where the first stage leads the IOVA behind these entries, and the one that it was entered at.
+pub(crate) fn first_found(
     format: Format,
     iova: u64,
     kind: Kind,

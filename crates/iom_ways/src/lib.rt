@@ -4,13 +4,16 @@
 
 pub use adding::is_same_way;
 pub use laws::memory_leads_first;
+pub use memory::put_asked;
 pub use ways::{Ways, put_ways};
 
 mod access;
 mod adding;
+mod asked;
 mod first;
 mod found;
 mod laws;
+mod memory;
 mod path;
 mod under;
 mod ways;

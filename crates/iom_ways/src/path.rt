@@ -60,7 +60,8 @@ pub(crate) fn put_path<M: Region>(
     }
 }
 
-// The same behind the second stage's look-up for the entry at this place, of this level.
+// Puts in the ways by a path whose next entry, of this level at this place, is read through the second stage: from its root, and from each entry
+// that is held for the place.
 #[cycle(walking)]
 fn put_behind<M: Region>(
     out: &mut Ways,
@@ -97,8 +98,8 @@ fn put_behind<M: Region>(
     Ok(())
 }
 
-// The same by each of these entries of the second stage, besides the ways by memory, which has this there, by a path that has
-// these entries.
+// Puts in the ways on which each of these entries of the second stage that fits is used to read the next entry. The ways by memory's own path,
+// which reads `plain` and has the entries `fresh`, are there already.
 #[cycle(walking)]
 fn put_shelf<M: Region>(
     out: &mut Ways,
@@ -138,8 +139,8 @@ fn put_shelf<M: Region>(
     Ok(())
 }
 
-// The same, if this entry of the second stage is used for it, besides the ways by memory, which has this there: if both read the same, what the
-// second stage reads; if the path from its root has the entry, those ways are there.
+// Puts in the ways on which this entry of the second stage is used to read the next entry. The ways by memory's own path are there already: if
+// both read alike, only the reads of the second stage are put in, and if that path has the entry, nothing is.
 #[cycle(walking)]
 fn put_other<M: Region>(
     out: &mut Ways,
@@ -184,7 +185,7 @@ fn put_other<M: Region>(
     )
 }
 
-// The same, if this entry of the second stage or none is used for it, by which it reads this.
+// Puts in the ways on which the next entry is read as `got`, through a second stage that is entered at this entry or at its root.
 #[cycle(walking)]
 fn put_read<M: Region>(
     out: &mut Ways,
@@ -247,7 +248,7 @@ fn got_by<M: Region>(under: &Under<'_, M>, shape: Shape, place: u64, used: Optio
     got_behind(under.ram, place, end)
 }
 
-// The same behind this entry, which the path meets next.
+// Puts in the ways by a first stage whose walk has met the entries of this path and meets this one next.
 #[cycle(walking)]
 fn put_met<M: Region>(
     out: &mut Ways,

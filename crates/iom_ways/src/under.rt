@@ -63,7 +63,7 @@ pub(crate) fn put_translated<M: Region>(
     Ok(())
 }
 
-// The same by each of these entries that is a whole translation with this key.
+// Puts in the way by each of these entries that is a whole translation with this key.
 fn put_shelf<M: Region>(
     out: &mut Ways,
     under: &Under<'_, M>,

@@ -86,7 +86,7 @@ fn put_directory<M: Region>(
     }
 }
 
-// The same of a device id that isn't too wide for it: from the root, and from each entry that is held for the device.
+// Puts in the ways under a directory for which the device id isn't too wide: from the root, and from each entry that is held for the device.
 fn put_devices<M: Region>(
     out: &mut Ways,
     ram: &M,
@@ -109,7 +109,7 @@ fn put_devices<M: Region>(
     Ok(())
 }
 
-// The same from each of these entries, besides those from the root, which leads so.
+// Puts in the ways by a search that begins at each of these entries that fits. The ways from the root, whose search ends as `plain`, are there.
 fn put_shelf<M: Region>(
     out: &mut Ways,
     ram: &M,

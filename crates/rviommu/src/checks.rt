@@ -92,7 +92,7 @@ impl<R: Clock + Eprint + Files, W: Write> Round<'_, R, W> {
         Ok(self.output.write_all(text).map_err(|_| RunFault::Write)?)
     }
 
-    // What is told of a fault: with the name of its file, where that isn't in it.
+    // The report of a fault: with the name of its file, if that isn't in it.
     fn told<'f>(&self, name: Option<&str>, fault: &Fault<'_>) -> Result<String, Fault<'f>> {
         Ok(match (name, fault) {
             (None, _) | (_, Fault::CannotRead(_) | Fault::Include(_)) => format!(in self.alloc;
@@ -102,7 +102,7 @@ impl<R: Clock + Eprint + Files, W: Write> Round<'_, R, W> {
         })
     }
 
-    // Tells that a script wasn't judged to its end, on standard error after all that was written before, and as a test point of TAP.
+    // Reports that a script wasn't judged to its end, on standard error after all that was written before, and as a test point of TAP.
     fn tell<'f>(&mut self, text: &str) -> Result<(), Fault<'f>> {
         self.output.flush().map_err(|_| RunFault::Write)?;
         let _ = self.rt.eprintln(format_args!("rviommu: {text}"));
@@ -142,7 +142,7 @@ impl<R: Clock + Eprint + Files, W: Write> Round<'_, R, W> {
         Ok(put_suite(suites, class.as_slice(), &sum, cases.as_slice())?)
     }
 
-    // Tells of a file that can't be read, or is no image.
+    // Reports a file that can't be read, or is no image.
     fn refuse<'f>(&mut self, name: Option<&str>, fault: &Fault<'_>) -> Result<(), Fault<'f>> {
         let text = self.told(name, fault)?;
         self.tell(text.as_str())?;
@@ -153,7 +153,7 @@ impl<R: Clock + Eprint + Files, W: Write> Round<'_, R, W> {
         self.add_suite(name, none, Vec::new(self.alloc), Some(text.as_str()))
     }
 
-    // Judges a script on an image, and writes what is told of it. Answers what is told of the fault that ended it before its end.
+    // Judges a script on an image, and writes its reports. Returns the report of the fault that ended it before its end.
     fn play<'f>(
         &mut self,
         image: &[u8],
@@ -382,8 +382,8 @@ fn rules_of(checks: &Checks<'_>) -> Rules {
     }
 }
 
-/// Judges the scripts that the words name, and writes what is told of them. A script that can't be read or judged to its end is told, and
-/// counted in the sum. The faults are those that end all: of a write, and of memory.
+/// Judges the scripts that the words name, and writes their reports. A script that can't be read, or judged to its end, is reported and counted
+/// in the sum. The faults are those that end all: of a write, and of memory.
 pub fn judge_named<'a>(
     rt: &(impl Clock + Eprint + Files),
     alloc: Global,
@@ -410,7 +410,7 @@ pub fn judge_named<'a>(
     round.judge_all(checks, input)?;
     round.end()?;
     if let (Some(name), Some(suites)) = (checks.junit, &round.suites) {
-        files::write(rt, name, suites.as_slice())?;
+        files::write(rt, alloc, name, suites.as_slice())?;
     }
     Ok(round.sum)
 }

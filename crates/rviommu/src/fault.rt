@@ -72,7 +72,7 @@ fn reason_of(text: &[u8], line: u64) -> Reply {
     Reply::new()
 }
 
-/// Why a line of a script can't include what it names, as it is told: with its file and number.
+/// Why a line of a script can't include the file that it names, as it is printed: with the line's own file and number.
 #[derive(Clone, Copy)]
 struct IncludeTold<'a>(&'a IncludeFault);
 
@@ -113,7 +113,7 @@ impl Fault<'_> {
         Fault::Assemble { fault, reason }
     }
 
-    /// Why a run ended, by the fault that the run tells and that of a line of its script, if there is one.
+    /// Why a run ended, by the fault that the run returns and that of a line of its script, if there is one.
     pub fn of_run(fault: RunFault, line: Option<IncludeFault>) -> Self {
         match (fault, line) {
             (RunFault::Read, Some(IncludeFault::OutOfMemory)) => Fault::OutOfMemory,

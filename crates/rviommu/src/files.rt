@@ -5,7 +5,7 @@ use iom_include::TextFault;
 use iom_reader::RunFault;
 use std::alloc::Global;
 use std::fs::{self, File, Files};
-use std::io::{ErrorKind, Read};
+use std::io::{self, ErrorKind, Read, Write};
 
 /// The most bytes of a file that is read.
 const MOST_BYTES: u64 = 1 << 30;
@@ -46,7 +46,44 @@ pub fn read_script(alloc: Global, input: &mut impl Read) -> Result<Vec<u8>, Faul
     }
 }
 
-/// Puts bytes into a file, in place of what it has. The fault is `CannotWrite`.
-pub fn write<'a>(rt: &impl Files, name: &'a str, bytes: &[u8]) -> Result<(), Fault<'a>> {
+// Whether a name is that of a regular file, or of none yet.
+fn is_regular(rt: &impl Files, name: &str) -> bool {
+    fs::symlink_metadata(rt, name).map_or(true, |found| found.is_file())
+}
+
+// Writes bytes into a new file, and gives it a name, with the permissions of the file that has it.
+fn fill<R: Files>(
+    rt: &R,
+    mut file: R::File,
+    beside: &str,
+    name: &str,
+    bytes: &[u8],
+) -> io::Result<()> {
+    file.write_all(bytes)?;
+    if let Ok(old) = fs::metadata(rt, name) {
+        fs::set_permissions(rt, beside, old.permissions())?;
+    }
+    fs::rename(rt, beside, name)
+}
+
+/// Puts bytes into a file, in place of what it has. A regular file keeps what it has if that fails, since the bytes are first written into a
+/// new file beside it, if its folder allows that; any other, as a pipe or a link, is written at once. The faults are `CannotWrite` and
+/// `OutOfMemory`.
+pub fn write<'a>(
+    rt: &impl Files,
+    alloc: Global,
+    name: &'a str,
+    bytes: &[u8],
+) -> Result<(), Fault<'a>> {
+    if is_regular(rt, name) {
+        let beside = format!(in alloc; "{name}.rviommu-new")?;
+        if let Ok(file) = File::create(rt, beside.as_str()) {
+            let ended = fill(rt, file, beside.as_str(), name, bytes);
+            return ended.map_err(|_| {
+                let _ = fs::remove_file(rt, beside.as_str());
+                Fault::CannotWrite(name)
+            });
+        }
+    }
     fs::write(rt, name, bytes).map_err(|_| Fault::CannotWrite(name))
 }

@@ -44,14 +44,14 @@ struct Streams<I, O> {
 // How a script is explained.
 #[derive(Clone, Copy)]
 struct Explained {
-    // The accesses that are told; None if all is.
+    // The accesses that are printed; None for every line.
     only: Option<Only>,
-    // Whether it is told which accesses aren't settled.
+    // Whether accesses that aren't settled are reported.
     tells_settled: bool,
 }
 
 // What is kept beside a platform whose script is debugged, or is explained. What any IOMMU may hold takes memory and time, so it is kept for
-// `debug`, where a line may ask what is owed, and where `explain` is to tell it.
+// `debug`, where a line may ask what is owed, and where `explain` is to report it.
 fn account(platform: &Platform, alloc: Global, explained: Option<Explained>) -> LineAccount {
     let keeps_holdings = match explained {
         Some(explained) => explained.tells_settled,
@@ -64,7 +64,7 @@ fn account(platform: &Platform, alloc: Global, explained: Option<Explained>) -> 
     }
 }
 
-// Debugs or explains the script that an input gives. Tells whether there was memory for what is told.
+// Debugs or explains the script that an input gives. Returns whether there was memory for its output.
 fn tell<'a, R: Read, W: Write>(
     alloc: Global,
     image: &[u8],
@@ -181,7 +181,7 @@ fn assemble<'a>(
 ) -> Result<(), Fault<'a>> {
     let text = files::read(rt, alloc, source)?;
     match iom_asm::assemble(alloc, text.as_slice()) {
-        Ok(bytes) => files::write(rt, image, bytes.as_slice()),
+        Ok(bytes) => files::write(rt, alloc, image, bytes.as_slice()),
         Err(fault) => Err(Fault::of_text(fault, text.as_slice())),
     }
 }
@@ -195,7 +195,7 @@ fn upgrade<'a>(
 ) -> Result<(), Fault<'a>> {
     let image = files::read(rt, alloc, image)?;
     let bytes = iom_asm::upgrade(alloc, image.as_slice())?;
-    files::write(rt, new, bytes.as_slice())
+    files::write(rt, alloc, new, bytes.as_slice())
 }
 
 // Writes the listing of so many items of the memory that an image starts.
@@ -300,7 +300,7 @@ fn print_fault(rt: &impl Eprint, fault: &Fault<'_>) -> u8 {
     fault.status()
 }
 
-// Tells a fault, and answers the status to end with.
+// Prints a fault, and returns the status to end with.
 fn tell_fault(rt: &(impl Print + Eprint), fault: &Fault<'_>) -> u8 {
     match fault {
         Fault::Words(fault) => show_words_fault(rt, fault),

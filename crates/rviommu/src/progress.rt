@@ -13,7 +13,7 @@ struct Watch {
     start: Instant,
     // in bytes
     size: u64,
-    // how many of a hundred were told last
+    // the percentage that was printed last
     told: Option<u64>,
 }
 
@@ -86,7 +86,7 @@ impl<R: Clock + Eprint, I: Read> Read for Progress<'_, R, I> {
     }
 }
 
-// Tells that so many bytes of the script are played, if it takes long. What can't be told goes untold.
+// Prints the percentage of the script that this number of bytes is, if it takes long. Write errors are ignored.
 fn reach(rt: &(impl Clock + Eprint), word: &str, watch: &mut Option<Watch>, bytes: u64) {
     let Some(watch) = watch else {
         return;

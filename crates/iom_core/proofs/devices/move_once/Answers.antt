@@ -16,7 +16,7 @@ use Rattle.iom_core.specs.declared.witness.Event.{Event}
 use Rattle.iom_core.specs.declared.port.Port.{Port}
 use Rattle.iom_core.proofs.devices.move_once.Goals as goal
 
--- a step through a port, as `moving` has it, and what is told of it
+-- a step through a port, as `moving` has it, and what it reports
 went : {P S : Type 0} (A B C : Type 0) (name : P → ℕ) (next : S → Event → S) (machine : P → Machine) (did : P → ℕ) (witness : P → S) (p q : P) (d e : Device) (told : Moved)
     (asked : Option Ask) → IfNone asked ((told ≡ Idle) × (e ≡ d) × (q ≡ p)) →
     IfSome asked (λ ask. (reply : BusReply) × (A × (name q ≡ name p) × B × (did q ≡ did p) × C

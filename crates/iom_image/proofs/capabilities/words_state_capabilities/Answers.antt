@@ -1,0 +1,5 @@
+use Rattle.iom_image.proofs.SameBits.{states_capabilities}
+use Rattle.iom_image.proofs.capabilities.words_state_capabilities.Goals as goal
+
+pub returns : goal.returns
+returns c = states_capabilities

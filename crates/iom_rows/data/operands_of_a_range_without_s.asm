@@ -1,0 +1,4 @@
+ram 0x80000000 0x100000
+capabilities nl=1
+at 0x80090000
+u64 0x700600001081 0x3ffffffffffffe00

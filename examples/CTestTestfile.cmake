@@ -1,0 +1,20 @@
+# The examples of `check` as tests of CTest, with `rviommu` on the path: ctest --test-dir examples -j 8
+# Each script runs in a process of its own, on an image of its own. A script without an image is one line:
+#     add_test("NAME" "rviommu" "check" "NAME.script")
+
+foreach(example "one_fence --settled" "freed_table --settled" "owed --settled" "seventy_pages --settled"
+        "missing_invalidation --stale" "stopped_queue --stale")
+    string(REPLACE " " ";" words "${example}")
+    list(GET words 0 name)
+    list(GET words 1 option)
+    # CTest makes the folder Testing.
+    add_test("image of ${name}" "rviommu" "asm" "${name}.asm" "Testing/${name}.image")
+    set_tests_properties("image of ${name}" PROPERTIES FIXTURES_SETUP "${name}")
+    add_test("${name}" "rviommu" "check" "${option}" "--image" "Testing/${name}.image" "${name}.script")
+    set_tests_properties("${name}" PROPERTIES FIXTURES_REQUIRED "${name}")
+endforeach()
+
+# The drivers of these have a fault that `check` finds.
+foreach(name freed_table owed seventy_pages missing_invalidation stopped_queue)
+    set_tests_properties("${name}" PROPERTIES WILL_FAIL TRUE)
+endforeach()
