@@ -24,16 +24,20 @@ _rviommu() {
             return
             ;;
         explain:-*)
-            mapfile -t COMPREPLY < <(compgen -W "--settled --only --help" -- "$current")
+            mapfile -t COMPREPLY < <(compgen -W "--settled --only --image --help" -- "$current")
             return
             ;;
-        asm:-* | run:-* | debug:-* | list:-* | upgrade:-*)
+        debug:-*)
+            mapfile -t COMPREPLY < <(compgen -W "--image --help" -- "$current")
+            return
+            ;;
+        asm:-* | run:-* | list:-* | upgrade:-*)
             mapfile -t COMPREPLY < <(compgen -W "--help" -- "$current")
             return
             ;;
     esac
     case ${COMP_WORDS[1]}:$COMP_CWORD in
-        check:* | explain:* | asm:2 | asm:3 | run:2 | debug:2 | list:2 | upgrade:2 | upgrade:3) _rviommu_files ;;
+        check:* | debug:* | explain:* | asm:2 | asm:3 | run:2 | list:2 | upgrade:2 | upgrade:3) _rviommu_files ;;
         list:3) mapfile -t COMPREPLY < <(compgen -W "cmd fault context dir pte u64" -- "$current") ;;
         help:2) mapfile -t COMPREPLY < <(compgen -W "asm run check debug explain list upgrade" -- "$current") ;;
     esac

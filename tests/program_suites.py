@@ -24,6 +24,11 @@ NONE = "none.script"
 LONG = (b"#" + b" " * 510 + b"\n") * (2**17 + 1)
 
 
+def lacking(name):
+    """The fault of a file that isn't there."""
+    return f"cannot read {name}: there is no such file"
+
+
 def of_text(out):
     """The scripts, and the lines that passed, that failed, and the scripts that were not read, by the sum of text."""
     last = out.decode().splitlines()[-1]
@@ -74,11 +79,11 @@ class Suites(Case):
             names, unread = [*NAMES, *more], len(more)
             ended, out, errors = self.check(*names)
             self.assertEqual((ended, of_text(out)), (status, (len(names), PASSED, FAILED, unread)))
-            self.assertEqual(errors.decode(), "".join(f"rviommu: cannot read {it}\n" for it in more))
+            self.assertEqual(errors.decode(), "".join(f"rviommu: {lacking(it)}\n" for it in more))
             ended, tap, _ = self.check("--tap", *names)
             passed, failed, texts = of_tap(tap)
             self.assertEqual((ended, passed, failed), (status, PASSED, FAILED + unread))
-            self.assertEqual(texts[FAILED:], [f"cannot read {it}" for it in more])
+            self.assertEqual(texts[FAILED:], [lacking(it) for it in more])
             (ended, again, _), told = self.suites(*names)
             self.assertEqual((ended, again), (status, out))
             tests, failures, errors = (sum(it) for it in list(zip(*told))[1:])
@@ -152,7 +157,7 @@ class Suites(Case):
                 status, out, errors = self.check("--tap", *words)
                 self.assertEqual((status, of_tap(out), errors), (3, (0, 1, [f"{name}: {why}"]), wanted))
                 self.assertEqual(self.suites(*words), ((3, b"", wanted), [(name, 1, 0, 1)]))
-        self.assertEqual(self.check("--image", "none", "fresh.script"), (3, b"", b"rviommu: cannot read none\n"))
+        self.assertEqual(self.check("--image", "none", "fresh.script"), (3, b"", f"rviommu: {lacking('none')}\n".encode()))
 
     def test_too_long(self):
         """a script that is too long: what was judged stands and is counted, and the others are judged"""

@@ -140,7 +140,8 @@ The script has the lines of `rviommu --help` and these:
 
 The line `include FILE` stands for the text of FILE, which is named from the
 folder of the script. If standard output is a terminal, bad is followed by its
-reason.
+reason. Without a FILE, or with -, the script is standard input. A FILE without
+--image that begins as an image does is the image of that script.
 
 An example:
 
@@ -149,8 +150,9 @@ An example:
 
 /// The end of the help of `explain`.
 pub const EXPLAIN: &str = "\
-The script has the lines of `rviommu debug --help`. Each line is printed with
-its number and its answer; if it makes several steps, each step comes first.
+FILE and the lines of the script are those of `rviommu debug --help`. Each line
+is printed with its number and its answer; if it makes several steps, each step
+comes first.
 Below each access of a device come the reasons for its answer:
 
   asks: ..      the access that a block device asks for

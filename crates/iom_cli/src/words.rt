@@ -26,13 +26,13 @@ const TAP: &str = "tap";
 /// The option of `check` for the file of JUnit's XML.
 const JUNIT: &str = "junit";
 
-/// The option of `check` for the file of the image.
+/// The option for the file of the image.
 const IMAGE: &str = "image";
 
 /// The option of `explain` that names the accesses to print.
 const ONLY: &str = "only";
 
-/// The operand of `check` for its scripts.
+/// The operand for a script, or for the scripts of `check`.
 const FILE: &str = "FILE";
 
 /// The word for standard input in place of a file.
@@ -109,10 +109,12 @@ pub struct Checks<'a> {
 /// The task that the command line asks for.
 #[derive(Drop)]
 pub enum Task<'a> {
-    /// Plays a script on the image in a file, or on the built-in one.
+    /// Plays the script in a file, or on standard input, on the image in a file, or on the built-in one. A script without an image may be the
+    /// image.
     Play {
         how: How,
         image: Option<&'a str>,
+        script: Option<&'a str>,
     },
     /// Judges scripts.
     Check(Checks<'a>),
@@ -242,11 +244,18 @@ const VERBS: [Verb; 7] = [
         name: "debug",
         about: "Runs a script that may ask more about the platform",
         after_help: help::DEBUG,
-        operands: &[Operand {
-            name: "IMAGE",
-            help: "The file of the image; without it, the built-in image",
-            need: Need::Optional,
-        }],
+        operands: &[
+            Operand {
+                name: IMAGE,
+                help: "The file of the image; without it, the built-in image",
+                need: Need::Valued("IMAGE"),
+            },
+            Operand {
+                name: FILE,
+                help: "The file of the script, or of the image; - or none for standard input",
+                need: Need::Optional,
+            },
+        ],
     },
     Verb {
         name: "explain",
@@ -264,8 +273,13 @@ const VERBS: [Verb; 7] = [
                 need: Need::Valued("WHAT"),
             },
             Operand {
-                name: "IMAGE",
+                name: IMAGE,
                 help: "The file of the image; without it, the built-in image",
+                need: Need::Valued("IMAGE"),
+            },
+            Operand {
+                name: FILE,
+                help: "The file of the script, or of the image; - or none for standard input",
                 need: Need::Optional,
             },
         ],
@@ -385,11 +399,21 @@ fn listing<'a>(found: &ArgMatches<'a>) -> Result<Task<'a>, WordsFault<'a>> {
     })
 }
 
-// The task to play a script, on the image that the operands name or else the built-in one.
+// The task to play a script in a way that may name its file.
 fn script<'a>(how: How, found: &ArgMatches<'a>) -> Task<'a> {
     Task::Play {
         how,
-        image: found.get_str("IMAGE"),
+        image: found.get_str(IMAGE),
+        script: found.get_str(FILE).filter(|name| *name != INPUT),
+    }
+}
+
+// The task to run the script on standard input on an image, or else on the built-in one.
+fn run<'a>(image: Option<&'a str>) -> Task<'a> {
+    Task::Play {
+        how: How::Run,
+        image,
+        script: None,
     }
 }
 
@@ -457,7 +481,7 @@ fn task_in<'a>(alloc: Global, matches: &ArgMatches<'a>) -> Result<Task<'a>, Word
             source: value(found, "SOURCE"),
             image: value(found, "IMAGE"),
         }),
-        Some(("run", found)) => Ok(script(How::Run, found)),
+        Some(("run", found)) => Ok(run(found.get_str("IMAGE"))),
         Some(("debug", found)) => Ok(script(How::Debug, found)),
         Some(("explain", found)) => Ok(script(explaining(found), found)),
         Some(("check", found)) => judging(alloc, found),
@@ -466,10 +490,7 @@ fn task_in<'a>(alloc: Global, matches: &ArgMatches<'a>) -> Result<Task<'a>, Word
             new: value(found, "NEW"),
         }),
         Some((_, found)) => listing(found),
-        None => Ok(Task::Play {
-            how: How::Run,
-            image: None,
-        }),
+        None => Ok(run(None)),
     }
 }
 

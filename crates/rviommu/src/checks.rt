@@ -95,7 +95,7 @@ impl<R: Clock + Eprint + Files, W: Write> Round<'_, R, W> {
     // The report of a fault: with the name of its file, if that isn't in it.
     fn told<'f>(&self, name: Option<&str>, fault: &Fault<'_>) -> Result<String, Fault<'f>> {
         Ok(match (name, fault) {
-            (None, _) | (_, Fault::CannotRead(_) | Fault::Include(_)) => format!(in self.alloc;
+            (None, _) | (_, Fault::CannotRead { .. } | Fault::Include(_)) => format!(in self.alloc;
                 "{fault}"
             )?,
             (Some(name), _) => format!(in self.alloc; "{}: {fault}", Escaped(name))?,
@@ -302,7 +302,7 @@ impl<R: Clock + Eprint + Files, W: Write> Round<'_, R, W> {
     ) -> Result<(), Fault<'f>> {
         match iom_asm::judge(image) {
             Ok(()) => self.judge_scripts(image, scripts, input),
-            Err(fault) => self.refuse(Some(name), &Fault::Load(fault)),
+            Err(fault) => self.refuse(Some(name), &Fault::from(fault)),
         }
     }
 

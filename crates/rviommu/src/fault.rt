@@ -6,6 +6,7 @@ use iom_text::is_over;
 use iom_tool::{Reply, RunFault};
 use std::alloc::AllocError;
 use std::fmt::{self, Display, Formatter, Write};
+use std::io::ErrorKind;
 use std::str;
 use thiserror::Error;
 
@@ -22,6 +23,43 @@ impl Display for SlipTold<'_> {
     }
 }
 
+/// Why a file can't be read.
+#[derive(Clone, Copy, Debug)]
+pub enum Unread {
+    /// Opening it, or a read, failed.
+    Failed(ErrorKind),
+    /// It has more than 2^30 bytes.
+    TooLong,
+}
+
+/// The reason of a file that can't be read, behind its name; nothing if there is none to print.
+#[derive(Clone, Copy)]
+struct UnreadTold(Option<Unread>);
+
+impl Display for UnreadTold {
+    fn fmt<W: Write>(&self, f: &mut Formatter<W>) -> fmt::Result {
+        match self.0 {
+            None | Some(Unread::Failed(ErrorKind::Other | ErrorKind::Uncategorized)) => Ok(()),
+            Some(Unread::Failed(ErrorKind::NotFound)) => f.write_str(": there is no such file"),
+            Some(Unread::Failed(kind)) => write!(f, ": {kind}"),
+            Some(Unread::TooLong) => f.write_str(": it has more than 2^30 bytes"),
+        }
+    }
+}
+
+/// The name of the file that a fault is of, before the fault; nothing if it isn't to be printed.
+#[derive(Clone, Copy)]
+struct FileTold<'a>(Option<&'a str>);
+
+impl Display for FileTold<'_> {
+    fn fmt<W: Write>(&self, f: &mut Formatter<W>) -> fmt::Result {
+        match self.0 {
+            Some(name) => write!(f, "{}: ", Escaped(name)),
+            None => Ok(()),
+        }
+    }
+}
+
 /// Why the program ends, if not well.
 #[derive(Debug, Drop, Error)]
 pub enum Fault<'a> {
@@ -34,18 +72,28 @@ pub enum Fault<'a> {
     /// The words ask for help or version, or for nothing that the program does.
     #[error("{0}")]
     Words(WordsFault<'a>),
-    /// The file of this name can't be read, or has more than 2^30 bytes.
-    #[error("cannot read {}", Escaped(*.0))]
-    CannotRead(&'a str),
+    /// The file of this name can't be read.
+    #[error("cannot read {}{}", Escaped(*.name), UnreadTold(*.why))]
+    CannotRead {
+        name: &'a str,
+        why: Option<Unread>,
+    },
     /// The file of this name can't be written.
     #[error("cannot write {}", Escaped(*.0))]
     CannotWrite(&'a str),
-    /// A text is refused by the assembler. The reason is empty if no line of it is bad.
-    #[error("{fault}{}", SlipTold(.reason.as_slice()))]
-    Assemble { fault: AsmFault, reason: Reply },
-    /// Bytes are refused as an image.
-    #[error("{0}")]
-    Load(LoadFault),
+    /// The text in the file of this name is refused by the assembler. The reason is empty if no line of it is bad.
+    #[error("{}{fault}{}", FileTold(Some(*.name)), SlipTold(.reason.as_slice()))]
+    Assemble {
+        name: &'a str,
+        fault: AsmFault,
+        reason: Reply,
+    },
+    /// Bytes are refused as an image: those of the file of this name, if it is to be printed.
+    #[error("{}{fault}", FileTold(*.name))]
+    Load {
+        name: Option<&'a str>,
+        fault: LoadFault,
+    },
     /// There is no listing.
     #[error("{0}")]
     List(ListFault),
@@ -103,16 +151,39 @@ impl Display for IncludeTold<'_> {
     }
 }
 
-impl Fault<'_> {
-    /// The fault of a text that the assembler refused.
-    pub fn of_text(fault: AsmFault, text: &[u8]) -> Self {
+impl<'a> Fault<'a> {
+    /// The fault of the text in a file of this name that the assembler refused.
+    pub fn of_text(name: &'a str, fault: AsmFault, text: &[u8]) -> Self {
         let reason = match fault {
             AsmFault::BadLine(line) => reason_of(text, line),
             _ => Reply::new(),
         };
-        Fault::Assemble { fault, reason }
+        Fault::Assemble {
+            name,
+            fault,
+            reason,
+        }
     }
 
+    /// This fault, where bytes that are refused as an image are those of the file of this name.
+    pub fn of_image(self, name: &'a str) -> Self {
+        match self {
+            Fault::Load { name: None, fault } => Fault::Load {
+                name: Some(name),
+                fault,
+            },
+            fault => fault,
+        }
+    }
+
+    /// This fault as `run` prints it: without the name of the image's file, or why that can't be read.
+    pub fn of_run_alone(self) -> Self {
+        match self {
+            Fault::Load { fault, .. } => Fault::Load { name: None, fault },
+            Fault::CannotRead { name, .. } => Fault::CannotRead { name, why: None },
+            fault => fault,
+        }
+    }
     /// Why a run ended, by the fault that the run returns and that of a line of its script, if there is one.
     pub fn of_run(fault: RunFault, line: Option<IncludeFault>) -> Self {
         match (fault, line) {
@@ -147,7 +218,7 @@ impl<'a> From<WordsFault<'a>> for Fault<'a> {
 
 impl From<LoadFault> for Fault<'_> {
     fn from(fault: LoadFault) -> Self {
-        Fault::Load(fault)
+        Fault::Load { name: None, fault }
     }
 }
 

@@ -1,6 +1,6 @@
 //! Files, each as a whole.
 
-use crate::fault::Fault;
+use crate::fault::{Fault, Unread};
 use iom_include::TextFault;
 use iom_reader::RunFault;
 use std::alloc::Global;
@@ -15,12 +15,17 @@ const SCRIPT_BYTES: u64 = (1 << 26) + 1;
 
 /// The bytes of a file of at most 2^30 bytes. The faults are `CannotRead` and `OutOfMemory`.
 pub fn read<'a>(rt: &impl Files, alloc: Global, name: &'a str) -> Result<Vec<u8>, Fault<'a>> {
-    let file = File::open(rt, name).map_err(|_| Fault::CannotRead(name))?;
+    let unread = |why| Fault::CannotRead {
+        name,
+        why: Some(why),
+    };
+    let file = File::open(rt, name).map_err(|error| unread(Unread::Failed(error.kind())))?;
     let mut bytes = Vec::new(alloc);
     match file.take(MOST_BYTES + 1).read_to_end(&mut bytes) {
         Ok(_) if bytes.len() as u64 <= MOST_BYTES => Ok(bytes),
+        Ok(_) => Err(unread(Unread::TooLong)),
         Err(error) if error.kind() == ErrorKind::OutOfMemory => Err(Fault::OutOfMemory),
-        _ => Err(Fault::CannotRead(name)),
+        Err(error) => Err(unread(Unread::Failed(error.kind()))),
     }
 }
 

@@ -3,7 +3,7 @@
 
 use fault::Fault;
 use iom_asm::Item;
-use iom_cli::{Checks, How, Task, WordsFault, check_status, task_of};
+use iom_cli::{Checks, How, Task, WordsFault, begins_as_image, check_status, task_of};
 use iom_core::Platform;
 use iom_debug::{Debugger, Debugging, LineAccount, debug};
 use iom_explain::{Explaining, Only, explain};
@@ -12,8 +12,10 @@ use iom_play::WRITE_BLOCK;
 use iom_reader::{RunFault, WatchedReader, WatchedWriter};
 use iom_tool::Trace;
 use library::Library;
+use output::Piped;
 use progress::{Progress, size_of_input};
 use std::alloc::Global;
+use std::cell::Cell;
 use std::env;
 use std::fs::Files;
 use std::io::{self, BufWriter, IsTerminal, Read, Write};
@@ -25,6 +27,7 @@ mod checks;
 mod fault;
 mod files;
 mod library;
+mod output;
 mod progress;
 
 /// The status of `check` where something couldn't be read, judged or written.
@@ -91,18 +94,19 @@ fn tell<'a, R: Read, W: Write>(
     Ok(true)
 }
 
-// Debugs or explains a script whose lines may include files.
+// Debugs or explains a script whose lines may include files, from the folder of `name`.
 fn tell_all<'a, R: Read, W: Write>(
     rt: &impl Files,
     alloc: Global,
     image: &[u8],
     explained: Option<Explained>,
     tells_slips: bool,
+    name: &str,
     input: &mut R,
     output: &mut W,
 ) -> Result<(), Fault<'a>> {
-    let library = Library::new(rt, alloc, "");
-    let mut script = Including::new(alloc, &library, "", &mut *input);
+    let library = Library::new(rt, alloc, name);
+    let mut script = Including::new(alloc, &library, name, &mut *input);
     match tell(alloc, image, explained, tells_slips, &mut script, output) {
         Ok(true) => Ok(()),
         Ok(false) => Err(Fault::OutOfMemory),
@@ -111,13 +115,14 @@ fn tell_all<'a, R: Read, W: Write>(
     }
 }
 
-// Runs, debugs or explains the script that an input gives.
+// Runs, debugs or explains the script that an input gives. `name` is its file; if it has none, empty.
 fn play<'a, R: Read, W: Write>(
     rt: &impl Files,
     alloc: Global,
     image: &[u8],
     how: How,
     tells_slips: bool,
+    name: &str,
     input: &mut R,
     output: &mut W,
 ) -> Result<(), Fault<'a>> {
@@ -140,19 +145,20 @@ fn play<'a, R: Read, W: Write>(
             tells_settled,
         }),
     };
-    tell_all(rt, alloc, image, explained, tells_slips, input, output)
+    tell_all(rt, alloc, image, explained, tells_slips, name, input, output)
 }
 
-// Plays a script on an image. Its answers are written by blocks, but before it waits for input.
-fn play_image<'a>(
+// Plays a script on an image. Its answers are written by blocks, but before it waits for input. `name` is its file; if it has none, empty.
+fn play_script<'a>(
     rt: &(impl Clock + Eprint + Files),
     alloc: Global,
     image: &[u8],
     how: How,
+    name: &str,
+    size: Option<u64>,
     streams: Streams<impl Read + Drop, impl Write + Drop>,
 ) -> Result<(), Fault<'a>> {
-    let has_progress = streams.has_terminal && !matches!(how, How::Run);
-    let size = size_of_input(rt, has_progress);
+    let size = if streams.has_terminal { size } else { None };
     let mut input = Progress::new(rt, how.word(), size, streams.input);
     let mut writer = BufWriter::with_capacity(alloc, WRITE_BLOCK, streams.output).map_err(
         |_| Fault::OutOfMemory,
@@ -163,6 +169,7 @@ fn play_image<'a>(
         image,
         how,
         streams.output_is_terminal,
+        name,
         &mut input,
         &mut writer,
     );
@@ -170,6 +177,89 @@ fn play_image<'a>(
     // The answers before a fault are written too.
     writer.flush().map_err(|_| RunFault::Write)?;
     ended
+}
+
+// Plays the script on standard input on an image.
+fn play_input<'a>(
+    rt: &(impl Clock + Eprint + Files),
+    alloc: Global,
+    image: &[u8],
+    how: How,
+    streams: Streams<impl Read + Drop, impl Write + Drop>,
+) -> Result<(), Fault<'a>> {
+    let is_shown = streams.has_terminal && !matches!(how, How::Run);
+    let size = size_of_input(rt, is_shown);
+    play_script(rt, alloc, image, how, "", size, streams)
+}
+
+// Plays the script of a file that was read on an image.
+fn play_bytes<'a>(
+    rt: &(impl Clock + Eprint + Files),
+    alloc: Global,
+    image: &[u8],
+    how: How,
+    name: &str,
+    script: &[u8],
+    streams: Streams<impl Read + Drop, impl Write + Drop>,
+) -> Result<(), Fault<'a>> {
+    let streams = Streams {
+        input: script,
+        output: streams.output,
+        has_terminal: streams.has_terminal,
+        output_is_terminal: streams.output_is_terminal,
+    };
+    play_script(
+        rt,
+        alloc,
+        image,
+        how,
+        name,
+        Some(script.len() as u64),
+        streams,
+    )
+}
+
+// Plays a script of a file without an image: where it begins as an image, that is the image of the script on standard input.
+fn play_file<'a>(
+    rt: &(impl Clock + Eprint + Files),
+    alloc: Global,
+    how: How,
+    name: &'a str,
+    streams: Streams<impl Read + Drop, impl Write + Drop>,
+) -> Result<(), Fault<'a>> {
+    let bytes = files::read(rt, alloc, name)?;
+    let bytes = bytes.as_slice();
+    if begins_as_image(bytes) {
+        return play_input(rt, alloc, bytes, how, streams).map_err(|fault| fault.of_image(name));
+    }
+    play_bytes(rt, alloc, &iom_asm::built_in(), how, name, bytes, streams)
+}
+
+// Plays the script in a file, or on standard input, on the image in a file, or on the built-in one.
+fn play_named<'a>(
+    rt: &(impl Clock + Eprint + Files),
+    alloc: Global,
+    how: How,
+    image: Option<&'a str>,
+    script: Option<&'a str>,
+    streams: Streams<impl Read + Drop, impl Write + Drop>,
+) -> Result<(), Fault<'a>> {
+    let Some(image) = image else {
+        return match script {
+            Some(name) => play_file(rt, alloc, how, name, streams),
+            None => play_input(rt, alloc, &iom_asm::built_in(), how, streams),
+        };
+    };
+    let start = files::read(rt, alloc, image)?;
+    let start = start.as_slice();
+    let ended = match script {
+        Some(name) => {
+            let script = files::read(rt, alloc, name)?;
+            play_bytes(rt, alloc, start, how, name, script.as_slice(), streams)
+        }
+        None => play_input(rt, alloc, start, how, streams),
+    };
+    ended.map_err(|fault| fault.of_image(image))
 }
 
 // The image is written only where the whole text is assembled.
@@ -182,7 +272,7 @@ fn assemble<'a>(
     let text = files::read(rt, alloc, source)?;
     match iom_asm::assemble(alloc, text.as_slice()) {
         Ok(bytes) => files::write(rt, alloc, image, bytes.as_slice()),
-        Err(fault) => Err(Fault::of_text(fault, text.as_slice())),
+        Err(fault) => Err(Fault::of_text(source, fault, text.as_slice())),
     }
 }
 
@@ -193,8 +283,9 @@ fn upgrade<'a>(
     image: &'a str,
     new: &'a str,
 ) -> Result<(), Fault<'a>> {
-    let image = files::read(rt, alloc, image)?;
-    let bytes = iom_asm::upgrade(alloc, image.as_slice())?;
+    let old = files::read(rt, alloc, image)?;
+    let bytes = iom_asm::upgrade(alloc, old.as_slice())
+        .map_err(|fault| Fault::from(fault).of_image(image))?;
     files::write(rt, alloc, new, bytes.as_slice())
 }
 
@@ -246,16 +337,14 @@ fn carry_out<'a>(
     streams: Streams<impl Read + Drop, impl Write + Drop>,
 ) -> Result<u8, Fault<'a>> {
     match task {
-        Task::Play { how, image: None } => {
-            play_image(rt, alloc, &iom_asm::built_in(), how, streams)?;
-        }
         Task::Play {
             how,
-            image: Some(image),
-        } => {
-            let image = files::read(rt, alloc, image)?;
-            play_image(rt, alloc, image.as_slice(), how, streams)?;
-        }
+            image,
+            script,
+        } => match (how, play_named(rt, alloc, how, image, script, streams)) {
+            (How::Run, Err(fault)) => return Err(fault.of_run_alone()),
+            (_, ended) => ended?,
+        },
         Task::Check(checks) => return check(rt, alloc, &checks, streams),
         Task::Assemble { source, image } => assemble(rt, alloc, source, image)?,
         Task::Upgrade { image, new } => upgrade(rt, alloc, image, new)?,
@@ -266,8 +355,9 @@ fn carry_out<'a>(
             count,
         } => {
             let item = Item::named(kind.as_bytes()).ok_or(Fault::BadKind { word: kind })?;
-            let image = files::read(rt, alloc, image)?;
-            list(alloc, image.as_slice(), item, addr, count, streams.output)?;
+            let bytes = files::read(rt, alloc, image)?;
+            list(alloc, bytes.as_slice(), item, addr, count, streams.output)
+                .map_err(|fault| fault.of_image(image))?;
         }
     }
     Ok(0)
@@ -300,10 +390,11 @@ fn print_fault(rt: &impl Eprint, fault: &Fault<'_>) -> u8 {
     fault.status()
 }
 
-// Prints a fault, and returns the status to end with.
-fn tell_fault(rt: &(impl Print + Eprint), fault: &Fault<'_>) -> u8 {
+// Prints a fault, and returns the status to end with. If nobody reads standard output any more, it prints nothing of that.
+fn tell_fault(rt: &(impl Print + Eprint), fault: &Fault<'_>, is_unread: bool) -> u8 {
     match fault {
         Fault::Words(fault) => show_words_fault(rt, fault),
+        Fault::Run(RunFault::Write) if is_unread => fault.status(),
         fault => print_fault(rt, fault),
     }
 }
@@ -316,15 +407,16 @@ fn is_check(words: &[String]) -> bool {
     }
 }
 
-// The whole program over its streams.
+// The whole program over its streams. `is_unread` says whether nobody reads standard output any more.
 fn program(
     rt: &(impl Clock + Env + Files + Alloc<A = Global> + Print + Eprint),
     alloc: Global,
     streams: Streams<impl Read + Drop, impl Write + Drop>,
+    is_unread: &Cell<bool>,
 ) -> ExitCode {
     let words = match arguments(rt, alloc) {
         Ok(words) => words,
-        Err(fault) => return ExitCode::from(tell_fault(rt, &fault)),
+        Err(fault) => return ExitCode::from(tell_fault(rt, &fault, false)),
     };
     let ended = match task_of(alloc, words.as_slice()) {
         Ok(task) => carry_out(rt, alloc, task, streams),
@@ -332,7 +424,7 @@ fn program(
     };
     let status = match ended {
         Ok(status) => status,
-        Err(fault) => match tell_fault(rt, &fault) {
+        Err(fault) => match tell_fault(rt, &fault, is_unread.get()) {
             1 if is_check(words.as_slice()) => UNJUDGED,
             status => status,
         },
@@ -342,11 +434,12 @@ fn program(
 
 // The program over the streams of its process.
 fn main(rt: HostRuntime) -> ExitCode {
+    let is_unread = Cell::new(false);
     let streams = Streams {
         input: rt.stdin(),
-        output: rt.stdout(),
+        output: Piped::new(rt.stdout(), &is_unread),
         has_terminal: rt.stderr().is_terminal(),
         output_is_terminal: rt.stdout().is_terminal(),
     };
-    program(&rt, rt.alloc(), streams)
+    program(&rt, rt.alloc(), streams, &is_unread)
 }
