@@ -10,6 +10,7 @@ pub use texts::Texts;
 mod expanding;
 mod fault;
 mod including;
+mod kept;
 mod law;
 mod lines;
 mod texts;
