@@ -1,6 +1,7 @@
 use iom_asm::{AsmFault, ListFault, LoadFault};
 use iom_cli::{Escaped, WordsFault};
 use iom_include::{IncludeFault, Reason};
+use iom_scripts::ScriptFault;
 use iom_slips::statement_slip;
 use iom_text::is_over;
 use iom_tool::{Reply, RunFault};
@@ -113,16 +114,6 @@ impl Fault<'_> {
         Fault::Assemble { fault, reason }
     }
 
-    /// Why a run ended, by the fault that the run returns and that of a line of its script, if there is one.
-    pub fn of_run(fault: RunFault, line: Option<IncludeFault>) -> Self {
-        match (fault, line) {
-            (RunFault::Read, Some(IncludeFault::OutOfMemory)) => Fault::OutOfMemory,
-            (RunFault::Read, Some(IncludeFault::LongLine)) => Fault::Run(RunFault::TooLong),
-            (RunFault::Read, Some(fault)) => Fault::Include(fault),
-            _ => Fault::Run(fault),
-        }
-    }
-
     /// The status to end with: 2 for bad words, else 1.
     pub fn status(&self) -> u8 {
         match self {
@@ -160,5 +151,15 @@ impl From<ListFault> for Fault<'_> {
 impl From<RunFault> for Fault<'_> {
     fn from(fault: RunFault) -> Self {
         Fault::Run(fault)
+    }
+}
+
+impl From<ScriptFault> for Fault<'_> {
+    fn from(fault: ScriptFault) -> Self {
+        match fault {
+            ScriptFault::Run(fault) => Fault::Run(fault),
+            ScriptFault::Include(fault) => Fault::Include(fault),
+            ScriptFault::OutOfMemory => Fault::OutOfMemory,
+        }
     }
 }

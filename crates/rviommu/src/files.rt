@@ -1,7 +1,7 @@
 //! Files, each as a whole.
 
 use crate::fault::Fault;
-use iom_include::TextFault;
+use iom_include::{TextFault, Texts};
 use iom_reader::RunFault;
 use std::alloc::Global;
 use std::fs::{self, File, Files};
@@ -24,8 +24,8 @@ pub fn read<'a>(rt: &impl Files, alloc: Global, name: &'a str) -> Result<Vec<u8>
     }
 }
 
-/// The bytes of a file that a script includes: at most as many as a script may have.
-pub fn read_text(rt: &impl Files, alloc: Global, name: &str) -> Result<Vec<u8>, TextFault> {
+// The bytes of a file that a script includes: at most as many as a script may have.
+fn read_text(rt: &impl Files, alloc: Global, name: &str) -> Result<Vec<u8>, TextFault> {
     let file = File::open(rt, name).map_err(|_| TextFault::Unreadable)?;
     let mut bytes = Vec::new(alloc);
     match file.take(SCRIPT_BYTES).read_to_end(&mut bytes) {
@@ -33,6 +33,25 @@ pub fn read_text(rt: &impl Files, alloc: Global, name: &str) -> Result<Vec<u8>, 
         Ok(_) => Err(TextFault::TooLong),
         Err(error) if error.kind() == ErrorKind::OutOfMemory => Err(TextFault::OutOfMemory),
         Err(_) => Err(TextFault::Unreadable),
+    }
+}
+
+/// The files that scripts include, each by its path.
+#[derive(Drop)]
+pub struct IncludedFiles<'r, R> {
+    rt: &'r R,
+}
+
+impl<'r, R: Files> IncludedFiles<'r, R> {
+    /// Those of this host.
+    pub fn new(rt: &'r R) -> IncludedFiles<'r, R> {
+        IncludedFiles { rt }
+    }
+}
+
+impl<R: Files> Texts for IncludedFiles<'_, R> {
+    fn text(&self, alloc: Global, name: &str) -> Result<Vec<u8>, TextFault> {
+        read_text(self.rt, alloc, name)
     }
 }
 

@@ -2,16 +2,13 @@
 #![tactic(auto)]
 
 use fault::Fault;
+use files::IncludedFiles;
 use iom_asm::Item;
 use iom_cli::{Checks, How, Task, WordsFault, check_status, task_of};
-use iom_core::Platform;
-use iom_debug::{Debugger, Debugging, LineAccount, debug};
-use iom_explain::{Explaining, Only, explain};
-use iom_include::Including;
+use iom_explain::Only;
 use iom_play::WRITE_BLOCK;
 use iom_reader::{RunFault, WatchedReader, WatchedWriter};
-use iom_tool::Trace;
-use library::Library;
+use iom_scripts::{debug_script, explain_script};
 use progress::{Progress, size_of_input};
 use std::alloc::Global;
 use std::env;
@@ -24,7 +21,6 @@ use std::time::Clock;
 mod checks;
 mod fault;
 mod files;
-mod library;
 mod progress;
 
 /// The status of `check` where something couldn't be read, judged or written.
@@ -41,76 +37,6 @@ struct Streams<I, O> {
     output_is_terminal: bool,
 }
 
-// How a script is explained.
-#[derive(Clone, Copy)]
-struct Explained {
-    // The accesses that are printed; None for every line.
-    only: Option<Only>,
-    // Whether accesses that aren't settled are reported.
-    tells_settled: bool,
-}
-
-// What is kept beside a platform whose script is debugged, or is explained. What any IOMMU may hold takes memory and time, so it is kept for
-// `debug`, where a line may ask what is owed, and where `explain` is to report it.
-fn account(platform: &Platform, alloc: Global, explained: Option<Explained>) -> LineAccount {
-    let keeps_holdings = match explained {
-        Some(explained) => explained.tells_settled,
-        None => true,
-    };
-    if keeps_holdings {
-        LineAccount::with_holdings(platform, alloc)
-    } else {
-        LineAccount::new(platform)
-    }
-}
-
-// Debugs or explains the script that an input gives. Returns whether there was memory for its output.
-fn tell<'a, R: Read, W: Write>(
-    alloc: Global,
-    image: &[u8],
-    explained: Option<Explained>,
-    tells_slips: bool,
-    input: &mut R,
-    output: &mut W,
-) -> Result<bool, Fault<'a>> {
-    let mut reader = WatchedReader::new(input);
-    let mut writer = WatchedWriter::new(output);
-    let mut platform = iom_asm::load(alloc, image)?;
-    let mut trace = Trace::new(alloc)?;
-    let mut reasons = account(&platform, alloc, explained);
-    let debugger = Debugger::new(&mut platform, &mut trace, &mut reasons);
-    if let Some(explained) = explained {
-        let mut explaining = Explaining::new(alloc, debugger, explained.only)?;
-        return Ok(explain(&mut explaining, &mut reader, &mut writer)?);
-    }
-    debug(
-        &mut Debugging::new(debugger, tells_slips),
-        &mut reader,
-        &mut writer,
-    )?;
-    Ok(true)
-}
-
-// Debugs or explains a script whose lines may include files.
-fn tell_all<'a, R: Read, W: Write>(
-    rt: &impl Files,
-    alloc: Global,
-    image: &[u8],
-    explained: Option<Explained>,
-    tells_slips: bool,
-    input: &mut R,
-    output: &mut W,
-) -> Result<(), Fault<'a>> {
-    let library = Library::new(rt, alloc, "");
-    let mut script = Including::new(alloc, &library, "", &mut *input);
-    match tell(alloc, image, explained, tells_slips, &mut script, output) {
-        Ok(true) => Ok(()),
-        Ok(false) => Err(Fault::OutOfMemory),
-        Err(Fault::Run(fault)) => Err(Fault::of_run(fault, script.take_fault())),
-        Err(fault) => Err(fault),
-    }
-}
-
 // Runs, debugs or explains the script that an input gives.
 fn play<'a, R: Read, W: Write>(
     rt: &impl Files,
@@ -121,26 +47,27 @@ fn play<'a, R: Read, W: Write>(
     input: &mut R,
     output: &mut W,
 ) -> Result<(), Fault<'a>> {
-    let explained = match how {
+    let files = IncludedFiles::new(rt);
+    let ended = match how {
         How::Run => {
             let mut reader = WatchedReader::new(input);
             let mut writer = WatchedWriter::new(output);
             return Ok(iom_play::play(alloc, image, &mut reader, &mut writer)?.ended?);
         }
-        How::Debug => None,
+        How::Debug => debug_script(alloc, image, &files, "", tells_slips, input, output)?,
         How::Explain {
             only,
             tells_settled,
-        } => Some(Explained {
-            only: only.map(|it| Only {
+        } => {
+            let only = only.map(|it| Only {
                 denied: it.denied,
                 stale: it.stale,
                 unsettled: it.unsettled,
-            }),
-            tells_settled,
-        }),
+            });
+            explain_script(alloc, image, &files, "", only, tells_settled, input, output)?
+        }
     };
-    tell_all(rt, alloc, image, explained, tells_slips, input, output)
+    Ok(ended?)
 }
 
 // Plays a script on an image. Its answers are written by blocks, but before it waits for input.
