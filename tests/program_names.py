@@ -30,7 +30,7 @@ NAMING = {
 # refuses.
 KEEP_AN_ALLOCATOR = {"Summary::new", "LineAccount::with_holdings"}
 # Tests, and crates that only the program uses, whose allocations tests/shell refuses.
-NO_LIBRARY = {"iom_tests", "iom_cli", "iom_explain", "iom_include"}
+NO_LIBRARY = {"iom_tests", "iom_cli", "iom_explain", "iom_include", "iom_scripts"}
 NAME = r"[A-Za-z_]\w*(?:::\w+)*"
 # A public item or field below a line that is no comment; attributes are left out.
 UNDOCUMENTED = (

@@ -1,5 +1,6 @@
 pub mod Depths
 pub mod Cuts
+pub mod Keeping
 pub mod Lefts
 pub mod Naming
 pub mod Plain

@@ -48,8 +48,12 @@ abbrev pub left_by : Option (List ℕ → List ℕ) → Option (List ℕ) → Li
 left_by known None ready name rest = None
 left_by known (Some unread) ready name rest = lines_left known ready name (lines_of (rest ++ unread))
 
--- what is left to read of a script of this name, of which no byte was read, is known, and has the lines of the script
+-- what stands for a script of this name, of which no byte was read
+abbrev pub standing : Option (List ℕ → List ℕ) → Option (List ℕ) → List ℕ → Option (List ℕ)
+standing known script name = left_by known script [] name []
+
+-- that is known, and has the lines of the script
 pub record StandsForItself (known : Option (List ℕ → List ℕ)) (name script : List ℕ) : Type 0 where
   pub left : List ℕ
-  pub known_left : left_by known (Some script) [] name [] ≡ Some left
+  pub known_left : standing known (Some script) name ≡ Some left
   pub lines : lines_of left ≡ lines_of script

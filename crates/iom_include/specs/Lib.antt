@@ -1,3 +1,4 @@
 pub mod Including
 pub mod Reading
 pub mod Faults
+pub mod Kept

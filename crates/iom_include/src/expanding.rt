@@ -5,9 +5,11 @@ ghost use Rattle.std.specs.List.{flat_map};
 ghost use Rattle.std.specs.Path.{path_buf_bytes};
 ghost use Rattle.iom_include.specs.Faults.{AppendsFront, IfRefused, IsFaultOf, IsLineOf, IsOver, Lacking, Names, line_ends};
 ghost use Rattle.iom_include.specs.Including.{file_of, in_place, name_at, said};
+ghost use Rattle.iom_include.specs.Kept.{AreKept};
 ghost use Rattle.iom_reader.specs.Lines.{ended_lines};
 
 use crate::fault::{IncludeFault, Reason, TextFault};
+use crate::kept::{KeptTexts, text_at};
 use crate::lines::{cut, file_of};
 use crate::texts::Texts;
 use std::alloc::{AllocError, Global};
@@ -88,14 +90,17 @@ fn refused(alloc: Global, at: Place<'_>, name: &str, reason: Reason) -> IncludeF
 // The text of a name, with a line end behind it.
 fn text_of<T: Texts>(
     source: &Source<'_, T>,
+    kept: &mut KeptTexts,
     at: Place<'_>,
     name: &str,
 ) -> Result<Vec<u8>, IncludeFault>
+    requires { AreKept (T.known source.now.texts.now) (T.gives source.now.texts.now) kept.old }
     ensures known { IfSome (T.known source.now.texts.now) (λ texts. IfOk result (λ text. text.items ≡ texts name.now ++ 10 ∷ [])) }
     ensures given { IfOk result (λ text. (given : List ℕ) × T.gives source.now.texts.now name.now given × (text.items ≡ given ++ 10 ∷ [])) }
     ensures lacking { IfErr result (λ fault. Lacking (T.lacks source.now.texts.now) name.now at.entry.name.now fault) }
+    ensures kept { OnOk result (AreKept (T.known source.now.texts.now) (T.gives source.now.texts.now) kept.new) }
 {
-    let reason = match source.texts.text(source.alloc, name) {
+    let reason = match text_at(source.texts, kept, source.alloc, name) {
         Ok(mut text) => {
             text.push(b'\n').map_err(AllocError::from)?;
             return Ok(text);
@@ -131,11 +136,13 @@ fn is_too_long(out: &Expansion) -> bool
 #[cycle(push)]
 fn push_text<T: Texts>(
     source: &Source<'_, T>,
+    kept: &mut KeptTexts,
     depth: u64,
     at: Place<'_>,
     file: &[u8],
     out: &mut Expansion,
 ) -> Result<(), IncludeFault>
+    requires { AreKept (T.known source.now.texts.now) (T.gives source.now.texts.now) kept.old }
     ensures deep { OnOk result (0 < depth) }
     ensures said { OnOk result (IfSome (T.known source.now.texts.now) (λ texts. out.new.text.items ≡ out.old.text.items
         ++ flat_map (said texts (depth - 1) (name_at at.entry.name.now file.now)) (ended_lines (texts (name_at at.entry.name.now file.now) ++ 10 ∷ [])))) }
@@ -145,6 +152,7 @@ fn push_text<T: Texts>(
     ensures within { OnOk result ((length out.new.text.items ≤ 2 ^ 26) × (out.new.lines ≤ 2 ^ 20)) }
     ensures fault { (line : List ℕ) → Some file.now ≡ file_of line → IfErr result (λ fault. IsFaultOf (T.gives source.now.texts.now) (T.lacks source.now.texts.now)
         depth at.entry.name.now line (IsOver (length out.new.text.items) out.new.lines) fault) }
+    ensures kept { OnOk result (AreKept (T.known source.now.texts.now) (T.gives source.now.texts.now) kept.new) }
 {
     let Ok(file) = str::from_utf8(file) else {
         return Err(refused(source.alloc, at, "?", Reason::Unreadable));
@@ -153,9 +161,9 @@ fn push_text<T: Texts>(
     if depth == 0 {
         return Err(refused(source.alloc, at, name.as_str(), Reason::TooDeep));
     }
-    let text = text_of(source, at, name.as_str())?;
+    let text = text_of(source, kept, at, name.as_str())?;
     source.texts.stands(out.next_line(), name.as_str(), 1)?;
-    push_lines(source, depth - 1, name.as_str(), text.as_slice(), out)?;
+    push_lines(source, kept, depth - 1, name.as_str(), text.as_slice(), out)?;
     if is_too_long(out) {
         return Err(refused(source.alloc, at, name.as_str(), Reason::TooLong));
     }
@@ -165,16 +173,18 @@ fn push_text<T: Texts>(
     Ok(())
 }
 
-/// Appends what stands for a line of a text, at most `depth` texts deep.
+/// Appends what stands for a line of a text, at most `depth` texts deep. A text that is kept isn't read again.
 #[tactic(auto, using(crate::proofs::Depths::plain_said, crate::proofs::Depths::text_said))]
 #[cycle(push)]
 pub fn push_line<T: Texts>(
     source: &Source<'_, T>,
+    kept: &mut KeptTexts,
     depth: u64,
     at: Place<'_>,
     line: &[u8],
     out: &mut Expansion,
 ) -> Result<(), IncludeFault>
+    requires { AreKept (T.known source.now.texts.now) (T.gives source.now.texts.now) kept.old }
     ensures said { OnOk result (IfSome (T.known source.now.texts.now) (λ texts. out.new.text.items ≡ out.old.text.items
         ++ said texts depth at.entry.name.now line.now)) }
     ensures counted { out.new.lines + line_ends out.old.text.items ≤ out.old.lines + line_ends out.new.text.items }
@@ -182,9 +192,10 @@ pub fn push_line<T: Texts>(
         AppendsFront out.old.text.items out.new.text.items (said texts depth at.entry.name.now line.now)))) }
     ensures fault { IfErr result (λ fault. IsFaultOf (T.gives source.now.texts.now) (T.lacks source.now.texts.now) depth at.entry.name.now line.now
         (IsOver (length out.new.text.items) out.new.lines) fault) }
+    ensures kept { OnOk result (AreKept (T.known source.now.texts.now) (T.gives source.now.texts.now) kept.new) }
 {
     match file_of(line) {
-        Some(file) => push_text(source, depth, at, file, out),
+        Some(file) => push_text(source, kept, depth, at, file, out),
         None => push_plain(line, out),
     }
 }
@@ -193,11 +204,13 @@ pub fn push_line<T: Texts>(
 #[cycle(push)]
 fn push_lines<T: Texts>(
     source: &Source<'_, T>,
+    kept: &mut KeptTexts,
     depth: u64,
     name: &str,
     text: &[u8],
     out: &mut Expansion,
 ) -> Result<(), IncludeFault>
+    requires { AreKept (T.known source.now.texts.now) (T.gives source.now.texts.now) kept.old }
     ensures said { OnOk result (IfSome (T.known source.now.texts.now) (λ texts. out.new.text.items ≡ out.old.text.items
         ++ flat_map (said texts depth name.now) (ended_lines text.now))) }
     ensures counted { out.new.lines + line_ends out.old.text.items ≤ out.old.lines + line_ends out.new.text.items }
@@ -205,12 +218,13 @@ fn push_lines<T: Texts>(
         AppendsFront out.old.text.items out.new.text.items (flat_map (said texts depth name.now) (ended_lines text.now))))) }
     ensures fault { IfErr result (λ fault. (line : List ℕ) × IsLineOf line text.now × IsFaultOf (T.gives source.now.texts.now)
         (T.lacks source.now.texts.now) depth name.now line (IsOver (length out.new.text.items) out.new.lines) fault) }
+    ensures kept { OnOk result (AreKept (T.known source.now.texts.now) (T.gives source.now.texts.now) kept.new) }
 {
     let mut rest = text;
     let mut line = 0u64;
     while let Some((first, others)) = cut(rest) {
         line = line.saturating_add(1);
-        push_line(source, depth, Place { name, line }, first, out)?;
+        push_line(source, kept, depth, Place { name, line }, first, out)?;
         rest = others;
     }
     Ok(())

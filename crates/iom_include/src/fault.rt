@@ -1,5 +1,6 @@
 ghost use Rattle.std.specs.Prelude.{◌≡◌};
 ghost use Rattle.iom_include.specs.declared.fault.IncludeFault.TheVariants as include;
+ghost use Rattle.iom_include.specs.declared.fault.TextFault.TheVariants as answered;
 
 use std::alloc::AllocError;
 
@@ -12,6 +13,14 @@ pub enum TextFault {
     TooLong,
     /// An allocation was refused.
     OutOfMemory,
+}
+
+impl From<AllocError> for TextFault {
+    ghost from_gives = { λ _ e. e ≡ answered.OutOfMemory };
+
+    fn from(_error: AllocError) -> Self {
+        TextFault::OutOfMemory
+    }
 }
 
 /// Why a line can't stand for the lines of a text.

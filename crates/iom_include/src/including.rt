@@ -9,6 +9,7 @@ ghost use Rattle.iom_reader.specs.Lines.{ended_lines};
 
 use crate::expanding::{Expansion, Place, Source, push_line};
 use crate::fault::IncludeFault;
+use crate::kept::KeptTexts;
 use crate::lines::{cut, file_of};
 use crate::texts::Texts;
 use std::alloc::Global;
@@ -39,7 +40,8 @@ fn text_for<T: Texts>(
         before,
         lines: 0,
     };
-    push_line(source, MOST_DEPTH, at, line, &mut out)?;
+    let mut kept = KeptTexts::new(source.alloc);
+    push_line(source, &mut kept, MOST_DEPTH, at, line, &mut out)?;
     Ok(out)
 }
 

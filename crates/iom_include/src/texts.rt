@@ -24,6 +24,8 @@ pub trait Texts {
         ensures known { IfSome (known self.now) (λ texts. IfOk result (λ text. text.items ≡ texts name.now)) };
 
     /// Takes down, in their order, where lines stand: from line `first` of what is read on, counted from 1, they are those of this text from
-    /// its line `line` on.
-    fn stands(&self, first: u64, name: &str, line: u64) -> Result<(), AllocError>;
+    /// its line `line` on. Nothing is taken down by texts that say nothing else of it.
+    fn stands(&self, _first: u64, _name: &str, _line: u64) -> Result<(), AllocError> {
+        Ok(())
+    }
 }

@@ -1,18 +1,16 @@
 //! The word `check`: scripts that are judged, each on a platform of its own.
 
 use crate::fault::Fault;
-use crate::files;
-use crate::library::Library;
+use crate::files::{self, IncludedFiles};
 use crate::progress::{Progress, size_of_input};
-use iom_check::{Checking, Rules, Style, Tally, check};
+use iom_check::{Rules, Style, Tally};
 use iom_cli::{
     Checks, Escaped, SUITES_END, SUITES_HEAD, Sum, TAP_HEAD, begins_as_image, put_error_case,
     put_fault_point, put_plan, put_suite, put_sum,
 };
-use iom_debug::{Debugger, LineAccount, OutputPage, first_bytes, put_escaped};
-use iom_include::Including;
-use iom_reader::{RunFault, WatchedReader, WatchedWriter};
-use iom_tool::Trace;
+use iom_debug::{OutputPage, first_bytes, put_escaped};
+use iom_reader::RunFault;
+use iom_scripts::{ScriptFault, check_script};
 use std::alloc::Global;
 use std::fs::Files;
 use std::io::{Read, Write};
@@ -23,13 +21,6 @@ const INPUT: &str = "-";
 
 /// What the suite of a script without a name is called.
 const UNNAMED: &str = "script";
-
-/// What a script came to, and the fault that ended it before its end.
-#[derive(Drop)]
-struct Judged<'f> {
-    tally: Tally,
-    fault: Option<Fault<'f>>,
-}
 
 /// Scripts that are judged one after the other, and what is written of them.
 #[derive(Drop)]
@@ -44,40 +35,6 @@ struct Round<'r, R, W> {
     // JUnit's XML, where it is wanted
     suites: Option<Vec<u8>>,
     sum: Sum,
-}
-
-// Judges a script on an image. The faults are those before its first line.
-fn judge<'f, R: Read, W: Write>(
-    rt: &impl Files,
-    alloc: Global,
-    image: &[u8],
-    rules: Rules,
-    name: Option<&str>,
-    points: u64,
-    input: &mut R,
-    output: &mut W,
-) -> Result<Judged<'f>, Fault<'f>> {
-    let library = Library::new(rt, alloc, name.unwrap_or(""));
-    let mut script = Including::new(alloc, &library, name.unwrap_or(""), &mut *input);
-    let mut reader = WatchedReader::new(&mut script);
-    let mut writer = WatchedWriter::new(&mut *output);
-    let mut platform = iom_asm::load(alloc, image)?;
-    let mut trace = Trace::new(alloc)?;
-    let mut reasons = if rules.fails_if_unsettled {
-        LineAccount::with_holdings(&platform, alloc)
-    } else {
-        LineAccount::new(&platform)
-    };
-    let debugger = Debugger::new(&mut platform, &mut trace, &mut reasons);
-    let mut checking = Checking::new(debugger, &library, rules, name, points);
-    let ended = check(&mut checking, &mut reader, &mut writer);
-    let (tally, is_lost) = (checking.tally(), checking.is_lost());
-    let fault = match ended {
-        Ok(_) if is_lost => Some(Fault::OutOfMemory),
-        Ok(_) => None,
-        Err(fault) => Some(Fault::of_run(fault, script.take_fault())),
-    };
-    Ok(Judged { tally, fault })
 }
 
 impl<R: Clock + Eprint + Files, W: Write> Round<'_, R, W> {
@@ -95,9 +52,8 @@ impl<R: Clock + Eprint + Files, W: Write> Round<'_, R, W> {
     // The report of a fault: with the name of its file, if that isn't in it.
     fn told<'f>(&self, name: Option<&str>, fault: &Fault<'_>) -> Result<String, Fault<'f>> {
         Ok(match (name, fault) {
-            (None, _) | (_, Fault::CannotRead { .. } | Fault::Include(_)) => format!(in self.alloc;
-                "{fault}"
-            )?,
+            (None, _) | (_, Fault::CannotRead { .. } | Fault::Include { .. }) =>
+                format!(in self.alloc; "{fault}")?,
             (Some(name), _) => format!(in self.alloc; "{}: {fault}", Escaped(name))?,
         })
     }
@@ -161,29 +117,30 @@ impl<R: Clock + Eprint + Files, W: Write> Round<'_, R, W> {
         input: &mut impl Read,
     ) -> Result<Option<String>, Fault<'f>> {
         let points = self.points();
-        let ended = judge(
-            self.rt,
+        let files = IncludedFiles::new(self.rt);
+        let checked = check_script(
             self.alloc,
             image,
+            &files,
             self.rules,
             name,
             points,
             input,
             &mut self.output,
         );
-        let fault = match ended {
-            Ok(judged) => {
-                self.sum.passed = self.sum.passed.saturating_add(judged.tally.passed);
-                self.sum.failed = self.sum.failed.saturating_add(judged.tally.failed);
-                match judged.fault {
-                    None => return Ok(None),
-                    Some(Fault::Run(RunFault::Write)) => {
+        let fault = match checked {
+            Ok(checked) => {
+                self.sum.passed = self.sum.passed.saturating_add(checked.tally.passed);
+                self.sum.failed = self.sum.failed.saturating_add(checked.tally.failed);
+                match checked.ended {
+                    Ok(()) => return Ok(None),
+                    Err(ScriptFault::Run(RunFault::Write)) => {
                         return Err(Fault::Run(RunFault::Write));
                     }
-                    Some(fault) => fault,
+                    Err(fault) => Fault::of_script(fault, files.why()),
                 }
             }
-            Err(fault) => fault,
+            Err(fault) => Fault::from(fault),
         };
         let text = self.told(name, &fault)?;
         self.tell(text.as_str())?;
@@ -203,10 +160,10 @@ impl<R: Clock + Eprint + Files, W: Write> Round<'_, R, W> {
             style: Style::Junit,
             ..self.rules
         };
-        let judged = judge(
-            self.rt,
+        let checked = check_script(
             self.alloc,
             image,
+            &IncludedFiles::new(self.rt),
             rules,
             name,
             0,
@@ -214,10 +171,10 @@ impl<R: Clock + Eprint + Files, W: Write> Round<'_, R, W> {
             &mut cases,
         )?;
         // A vector can't be written where memory is refused.
-        if let Some(Fault::Run(RunFault::Write) | Fault::OutOfMemory) = judged.fault {
+        if let Err(ScriptFault::Run(RunFault::Write) | ScriptFault::OutOfMemory) = checked.ended {
             return Err(Fault::OutOfMemory);
         }
-        self.add_suite(name, judged.tally, cases, fault)
+        self.add_suite(name, checked.tally, cases, fault)
     }
 
     // Judges the script of a file that was read.

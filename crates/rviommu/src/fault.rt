@@ -1,6 +1,7 @@
 use iom_asm::{AsmFault, ListFault, LoadFault};
 use iom_cli::{Escaped, WordsFault};
 use iom_include::{IncludeFault, Reason};
+use iom_scripts::ScriptFault;
 use iom_slips::statement_slip;
 use iom_text::is_over;
 use iom_tool::{Reply, RunFault};
@@ -68,7 +69,9 @@ pub enum Fault<'a> {
     BadWord,
     /// A word isn't the kind of an item.
     #[error("{}: KIND is cmd, fault, context, dir, pte or u64", Escaped(*.word))]
-    BadKind { word: &'a str },
+    BadKind {
+        word: &'a str,
+    },
     /// The words ask for help or version, or for nothing that the program does.
     #[error("{0}")]
     Words(WordsFault<'a>),
@@ -101,8 +104,11 @@ pub enum Fault<'a> {
     #[error("{0}")]
     Run(RunFault),
     /// A line of a script can't include what it names.
-    #[error("{}", IncludeTold(.0))]
-    Include(IncludeFault),
+    #[error("{}", IncludeTold(.fault, *.why))]
+    Include {
+        fault: IncludeFault,
+        why: Option<Unread>,
+    },
     /// An allocation was refused.
     #[error("out of memory")]
     OutOfMemory,
@@ -122,7 +128,7 @@ fn reason_of(text: &[u8], line: u64) -> Reply {
 
 /// Why a line of a script can't include the file that it names, as it is printed: with the line's own file and number.
 #[derive(Clone, Copy)]
-struct IncludeTold<'a>(&'a IncludeFault);
+struct IncludeTold<'a>(&'a IncludeFault, Option<Unread>);
 
 impl Display for IncludeTold<'_> {
     fn fmt<W: Write>(&self, f: &mut Formatter<W>) -> fmt::Result {
@@ -140,7 +146,7 @@ impl Display for IncludeTold<'_> {
                     write!(f, "{}:{line}: ", Escaped(from.as_str()))?;
                 }
                 match reason {
-                    Reason::Unreadable => write!(f, "cannot read {name}"),
+                    Reason::Unreadable => write!(f, "cannot read {name}{}", UnreadTold(self.1)),
                     Reason::TooLong => write!(f, "{name}: {}", RunFault::TooLong),
                     Reason::TooDeep => write!(f, "{name} is included more than 8 files deep"),
                 }
@@ -184,13 +190,13 @@ impl<'a> Fault<'a> {
             fault => fault,
         }
     }
-    /// Why a run ended, by the fault that the run returns and that of a line of its script, if there is one.
-    pub fn of_run(fault: RunFault, line: Option<IncludeFault>) -> Self {
-        match (fault, line) {
-            (RunFault::Read, Some(IncludeFault::OutOfMemory)) => Fault::OutOfMemory,
-            (RunFault::Read, Some(IncludeFault::LongLine)) => Fault::Run(RunFault::TooLong),
-            (RunFault::Read, Some(fault)) => Fault::Include(fault),
-            _ => Fault::Run(fault),
+
+    /// Why a script wasn't carried out to its end, where `why` is that of the last file that it couldn't include.
+    pub fn of_script(fault: ScriptFault, why: Option<Unread>) -> Self {
+        match fault {
+            ScriptFault::Run(fault) => Fault::Run(fault),
+            ScriptFault::Include(fault) => Fault::Include { fault, why },
+            ScriptFault::OutOfMemory => Fault::OutOfMemory,
         }
     }
 

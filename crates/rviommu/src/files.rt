@@ -1,9 +1,10 @@
 //! Files, each as a whole.
 
 use crate::fault::{Fault, Unread};
-use iom_include::TextFault;
+use iom_include::{TextFault, Texts};
 use iom_reader::RunFault;
 use std::alloc::Global;
+use std::cell::Cell;
 use std::fs::{self, File, Files};
 use std::io::{self, ErrorKind, Read, Write};
 
@@ -29,15 +30,49 @@ pub fn read<'a>(rt: &impl Files, alloc: Global, name: &'a str) -> Result<Vec<u8>
     }
 }
 
-/// The bytes of a file that a script includes: at most as many as a script may have.
-pub fn read_text(rt: &impl Files, alloc: Global, name: &str) -> Result<Vec<u8>, TextFault> {
-    let file = File::open(rt, name).map_err(|_| TextFault::Unreadable)?;
+// The bytes of a file that a script includes: at most as many as a script may have.
+fn read_text(rt: &impl Files, alloc: Global, name: &str) -> io::Result<Vec<u8>> {
     let mut bytes = Vec::new(alloc);
-    match file.take(SCRIPT_BYTES).read_to_end(&mut bytes) {
-        Ok(_) if (bytes.len() as u64) < SCRIPT_BYTES => Ok(bytes),
-        Ok(_) => Err(TextFault::TooLong),
-        Err(error) if error.kind() == ErrorKind::OutOfMemory => Err(TextFault::OutOfMemory),
-        Err(_) => Err(TextFault::Unreadable),
+    File::open(rt, name)?
+        .take(SCRIPT_BYTES)
+        .read_to_end(&mut bytes)?;
+    Ok(bytes)
+}
+
+/// The files that scripts include, each by its path.
+#[derive(Drop)]
+pub struct IncludedFiles<'r, R> {
+    rt: &'r R,
+    // of the last one that can't be read
+    why: Cell<Option<Unread>>,
+}
+
+impl<'r, R: Files> IncludedFiles<'r, R> {
+    /// Those of this host.
+    pub fn new(rt: &'r R) -> IncludedFiles<'r, R> {
+        IncludedFiles {
+            rt,
+            why: Cell::new(None),
+        }
+    }
+
+    /// Why the last file that couldn't be read couldn't.
+    pub fn why(&self) -> Option<Unread> {
+        self.why.get()
+    }
+}
+
+impl<R: Files> Texts for IncludedFiles<'_, R> {
+    fn text(&self, alloc: Global, name: &str) -> Result<Vec<u8>, TextFault> {
+        match read_text(self.rt, alloc, name) {
+            Ok(bytes) if (bytes.len() as u64) < SCRIPT_BYTES => Ok(bytes),
+            Ok(_) => Err(TextFault::TooLong),
+            Err(error) if error.kind() == ErrorKind::OutOfMemory => Err(TextFault::OutOfMemory),
+            Err(error) => {
+                self.why.set(Some(Unread::Failed(error.kind())));
+                Err(TextFault::Unreadable)
+            }
+        }
     }
 }
 

@@ -2,16 +2,13 @@
 #![tactic(auto)]
 
 use fault::Fault;
+use files::IncludedFiles;
 use iom_asm::Item;
 use iom_cli::{Checks, How, Task, WordsFault, begins_as_image, check_status, task_of};
-use iom_core::Platform;
-use iom_debug::{Debugger, Debugging, LineAccount, debug};
-use iom_explain::{Explaining, Only, explain};
-use iom_include::Including;
+use iom_explain::Only;
 use iom_play::WRITE_BLOCK;
 use iom_reader::{RunFault, WatchedReader, WatchedWriter};
-use iom_tool::Trace;
-use library::Library;
+use iom_scripts::{debug_script, explain_script};
 use output::Piped;
 use progress::{Progress, size_of_input};
 use std::alloc::Global;
@@ -26,7 +23,6 @@ use std::time::Clock;
 mod checks;
 mod fault;
 mod files;
-mod library;
 mod output;
 mod progress;
 
@@ -44,77 +40,6 @@ struct Streams<I, O> {
     output_is_terminal: bool,
 }
 
-// How a script is explained.
-#[derive(Clone, Copy)]
-struct Explained {
-    // The accesses that are printed; None for every line.
-    only: Option<Only>,
-    // Whether accesses that aren't settled are reported.
-    tells_settled: bool,
-}
-
-// What is kept beside a platform whose script is debugged, or is explained. What any IOMMU may hold takes memory and time, so it is kept for
-// `debug`, where a line may ask what is owed, and where `explain` is to report it.
-fn account(platform: &Platform, alloc: Global, explained: Option<Explained>) -> LineAccount {
-    let keeps_holdings = match explained {
-        Some(explained) => explained.tells_settled,
-        None => true,
-    };
-    if keeps_holdings {
-        LineAccount::with_holdings(platform, alloc)
-    } else {
-        LineAccount::new(platform)
-    }
-}
-
-// Debugs or explains the script that an input gives. Returns whether there was memory for its output.
-fn tell<'a, R: Read, W: Write>(
-    alloc: Global,
-    image: &[u8],
-    explained: Option<Explained>,
-    tells_slips: bool,
-    input: &mut R,
-    output: &mut W,
-) -> Result<bool, Fault<'a>> {
-    let mut reader = WatchedReader::new(input);
-    let mut writer = WatchedWriter::new(output);
-    let mut platform = iom_asm::load(alloc, image)?;
-    let mut trace = Trace::new(alloc)?;
-    let mut reasons = account(&platform, alloc, explained);
-    let debugger = Debugger::new(&mut platform, &mut trace, &mut reasons);
-    if let Some(explained) = explained {
-        let mut explaining = Explaining::new(alloc, debugger, explained.only)?;
-        return Ok(explain(&mut explaining, &mut reader, &mut writer)?);
-    }
-    debug(
-        &mut Debugging::new(debugger, tells_slips),
-        &mut reader,
-        &mut writer,
-    )?;
-    Ok(true)
-}
-
-// Debugs or explains a script whose lines may include files, from the folder of `name`.
-fn tell_all<'a, R: Read, W: Write>(
-    rt: &impl Files,
-    alloc: Global,
-    image: &[u8],
-    explained: Option<Explained>,
-    tells_slips: bool,
-    name: &str,
-    input: &mut R,
-    output: &mut W,
-) -> Result<(), Fault<'a>> {
-    let library = Library::new(rt, alloc, name);
-    let mut script = Including::new(alloc, &library, name, &mut *input);
-    match tell(alloc, image, explained, tells_slips, &mut script, output) {
-        Ok(true) => Ok(()),
-        Ok(false) => Err(Fault::OutOfMemory),
-        Err(Fault::Run(fault)) => Err(Fault::of_run(fault, script.take_fault())),
-        Err(fault) => Err(fault),
-    }
-}
-
 // Runs, debugs or explains the script that an input gives. `name` is its file; if it has none, empty.
 fn play<'a, R: Read, W: Write>(
     rt: &impl Files,
@@ -126,26 +51,36 @@ fn play<'a, R: Read, W: Write>(
     input: &mut R,
     output: &mut W,
 ) -> Result<(), Fault<'a>> {
-    let explained = match how {
+    let files = IncludedFiles::new(rt);
+    let ended = match how {
         How::Run => {
             let mut reader = WatchedReader::new(input);
             let mut writer = WatchedWriter::new(output);
             return Ok(iom_play::play(alloc, image, &mut reader, &mut writer)?.ended?);
         }
-        How::Debug => None,
+        How::Debug => debug_script(alloc, image, &files, name, tells_slips, input, output)?,
         How::Explain {
             only,
             tells_settled,
-        } => Some(Explained {
-            only: only.map(|it| Only {
+        } => {
+            let only = only.map(|it| Only {
                 denied: it.denied,
                 stale: it.stale,
                 unsettled: it.unsettled,
-            }),
-            tells_settled,
-        }),
+            });
+            explain_script(
+                alloc,
+                image,
+                &files,
+                name,
+                only,
+                tells_settled,
+                input,
+                output,
+            )?
+        }
     };
-    tell_all(rt, alloc, image, explained, tells_slips, name, input, output)
+    ended.map_err(|fault| Fault::of_script(fault, files.why()))
 }
 
 // Plays a script on an image. Its answers are written by blocks, but before it waits for input. `name` is its file; if it has none, empty.
@@ -284,8 +219,9 @@ fn upgrade<'a>(
     new: &'a str,
 ) -> Result<(), Fault<'a>> {
     let old = files::read(rt, alloc, image)?;
-    let bytes = iom_asm::upgrade(alloc, old.as_slice())
-        .map_err(|fault| Fault::from(fault).of_image(image))?;
+    let bytes = iom_asm::upgrade(alloc, old.as_slice()).map_err(|fault| Fault::from(fault).of_image(
+        image,
+    ))?;
     files::write(rt, alloc, new, bytes.as_slice())
 }
 
@@ -337,11 +273,10 @@ fn carry_out<'a>(
     streams: Streams<impl Read + Drop, impl Write + Drop>,
 ) -> Result<u8, Fault<'a>> {
     match task {
-        Task::Play {
+        Task::Play { how, image, script } => match (
             how,
-            image,
-            script,
-        } => match (how, play_named(rt, alloc, how, image, script, streams)) {
+            play_named(rt, alloc, how, image, script, streams),
+        ) {
             (How::Run, Err(fault)) => return Err(fault.of_run_alone()),
             (_, ended) => ended?,
         },
@@ -356,8 +291,9 @@ fn carry_out<'a>(
         } => {
             let item = Item::named(kind.as_bytes()).ok_or(Fault::BadKind { word: kind })?;
             let bytes = files::read(rt, alloc, image)?;
-            list(alloc, bytes.as_slice(), item, addr, count, streams.output)
-                .map_err(|fault| fault.of_image(image))?;
+            list(alloc, bytes.as_slice(), item, addr, count, streams.output).map_err(
+                |fault| fault.of_image(image),
+            )?;
         }
     }
     Ok(0)

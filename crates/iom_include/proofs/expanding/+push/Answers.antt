@@ -89,6 +89,7 @@ push_lines-loop-first-preserved g t c = record {
       (ended_lines c.in-Some.others.now) c.in_ok-push_line.ensures.said c.in-Some.ensures.ended c.loop-first.invariant.said;
   counted = omega (arith, c.loop-first.invariant.counted, c.in_ok-push_line.ensures.counted);
   end = end_less c.args.text.now c.loop-first.rest.now c.in-Some.first.now c.in-Some.others.now c.loop-first.invariant.end c.in-Some.ensures.ended;
+  kept = c.in_ok-push_line.ensures.kept;
 }
 
 pub push_text-returns-in_default-clause-front : goal.push_text-returns-in_default-clause-front

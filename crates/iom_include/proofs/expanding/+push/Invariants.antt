@@ -3,6 +3,7 @@ use Rattle.std.specs.Prelude.{IfSome}
 use Rattle.std.specs.List.{flat_map}
 use Rattle.iom_include.specs.Faults.{line_ends}
 use Rattle.iom_include.specs.Including.{said}
+use Rattle.iom_include.specs.Kept.{AreKept}
 use Rattle.iom_reader.specs.Lines.{ended_lines}
 use Rattle.iom_include.proofs.Refusals.{IsEndOf}
 use Rattle.iom_include.proofs.expanding.+push.Given as goal
@@ -23,6 +24,7 @@ invariant-push_lines-loop-first g l = record {
       ≡ l.initial.out.text.items ++ flat_map (said texts l.depth l.name) (ended_lines l.text));
   counted : l.out.lines + line_ends l.initial.out.text.items ≤ l.initial.out.lines + line_ends l.out.text.items;
   end : IsEndOf l.rest l.text;
+  kept : AreKept (g.T.Texts.known l.source.texts.now) (g.T.Texts.gives l.source.texts.now) l.kept;
 }
 
 abbrev pub decreases-push_lines-loop-first : goal.decreases-push_lines-loop-first

@@ -1,48 +1,47 @@
-//! The files that the lines of a script include, and where its lines stand.
+//! The texts that the lines of a script include, and where its lines stand.
 
-use crate::files;
-use indexmap::{IndexMap, IndexSet};
+use indexmap::IndexSet;
 use iom_check::{Place, Places};
 use iom_include::{TextFault, Texts};
 use std::alloc::{AllocError, Global};
 use std::cell::RefCell;
-use std::fs::Files;
 
-/// From a line of a script on, its lines stand in a file.
+/// From a line of a script on, its lines stand in a text.
 #[derive(Clone, Copy, Drop)]
 struct Mark {
-    // counted from 1, with those of all files
+    // counted from 1, with those of all texts
     first: u64,
     // which of the names
     name: usize,
-    // counted from 1 in the file
+    // counted from 1 in the text
     line: u64,
 }
 
-/// The files that a script includes.
+/// The texts that a script includes.
 #[derive(Drop)]
-pub struct Library<'r, 'n, R> {
-    rt: &'r R,
+pub struct Library<'t, 'n, T> {
+    texts: &'t T,
     alloc: Global,
     // of the script; if it has none, empty
     name: &'n str,
-    // of all files that lines stand in, each once
+    // of all texts that lines stand in, each once
     names: RefCell<IndexSet<String>>,
     marks: RefCell<Vec<Mark>>,
-    // of the files that the script's line includes: each is read once for a line
-    texts: RefCell<IndexMap<String, Vec<u8>>>,
 }
 
-impl<'r, 'n, R: Files> Library<'r, 'n, R> {
-    /// The files of a script of which no line was read. `name` is its own file; if it has none, empty.
-    pub fn new(rt: &'r R, alloc: Global, name: &'n str) -> Library<'r, 'n, R> {
+impl<'t, 'n, T: Texts> Library<'t, 'n, T> {
+    ghost use Rattle.std.specs.Prelude.{◌≡◌};
+
+    /// These texts, for a script of which no line was read. `name` is its own; if it has none, empty.
+    pub fn new(texts: &'t T, alloc: Global, name: &'n str) -> Library<'t, 'n, T>
+        ensures { result.texts.now ≡ texts.now }
+    {
         Library {
-            rt,
+            texts,
             alloc,
             name,
             names: RefCell::new(IndexSet::new(alloc)),
             marks: RefCell::new(Vec::new(alloc)),
-            texts: RefCell::new(IndexMap::new(alloc)),
         }
     }
 
@@ -69,44 +68,20 @@ impl<'r, 'n, R: Files> Library<'r, 'n, R> {
             _ => Place::own(line),
         }
     }
-
-    // The text of a name, which is kept.
-    fn kept_text(
-        &self,
-        texts: &mut IndexMap<String, Vec<u8>>,
-        alloc: Global,
-        name: &str,
-    ) -> Result<Vec<u8>, TextFault> {
-        if let Some(text) = texts.get(name) {
-            return Vec::from_slice(alloc, text.as_slice()).map_err(|_| TextFault::OutOfMemory);
-        }
-        let text = files::read_text(self.rt, alloc, name)?;
-        let key = String::from_str(self.alloc, name).map_err(|_| TextFault::OutOfMemory)?;
-        let kept = Vec::from_slice(self.alloc, text.as_slice()).map_err(
-            |_| TextFault::OutOfMemory,
-        )?;
-        match texts.insert(key, kept) {
-            Ok(_) => Ok(text),
-            Err(_) => Err(TextFault::OutOfMemory),
-        }
-    }
 }
 
-impl<R: Files> Texts for Library<'_, '_, R> {
+impl<T: Texts> Texts for Library<'_, '_, T> {
+    ghost known = { λ library. T.known library.texts.now };
+
+    ghost gives = { λ library. T.gives library.texts.now };
+
+    ghost lacks = { λ library. T.lacks library.texts.now };
+
     fn text(&self, alloc: Global, name: &str) -> Result<Vec<u8>, TextFault> {
-        match self.texts.try_borrow_mut() {
-            Ok(mut texts) => self.kept_text(&mut texts, alloc, name),
-            Err(_) => files::read_text(self.rt, alloc, name),
-        }
+        self.texts.text(alloc, name)
     }
 
     fn stands(&self, first: u64, name: &str, line: u64) -> Result<(), AllocError> {
-        // The script goes on, so the next line reads its files anew.
-        if name == self.name {
-            if let Ok(mut texts) = self.texts.try_borrow_mut() {
-                texts.clear();
-            }
-        }
         let mark = Mark {
             first,
             name: self.number_of(name)?,
@@ -123,7 +98,7 @@ impl<R: Files> Texts for Library<'_, '_, R> {
     }
 }
 
-impl<R: Files> Places for Library<'_, '_, R> {
+impl<T: Texts> Places for Library<'_, '_, T> {
     fn place(&self, number: u64) -> Place {
         let Ok(marks) = self.marks.try_borrow() else {
             return Place::own(number);

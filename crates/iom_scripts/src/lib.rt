@@ -1,0 +1,14 @@
+//! Scripts of `check`, `debug` and `explain`, with the texts that they include, on the platform of an image.
+#![tactic(auto)]
+
+pub use checking::{CheckedScript, check_script};
+pub use debugging::debug_script;
+pub use explaining::explain_script;
+pub use fault::ScriptFault;
+
+mod beginning;
+mod checking;
+mod debugging;
+mod explaining;
+mod fault;
+mod library;
