@@ -52,3 +52,27 @@ The program that `make run` builds answers as rviommu without a word does, and t
   $ "$player" run < ask
   iom_player: no word is taken; rviommu takes words
   [2]
+
+debug and explain take a script by its name, as check does: on the built-in image, or on that of --image. A file that is an image alone
+is that of standard input.
+
+  $ printf 'ram 0x80000000 0x1000\nu64 7\n' > text; rviommu asm text image
+  $ mkdir folder; echo 'load 0x80000000 8' > folder/lines; echo 'include lines' > folder/a.script
+  $ rviommu debug folder/a.script
+  $ rviommu debug --image image folder/a.script
+  $ rviommu debug image < folder/lines
+  $ rviommu debug --image image - < folder/lines
+  $ rviommu debug - < folder/lines
+  $ rviommu explain --image image folder/a.script | head -n 1
+  $ rviommu explain folder/lines | head -n 1
+
+A fault names its file and why that can't be read, but of run, whose texts are as they were.
+
+  $ printf 'RVIOMMU1' > cut; echo 'include none' > folder/b.script; printf 'ram 0x80000000 0x1000\njump\n' > bad
+  $ for words in "debug --image cut folder/lines" "explain cut" "list cut u64 0 1" "upgrade cut new" "run cut" "asm bad new"; do rviommu $words < empty; done
+  $ for words in "debug none" "explain folder" "debug folder/b.script" "check folder/b.script" "upgrade none new" "asm none new" "run none"; do rviommu $words; done
+
+If nobody reads the output any more, nothing is printed of that.
+
+  $ yes 'cmd # => done' | head -n 100000 > long
+  $ for words in "run image" debug explain check; do { rviommu $words < long; echo "$words: $?" >&2; } | head -n 1; done
