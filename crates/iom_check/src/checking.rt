@@ -413,6 +413,8 @@ pub fn check<P: Places, R: Read, W: Write>(
         (progress (W.contents writer.new.inner.now) (checked_by P.known checking.new))) }
     ensures read_told { read_failed reader.new ≡ is_read result }
     ensures write_told { write_failed writer.new ≡ is_write result }
+    ensures same_reader { reader.new.inner.ghost_name ≡ reader.old.inner.ghost_name }
+    ensures same_writer { writer.new.inner.ghost_name ≡ writer.old.inner.ghost_name }
 {
     answer_all(checking, reader, writer)?;
     checking.look_at_caches(writer)?;

@@ -132,6 +132,8 @@ pub fn debug<R: Read, W: Write>(
     ensures read_told { read_failed reader.new ≡ is_read result }
     ensures write_told { write_failed writer.new ≡ is_write result }
     ensures flushed { stops_at_a_read result ≡ true → is_flushed writer.new ≡ true }
+    ensures same_reader { reader.new.inner.ghost_name ≡ reader.old.inner.ghost_name }
+    ensures same_writer { writer.new.inner.ghost_name ≡ writer.old.inner.ghost_name }
 {
     answer_all(debugging, reader, writer)
 }

@@ -420,6 +420,8 @@ pub fn explain<R: Read, W: Write>(
         (progress (W.contents writer.old.inner.now) (progressed explaining.old)) (progress (W.contents writer.new.inner.now) (progressed explaining.new))) }
     ensures read_told { read_failed reader.new ≡ is_read result }
     ensures write_told { write_failed writer.new ≡ is_write result }
+    ensures same_reader { reader.new.inner.ghost_name ≡ reader.old.inner.ghost_name }
+    ensures same_writer { writer.new.inner.ghost_name ≡ writer.old.inner.ghost_name }
 {
     answer_all(explaining, reader, writer)?;
     if explaining.teller.is_short {

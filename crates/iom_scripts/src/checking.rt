@@ -1,6 +1,6 @@
 //! The word `check`, of a script that may include texts.
 
-ghost use Rattle.std.specs.Prelude.{◌≡◌, ◌≢◌, [], Err, IsOk, IfErr, IfOk};
+ghost use Rattle.std.specs.Prelude.{◌≡◌, ◌≢◌, Err, IsOk, IfErr, IfOk};
 ghost use Rattle.std.specs.Option.{option_map};
 ghost use Rattle.iom_image.specs.Reading.{image_of};
 ghost use Rattle.iom_image.specs.declared.fault.LoadFault.TheVariants as load_fault;
@@ -30,6 +30,16 @@ pub struct CheckedScript {
     pub tally: Tally,
     /// Why it wasn't checked to its end.
     pub ended: Result<(), ScriptFault>,
+}
+
+// The name from whose folder the script of this file names texts.
+fn folder_name<'n>(name: Option<&'n str>) -> &'n str
+    ensures { result.now ≡ folder_name (option_map (λ name. name.now) name.entry) }
+{
+    match name {
+        Some(name) => name,
+        None => "",
+    }
 }
 
 // Checks the lines of a script.
@@ -87,7 +97,7 @@ pub fn check_script<T: Texts, R: Read, W: Write>(
     };
     let mut reasons = account(&platform, alloc, rules.fails_if_unsettled);
     let debugger = Debugger::new(&mut platform, &mut trace, &mut reasons);
-    let own = name.unwrap_or("");
+    let own = folder_name(name);
     let library = Library::new(texts, alloc, own);
     let mut script = Including::new(alloc, &library, own, input);
     let mut checking = Checking::new(debugger, &library, rules, name, points);

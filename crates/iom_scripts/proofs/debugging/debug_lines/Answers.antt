@@ -1,0 +1,28 @@
+use Rattle.std.proofs.Common.{rules, inl}
+use Rattle.iom_include.specs.Reading.{remaining_of}
+use Rattle.iom_debug.specs.Desks.{desk_of}
+use Rattle.iom_scripts.proofs.debugging.debug_lines.Goals as goal
+
+pub returns-in-Ok : goal.returns-in-Ok
+returns-in-Ok g c = (
+  remaining_of g.T.Texts.known g.R.Read.remaining c.debug.new.reader.inner.now,
+  record {
+    desk = desk_of c.debug.new.debugging.debugger;
+    number = c.debug.new.debugging.number;
+    tells_slips = c.debug.new.debugging.tells_slips;
+  },
+  search rules,
+)
+
+pub returns-in-Err : goal.returns-in-Err
+returns-in-Err g c = record {
+  left = remaining_of g.T.Texts.known g.R.Read.remaining c.debug.new.reader.inner.now;
+  end = record {
+    desk = desk_of c.debug.new.debugging.debugger;
+    number = c.debug.new.debugging.number;
+    tells_slips = c.debug.new.debugging.tells_slips;
+  };
+  why = c.in-Err.fault;
+  is = c.of_run.ensures;
+  stops = inl (search rules);
+}
