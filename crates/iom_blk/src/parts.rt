@@ -89,7 +89,8 @@ impl Blk {
 
     /// What the device is but for its disk.
     pub fn parts(&self) -> BlkParts
-        ensures { device_of self.now.disk result ≡ self.now }
+        ensures parts { device_of self.now.disk result ≡ self.now }
+        ensures sound { IsSound self.now }
     {
         BlkParts {
             read_only: self.read_only,

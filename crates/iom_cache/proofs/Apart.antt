@@ -127,3 +127,25 @@ module _ (drops : Key → Hit → Bool) where
         | true ↦ rest
         | false ↦ (find_dropped entry.0 places apart.0, rest)
       ]
+
+-- of a list in which no two live places have one key each place may stand behind those in front of it
+differs_at : (key : Key) (places more : List (Option (Key × Hit))) (entry : Key × Hit) → find (same_key key) (places ++ Some entry ∷ more) ≡ None →
+    same_key key entry.0 ≡ false
+differs_at key [] more entry none = (found_none key entry more none).differs
+differs_at key (None ∷ places) more entry none = differs_at key places more entry none
+differs_at key (Some own ∷ places) more entry none =
+    differs_at key places more entry (found_none key own (places ++ Some entry ∷ more) none).behind
+
+none_in_front : (places more : List (Option (Key × Hit))) (entry : Key × Hit) → AreApart (places ++ Some entry ∷ more) →
+    find (same_key entry.0) places ≡ None
+none_in_front [] more entry apart = refl
+none_in_front (None ∷ places) more entry apart = none_in_front places more entry apart
+none_in_front (Some own ∷ places) more entry apart =
+    passed entry.0 own places (differs_back own.0 entry.0 (differs_at own.0 places more entry apart.0)) (none_in_front places more entry apart.1)
+
+pub may_stand : (places more : List (Option (Key × Hit))) (place : Option (Key × Hit)) → AreApart (places ++ place ∷ more) → length places < 64 →
+    may_follow same_key 64 places place ≡ true
+may_stand places more None apart room = grind arith
+may_stand places more (Some entry) apart room =
+    let none : find (same_key entry.0) places ≡ None = none_in_front places more entry apart in
+    let has_room : nat_lt (length places) 64 ≡ true = grind arith in rw (none, has_room) refl

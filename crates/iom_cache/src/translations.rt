@@ -89,6 +89,7 @@ impl TransCache {
     pub fn len(&self) -> usize
         ensures count { result ≡ length self.now }
         ensures within { result ≤ 64 }
+        ensures apart { AreApart self.now }
     {
         self.places.len()
     }

@@ -1,9 +1,9 @@
 -- The devices in their places.
-use Rattle.std.proofs.Common.{◌≡◌, ◌∙◌, ◌<◌, ℕ, zero, suc, List, [], ◌∷◌, Option, Some, refl, sym, ap, subst}
+use Rattle.std.proofs.Common.{◌≡◌, ◌∙◌, ◌<◌, ◌≤◌, length, ℕ, zero, suc, List, [], ◌∷◌, Option, Some, refl, sym, ap, subst}
 use Rattle.std.specs.Prelude.{slice_get, slice_set}
 use Rattle.std.specs.Option.{option_map}
 use Rattle.iom_blk.specs.Device.{Device}
-use Rattle.iom_core.specs.State.{EachFits, device_id_end}
+use Rattle.iom_core.specs.State.{EachFits, device_id_end, most_devices}
 use Rattle.iom_core.specs.Reach.{ChangesDevice}
 
 pub fits_at : (devices : List (ℕ × Device)) (n : ℕ) (own : ℕ × Device) → EachFits devices → slice_get devices n ≡ Some own → own.0 < device_id_end
@@ -15,6 +15,14 @@ pub fits_set : (devices : List (ℕ × Device)) (n : ℕ) (own : ℕ × Device) 
 fits_set [] n own fits small = tt
 fits_set (first ∷ more) zero own fits small = (small, fits.1)
 fits_set (first ∷ more) (suc n) own fits small = (fits.0, fits_set more n own fits.1 small)
+
+length_set : (devices : List (ℕ × Device)) (n : ℕ) (own : ℕ × Device) → length (slice_set devices n own) ≡ length devices
+length_set [] n own = refl
+length_set (first ∷ more) zero own = refl
+length_set (first ∷ more) (suc n) own = ap suc (length_set more n own)
+
+pub few_set : (devices : List (ℕ × Device)) (n : ℕ) (own : ℕ × Device) → length devices ≤ most_devices → length (slice_set devices n own) ≤ most_devices
+few_set devices n own few = rw (length_set devices n own) few
 
 -- what stands at a place, put there again
 pub set_same : (devices : List (ℕ × Device)) (n : ℕ) (own : ℕ × Device) → slice_get devices n ≡ Some own → slice_set devices n own ≡ devices

@@ -36,13 +36,14 @@ pub struct Board {
 }
 
 impl Model for Board {
-    ghost use Rattle.iom_core.specs.State.{Board, EachFits};
+    ghost use Rattle.std.specs.Prelude.{◌≤◌, length};
+    ghost use Rattle.iom_core.specs.State.{Board, EachFits, most_devices};
 
     ghost Value = { Board };
 
     ghost view = { λ b. record { iommu = b.iommu; devices = b.devices.items } };
 
-    ghost invariant = { λ b. EachFits b.devices.items };
+    ghost invariant = { λ b. EachFits b.devices.items × (length b.devices.items ≤ most_devices) };
 }
 
 impl Board {

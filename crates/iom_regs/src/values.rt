@@ -59,7 +59,9 @@ impl Regs {
 
     /// The values that it holds.
     pub fn values(&self) -> RegValues
-        ensures { registers_of result ≡ self.now }
+        ensures values { registers_of result ≡ self.now }
+        ensures sound { IsSound self.now }
+        ensures settled { with_pending self.now ≡ self.now }
     {
         self.mapped.values()
     }
@@ -95,7 +97,8 @@ impl MappedRegisters {
     }
 
     fn values(&self) -> RegValues
-        ensures { registers_of result ≡ self.now }
+        ensures values { registers_of result ≡ self.now }
+        ensures sound { IsSound self.now }
     {
         RegValues {
             features: self.features,

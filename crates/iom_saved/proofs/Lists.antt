@@ -12,3 +12,19 @@ pub next_list : (words list start mid new : List ℕ) (word : ℕ) → start ≡
     words ≡ word ∷ length list ∷ list → start ≡ words ++ new
 next_list words list start mid new word first second are =
     first ∙ ap (λ (l : List ℕ). word ∷ l) second ∙ sym (ap (λ (ws : List ℕ). ws ++ new) are)
+
+-- what follows the words of the first of two things
+pub split_two : (start a b r : List ℕ) → start ≡ (a ++ b) ++ r → start ≡ a ++ (b ++ r)
+split_two start a b r are = are ∙ append_assoc a b r
+
+-- of four
+pub split_four : (start a b c d r : List ℕ) → start ≡ ((a ++ b) ++ (c ++ d)) ++ r → start ≡ a ++ (b ++ (c ++ (d ++ r)))
+split_four start a b c d r are =
+    are ∙ append_assoc (a ++ b) (c ++ d) r ∙ append_assoc a b ((c ++ d) ++ r) ∙ ap (λ (l : List ℕ). a ++ (b ++ l)) (append_assoc c d r)
+
+-- four things put one behind the other
+pub put_four : (start one two three new a b c d : List ℕ) → one ≡ start ++ a → two ≡ one ++ b → three ≡ two ++ c → new ≡ three ++ d →
+    new ≡ start ++ ((a ++ b) ++ (c ++ d))
+put_four start one two three new a b c d first second third fourth =
+    fourth ∙ ap (λ (l : List ℕ). l ++ d) (third ∙ ap (λ (l : List ℕ). l ++ c) (second ∙ ap (λ (l : List ℕ). l ++ b) first ∙ append_assoc start a b))
+    ∙ append_assoc (start ++ (a ++ b)) c d ∙ append_assoc start (a ++ b) (c ++ d)

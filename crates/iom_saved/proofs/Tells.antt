@@ -55,7 +55,7 @@ tells_plain (x ∷ xs) (y ∷ ys) r s count same =
 pub tells_numbers : Tells (λ (xs : List ℕ). xs) number_words
 tells_numbers xs ys r s same = tells_plain xs ys r s (ap (λ (l : List ℕ). get_or l 0 0) same) (ap (λ (l : List ℕ). drop 1 l) same)
 
-length_words : (count : ℕ) (bytes : List ℕ) → length (words_in count bytes) ≡ count
+pub length_words : (count : ℕ) (bytes : List ℕ) → length (words_in count bytes) ≡ count
 unfolding words_in
 length_words zero bytes = refl
 length_words (suc count) bytes = ap suc (length_words count (drop 8 bytes))

@@ -12,10 +12,13 @@ front_words d = d.features_sel ∷ d.driver_sel ∷ d.features ∷ d.queue_sel �
     ∷ d.size ∷ d.desc ∷ d.avail ∷ d.used_ring ∷ d.seen ∷ d.used
     ∷ flag d.read_only ∷ flag d.ready ∷ flag d.pending ∷ []
 
--- why it broke, the purpose of its next access, and its request as far as it was read, with its result
+-- its request as far as it was read, with its result
+abbrev pub own_request_words : Device → List ℕ
+own_request_words d = chain_words d.chain ++ (number_words d.header ++ (d.head ∷ d.answer ∷ d.used_length ∷ []))
+
+-- why it broke, the purpose of its next access, and its request
 abbrev pub progress_words : Device → List ℕ
-progress_words d = broken_words d.broken ++ (phase_words d.phase
-    ++ (chain_words d.chain ++ (number_words d.header ++ (d.head ∷ d.answer ∷ d.used_length ∷ []))))
+progress_words d = broken_words d.broken ++ (phase_words d.phase ++ own_request_words d)
 
 abbrev pub device_words : Device → List ℕ
 device_words d = (front_words d ++ progress_words d) ++ words_of_bytes d.disk

@@ -6,6 +6,7 @@ pub mod Caches
 pub mod Requests
 pub mod Devices
 pub mod Boards
+pub mod Kept
 pub mod Seen
 pub mod Laws
 pub mod Whole

@@ -1,8 +1,12 @@
 //! The context cache.
 
-ghost use Rattle.std.specs.Prelude.{◌≡◌, ◌++◌, ◌∷◌, [], length, OnOk, IfOk, IfSome};
+ghost use Rattle.std.specs.Prelude.{ℕ, ◌≡◌, ◌<◌, ◌^◌, ◌++◌, ◌∷◌, List, [], length, Option, OnOk, IfOk, IfSome, IsSomeAnd, MatchResult};
+ghost use Rattle.iom_ddt.specs.Contexts.{IsWellFormed};
+ghost use Rattle.iom_ddt.specs.declared.context.Context.{Context as TheContext};
 ghost use Rattle.iom_saved.specs.Caches.{context_place_words, context_words, contexts_words};
-ghost use Rattle.iom_saved.specs.Seen.{context_seen_words};
+ghost use Rattle.iom_saved.specs.Kept.{AreContexts, IsContextPlace};
+ghost use Rattle.iom_saved.specs.Seen.{IsContextSeen, context_seen_words};
+ghost use Rattle.iom_saved.specs.declared.words.SavedFault.TheVariants as fault;
 
 use crate::words::{SavedFault, SavedWords};
 use iom_bits::flag;
@@ -12,7 +16,8 @@ use std::alloc::{AllocError, Global};
 
 /// Appends the words of a context cache: each place, live or empty. The fault is a refused allocation.
 pub fn put_contexts(out: &mut Vec<u64>, cache: &ContextCache) -> Result<(), AllocError>
-    ensures { OnOk result (out.new.items ≡ out.old.items ++ contexts_words cache.now) }
+    ensures words { OnOk result (out.new.items ≡ out.old.items ++ contexts_words cache.now) }
+    ensures kept { OnOk result (AreContexts cache.now) }
 {
     out.push(cache.len() as u64)?;
     for i in 0..cache.len() {
@@ -23,7 +28,9 @@ pub fn put_contexts(out: &mut Vec<u64>, cache: &ContextCache) -> Result<(), Allo
 
 /// The context cache that the next words are.
 pub fn take_contexts(alloc: Global, words: &mut SavedWords<'_>) -> Result<ContextCache, SavedFault>
-    ensures { IfOk result (λ cache. words.old ≡ contexts_words cache ++ words.new) }
+    ensures words { IfOk result (λ cache. words.old ≡ contexts_words cache ++ words.new) }
+    ensures taken { (places : List (Option (ℕ × TheContext))) (rest : List ℕ) → words.old ≡ contexts_words places ++ rest → AreContexts places →
+        MatchResult result (λ taken. (taken ≡ places) × (words.new ≡ rest)) (λ why. why ≡ fault.OutOfMemory) }
 {
     let Some(count) = words.next() else {
         return Err(SavedFault::Bad);
@@ -41,7 +48,8 @@ pub fn take_contexts(alloc: Global, words: &mut SavedWords<'_>) -> Result<Contex
 }
 
 fn put_place(out: &mut Vec<u64>, place: &Place<u32, Context>) -> Result<(), AllocError>
-    ensures { OnOk result (out.new.items ≡ out.old.items ++ context_seen_words place.now) }
+    ensures words { OnOk result (out.new.items ≡ out.old.items ++ context_seen_words place.now) }
+    ensures kept { OnOk result (IsContextSeen place.now) }
 {
     match place {
         Place::Live(did, context) => {
@@ -54,7 +62,9 @@ fn put_place(out: &mut Vec<u64>, place: &Place<u32, Context>) -> Result<(), Allo
 }
 
 fn take_place(words: &mut SavedWords<'_>) -> Option<Option<(u32, Context)>>
-    ensures { IfSome result (λ place. words.old ≡ context_place_words place ++ words.new) }
+    ensures words { IfSome result (λ place. words.old ≡ context_place_words place ++ words.new) }
+    ensures taken { (place : Option (ℕ × TheContext)) (rest : List ℕ) → words.old ≡ context_place_words place ++ rest → IsContextPlace place →
+        IsSomeAnd result (λ taken. (taken ≡ place) × (words.new ≡ rest)) }
 {
     if !words.flag()? {
         return Some(None);
@@ -81,7 +91,9 @@ fn put_context(out: &mut Vec<u64>, fields: &ContextFields) -> Result<(), AllocEr
 }
 
 fn take_context(words: &mut SavedWords<'_>) -> Option<Context>
-    ensures { IfSome result (λ context. words.old ≡ context_words context ++ words.new) }
+    ensures words { IfSome result (λ context. words.old ≡ context_words context ++ words.new) }
+    ensures taken { (context : TheContext) (rest : List ℕ) → words.old ≡ context_words context ++ rest → IsWellFormed context →
+        IsSomeAnd result (λ taken. (taken ≡ context) × (words.new ≡ rest)) }
 {
     let (gppn, ppn) = words.two()?;
     let (pscid, gscid) = take_ids(words)?;
@@ -103,7 +115,9 @@ fn take_context(words: &mut SavedWords<'_>) -> Option<Context>
 
 // PSCID and GSCID.
 fn take_ids(words: &mut SavedWords<'_>) -> Option<(u32, u16)>
-    ensures { IfSome result (λ ids. words.old ≡ ids.0 ∷ ids.1 ∷ words.new) }
+    ensures words { IfSome result (λ ids. words.old ≡ ids.0 ∷ ids.1 ∷ words.new) }
+    ensures taken { (a b : ℕ) (rest : List ℕ) → words.old ≡ a ∷ b ∷ rest → a < 2 ^ 32 → b < 2 ^ 16 →
+        IsSomeAnd result (λ taken. (taken.0 ≡ a) × (taken.1 ≡ b) × (words.new ≡ rest)) }
 {
     let pscid = words.next_u32()?;
     let gscid = words.next_u16()?;
@@ -112,7 +126,9 @@ fn take_ids(words: &mut SavedWords<'_>) -> Option<(u32, u16)>
 
 // The modes of both stages, and the bits for custom use.
 fn take_modes(words: &mut SavedWords<'_>) -> Option<(u8, u8, u8)>
-    ensures { IfSome result (λ modes. words.old ≡ modes.0 ∷ modes.1 ∷ modes.2 ∷ words.new) }
+    ensures words { IfSome result (λ modes. words.old ≡ modes.0 ∷ modes.1 ∷ modes.2 ∷ words.new) }
+    ensures taken { (a b c : ℕ) (rest : List ℕ) → words.old ≡ a ∷ b ∷ c ∷ rest → a < 2 ^ 8 → b < 2 ^ 8 → c < 2 ^ 8 →
+        IsSomeAnd result (λ taken. (taken.0 ≡ a) × (taken.1 ≡ b) × (taken.2 ≡ c) × (words.new ≡ rest)) }
 {
     let gmode = words.next_u8()?;
     let mode = words.next_u8()?;

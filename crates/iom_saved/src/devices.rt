@@ -1,10 +1,14 @@
 //! The block devices.
 
-ghost use Rattle.std.specs.Prelude.{◌≡◌, ◌++◌, ◌∷◌, [], length, OnOk, IfOk, IfSome};
+ghost use Rattle.std.specs.Prelude.{ℕ, ◌≡◌, ◌<◌, ◌^◌, ◌++◌, ◌∷◌, List, [], length, OnOk, IfErr, IfOk, IfSome, IsSomeAnd, MatchResult};
+ghost use Rattle.iom_mem.specs.Words.{bytes_of_words};
+ghost use Rattle.iom_blk.specs.Device.{Device};
 ghost use Rattle.iom_blk.specs.Parts.{device_of};
 ghost use Rattle.iom_saved.specs.Bytes.{words_of_bytes};
 ghost use Rattle.iom_saved.specs.Devices.{device_words, front_words, progress_words};
+ghost use Rattle.iom_saved.specs.Kept.{IsDevice, IsPhase, IsRequest, IsRequestOf, IsUnderWay};
 ghost use Rattle.iom_saved.specs.Whole.{IsWhole};
+ghost use Rattle.iom_saved.specs.declared.words.SavedFault.TheVariants as fault;
 ghost use Rattle.iom_saved.specs.Requests.{broken_words, phase_words, request_words};
 
 use crate::byte_words::{bytes_of, put_bytes};
@@ -19,6 +23,7 @@ use std::alloc::{AllocError, Global};
 pub fn put_device(out: &mut Vec<u64>, device: &Blk) -> Result<(), AllocError>
     ensures words { OnOk result (out.new.items ≡ out.old.items ++ device_words device.now) }
     ensures whole { OnOk result (IsWhole device.now.disk) }
+    ensures kept { OnOk result (IsDevice device.now) }
 {
     let parts = device.parts();
     put_front(out, &parts)?;
@@ -39,6 +44,8 @@ fn put_disk(out: &mut Vec<u64>, device: &Blk) -> Result<(), AllocError>
 pub fn take_device(alloc: Global, words: &mut SavedWords<'_>) -> Result<Blk, SavedFault>
     ensures words { IfOk result (λ device. words.old ≡ device_words device ++ words.new) }
     ensures whole { IfOk result (λ device. IsWhole device.disk) }
+    ensures taken { (d : Device) (rest : List ℕ) → words.old ≡ device_words d ++ rest → IsDevice d →
+        MatchResult result (λ taken. (taken ≡ d) × (words.new ≡ rest)) (λ why. why ≡ fault.OutOfMemory) }
 {
     let Some(parts) = take_parts(words) else {
         return Err(SavedFault::Bad);
@@ -51,7 +58,9 @@ pub fn take_device(alloc: Global, words: &mut SavedWords<'_>) -> Result<Blk, Sav
 }
 
 fn put_front(out: &mut Vec<u64>, parts: &BlkParts) -> Result<(), AllocError>
-    ensures { OnOk result (out.new.items ≡ out.old.items ++ front_words (device_of [] parts.now)) }
+    ensures words { OnOk result (out.new.items ≡ out.old.items ++ front_words (device_of [] parts.now)) }
+    ensures seen { OnOk result (parts.now.seen < 2 ^ 16) }
+    ensures used { OnOk result (parts.now.used < 2 ^ 16) }
 {
     out.extend_from_slice(&[
         parts.features_sel,
@@ -73,7 +82,9 @@ fn put_front(out: &mut Vec<u64>, parts: &BlkParts) -> Result<(), AllocError>
 }
 
 fn put_progress(out: &mut Vec<u64>, parts: &BlkParts) -> Result<(), AllocError>
-    ensures { OnOk result (out.new.items ≡ out.old.items ++ progress_words (device_of [] parts.now)) }
+    ensures words { OnOk result (out.new.items ≡ out.old.items ++ progress_words (device_of [] parts.now)) }
+    ensures phase { OnOk result (IsPhase parts.now.phase) }
+    ensures request { OnOk result (IsRequest parts.now.request) }
 {
     put_broken(out, parts.broken)?;
     put_phase(out, parts.phase)?;
@@ -111,8 +122,10 @@ struct Progress {
 }
 
 fn take_parts(words: &mut SavedWords<'_>) -> Option<BlkParts>
-    ensures { IfSome result (λ parts. words.old
+    ensures words { IfSome result (λ parts. words.old
         ≡ (front_words (device_of [] parts) ++ progress_words (device_of [] parts)) ++ words.new) }
+    ensures taken { (d : Device) (rest : List ℕ) → words.old ≡ (front_words d ++ progress_words d) ++ rest → IsUnderWay d →
+        IsSomeAnd result (λ parts. (device_of d.disk parts ≡ d) × (words.new ≡ rest)) }
 {
     let driver = take_driver(words)?;
     let queue = take_queue(words)?;
@@ -147,8 +160,11 @@ fn take_parts(words: &mut SavedWords<'_>) -> Option<BlkParts>
 }
 
 fn take_driver(words: &mut SavedWords<'_>) -> Option<Driver>
-    ensures { IfSome result (λ d. words.old
+    ensures words { IfSome result (λ d. words.old
         ≡ d.features_sel ∷ d.driver_sel ∷ d.features ∷ d.queue_sel ∷ d.interrupts ∷ d.status ∷ words.new) }
+    ensures taken { (a b c d e f : ℕ) (rest : List ℕ) → words.old ≡ a ∷ b ∷ c ∷ d ∷ e ∷ f ∷ rest →
+        IsSomeAnd result (λ taken. (taken ≡ record { features_sel = a; driver_sel = b; features = c; queue_sel = d; interrupts = e; status = f })
+        × (words.new ≡ rest)) }
 {
     let (features_sel, driver_sel, features, queue_sel) = words.four()?;
     let (interrupts, status) = words.two()?;
@@ -163,7 +179,10 @@ fn take_driver(words: &mut SavedWords<'_>) -> Option<Driver>
 }
 
 fn take_queue(words: &mut SavedWords<'_>) -> Option<Queue>
-    ensures { IfSome result (λ q. words.old ≡ q.size ∷ q.desc ∷ q.avail ∷ q.used_ring ∷ q.seen ∷ q.used ∷ words.new) }
+    ensures words { IfSome result (λ q. words.old ≡ q.size ∷ q.desc ∷ q.avail ∷ q.used_ring ∷ q.seen ∷ q.used ∷ words.new) }
+    ensures taken { (a b c d e f : ℕ) (rest : List ℕ) → words.old ≡ a ∷ b ∷ c ∷ d ∷ e ∷ f ∷ rest → e < 2 ^ 16 → f < 2 ^ 16 →
+        IsSomeAnd result (λ taken. (taken ≡ record { size = a; desc = b; avail = c; used_ring = d; seen = e; used = f })
+        × (words.new ≡ rest)) }
 {
     let (size, desc, avail, used_ring) = words.four()?;
     let seen = words.next_u16()?;
@@ -179,8 +198,10 @@ fn take_queue(words: &mut SavedWords<'_>) -> Option<Queue>
 }
 
 fn take_progress(words: &mut SavedWords<'_>) -> Option<Progress>
-    ensures { IfSome result (λ p. words.old
+    ensures words { IfSome result (λ p. words.old
         ≡ (broken_words p.broken ++ (phase_words p.phase ++ request_words p.request)) ++ words.new) }
+    ensures taken { (d : Device) (rest : List ℕ) → words.old ≡ progress_words d ++ rest → IsUnderWay d →
+        IsSomeAnd result (λ taken. (taken.broken ≡ d.broken) × (taken.phase ≡ d.phase) × IsRequestOf d taken.request × (words.new ≡ rest)) }
 {
     let broken = take_broken(words)?;
     let phase = take_phase(words)?;
@@ -195,6 +216,8 @@ fn take_progress(words: &mut SavedWords<'_>) -> Option<Progress>
 fn take_disk(alloc: Global, words: &mut SavedWords<'_>) -> Result<Vec<u8>, SavedFault>
     ensures words { IfOk result (λ disk. words.old ≡ words_of_bytes disk.items ++ words.new) }
     ensures whole { IfOk result (λ disk. IsWhole disk.items) }
+    ensures taken { (disk rest : List ℕ) → words.old ≡ words_of_bytes disk ++ rest → IsWhole disk →
+        MatchResult result (λ taken. (taken.items ≡ disk) × (words.new ≡ rest)) (λ why. why ≡ fault.OutOfMemory) }
 {
     let Some(list) = words.list() else {
         return Err(SavedFault::Bad);
@@ -207,6 +230,8 @@ fn take_disk(alloc: Global, words: &mut SavedWords<'_>) -> Result<Vec<u8>, Saved
 fn disk_of(alloc: Global, words: &[u64]) -> Result<Vec<u8>, SavedFault>
     ensures words { IfOk result (λ disk. words_of_bytes disk.items ≡ length words.now ∷ words.now) }
     ensures whole { IfOk result (λ disk. IsWhole disk.items) }
+    ensures bytes { IfOk result (λ disk. disk.items ≡ bytes_of_words words.now) }
+    ensures memory { IfErr result (λ why. why ≡ fault.OutOfMemory) }
 {
     let disk = bytes_of(alloc, words)?;
     Ok(disk)

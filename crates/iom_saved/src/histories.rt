@@ -1,7 +1,9 @@
 //! Which steps filled the caches.
 
-ghost use Rattle.std.specs.Prelude.{◌≡◌, ◌++◌, OnOk, IfSome};
+ghost use Rattle.std.specs.Prelude.{ℕ, ◌≡◌, ◌++◌, List, OnOk, IfSome, IsSomeAnd};
+ghost use Rattle.iom_account.specs.Following.{HistoryView};
 ghost use Rattle.iom_saved.specs.Histories.{history_words, number_words};
+ghost use Rattle.iom_saved.specs.Kept.{IsHistory};
 
 use crate::words::SavedWords;
 use iom_account::History;
@@ -16,7 +18,8 @@ fn put_numbers(out: &mut Vec<u64>, numbers: &[u64]) -> Result<(), AllocError>
 
 /// Appends the words of a history. The fault is a refused allocation.
 pub fn put_history(out: &mut Vec<u64>, history: &History) -> Result<(), AllocError>
-    ensures { OnOk result (out.new.items ≡ out.old.items ++ history_words history.now) }
+    ensures words { OnOk result (out.new.items ≡ out.old.items ++ history_words history.now) }
+    ensures kept { OnOk result (IsHistory history.now) }
 {
     put_numbers(out, history.contexts())?;
     put_numbers(out, history.walks())?;
@@ -25,7 +28,11 @@ pub fn put_history(out: &mut Vec<u64>, history: &History) -> Result<(), AllocErr
 
 /// The history that the next words are; None if they are none.
 pub fn take_history(words: &mut SavedWords<'_>) -> Option<History>
-    ensures { IfSome result (λ history. words.old ≡ history_words history ++ words.new) }
+    ensures words { IfSome result (λ history. words.old ≡ history_words history ++ words.new) }
+
+    // What was put is taken.
+    ensures taken { (h : HistoryView) (rest : List ℕ) → words.old ≡ history_words h ++ rest → IsHistory h →
+        IsSomeAnd result (λ taken. (taken ≡ h) × (words.new ≡ rest)) }
 {
     let contexts = words.list()?;
     let walks = words.list()?;

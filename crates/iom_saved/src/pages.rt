@@ -1,8 +1,13 @@
 //! The translation cache.
 
-ghost use Rattle.std.specs.Prelude.{◌≡◌, ◌++◌, ◌∷◌, [], length, OnOk, IfOk, IfSome};
+ghost use Rattle.std.specs.Prelude.{ℕ, ◌≡◌, ◌^◌, ◌++◌, ◌∷◌, List, [], length, Option, OnOk, IfOk, IfSome, IsSomeAnd, MatchResult};
+ghost use Rattle.iom_bits.specs.declared.causes.Kind.{Kind as TheKind};
+ghost use Rattle.iom_nested.specs.declared.translation.Hit.{Hit as TheHit};
+ghost use Rattle.iom_cache.specs.declared.key.Key.{Key as TheKey};
 ghost use Rattle.iom_saved.specs.Caches.{hit_words, id_words, key_words, kind_word, page_place_words, pages_words};
-ghost use Rattle.iom_saved.specs.Seen.{page_seen_words};
+ghost use Rattle.iom_saved.specs.Kept.{ArePages, IsHit, IsIdBelow, IsKey, IsPagePlace};
+ghost use Rattle.iom_saved.specs.Seen.{IsPageSeen, page_seen_words};
+ghost use Rattle.iom_saved.specs.declared.words.SavedFault.TheVariants as fault;
 
 use crate::words::{SavedFault, SavedWords};
 use iom_bits::{Kind, flag};
@@ -12,7 +17,8 @@ use std::alloc::{AllocError, Global};
 
 /// Appends the words of a translation cache: each place, live or empty. The fault is a refused allocation.
 pub fn put_pages(out: &mut Vec<u64>, cache: &TransCache) -> Result<(), AllocError>
-    ensures { OnOk result (out.new.items ≡ out.old.items ++ pages_words cache.now) }
+    ensures words { OnOk result (out.new.items ≡ out.old.items ++ pages_words cache.now) }
+    ensures kept { OnOk result (ArePages cache.now) }
 {
     out.push(cache.len() as u64)?;
     for i in 0..cache.len() {
@@ -23,7 +29,9 @@ pub fn put_pages(out: &mut Vec<u64>, cache: &TransCache) -> Result<(), AllocErro
 
 /// The translation cache that the next words are.
 pub fn take_pages(alloc: Global, words: &mut SavedWords<'_>) -> Result<TransCache, SavedFault>
-    ensures { IfOk result (λ cache. words.old ≡ pages_words cache ++ words.new) }
+    ensures words { IfOk result (λ cache. words.old ≡ pages_words cache ++ words.new) }
+    ensures taken { (places : List (Option (TheKey × TheHit))) (rest : List ℕ) → words.old ≡ pages_words places ++ rest → ArePages places →
+        MatchResult result (λ taken. (taken ≡ places) × (words.new ≡ rest)) (λ why. why ≡ fault.OutOfMemory) }
 {
     let Some(count) = words.next() else {
         return Err(SavedFault::Bad);
@@ -41,7 +49,8 @@ pub fn take_pages(alloc: Global, words: &mut SavedWords<'_>) -> Result<TransCach
 }
 
 fn put_place(out: &mut Vec<u64>, place: &Place<Key, Hit>) -> Result<(), AllocError>
-    ensures { OnOk result (out.new.items ≡ out.old.items ++ page_seen_words place.now) }
+    ensures words { OnOk result (out.new.items ≡ out.old.items ++ page_seen_words place.now) }
+    ensures kept { OnOk result (IsPageSeen place.now) }
 {
     match place {
         Place::Live(key, hit) => {
@@ -55,7 +64,9 @@ fn put_place(out: &mut Vec<u64>, place: &Place<Key, Hit>) -> Result<(), AllocErr
 }
 
 fn take_place(words: &mut SavedWords<'_>) -> Option<Option<(Key, Hit)>>
-    ensures { IfSome result (λ place. words.old ≡ page_place_words place ++ words.new) }
+    ensures words { IfSome result (λ place. words.old ≡ page_place_words place ++ words.new) }
+    ensures taken { (place : Option (TheKey × TheHit)) (rest : List ℕ) → words.old ≡ page_place_words place ++ rest → IsPagePlace place →
+        IsSomeAnd result (λ taken. (taken ≡ place) × (words.new ≡ rest)) }
 {
     if !words.flag()? {
         return Some(None);
@@ -66,7 +77,8 @@ fn take_place(words: &mut SavedWords<'_>) -> Option<Option<(Key, Hit)>>
 }
 
 fn put_key(out: &mut Vec<u64>, key: &Key) -> Result<(), AllocError>
-    ensures { OnOk result (out.new.items ≡ out.old.items ++ key_words key.now) }
+    ensures words { OnOk result (out.new.items ≡ out.old.items ++ key_words key.now) }
+    ensures kept { OnOk result (IsKey key.now) }
 {
     out.extend_from_slice(&[u64::from(key.did), key.page, kind_word(key.kind)])?;
     put_id(out, key.pscid)?;
@@ -74,7 +86,9 @@ fn put_key(out: &mut Vec<u64>, key: &Key) -> Result<(), AllocError>
 }
 
 fn take_key(words: &mut SavedWords<'_>) -> Option<Key>
-    ensures { IfSome result (λ key. words.old ≡ key_words key ++ words.new) }
+    ensures words { IfSome result (λ key. words.old ≡ key_words key ++ words.new) }
+    ensures taken { (key : TheKey) (rest : List ℕ) → words.old ≡ key_words key ++ rest → IsKey key →
+        IsSomeAnd result (λ taken. (taken ≡ key) × (words.new ≡ rest)) }
 {
     let did = words.next_u32()?;
     let page = words.next()?;
@@ -91,7 +105,8 @@ fn take_key(words: &mut SavedWords<'_>) -> Option<Key>
 }
 
 fn put_hit(out: &mut Vec<u64>, hit: &Hit) -> Result<(), AllocError>
-    ensures { OnOk result (out.new.items ≡ out.old.items ++ hit_words hit.now) }
+    ensures words { OnOk result (out.new.items ≡ out.old.items ++ hit_words hit.now) }
+    ensures kept { OnOk result (IsHit hit.now) }
 {
     out.extend_from_slice(&[
         hit.frame,
@@ -102,7 +117,9 @@ fn put_hit(out: &mut Vec<u64>, hit: &Hit) -> Result<(), AllocError>
 }
 
 fn take_hit(words: &mut SavedWords<'_>) -> Option<Hit>
-    ensures { IfSome result (λ hit. words.old ≡ hit_words hit ++ words.new) }
+    ensures words { IfSome result (λ hit. words.old ≡ hit_words hit ++ words.new) }
+    ensures taken { (hit : TheHit) (rest : List ℕ) → words.old ≡ hit_words hit ++ rest → IsHit hit →
+        IsSomeAnd result (λ taken. (taken ≡ hit) × (words.new ≡ rest)) }
 {
     let frame = words.next()?;
     let level = words.next_u8()?;
@@ -128,7 +145,9 @@ fn kind_word(kind: Kind) -> u64
 }
 
 fn take_kind(words: &mut SavedWords<'_>) -> Option<Kind>
-    ensures { IfSome result (λ kind. words.old ≡ kind_word kind ∷ words.new) }
+    ensures words { IfSome result (λ kind. words.old ≡ kind_word kind ∷ words.new) }
+    ensures taken { (kind : TheKind) (rest : List ℕ) → words.old ≡ kind_word kind ∷ rest →
+        IsSomeAnd result (λ taken. (taken ≡ kind) × (words.new ≡ rest)) }
 {
     match words.next()? {
         0 => Some(Kind::Read),
@@ -139,7 +158,8 @@ fn take_kind(words: &mut SavedWords<'_>) -> Option<Kind>
 
 // An id of 16 bits as one of 32.
 fn wide(id: Option<u16>) -> Option<u32>
-    ensures { result ≡ id }
+    ensures same { result ≡ id }
+    ensures below { IsIdBelow (2 ^ 16) result }
 {
     match id {
         Some(id) => Some(u32::from(id)),
@@ -148,7 +168,8 @@ fn wide(id: Option<u16>) -> Option<u32>
 }
 
 fn put_id(out: &mut Vec<u64>, id: Option<u32>) -> Result<(), AllocError>
-    ensures { OnOk result (out.new.items ≡ out.old.items ++ id_words id) }
+    ensures words { OnOk result (out.new.items ≡ out.old.items ++ id_words id) }
+    ensures below { IsIdBelow (2 ^ 32) id }
 {
     match id {
         Some(id) => out.extend_from_slice(&[1, u64::from(id)]),
@@ -157,7 +178,9 @@ fn put_id(out: &mut Vec<u64>, id: Option<u32>) -> Result<(), AllocError>
 }
 
 fn take_id(words: &mut SavedWords<'_>) -> Option<Option<u32>>
-    ensures { IfSome result (λ id. words.old ≡ id_words id ++ words.new) }
+    ensures words { IfSome result (λ id. words.old ≡ id_words id ++ words.new) }
+    ensures taken { (id : Option ℕ) (rest : List ℕ) → words.old ≡ id_words id ++ rest → IsIdBelow (2 ^ 32) id →
+        IsSomeAnd result (λ taken. (taken ≡ id) × (words.new ≡ rest)) }
 {
     let has_id = words.flag()?;
     let id = words.next_u32()?;
@@ -169,7 +192,9 @@ fn take_id(words: &mut SavedWords<'_>) -> Option<Option<u32>>
 }
 
 fn take_short_id(words: &mut SavedWords<'_>) -> Option<Option<u16>>
-    ensures { IfSome result (λ id. words.old ≡ id_words id ++ words.new) }
+    ensures words { IfSome result (λ id. words.old ≡ id_words id ++ words.new) }
+    ensures taken { (id : Option ℕ) (rest : List ℕ) → words.old ≡ id_words id ++ rest → IsIdBelow (2 ^ 16) id →
+        IsSomeAnd result (λ taken. (taken ≡ id) × (words.new ≡ rest)) }
 {
     let has_id = words.flag()?;
     let id = words.next_u16()?;

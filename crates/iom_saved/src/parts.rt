@@ -1,9 +1,13 @@
 //! The chain of a request.
 
-ghost use Rattle.std.specs.Prelude.{◌≡◌, ◌++◌, ◌∷◌, [], length, OnOk, IfSome};
-ghost use Rattle.std.specs.List.{flat_map};
+ghost use Rattle.std.specs.Prelude.{ℕ, ◌≡◌, ◌++◌, ◌∷◌, List, [], length, OnOk, IfSome, IsSome, IsSomeAnd};
+ghost use Rattle.std.specs.List.{AllByRecursion, flat_map};
 ghost use Rattle.std.specs.Option.{OnSome};
+ghost use Rattle.iom_saved.specs.Kept.{IsChain, IsPart};
 ghost use Rattle.iom_saved.specs.Requests.{chain_words, part_words, side_word};
+ghost use Rattle.iom_virtq.specs.Chains.{DescriptorChain};
+ghost use Rattle.iom_virtq.specs.declared.parts.ChainPart.{ChainPart as ThePart};
+ghost use Rattle.iom_virtq.specs.declared.parts.Side.{Side as TheSide};
 
 use crate::words::SavedWords;
 use iom_virtq::{Chain, ChainPart, Side};
@@ -11,7 +15,8 @@ use std::alloc::AllocError;
 
 /// Appends the words of a chain. The fault is a refused allocation.
 pub fn put_chain(out: &mut Vec<u64>, chain: &Chain) -> Result<(), AllocError>
-    ensures { OnOk result (out.new.items ≡ out.old.items ++ chain_words chain.now) }
+    ensures words { OnOk result (out.new.items ≡ out.old.items ++ chain_words chain.now) }
+    ensures kept { OnOk result (IsChain chain.now) }
 {
     let parts = chain.parts();
     out.extend_from_slice(&[u64::from(chain.limit()), parts.len() as u64])?;
@@ -19,7 +24,8 @@ pub fn put_chain(out: &mut Vec<u64>, chain: &Chain) -> Result<(), AllocError>
 }
 
 fn put_parts(out: &mut Vec<u64>, parts: &[ChainPart]) -> Result<(), AllocError>
-    ensures { OnOk result (out.new.items ≡ out.old.items ++ flat_map part_words parts.now) }
+    ensures words { OnOk result (out.new.items ≡ out.old.items ++ flat_map part_words parts.now) }
+    ensures fit { OnOk result (AllByRecursion IsPart parts.now) }
 {
     for part in parts {
         put_part(out, part)?;
@@ -28,14 +34,17 @@ fn put_parts(out: &mut Vec<u64>, parts: &[ChainPart]) -> Result<(), AllocError>
 }
 
 fn put_part(out: &mut Vec<u64>, part: &ChainPart) -> Result<(), AllocError>
-    ensures { OnOk result (out.new.items ≡ out.old.items ++ part_words part.now) }
+    ensures words { OnOk result (out.new.items ≡ out.old.items ++ part_words part.now) }
+    ensures fits { OnOk result (IsPart part.now) }
 {
     out.extend_from_slice(&[side_word(part.side), part.addr, u64::from(part.len)])
 }
 
 /// The chain that the next words are; None if they are none.
 pub fn take_chain(words: &mut SavedWords<'_>) -> Option<Chain>
-    ensures { IfSome result (λ chain. words.old ≡ chain_words chain ++ words.new) }
+    ensures words { IfSome result (λ chain. words.old ≡ chain_words chain ++ words.new) }
+    ensures taken { (chain : DescriptorChain) (rest : List ℕ) → words.old ≡ chain_words chain ++ rest → IsChain chain →
+        IsSomeAnd result (λ taken. (taken ≡ chain) × (words.new ≡ rest)) }
 {
     let limit = words.next_u16()?;
     let count = words.next()?;
@@ -60,6 +69,8 @@ const NO_PART: ChainPart = ChainPart {
 fn fill_parts(words: &mut SavedWords<'_>, parts: &mut [ChainPart]) -> Option<()>
     ensures words { OnSome result (words.old ≡ flat_map part_words parts.new ++ words.new) }
     ensures count { length parts.new ≡ length parts.old }
+    ensures taken { (list : List ThePart) (rest : List ℕ) → words.old ≡ flat_map part_words list ++ rest → length list ≡ length parts.old →
+        AllByRecursion IsPart list → IsSome result × (parts.new ≡ list) × (words.new ≡ rest) }
 {
     for i in 0..parts.len() {
         parts[i] = take_part(words)?;
@@ -68,7 +79,9 @@ fn fill_parts(words: &mut SavedWords<'_>, parts: &mut [ChainPart]) -> Option<()>
 }
 
 fn take_part(words: &mut SavedWords<'_>) -> Option<ChainPart>
-    ensures { IfSome result (λ part. words.old ≡ part_words part ++ words.new) }
+    ensures words { IfSome result (λ part. words.old ≡ part_words part ++ words.new) }
+    ensures taken { (part : ThePart) (rest : List ℕ) → words.old ≡ part_words part ++ rest → IsPart part →
+        IsSomeAnd result (λ taken. (taken ≡ part) × (words.new ≡ rest)) }
 {
     let side = take_side(words)?;
     let addr = words.next()?;
@@ -86,7 +99,9 @@ fn side_word(side: Side) -> u64
 }
 
 fn take_side(words: &mut SavedWords<'_>) -> Option<Side>
-    ensures { IfSome result (λ side. words.old ≡ side_word side ∷ words.new) }
+    ensures words { IfSome result (λ side. words.old ≡ side_word side ∷ words.new) }
+    ensures taken { (side : TheSide) (rest : List ℕ) → words.old ≡ side_word side ∷ rest →
+        IsSomeAnd result (λ taken. (taken ≡ side) × (words.new ≡ rest)) }
 {
     match words.next()? {
         0 => Some(Side::Readable),

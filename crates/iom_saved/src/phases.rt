@@ -1,7 +1,12 @@
 //! Where a request stands, and why a device broke.
 
-ghost use Rattle.std.specs.Prelude.{◌≡◌, ◌++◌, ◌∷◌, [], OnOk, IfSome};
+ghost use Rattle.std.specs.Prelude.{ℕ, ◌≡◌, ◌++◌, ◌∷◌, List, [], Option, OnOk, IfSome, IsSomeAnd};
 ghost use Rattle.iom_bits.specs.Causes.{cause_number};
+ghost use Rattle.iom_bits.specs.declared.causes.Cause.{Cause as TheCause};
+ghost use Rattle.iom_blk.specs.declared.broken.Broken.{Broken as TheBroken};
+ghost use Rattle.iom_blk.specs.declared.phase.Phase.{Phase as ThePhase};
+ghost use Rattle.iom_virtq.specs.declared.parts.ChainFault.{ChainFault as TheFault};
+ghost use Rattle.iom_saved.specs.Kept.{IsPhase};
 ghost use Rattle.iom_saved.specs.Requests.{broken_words, fault_word, phase_words};
 
 use crate::words::SavedWords;
@@ -12,14 +17,16 @@ use std::alloc::AllocError;
 
 /// Appends the words of a phase. The fault is a refused allocation.
 pub fn put_phase(out: &mut Vec<u64>, phase: Phase) -> Result<(), AllocError>
-    ensures { OnOk result (out.new.items ≡ out.old.items ++ phase_words phase) }
+    ensures words { OnOk result (out.new.items ≡ out.old.items ++ phase_words phase) }
+    ensures kept { IsPhase phase }
 {
     let (number, at) = phase_numbers(phase);
     out.extend_from_slice(&[number, at])
 }
 
 fn phase_numbers(phase: Phase) -> (u64, u64)
-    ensures { phase_words phase ≡ result.0 ∷ result.1 ∷ [] }
+    ensures words { phase_words phase ≡ result.0 ∷ result.1 ∷ [] }
+    ensures kept { IsPhase phase }
 {
     match phase {
         Phase::Index => (0, 0),
@@ -36,7 +43,9 @@ fn phase_numbers(phase: Phase) -> (u64, u64)
 
 /// The phase that the next words are; None if they are none.
 pub fn take_phase(words: &mut SavedWords<'_>) -> Option<Phase>
-    ensures { IfSome result (λ phase. words.old ≡ phase_words phase ++ words.new) }
+    ensures words { IfSome result (λ phase. words.old ≡ phase_words phase ++ words.new) }
+    ensures taken { (phase : ThePhase) (rest : List ℕ) → words.old ≡ phase_words phase ++ rest → IsPhase phase →
+        IsSomeAnd result (λ taken. (taken ≡ phase) × (words.new ≡ rest)) }
 {
     let (number, at) = words.two()?;
     let phase = phase_of(number, at)?;
@@ -44,7 +53,8 @@ pub fn take_phase(words: &mut SavedWords<'_>) -> Option<Phase>
 }
 
 fn phase_of(number: u64, at: u64) -> Option<Phase>
-    ensures { IfSome result (λ phase. phase_words phase ≡ number ∷ at ∷ []) }
+    ensures words { IfSome result (λ phase. phase_words phase ≡ number ∷ at ∷ []) }
+    ensures taken { (phase : ThePhase) → phase_words phase ≡ number ∷ at ∷ [] → IsPhase phase → IsSomeAnd result (λ taken. taken ≡ phase) }
 {
     match (number, at) {
         (0, 0) => Some(Phase::Index),
@@ -85,7 +95,9 @@ fn broken_numbers(broken: Option<Broken>) -> (u64, u64)
 
 /// Why a device broke, which the next words are; None if they are nothing of that kind.
 pub fn take_broken(words: &mut SavedWords<'_>) -> Option<Option<Broken>>
-    ensures { IfSome result (λ broken. words.old ≡ broken_words broken ++ words.new) }
+    ensures words { IfSome result (λ broken. words.old ≡ broken_words broken ++ words.new) }
+    ensures taken { (broken : Option TheBroken) (rest : List ℕ) → words.old ≡ broken_words broken ++ rest →
+        IsSomeAnd result (λ taken. (taken ≡ broken) × (words.new ≡ rest)) }
 {
     let (number, what) = words.two()?;
     let broken = broken_of(number, what)?;
@@ -93,7 +105,8 @@ pub fn take_broken(words: &mut SavedWords<'_>) -> Option<Option<Broken>>
 }
 
 fn broken_of(number: u64, what: u64) -> Option<Option<Broken>>
-    ensures { IfSome result (λ broken. broken_words broken ≡ number ∷ what ∷ []) }
+    ensures words { IfSome result (λ broken. broken_words broken ≡ number ∷ what ∷ []) }
+    ensures taken { (broken : Option TheBroken) → broken_words broken ≡ number ∷ what ∷ [] → IsSomeAnd result (λ taken. taken ≡ broken) }
 {
     match (number, what) {
         (0, 0) => Some(None),
@@ -127,7 +140,8 @@ fn fault_word(fault: ChainFault) -> u64
 }
 
 fn fault_of(word: u64) -> Option<ChainFault>
-    ensures { IfSome result (λ fault. fault_word fault ≡ word) }
+    ensures word { IfSome result (λ fault. fault_word fault ≡ word) }
+    ensures taken { (fault : TheFault) → fault_word fault ≡ word → IsSomeAnd result (λ taken. taken ≡ fault) }
 {
     match word {
         0 => Some(ChainFault::Indirect),
@@ -140,7 +154,8 @@ fn fault_of(word: u64) -> Option<ChainFault>
 }
 
 fn cause_of(number: u64) -> Option<Cause>
-    ensures { IfSome result (λ cause. cause_number cause ≡ number) }
+    ensures number { IfSome result (λ cause. cause_number cause ≡ number) }
+    ensures taken { (cause : TheCause) → cause_number cause ≡ number → IsSomeAnd result (λ taken. taken ≡ cause) }
 {
     match number {
         5 => Some(Cause::Access(Kind::Read)),

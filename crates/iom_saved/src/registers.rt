@@ -1,6 +1,10 @@
 //! The registers.
 
-ghost use Rattle.std.specs.Prelude.{◌≡◌, ◌++◌, ◌∷◌, [], OnOk, IfSome};
+ghost use Rattle.std.specs.Prelude.{ℕ, ◌≡◌, ◌++◌, ◌∷◌, List, [], OnOk, IfSome, IsSomeAnd};
+ghost use Rattle.iom_bits.specs.declared.features.Features.{Features as TheFeatures};
+ghost use Rattle.iom_bits.specs.declared.features.Vectors.{Vectors as TheVectors};
+ghost use Rattle.iom_regs.specs.Sound.{IsSettled};
+ghost use Rattle.iom_regs.specs.Table.{Registers};
 ghost use Rattle.iom_regs.specs.Values.{registers_of};
 ghost use Rattle.iom_saved.specs.Registers.{features_words, register_words, vectors_word};
 
@@ -11,7 +15,8 @@ use std::alloc::AllocError;
 
 /// Appends the words of a register file. The fault is a refused allocation.
 pub fn put_registers(out: &mut Vec<u64>, registers: &Regs) -> Result<(), AllocError>
-    ensures { OnOk result (out.new.items ≡ out.old.items ++ register_words registers.now) }
+    ensures words { OnOk result (out.new.items ≡ out.old.items ++ register_words registers.now) }
+    ensures settled { IsSettled registers.now }
 {
     let values = registers.values();
     put_values(out, &values)
@@ -19,7 +24,9 @@ pub fn put_registers(out: &mut Vec<u64>, registers: &Regs) -> Result<(), AllocEr
 
 /// The register file that the next words are; None if they are none.
 pub fn take_registers(words: &mut SavedWords<'_>) -> Option<Regs>
-    ensures { IfSome result (λ registers. words.old ≡ register_words registers ++ words.new) }
+    ensures words { IfSome result (λ registers. words.old ≡ register_words registers ++ words.new) }
+    ensures taken { (r : Registers) (rest : List ℕ) → words.old ≡ register_words r ++ rest → IsSettled r →
+        IsSomeAnd result (λ taken. (taken ≡ r) × (words.new ≡ rest)) }
 {
     let values = take_values(words)?;
     let registers = Regs::of(&values)?;
@@ -47,7 +54,9 @@ fn put_values(out: &mut Vec<u64>, values: &RegValues) -> Result<(), AllocError>
 }
 
 fn take_values(words: &mut SavedWords<'_>) -> Option<RegValues>
-    ensures { IfSome result (λ values. words.old ≡ register_words (registers_of values) ++ words.new) }
+    ensures words { IfSome result (λ values. words.old ≡ register_words (registers_of values) ++ words.new) }
+    ensures taken { (r : Registers) (rest : List ℕ) → words.old ≡ register_words r ++ rest →
+        IsSomeAnd result (λ taken. (registers_of taken ≡ r) × (words.new ≡ rest)) }
 {
     let features = take_features(words)?;
     let (ddtp, cqb, cqh, cqt) = words.four()?;
@@ -85,7 +94,9 @@ fn put_features(out: &mut Vec<u64>, features: &Features) -> Result<(), AllocErro
 }
 
 fn take_features(words: &mut SavedWords<'_>) -> Option<Features>
-    ensures { IfSome result (λ features. words.old ≡ features_words features ++ words.new) }
+    ensures words { IfSome result (λ features. words.old ≡ features_words features ++ words.new) }
+    ensures taken { (f : TheFeatures) (rest : List ℕ) → words.old ≡ features_words f ++ rest →
+        IsSomeAnd result (λ taken. (taken ≡ f) × (words.new ≡ rest)) }
 {
     let (svnapot, svpbmt) = words.flags()?;
     let (sv57, sv57x4) = words.flags()?;
@@ -113,7 +124,9 @@ fn vectors_word(vectors: Vectors) -> u64
 }
 
 fn take_vectors(words: &mut SavedWords<'_>) -> Option<Vectors>
-    ensures { IfSome result (λ vectors. words.old ≡ vectors_word vectors ∷ words.new) }
+    ensures words { IfSome result (λ vectors. words.old ≡ vectors_word vectors ∷ words.new) }
+    ensures taken { (v : TheVectors) (rest : List ℕ) → words.old ≡ vectors_word v ∷ rest →
+        IsSomeAnd result (λ taken. (taken ≡ v) × (words.new ≡ rest)) }
 {
     match words.next()? {
         1 => Some(Vectors::One),

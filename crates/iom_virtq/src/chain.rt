@@ -98,6 +98,7 @@ impl Chain {
     pub fn parts(&self) -> &[ChainPart]
         ensures parts { result.now ≡ self.now.parts }
         ensures few { length result.now ≤ self.now.limit }
+        ensures legal { is_chain self.now.limit self.now.parts ≡ true }
     {
         &self.parts[..self.count]
     }

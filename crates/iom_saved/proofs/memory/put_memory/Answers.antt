@@ -9,3 +9,7 @@ returns-clause-words c =
 
 pub returns-clause-whole : goal.returns-clause-whole
 returns-clause-whole c = whole_of_words c.as_words.result.now _ (sym c.as_words.ensures.bytes)
+
+pub returns-clause-kept : goal.returns-clause-kept
+returns-clause-kept c =
+    record { legal = c.base.ensures.legal; whole = whole_of_words c.as_words.result.now _ (sym c.as_words.ensures.bytes) }

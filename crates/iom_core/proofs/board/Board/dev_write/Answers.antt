@@ -5,7 +5,7 @@ use Rattle.std.proofs.lemmas.Option.{slice_get-get_or, slice_get_past}
 use Rattle.iom_blk.specs.Device.{Device}
 use Rattle.iom_core.specs.State.{Board, state_on}
 use Rattle.iom_core.specs.Table.{dev_written}
-use Rattle.iom_core.proofs.Slots.{fits_at, fits_set}
+use Rattle.iom_core.proofs.Slots.{few_set, fits_at, fits_set}
 use Rattle.iom_core.proofs.board.Board.dev_write.Goals as goal
 
 pub invariant_of-self : goal.invariant_of-self
@@ -14,7 +14,7 @@ invariant_of-self c =
     let own = c.index_mut.result.now in
     let inside : c.args.dev < length devices = grind (arith, common_steps) in
     let there : slice_get devices c.args.dev ≡ Some own = slice_get-get_or devices c.args.dev own inside ∙ ap (λ (o : ℕ × Device). Some o) (sym c.index_mut.ensures.value) in
-    fits_set devices c.args.dev (own.0, c.write_register.new.device) c.self.invariant (fits_at devices c.args.dev own c.self.invariant there)
+    (fits_set devices c.args.dev (own.0, c.write_register.new.device) c.self.invariant.0 (fits_at devices c.args.dev own c.self.invariant.0 there), few_set devices c.args.dev (own.0, c.write_register.new.device) c.self.invariant.1)
 
 pub returns-then-n-len-clause-answer : goal.returns-then-n-len-clause-answer
 returns-then-n-len-clause-answer c =

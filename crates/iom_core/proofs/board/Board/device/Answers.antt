@@ -5,7 +5,7 @@ use Rattle.std.proofs.lemmas.Option.{slice_get-get_or}
 use Rattle.iom_blk.specs.Device.{Device}
 use Rattle.iom_core.specs.State.{Board, in_front_of, state_on}
 use Rattle.iom_core.specs.Table.{asked_by, device_step, told_by_step}
-use Rattle.iom_core.proofs.Slots.{fits_at, fits_set}
+use Rattle.iom_core.proofs.Slots.{few_set, fits_at, fits_set}
 use Rattle.iom_core.proofs.board.Board.device.Goals as goal
 
 pub move_once-requires : goal.move_once-requires
@@ -14,7 +14,7 @@ move_once-requires g c =
     let own = c.index_mut.result.now in
     let inside : c.args.dev < length devices = grind (arith, common_steps) in
     let there : slice_get devices c.args.dev ≡ Some own = slice_get-get_or devices c.args.dev own inside ∙ ap (λ (o : ℕ × Device). Some o) (sym c.index_mut.ensures.value) in
-    fits_at devices c.args.dev own c.self.invariant there
+    fits_at devices c.args.dev own c.self.invariant.0 there
 
 pub invariant_of-self : goal.invariant_of-self
 invariant_of-self g c =
@@ -22,7 +22,7 @@ invariant_of-self g c =
     let own = c.index_mut.result.now in
     let inside : c.args.dev < length devices = grind (arith, common_steps) in
     let there : slice_get devices c.args.dev ≡ Some own = slice_get-get_or devices c.args.dev own inside ∙ ap (λ (o : ℕ × Device). Some o) (sym c.index_mut.ensures.value) in
-    fits_set devices c.args.dev (own.0, c.move_once.new.device) c.self.invariant (fits_at devices c.args.dev own c.self.invariant there)
+    (fits_set devices c.args.dev (own.0, c.move_once.new.device) c.self.invariant.0 (fits_at devices c.args.dev own c.self.invariant.0 there), few_set devices c.args.dev (own.0, c.move_once.new.device) c.self.invariant.1)
 
 pub returns-clause-answer : goal.returns-clause-answer
 returns-clause-answer g c =

@@ -12,4 +12,4 @@ returns-clause-fits g c =
     let own = c.index.result.now in
     let inside : c.args.dev < length devices = grind (arith, common_steps) in
     let there : slice_get devices c.args.dev ≡ Some own = slice_get-get_or devices c.args.dev own inside ∙ ap (λ (o : ℕ × Device). Some o) (sym c.index.ensures) in
-    fits_at devices c.args.dev own c.self.invariant there
+    fits_at devices c.args.dev own c.self.invariant.0 there
